@@ -1,0 +1,50 @@
+-- The core text of a term.
+use Rattle.std.specs.Prelude.{◌≡◌, ℕ, ◌+◌, ◌^◌, ◌<◌, ◌≤◌, List, [], ◌∷◌, ◌++◌, length, decimal}
+use Rattle.std.specs.Str.{IsUtf8}
+use Rattle.sx_term.specs.declared.lex_kind.LexKind.{LexKind}
+use Rattle.sx_term.specs.declared.lex_kind.LexKind.TheVariants.{Id, Num, Str}
+use Rattle.sx_term.specs.Tree.{Tree, Trees, node, lexeme, hole, none, ◌▹◌}
+
+-- `i`, `n` or `s`
+abbrev pub kind_byte : LexKind → ℕ
+kind_byte Id = 105
+kind_byte Num = 110
+kind_byte Str = 115
+
+-- `(LABEL KID ..)`, a kind with the number of bytes, `:` and the bytes, or `?VARIABLE`
+abbrev mutual
+  pub core : Tree → List ℕ
+  core (node label kids) = 40 ∷ (decimal label ++ (cores kids ++ 41 ∷ []))
+  core (lexeme kind text) = kind_byte kind ∷ (decimal (length text) ++ (58 ∷ text))
+  core (hole variable) = 63 ∷ decimal variable
+
+  -- each with a blank before it
+  pub cores : Trees → List ℕ
+  cores none = []
+  cores (t ▹ ts) = 32 ∷ (core t ++ cores ts)
+
+-- variables are below 64, and each lexeme has 1 to 65,535 bytes
+abbrev mutual
+  pub IsWritable : Tree → Type 0
+  IsWritable (node label kids) = AreWritable kids
+  IsWritable (lexeme kind text) = (1 ≤ length text) × (length text ≤ 65535)
+  IsWritable (hole variable) = variable < 64
+
+  pub AreWritable : Trees → Type 0
+  AreWritable none = Unit {0}
+  AreWritable (t ▹ ts) = IsWritable t × AreWritable ts
+
+-- the term has a core text: besides, labels are below 2 ^ 32, and each lexeme is UTF-8
+abbrev mutual
+  pub HasCore : Tree → Type 0
+  HasCore (node label kids) = (label < 2 ^ 32) × HaveCore kids
+  HasCore (lexeme kind text) = (1 ≤ length text) × (length text ≤ 65535) × IsUtf8 text
+  HasCore (hole variable) = variable < 64
+
+  pub HaveCore : Trees → Type 0
+  HaveCore none = Unit {0}
+  HaveCore (t ▹ ts) = HasCore t × HaveCore ts
+
+-- the bytes do not begin with a digit
+abbrev pub NoDigit : List ℕ → Type 0
+NoDigit bytes = (d : ℕ) (rest : List ℕ) → d < 10 → bytes ≡ (48 + d) ∷ rest → ⊥

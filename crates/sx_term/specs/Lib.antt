@@ -1,0 +1,15 @@
+pub mod Text
+pub mod Tree
+pub mod Term
+pub mod Bindings
+pub mod Bound
+pub mod Subst
+pub mod Matching
+pub mod Core
+pub mod Reading
+pub mod Read
+pub mod Cutting
+pub mod Spaced
+pub mod Run
+pub mod Sorts
+pub mod Shapes

@@ -1,0 +1,104 @@
+//! Finite maps from variables to terms.
+
+ghost use Rattle.std.specs.Prelude.{◌≡◌, ℕ, ◌+◌, ◌-◌, ◌^◌, ◌<◌, ◌≤◌, ◌==◌, ◌++◌, ◌∷◌, [], ◌↔◌, IsTrue, IfOk, OnOk, OnErr, MatchOption, Some, None, if◌then◌else◌, slice_get, length, take, min};
+ghost use Rattle.sx_term.specs.Tree.{depth_of};
+ghost use Rattle.sx_term.specs.Term.{tree};
+ghost use Rattle.sx_term.specs.Bindings.{lookup};
+ghost use Rattle.sx_term.specs.Bound.{bindings, entry, IsFirstAt};
+
+use crate::binding::Binding;
+use crate::no_memory::NoMemory;
+use crate::term::Term;
+use std::alloc::Global;
+
+/// A finite map from variables to terms.
+#[derive(Drop)]
+pub struct Bindings {
+    pub(crate) entries: Vec<Binding>,
+}
+
+impl Bindings {
+    /// Binds nothing.
+    pub fn new(alloc: Global) -> Bindings
+        ensures { bindings result ≡ [] }
+    {
+        Bindings {
+            entries: Vec::new(alloc),
+        }
+    }
+
+    /// The place of the first entry of the variable.
+    fn find(&self, variable: u32) -> Option<usize>
+        ensures { MatchOption result (lookup (bindings self.now) variable ≡ None)
+            (λ place. IsFirstAt (bindings self.now) variable place) }
+    {
+        for i in 0..self.entries.len() {
+            if self.entries[i].variable == variable {
+                return Some(i);
+            }
+        }
+        None
+    }
+
+    /// The entry of the variable.
+    pub(crate) fn entry(&self, variable: u32) -> Option<&Binding>
+        ensures { MatchOption result (lookup (bindings self.now) variable ≡ None)
+            (λ b. lookup (bindings self.now) variable ≡ Some (tree b.now.term)) }
+    {
+        match self.find(variable) {
+            Some(i) => Some(&self.entries[i]),
+            None => None,
+        }
+    }
+
+    /// What the variable is bound to, or None where it is not bound.
+    pub fn get(&self, variable: u32) -> Option<&Term>
+        ensures { MatchOption result (lookup (bindings self.now) variable ≡ None)
+            (λ term. lookup (bindings self.now) variable ≡ Some (tree term.now)) }
+    {
+        match self.entry(variable) {
+            Some(binding) => Some(&binding.term),
+            None => None,
+        }
+    }
+
+    /// Binds the variable to the term, in place of what it was bound to.
+    pub fn set(&mut self, variable: u32, term: Term) -> Result<(), NoMemory>
+        requires { depth_of (tree term) ≤ 1000 }
+        ensures ok { OnOk result ((v : ℕ) → lookup (bindings self.new) v
+            ≡ (if v == variable then Some (tree term) else lookup (bindings self.old) v)) }
+        ensures err { OnErr result (bindings self.new ≡ bindings self.old) }
+    {
+        match self.find(variable) {
+            Some(i) => {
+                self.entries[i] = Binding::new(variable, term);
+                Ok(())
+            }
+            None => { self.push(variable, term) }
+        }
+    }
+
+    /// Binds a variable that is not bound.
+    pub(crate) fn push(&mut self, variable: u32, term: Term) -> Result<(), NoMemory>
+        requires { depth_of (tree term) ≤ 1000 }
+        ensures ok { OnOk result (bindings self.new ≡ bindings self.old ++ (variable, tree term) ∷ []) }
+        ensures err { OnErr result (bindings self.new ≡ bindings self.old) }
+    {
+        self.entries.push(Binding::new(variable, term))?;
+        Ok(())
+    }
+
+    /// How many entries there are.
+    pub(crate) fn len(&self) -> usize
+        ensures { result ≡ length (bindings self.now) }
+    {
+        self.entries.len()
+    }
+
+    /// Drops the entries from this place on.
+    pub(crate) fn truncate(&mut self, len: usize)
+        ensures { bindings self.new ≡ take len (bindings self.old) }
+    {
+        self.entries.truncate(len);
+    }
+}

@@ -1,0 +1,27 @@
+//! Constructors.
+
+ghost use Rattle.std.specs.Prelude.{◌≡◌, IfOk};
+ghost use Rattle.sx_term.specs.Shapes.{shape};
+
+use crate::no_memory::NoMemory;
+use crate::sort::Sort;
+use std::alloc::Global;
+
+/// A constructor: its sort and the sorts of its parts.
+#[derive(Drop)]
+pub struct Con {
+    pub sort: Sort,
+    pub kids: Vec<Sort>,
+}
+
+impl Con {
+    /// An equal constructor.
+    pub fn copy(&self, alloc: Global) -> Result<Con, NoMemory>
+        ensures { IfOk result (λ x. shape x ≡ shape self.now) }
+    {
+        Ok(Con {
+            sort: self.sort,
+            kids: Vec::from_slice(alloc, &self.kids)?,
+        })
+    }
+}

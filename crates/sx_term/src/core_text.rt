@@ -1,0 +1,83 @@
+//! The core notation: writing.
+
+ghost use Rattle.std.specs.Prelude.{◌≡◌, ℕ, ◌≤◌, List, ◌++◌, OnOk, OnErr, IfOk, decimal};
+ghost use Rattle.sx_term.specs.Tree.{depth_of};
+ghost use Rattle.sx_term.specs.Term.{tree};
+ghost use Rattle.sx_term.specs.Core.{core, kind_byte, IsWritable, HasCore};
+
+use crate::lex_kind::LexKind;
+use crate::no_memory::NoMemory;
+use crate::term::Term;
+use std::alloc::Global;
+
+/// Appends the core text of the term.
+pub fn write_core(alloc: Global, term: &Term, into: &mut Vec<u8>) -> Result<(), NoMemory>
+    requires depth { depth_of (tree term.now) ≤ 1000 }
+    requires writable { IsWritable (tree term.now) }
+    ensures ok { OnOk result (into.new.items ≡ into.old.items ++ core (tree term.now)) }
+    ensures has_core { OnOk result (HasCore (tree term.now)) }
+    ensures err { OnErr result (into.new.items ≡ into.old.items) }
+{
+    let before = into.len();
+    match append_core(alloc, term, into) {
+        Ok(()) => Ok(()),
+        Err(e) => {
+            into.truncate(before);
+            Err(e)
+        }
+    }
+}
+
+/// Appends the core text, or a front of it where memory is lacking.
+fn append_core(alloc: Global, term: &Term, into: &mut Vec<u8>) -> Result<(), NoMemory>
+    requires depth { depth_of (tree term.now) ≤ 1000 }
+    requires writable { IsWritable (tree term.now) }
+    ensures ok { OnOk result (into.new.items ≡ into.old.items ++ core (tree term.now)) }
+    ensures has_core { OnOk result (HasCore (tree term.now)) }
+    ensures appends { (more : List ℕ) × (into.new.items ≡ into.old.items ++ more) }
+{
+    match term {
+        Term::Node { label, kids } => {
+            into.push(b'(')?;
+            append_decimal(alloc, *label, into)?;
+            for kid in kids {
+                into.push(b' ')?;
+                append_core(alloc, kid, into)?;
+            }
+            into.push(b')')?;
+            Ok(())
+        }
+        Term::Lex { kind, text } => {
+            let bytes = text.bytes();
+            into.push(byte_of_kind(*kind))?;
+            append_decimal(alloc, bytes.len() as u32, into)?;
+            into.push(b':')?;
+            into.extend_from_slice(bytes)?;
+            Ok(())
+        }
+        Term::Var(variable) => {
+            into.push(b'?')?;
+            append_decimal(alloc, *variable, into)
+        }
+    }
+}
+
+fn byte_of_kind(kind: LexKind) -> u8
+    ensures { result ≡ kind_byte kind }
+{
+    match kind {
+        LexKind::Id => b'i',
+        LexKind::Num => b'n',
+        LexKind::Str => b's',
+    }
+}
+
+/// Appends the number without leading zeros.
+fn append_decimal(alloc: Global, number: u32, into: &mut Vec<u8>) -> Result<(), NoMemory>
+    ensures ok { OnOk result (into.new.items ≡ into.old.items ++ decimal number) }
+    ensures err { OnErr result (into.new.items ≡ into.old.items) }
+{
+    let text = format!(in alloc; "{number}")?;
+    into.extend_from_slice(text.as_str().as_bytes())?;
+    Ok(())
+}

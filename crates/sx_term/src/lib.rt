@@ -1,0 +1,52 @@
+//! Terms: what every other crate of soundx speaks of.
+#![tactic(auto)]
+
+mod binding;
+mod bindings;
+mod build;
+mod con;
+mod core_error;
+mod core_text;
+mod cutting_laws;
+mod fit;
+mod instance;
+mod laws;
+mod lex_kind;
+mod literal;
+mod mark;
+mod matching;
+mod no_memory;
+mod path;
+mod read;
+pub mod runs;
+mod scan;
+mod shapes;
+mod sort;
+mod steps;
+mod term;
+mod term_error;
+mod text;
+mod text_error;
+
+pub use bindings::Bindings;
+pub use con::Con;
+pub use core_error::CoreError;
+pub use core_text::write_core;
+pub use cutting_laws::{one_outcome, spaced_is_cut};
+pub use fit::Fit;
+pub use instance::subst;
+pub use laws::{one_reading, read_again};
+pub use lex_kind::LexKind;
+pub use literal::{LiteralShape, literal_shape};
+pub use mark::Mark;
+pub use matching::match_term;
+pub use no_memory::NoMemory;
+pub use path::Path;
+pub use read::read_core;
+pub use shapes::Shapes;
+pub use sort::Sort;
+pub use steps::Steps;
+pub use term::Term;
+pub use term_error::TermError;
+pub use text::Text;
+pub use text_error::TextError;

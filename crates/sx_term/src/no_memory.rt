@@ -1,0 +1,33 @@
+//! Want of memory.
+
+use std::alloc::{AllocError, AllocFailed};
+use thiserror::Error;
+
+/// Memory is lacking.
+#[derive(Debug, Drop, Error)]
+pub enum NoMemory {
+    #[error("out of memory")]
+    Memory,
+}
+
+impl From<AllocError> for NoMemory {
+    ghost use Rattle.std.specs.Prelude.{◌≡◌};
+    ghost use Rattle.sx_term.specs.declared.no_memory.NoMemory.TheVariants.{Memory};
+
+    ghost from_gives = { λ _ e. e ≡ Memory };
+
+    fn from(_e: AllocError) -> NoMemory {
+        NoMemory::Memory
+    }
+}
+
+impl<T: Drop> From<AllocFailed<T>> for NoMemory {
+    ghost use Rattle.std.specs.Prelude.{◌≡◌};
+    ghost use Rattle.sx_term.specs.declared.no_memory.NoMemory.TheVariants.{Memory};
+
+    ghost from_gives = { λ _ e. e ≡ Memory };
+
+    fn from(_e: AllocFailed<T>) -> NoMemory {
+        NoMemory::Memory
+    }
+}

@@ -1,0 +1,143 @@
+//! Terms: nodes, lexemes and variables.
+
+ghost use Rattle.std.specs.Prelude.{◌≡◌, ℕ, ◌+◌, ◌-◌, ◌^◌, ◌<◌, ◌≤◌, ◌↔◌, IsTrue, IfOk, MatchOption, Some, None, map, min};
+ghost use Rattle.sx_term.specs.Tree.{depth_of, greatest_depth, forest, size_of, part_at};
+ghost use Rattle.sx_term.specs.Term.{tree};
+
+use crate::lex_kind::LexKind;
+use crate::no_memory::NoMemory;
+use crate::path::Path;
+use crate::text::Text;
+use std::alloc::{AllocError, AllocFailed, Global};
+
+/// A term: a node with a label and kids, a lexeme, or a variable. A label is a position in `Shapes::cons`.
+#[derive(Drop)]
+pub enum Term {
+    Node { label: u32, kids: Vec<Term> },
+    Lex { kind: LexKind, text: Text },
+    Var(u32),
+}
+
+impl Term {
+    /// The number of nodes, lexemes and variables, or the greatest u64 where it is more.
+    pub fn size(&self) -> u64
+        requires { depth_of (tree self.now) ≤ 1000 }
+        ensures { result ≡ min (size_of (tree self.now)) (2 ^ 64 - 1) }
+    {
+        match self {
+            Term::Node { label: _, kids } => {
+                let mut total: u64 = 1;
+                for kid in kids {
+                    total = total.saturating_add(kid.size());
+                }
+                total
+            }
+            Term::Lex { kind: _, text: _ } => 1,
+            Term::Var(_) => 1,
+        }
+    }
+
+    /// The depth.
+    pub fn depth(&self) -> u32
+        requires { depth_of (tree self.now) ≤ 1000 }
+        ensures { result ≡ depth_of (tree self.now) }
+    {
+        match self {
+            Term::Node { label: _, kids } => {
+                let mut most = 0;
+                for kid in kids {
+                    most = most.max(kid.depth());
+                }
+                most + 1
+            }
+            Term::Lex { kind: _, text: _ } => 1,
+            Term::Var(_) => 1,
+        }
+    }
+
+    /// Whether the terms are equal.
+    #[cycle(same)]
+    pub fn same(&self, other: &Term) -> bool
+        requires self_depth { depth_of (tree self.now) ≤ 1000 }
+        requires other_depth { depth_of (tree other.now) ≤ 1000 }
+        ensures { IsTrue result ↔ (tree self.now ≡ tree other.now) }
+    {
+        match (self, other) {
+            (
+                Term::Node { label, kids },
+                Term::Node {
+                    label: other_label,
+                    kids: other_kids,
+                },
+            ) => *label == *other_label && same_kids(kids, other_kids),
+            (
+                Term::Lex { kind, text },
+                Term::Lex {
+                    kind: other_kind,
+                    text: other_text,
+                },
+            ) => *kind == *other_kind && text.same(other_text),
+            (Term::Var(variable), Term::Var(other_variable)) => *variable == *other_variable,
+            _ => false,
+        }
+    }
+
+    /// An equal term.
+    pub fn copy(&self, alloc: Global) -> Result<Term, NoMemory>
+        requires { depth_of (tree self.now) ≤ 1000 }
+        ensures { IfOk result (λ t. tree t ≡ tree self.now) }
+    {
+        match self {
+            Term::Node { label, kids } => {
+                let mut copies = Vec::with_capacity(alloc, kids.len())?;
+                for kid in kids {
+                    copies.push(kid.copy(alloc)?)?;
+                }
+                Ok(Term::Node {
+                    label: *label,
+                    kids: copies,
+                })
+            }
+            Term::Lex { kind, text } => Ok(Term::Lex {
+                kind: *kind,
+                text: text.copy(alloc)?,
+            }),
+            Term::Var(variable) => Ok(Term::Var(*variable)),
+        }
+    }
+
+    /// The part at the path, or None where the path leaves the tree.
+    pub fn at(&self, path: &Path) -> Option<&Term>
+        ensures { MatchOption result (part_at (tree self.now) path.now.steps.items ≡ None)
+            (λ part. part_at (tree self.now) path.now.steps.items ≡ Some (tree part.now)) }
+    {
+        let mut here = self;
+        for step in &path.steps {
+            match here {
+                Term::Node { label: _, kids } => match kids.get(*step as usize) {
+                    Some(kid) => here = kid,
+                    None => return None,
+                },
+                _ => return None,
+            }
+        }
+        Some(here)
+    }
+}
+
+#[cycle(same)]
+fn same_kids(left: &[Term], right: &[Term]) -> bool
+    requires left_depth { greatest_depth (forest (map tree left.now)) ≤ 1000 }
+    requires right_depth { greatest_depth (forest (map tree right.now)) ≤ 1000 }
+    ensures { IsTrue result ↔ (map tree left.now ≡ map tree right.now) }
+{
+    if left.len() != right.len() {
+        return false;
+    }
+    for i in 0..left.len() {
+        if !left[i].same(&right[i]) {
+            return false;
+        }
+    }
+    true
+}

@@ -1,0 +1,69 @@
+//! Texts: byte lists that are always UTF-8.
+
+ghost use Rattle.std.specs.Prelude.{◌≡◌, ℕ, ◌+◌, ◌<◌, ◌≤◌, ◌↔◌, IsTrue, IfOk};
+ghost use Rattle.std.specs.Str.{IsUtf8};
+ghost use Rattle.sx_term.specs.Text.{IsMade};
+
+use crate::no_memory::NoMemory;
+use crate::text_error::TextError;
+use std::alloc::{AllocError, Global};
+use std::marker::Model;
+
+/// A byte list that is always UTF-8.
+#[derive(Debug, Drop)]
+pub struct Text {
+    string: String,
+}
+
+impl Model for Text {
+    ghost use Rattle.std.specs.Prelude.{List, ℕ, string_bytes};
+
+    ghost Value = { List ℕ };
+
+    ghost view = { λ t. string_bytes t.string };
+}
+
+impl Text {
+    /// The text with these bytes.
+    pub fn make(alloc: Global, bytes: &[u8]) -> Result<Text, TextError>
+        ensures { IsMade bytes.now result }
+    {
+        match str::from_utf8(bytes) {
+            Ok(s) => Ok(Text {
+                string: String::from_str(alloc, s)?,
+            }),
+            Err(e) => Err(TextError::NotUtf8(e.valid_up_to())),
+        }
+    }
+
+    /// The bytes of the text, which are UTF-8.
+    pub fn bytes(&self) -> &[u8]
+        ensures value { result.now ≡ self.now }
+        ensures utf8 { IsUtf8 result.now }
+    {
+        self.string.as_str().as_bytes()
+    }
+
+    /// The text as a `str`.
+    pub fn as_str(&self) -> &str
+        ensures { result.now ≡ self.now }
+    {
+        self.string.as_str()
+    }
+
+    /// An equal text.
+    pub fn copy(&self, alloc: Global) -> Result<Text, NoMemory>
+        ensures { IfOk result (λ t. t ≡ self.now) }
+    {
+        Ok(Text {
+            string: String::from_str(alloc, self.string.as_str())?,
+        })
+    }
+
+    /// Whether the bytes are equal.
+    pub fn same(&self, other: &Text) -> bool
+        ensures { IsTrue result ↔ (self.now ≡ other.now) }
+    {
+        self.bytes() == other.bytes()
+    }
+}

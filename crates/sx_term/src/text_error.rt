@@ -1,0 +1,24 @@
+//! Why bytes are no text.
+
+use std::alloc::AllocError;
+use thiserror::Error;
+
+/// Why bytes are no text.
+#[derive(Debug, Drop, Error)]
+pub enum TextError {
+    #[error("out of memory")]
+    Memory,
+    #[error("not UTF-8 at byte {0}")]
+    NotUtf8(usize),
+}
+
+impl From<AllocError> for TextError {
+    ghost use Rattle.std.specs.Prelude.{◌≡◌};
+    ghost use Rattle.sx_term.specs.declared.text_error.TextError.TheVariants.{Memory};
+
+    ghost from_gives = { λ _ e. e ≡ Memory };
+
+    fn from(_e: AllocError) -> TextError {
+        TextError::Memory
+    }
+}
