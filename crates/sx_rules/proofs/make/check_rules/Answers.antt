@@ -1,0 +1,11 @@
+use Rattle.sx_term.specs.Shapes.{shapes}
+use Rattle.sx_rules.specs.Views.{forms}
+use Rattle.sx_rules.proofs.SetLaws.{rule_shallow_at, refused_here}
+use Rattle.sx_rules.proofs.make.check_rules.Goals as goal
+
+pub check_rule-requires : goal.check_rule-requires
+check_rule-requires c = rule_shallow_at c.args.rules.now c.loop-i.i c.index-rules-i.result c.requires c.loop-i-test.true c.index-rules-i.is
+
+pub returns-in-Err : goal.returns-in-Err
+returns-in-Err c =
+    refused_here (shapes c.args.all.now) (forms c.args.known.now) c.args.rules.now c.loop-i.i c.index-rules-i.result c.loop-i-test.true c.index-rules-i.is c.loop-i.invariant.bad c.in-Err.e c.in-Err.ensures

@@ -1,0 +1,37 @@
+-- Laws of good rules and their breaches.
+use Rattle.std.specs.Prelude.{◌≡◌, ℕ, List, ◌↔◌, None}
+use Rattle.sx_rules.specs.declared.error.RuleError.{RuleError}
+use Rattle.sx_rules.specs.Rules.{Rule}
+use Rattle.sx_rules.specs.Modes.{IsModed}
+use Rattle.sx_term.specs.Sorts.{Shape}
+use Rattle.sx_rules.specs.Sorts.{FormSorts, RuleIsSorted}
+use Rattle.sx_rules.specs.Discipline.{IsDisciplined}
+use Rattle.sx_rules.specs.Views.{FormData, NamedRule, modes_of, subjects_in, sorts_of}
+use Rattle.sx_rules.specs.Fits.{RuleFits}
+use Rattle.sx_rules.specs.Subjects.{broken_part}
+use Rattle.sx_rules.specs.Unmoded.{unbound}
+use Rattle.sx_rules.specs.Good.{IsGood, IsBreach}
+
+-- no part is broken exactly where the rule is disciplined
+abbrev pub NoneBrokenIsDisciplined : Type 0
+NoneBrokenIsDisciplined = (forms : List FormData) (rule : Rule) → (broken_part forms rule ≡ None) ↔ IsDisciplined (subjects_in forms) rule
+
+-- no variable of a well sorted rule is unbound exactly where the rule is moded
+abbrev pub NoneUnboundIsModed : Type 0
+NoneUnboundIsModed = (shapes : List Shape) (forms : List FormData) (rule : Rule) → RuleFits shapes forms rule → (unbound forms rule ≡ None) ↔ IsModed (modes_of forms) rule
+
+-- a good rule has no breach
+abbrev pub GoodHasNoBreach : Type 0
+GoodHasNoBreach = (shapes : List Shape) (forms : List FormData) (names : List (List ℕ)) (r : NamedRule) (e : RuleError) → IsGood shapes forms names r → IsBreach shapes forms names r e → ⊥
+
+-- a rule without a breach is good
+abbrev pub NoBreachIsGood : Type 0
+NoBreachIsGood = (shapes : List Shape) (forms : List FormData) (names : List (List ℕ)) (r : NamedRule) → ((e : RuleError) → IsBreach shapes forms names r e → ⊥) → IsGood shapes forms names r
+
+-- a rule has one breach at most
+abbrev pub BreachIsUnique : Type 0
+BreachIsUnique = (shapes : List Shape) (forms : List FormData) (names : List (List ℕ)) (r : NamedRule) (e g : RuleError) → IsBreach shapes forms names r e → IsBreach shapes forms names r g → e ≡ g
+
+-- a rule that fits the forms is well sorted
+abbrev pub FittingIsSorted : Type 0
+FittingIsSorted = (shapes : List Shape) (forms : List FormData) (rule : Rule) → RuleFits shapes forms rule → RuleIsSorted shapes (sorts_of forms) rule

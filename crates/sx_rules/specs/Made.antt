@@ -1,0 +1,14 @@
+-- What making a rule set answers.
+use Rattle.std.specs.Prelude.{◌≡◌, ℕ, List, map, Result, Ok, Err}
+use Rattle.sx_rules.specs.declared.rule_set.RuleSet.{RuleSet}
+use Rattle.sx_rules.specs.declared.error.RuleError.{RuleError}
+use Rattle.sx_term.specs.Sorts.{Shape}
+use Rattle.sx_term.specs.Shapes.{shapes}
+use Rattle.sx_rules.specs.Views.{FormData, NamedRule, forms, named}
+use Rattle.sx_rules.specs.Good.{IsRuleSet, IsRefused}
+
+-- the set has these shapes, forms and rules, and they are a rule set; or why they are none
+abbrev pub IsMade : List Shape → List FormData → List NamedRule → Result RuleSet RuleError → Type 0
+IsMade all known rules (Ok set) =
+    (shapes set.shapes ≡ all) × (forms set.forms.items ≡ known) × (map named set.rules.items ≡ rules) × IsRuleSet all known rules
+IsMade all known rules (Err e) = IsRefused all known rules e

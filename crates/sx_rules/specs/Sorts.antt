@@ -1,0 +1,40 @@
+use Rattle.std.specs.Prelude.{◌≡◌, ℕ, List, [], ◌∷◌, Some, slice_get}
+use Rattle.sx_term.specs.declared.lex_kind.LexKind.{LexKind}
+use Rattle.sx_term.specs.Tree.{Tree, Trees, node, lexeme, hole, none, ◌▹◌}
+use Rattle.sx_term.specs.declared.sort.Sort.{Sort}
+use Rattle.sx_term.specs.declared.sort.Sort.TheVariants.{Lex, Typed}
+use Rattle.sx_rules.specs.Rules.{Judgement, Premise, holds, apart, Rule}
+use Rattle.sx_term.specs.Sorts.{Shape, HasSort, HaveSorts}
+use Rattle.sx_rules.specs.Modes.{Modes, inputs, Goal}
+
+-- the sort is lexical or plain
+abbrev pub IsUntypedSort : Sort → Type 0
+IsUntypedSort sort = (k : ℕ) → sort ≡ Typed k → ⊥
+
+-- for each form's number, the sorts of its places
+abbrev pub FormSorts : Type 0
+FormSorts = ℕ → List Sort
+
+abbrev pub JudgementIsSorted : List Shape → FormSorts → List Sort → Judgement → Type 0
+JudgementIsSorted shapes forms vars j = HaveSorts shapes vars j.places (forms j.form)
+
+abbrev pub GoalIsSorted : List Shape → FormSorts → Modes → List Sort → Goal → Type 0
+GoalIsSorted shapes forms modes vars goal = HaveSorts shapes vars goal.terms (inputs (modes goal.form) (forms goal.form))
+
+abbrev pub PremisesAreSorted : List Shape → FormSorts → List Sort → List Premise → Type 0
+PremisesAreSorted shapes forms vars [] = Unit {0}
+PremisesAreSorted shapes forms vars (holds j ∷ ps) = JudgementIsSorted shapes forms vars j × PremisesAreSorted shapes forms vars ps
+PremisesAreSorted shapes forms vars (apart t u ∷ ps) =
+    ((kind : LexKind) × HasSort shapes vars t (Lex kind) × HasSort shapes vars u (Lex kind)) × PremisesAreSorted shapes forms vars ps
+
+abbrev pub RuleIsSorted : List Shape → FormSorts → Rule → Type 0
+RuleIsSorted shapes forms rule =
+    JudgementIsSorted shapes forms rule.sorts rule.conclusion × PremisesAreSorted shapes forms rule.sorts rule.premises
+
+abbrev pub RulesAreSorted : List Shape → FormSorts → List Rule → Type 0
+RulesAreSorted shapes forms [] = Unit {0}
+RulesAreSorted shapes forms (r ∷ rs) = RuleIsSorted shapes forms r × RulesAreSorted shapes forms rs
+
+abbrev pub JudgementsAreSorted : List Shape → FormSorts → List Sort → List Judgement → Type 0
+JudgementsAreSorted shapes forms vars [] = Unit {0}
+JudgementsAreSorted shapes forms vars (j ∷ js) = JudgementIsSorted shapes forms vars j × JudgementsAreSorted shapes forms vars js
