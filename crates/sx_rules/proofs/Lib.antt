@@ -5,4 +5,14 @@ pub mod ModeLaws
 pub mod SubjectLaws
 pub mod SetLaws
 pub mod Decided
-pub mod TermsLaws
+pub mod ProofRows
+pub mod Instancing
+pub mod Moded
+pub mod Derived
+pub mod Unique
+pub mod Sorted
+pub mod Disciplined
+pub mod NameLaws
+pub mod Facts
+pub mod ListLaws
+pub mod TallyLaws

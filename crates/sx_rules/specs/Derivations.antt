@@ -3,6 +3,7 @@ use Rattle.std.specs.Prelude.{◌≡◌, ℕ, zero, suc, ◌+◌, ◌≤◌, max
 use Rattle.sx_term.specs.Tree.{Tree, depth_of}
 use Rattle.sx_rules.specs.Instances.{instance, bound_by}
 use Rattle.sx_rules.specs.Rules.{Judgement, Rule, Hypotheses, judgement_instance, judgements_of, AllApart}
+pub use Rattle.sx_rules.specs.Deep.{AreShallow}
 
 infixr 40 ◌⊳◌
 -- a derivation: by a rule, with a term for each of its variables and a proof for each judgement among its premises, or a given
@@ -89,11 +90,6 @@ abbrev mutual
   pub most_height : Proofs → ℕ
   most_height no_more = 0
   most_height (p ⊳ ps) = max (height_of p) (most_height ps)
-
--- all terms have a depth of at most 1,000
-abbrev pub AreShallow : List Tree → Type 0
-AreShallow [] = Unit {0}
-AreShallow (t ∷ ts) = (depth_of t ≤ 1000) × AreShallow ts
 
 -- all terms bound in the proof have a depth of at most 1,000
 abbrev mutual

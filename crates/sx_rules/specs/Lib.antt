@@ -12,7 +12,15 @@ pub mod Unmoded
 pub mod Good
 pub mod Made
 pub mod Laws
-pub mod TermsText
 pub mod Derivations
 pub mod Orders
 pub mod First
+pub mod Sets
+pub mod ProofView
+pub mod Typed
+pub mod DerivationLaws
+pub mod EntryView
+pub mod RuleNames
+pub mod ListText
+pub mod ListRead
+pub mod ListLaws

@@ -6,6 +6,7 @@ use Rattle.sx_term.specs.declared.sort.Sort.TheVariants.{Lex, Typed}
 use Rattle.sx_rules.specs.Rules.{Judgement, Premise, holds, apart, Rule}
 use Rattle.sx_term.specs.Sorts.{Shape, HasSort, HaveSorts}
 use Rattle.sx_rules.specs.Modes.{Modes, inputs, Goal}
+use Rattle.sx_rules.specs.Derivations.{Proof, Proofs, by, given, no_more, ◌⊳◌}
 
 -- the sort is lexical or plain
 abbrev pub IsUntypedSort : Sort → Type 0
@@ -38,3 +39,14 @@ RulesAreSorted shapes forms (r ∷ rs) = RuleIsSorted shapes forms r × RulesAre
 abbrev pub JudgementsAreSorted : List Shape → FormSorts → List Sort → List Judgement → Type 0
 JudgementsAreSorted shapes forms vars [] = Unit {0}
 JudgementsAreSorted shapes forms vars (j ∷ js) = JudgementIsSorted shapes forms vars j × JudgementsAreSorted shapes forms vars js
+
+-- each node's bindings have the sorts of its rule's variables
+abbrev mutual
+  pub ProofIsSorted : List Shape → List Rule → List Sort → Proof → Type 0
+  ProofIsSorted shapes rules vars (given i) = Unit {0}
+  ProofIsSorted shapes rules vars (by r binds kids) =
+      (rule : Rule) × (slice_get rules r ≡ Some rule) × HaveSorts shapes vars binds rule.sorts × ProofsAreSorted shapes rules vars kids
+
+  pub ProofsAreSorted : List Shape → List Rule → List Sort → Proofs → Type 0
+  ProofsAreSorted shapes rules vars no_more = Unit {0}
+  ProofsAreSorted shapes rules vars (p ⊳ ps) = ProofIsSorted shapes rules vars p × ProofsAreSorted shapes rules vars ps

@@ -1,5 +1,5 @@
 -- The first part of the subject discipline that a rule breaks.
-use Rattle.std.specs.Prelude.{ℕ, ◌+◌, Bool, true, false, List, [], ◌∷◌, ◌++◌, Option, Some, None, map, slice_get, if◌then◌else◌, nat_eq}
+use Rattle.std.specs.Prelude.{◌≡◌, ℕ, ◌+◌, ◌<◌, length, slice_index_or, Bool, true, false, List, [], ◌∷◌, ◌++◌, Option, Some, None, map, slice_get, if◌then◌else◌, nat_eq}
 use Rattle.std.specs.List.{list_all}
 use Rattle.sx_term.specs.Tree.{Tree, node, lexeme, hole}
 use Rattle.sx_term.specs.declared.sort.Sort.{Sort}
@@ -50,6 +50,10 @@ is_other Other = true
 abbrev pub count_in : ℕ → List ℕ → ℕ
 count_in v [] = 0
 count_in v (w ∷ ws) = (if nat_eq v w then 1 else 0) + count_in v ws
+
+-- at each place stands how often the number of that place is in the list
+abbrev pub AreCounts : List ℕ → List ℕ → Type 0
+AreCounts counts all = (v : ℕ) → v < length counts → slice_index_or counts v 0 ≡ count_in v all
 
 -- a bare subject that does not stand just once among the variables of the conclusion's subject
 abbrev pub is_not_once : List ℕ → Subject → Bool

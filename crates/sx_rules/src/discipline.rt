@@ -11,10 +11,9 @@ ghost use Rattle.sx_rules.specs.Subjects as spec;
 use crate::chosen::{Part, is_part, place_at, places_of, put_part};
 use crate::fitting::sort_at;
 use crate::rule::{Form, Place, Premise, Rule};
-use sx_term::Sort;
 use crate::subject::Subject;
 use std::alloc::Global;
-use sx_term::{NoMemory, Term};
+use sx_term::{NoMemory, Sort, Term};
 
 fn bare_or_other(term: &Term) -> Subject
     ensures { result ≡ spec.bare_or_other (tree term.now) }
@@ -87,12 +86,41 @@ fn count_in(number: u32, all: &[u32]) -> usize
     count
 }
 
-fn is_not_once(uses: &[u32], it: Subject) -> bool
+/// How often each of the first `many` variables stands in the list.
+fn tally(alloc: Global, many: usize, all: &[u32]) -> Result<Vec<usize>, NoMemory>
+    ensures { IfOk result (λ x. spec.AreCounts x.items all.now) }
+{
+    let mut counts = Vec::new(alloc);
+    counts.resize(many, 0usize)?;
+    for i in 0..all.len() {
+        let variable = all[i] as usize;
+        if variable >= counts.len() {
+            continue;
+        }
+        counts[variable] += 1;
+    }
+    Ok(counts)
+}
+
+/// How often the variable stands among the uses, of which the first variables are counted.
+fn count_of(counts: &[usize], uses: &[u32], variable: u32) -> usize
+    requires { spec.AreCounts counts.now uses.now }
+    ensures { result ≡ spec.count_in variable uses.now }
+{
+    let i = variable as usize;
+    if i < counts.len() {
+        return counts[i];
+    }
+    count_in(variable, uses)
+}
+
+fn is_not_once(counts: &[usize], uses: &[u32], it: Subject) -> bool
+    requires { spec.AreCounts counts.now uses.now }
     ensures { result ≡ spec.is_not_once uses.now it }
 {
     match it {
         Subject::Absent => false,
-        Subject::Bare(variable) => count_in(variable, uses) != 1,
+        Subject::Bare(variable) => count_of(counts, uses, variable) != 1,
         Subject::Other => false,
     }
 }
@@ -142,11 +170,12 @@ fn first_other(subjects: &[Subject]) -> Option<usize>
 }
 
 /// The number of the first subject that does not stand once among the uses.
-fn first_not_once(uses: &[u32], subjects: &[Subject]) -> Option<usize>
+fn first_not_once(counts: &[usize], uses: &[u32], subjects: &[Subject]) -> Option<usize>
+    requires { spec.AreCounts counts.now uses.now }
     ensures { result ≡ spec.first_at (spec.is_not_once uses.now) 1 subjects.now }
 {
     for i in 0..subjects.len() {
-        if is_not_once(uses, subjects[i]) {
+        if is_not_once(counts, uses, subjects[i]) {
             return Some(i + 1);
         }
     }
@@ -200,13 +229,19 @@ fn are_settled(sorts: &[Sort], subjects: &[Subject], uses: &[u32]) -> bool
 }
 
 /// The first part that is broken, and the number of the first premise that breaks it, or 0.
-fn broken(sorts: &[Sort], subjects: &[Subject], uses: &[u32]) -> Option<(u8, usize)>
+fn broken(
+    counts: &[usize],
+    sorts: &[Sort],
+    subjects: &[Subject],
+    uses: &[u32],
+) -> Option<(u8, usize)>
+    requires { spec.AreCounts counts.now uses.now }
     ensures { result ≡ spec.broken sorts.now subjects.now uses.now }
 {
     if let Some(number) = first_other(subjects) {
         return Some((1, number));
     }
-    if let Some(number) = first_not_once(uses, subjects) {
+    if let Some(number) = first_not_once(counts, uses, subjects) {
         return Some((2, number));
     }
     if let Some(number) = first_again(subjects) {
@@ -234,5 +269,6 @@ pub fn broken_part(
     let mut uses = Vec::new(alloc);
     let places = places_of(known, it.conclusion.form);
     put_part(Part::Subjects, places, &it.conclusion.places, &mut uses)?;
-    Ok(broken(&it.vars, &subjects, &uses))
+    let counts = tally(alloc, it.vars.len(), &uses)?;
+    Ok(broken(&counts, &it.vars, &subjects, &uses))
 }

@@ -2,22 +2,41 @@
 #![tactic(auto)]
 
 mod chosen;
+mod copying;
+mod derivation_laws;
 mod discipline;
+mod entry;
 mod error;
+mod extend;
 mod fitting;
 mod laws;
+mod list_error;
+mod list_reading;
+mod list_writing;
+mod look_up;
 mod make;
 mod modes;
+mod names;
+mod order;
+mod proof;
 mod rule;
 mod rule_set;
 mod subject;
-mod terms_row;
 
+pub use derivation_laws::{
+    derivations_are_sorted, discipline_suffices, grafts_are_derivations, order_is_unique,
+    substitution_keeps_derivations,
+};
+pub use entry::Entry;
 pub use error::RuleError;
 pub use laws::{
     breach_is_unique, fitting_is_sorted, good_has_no_breach, no_breach_is_good,
     none_broken_is_disciplined, none_unbound_is_moded,
 };
+pub use list_error::ListError;
+pub use list_reading::{read_list, written_list_is_read};
+pub use list_writing::write_list;
+pub use order::preorder;
+pub use proof::Proof;
 pub use rule::{Form, Goal, Hyps, Judgement, Place, Premise, Role, Rule};
 pub use rule_set::RuleSet;
-pub use terms_row::{RowError, read_terms};

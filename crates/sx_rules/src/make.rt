@@ -1,48 +1,37 @@
 //! Making a rule set.
 
-ghost use Rattle.std.specs.Prelude.{◌≡◌, ℕ, ◌≤◌, ◌↔◌, IsTrue, IfOk, map, MatchOption, slice_get, Some, None};
+ghost use Rattle.std.specs.Prelude.{◌≡◌, ◌≤◌, [], map, OnOk};
 ghost use Rattle.sx_rules.specs.Deep.{RuleIsShallow, RulesAreShallow};
 ghost use Rattle.sx_term.specs.Shapes.{shape, shapes};
 ghost use Rattle.sx_rules.specs.Views.{forms, named, rule};
-ghost use Rattle.sx_rules.specs.Good.{IsAmong, IsChecked, AreChecked, names_of};
+ghost use Rattle.sx_rules.specs.Good.{IsChecked, AreChecked, names_of};
 ghost use Rattle.sx_rules.specs.Made.{IsMade};
 
 use crate::discipline::broken_part;
 use crate::error::RuleError;
 use crate::fitting::rule_fits;
 use crate::modes::unbound;
+use crate::names::Names;
 use crate::rule::{Form, Rule};
 use crate::rule_set::RuleSet;
 use std::alloc::Global;
-use sx_term::{NoMemory, Shapes, Text};
+use sx_term::Shapes;
 
-/// Whether a rule has the name.
-fn has_name(all: &[Rule], name: &Text) -> bool
-    ensures { IsTrue result ↔ IsAmong name.now (names_of all.now) }
-{
-    for i in 0..all.len() {
-        if all[i].name.same(name) {
-            return true;
-        }
-    }
-    false
-}
-
-/// Checks one rule, after those that were seen.
+/// Checks one rule, after those with these names.
 fn check_rule(
     alloc: Global,
     all: &Shapes,
     known: &[Form],
-    seen: &[Rule],
+    seen: &Names,
     it: &Rule,
 ) -> Result<(), RuleError>
     requires { RuleIsShallow (rule it.now) }
-    ensures { IsChecked (shapes all.now) (forms known.now) (names_of seen.now) (named it.now) result }
+    ensures { IsChecked (shapes all.now) (forms known.now) seen.now (named it.now) result }
 {
     if it.vars.len() > 64 {
         return Err(RuleError::TooManyVars(it.name.copy(alloc)?));
     }
-    if has_name(seen, &it.name) {
+    if seen.number(it.name.bytes()).is_some() {
         return Err(RuleError::SameRule(it.name.copy(alloc)?));
     }
     if !rule_fits(all, known, it) {
@@ -57,16 +46,26 @@ fn check_rule(
     Ok(())
 }
 
-/// Checks the rules in order.
-fn check_rules(alloc: Global, all: &Shapes, known: &[Form], rules: &[Rule]) -> Result<(), RuleError>
-    requires { RulesAreShallow (map rule rules.now) }
-    ensures { AreChecked (shapes all.now) (forms known.now) (map named rules.now) result }
+/// Checks the rules in order, and notes their names.
+fn check_rules(
+    alloc: Global,
+    all: &Shapes,
+    known: &[Form],
+    rules: &[Rule],
+    names: &mut Names,
+) -> Result<(), RuleError>
+    requires shallow { RulesAreShallow (map rule rules.now) }
+    requires none { names.old ≡ [] }
+    ensures checked { AreChecked (shapes all.now) (forms known.now) (map named rules.now) result }
+    ensures names { OnOk result (names.new ≡ names_of rules.now) }
 {
     for i in 0..rules.len() {
-        match check_rule(alloc, all, known, &rules[..i], &rules[i]) {
+        let it = &rules[i];
+        match check_rule(alloc, all, known, names, it) {
             Ok(()) => {}
             Err(e) => return Err(e),
         }
+        names.push(alloc, it.name.bytes())?;
     }
     Ok(())
 }
@@ -85,7 +84,8 @@ impl RuleSet {
         if rules.len() > 4096 {
             return Err(RuleError::TooManyRules);
         }
-        match check_rules(alloc, all, known.as_slice(), rules.as_slice()) {
+        let mut names = Names::new(alloc);
+        match check_rules(alloc, all, known.as_slice(), rules.as_slice(), &mut names) {
             Ok(()) => {}
             Err(e) => return Err(e),
         }
@@ -94,53 +94,7 @@ impl RuleSet {
             shapes,
             forms: known,
             rules,
+            names,
         })
     }
-
-    /// The forms.
-    pub fn forms(&self) -> &[Form]
-        ensures { forms result.now ≡ forms self.now.forms.items }
-    {
-        &self.forms
-    }
-
-    /// The shapes that the set was made with.
-    pub fn shapes(&self) -> &Shapes
-        ensures { shapes result.now ≡ shapes self.now.shapes }
-    {
-        &self.shapes
-    }
-
-    /// The rule with this number, or None where there is no such rule.
-    pub fn rule(&self, number: u32) -> Option<&Rule>
-        ensures { MatchOption result (slice_get (map named self.now.rules.items) number ≡ None)
-            (λ r. slice_get (map named self.now.rules.items) number ≡ Some (named r.now)) }
-    {
-        let i = number as usize;
-        if i < self.rules.len() {
-            return Some(&self.rules[i]);
-        }
-        None
-    }
-
-    /// The number of the rule with this name, or None where there is no such rule.
-    pub fn find(&self, name: &Text) -> Option<usize>
-        ensures { MatchOption result (IsAmong name.now (names_of self.now.rules.items) → ⊥)
-            (λ n. slice_get (names_of self.now.rules.items) n ≡ Some name.now) }
-    {
-        place_of(self.rules.as_slice(), name)
-    }
-}
-
-/// The place of the rule with the name.
-fn place_of(all: &[Rule], name: &Text) -> Option<usize>
-    ensures { MatchOption result (IsAmong name.now (names_of all.now) → ⊥)
-        (λ n. slice_get (names_of all.now) n ≡ Some name.now) }
-{
-    for i in 0..all.len() {
-        if all[i].name.same(name) {
-            return Some(i);
-        }
-    }
-    None
 }

@@ -1,7 +1,6 @@
 //! Forms, judgements, goals and rules.
 
-use sx_term::Sort;
-use sx_term::{Term, Text};
+use sx_term::{Sort, Term, Text};
 
 /// What a place of a form is for.
 #[derive(Clone, Copy, PartialEq, Eq, Debug)]

@@ -1,5 +1,5 @@
 -- Building the term of a core text.
-use Rattle.std.proofs.Common.{◌≡◌, ℕ, ◌+◌, ◌^◌, ◌-◌, ◌<◌, ◌≤◌, List, [], ◌∷◌, ◌++◌, map, length, length-append, length-drop, take, drop, get_or, Vec, refl, ap, ◌∙◌, sym, subst, append_assoc, append-nil, decimal, arith}
+use Rattle.std.proofs.Common.{◌≡◌, ℕ, ◌+◌, ◌^◌, ◌-◌, ◌<◌, ◌≤◌, List, [], ◌∷◌, ◌++◌, map, length, length-append, length-drop, take, drop, get_or, Vec, refl, ap, ◌∙◌, sym, subst, append_assoc, append-nil, decimal, IsUtf8, arith}
 use Rattle.std.proofs.lemmas.List.{map-append, drop-drop}
 use Rattle.std.specs.declared.alloc.Global.{Global}
 use Rattle.sx_term.specs.declared.term.Term.{Term, Node}
@@ -181,6 +181,13 @@ lexeme_room bs at colon v k x h s n =
 
 after_colon : (bs : List ℕ) (colon : ℕ) (z : List ℕ) → drop colon bs ≡ 58 ∷ z → drop (colon + 1) bs ≡ z
 after_colon bs colon z e = sym (drop-drop 1 colon bs) ∙ ap (drop 1) e
+
+-- the bytes behind the colon are UTF-8
+pub lexeme_utf8 : (bs : List ℕ) (at colon v : ℕ) (k : LexKind) (x : List ℕ) → at < length bs → Starts (drop at bs) (lexeme k x) → IsNumber (drop (at + 1) bs) 1 65535 v (drop colon bs) → IsUtf8 (take v (drop (colon + 1) bs))
+lexeme_utf8 bs at colon v k x h s n =
+    let r = lexeme_rest bs at colon v k x h s n in
+    let e : take v (drop (colon + 1) bs) ≡ x = ap (take v) (after_colon bs colon (x ++ r.1.0) r.1.1) ∙ ap (λ w. take w (x ++ r.1.0)) r.0 ∙ take-append_seam x r.1.0 in
+    subst IsUtf8 (sym e) s.0.2
 
 pub lexeme_built : (bs : List ℕ) (at colon v : ℕ) (j k : LexKind) (x made : List ℕ) → at < length bs → Starts (drop at bs) (lexeme k x) → at + 1 < colon → IsNumber (drop (at + 1) bs) 1 65535 v (drop colon bs) → (get_or bs at 0 ≡ kind_byte k → j ≡ k) → made ≡ take v (drop (colon + 1) bs) → IsBuilt bs at (lexeme j made) (colon + 1 + v)
 lexeme_built bs at colon v j k x made h s l n f e =

@@ -3,6 +3,7 @@ pub mod Parts
 pub mod Lookups
 pub mod Instances
 pub mod Matches
+pub mod CandidateLemmas
 pub mod Cores
 pub mod Languages
 pub mod Numbers
@@ -13,6 +14,7 @@ pub mod Leads
 pub mod Utf8
 pub mod Texts
 pub mod OneReading
+pub mod ReadLaws
 pub mod Builds
 pub mod Deeper
 pub mod RunLaws
@@ -22,3 +24,4 @@ pub mod SpacedLaws
 pub mod RunLemmas
 pub mod SymbolRuns
 pub mod SortLaws
+pub mod VarLemmas

@@ -1,12 +1,11 @@
 -- Sorts of nodes and of rows of terms.
-use Rattle.std.proofs.Common.{◌≡◌, ℕ, zero, suc, ◌+◌, ◌<◌, ◌≤◌, ◌↔◌, IsTrue, drop, length, get_or, map, Bool, true, false, List, [], ◌∷◌, Vec, refl, ap, ◌∙◌, sym, subst, arith, Option, Some, None}
-use Rattle.std.specs.Prelude.{slice_get, slice_index_or}
+use Rattle.std.proofs.Common.{◌≡◌, ℕ, zero, suc, ◌+◌, ◌<◌, ◌≤◌, ◌↔◌, IsTrue, drop, length, get_or, Bool, true, false, List, [], ◌∷◌, refl, ap, ◌∙◌, sym, subst, arith, Some, None}
+use Rattle.std.specs.Prelude.{slice_get}
 use Rattle.std.proofs.lemmas.List.{at_drop_more}
-use Rattle.std.specs.declared.alloc.Global.{Global}
-use Rattle.sx_term.specs.declared.term.Term.{Term, Node}
-use Rattle.sx_term.specs.Tree.{Tree, Trees, node, none, ◌▹◌, forest, depth_of}
+use Rattle.sx_term.specs.declared.term.Term.{Term}
+use Rattle.sx_term.specs.Tree.{Tree, Trees, node, ◌▹◌}
 use Rattle.sx_term.specs.Term.{tree}
-use Rattle.sx_term.proofs.Kids.{trees, trees-drop, trees-drop_all}
+use Rattle.sx_term.proofs.Kids.{trees, trees-drop}
 use Rattle.sx_term.specs.declared.sort.Sort.{Sort}
 use Rattle.sx_term.specs.Sorts.{Shape, HasSort, KidsHaveSorts}
 

@@ -1,9 +1,11 @@
+pub mod Answer
 pub mod Text
 pub mod Tree
 pub mod Term
 pub mod Bindings
 pub mod Bound
 pub mod Subst
+pub mod Candidates
 pub mod Matching
 pub mod Core
 pub mod Reading
@@ -11,5 +13,6 @@ pub mod Read
 pub mod Cutting
 pub mod Spaced
 pub mod Run
+pub mod Vars
 pub mod Sorts
 pub mod Shapes

@@ -75,10 +75,11 @@ abbrev pub ToCome : Bool → ℕ → List ℕ → Type 0
 ToCome true n = Want n
 ToCome false n = Rest n
 
--- the least and the greatest second byte of a character of three or four bytes
+-- the least second byte of a character of three or four bytes, by its first
 abbrev pub low : ℕ → ℕ
 low x = if x == 224 then 160 else (if x == 240 then 144 else 128)
 
+-- and the greatest
 abbrev pub high : ℕ → ℕ
 high x = if x == 237 then 159 else (if x == 244 then 143 else 191)
 

@@ -1,3 +1,4 @@
+-- Runs of characters.
 use Rattle.std.specs.Prelude.{ℕ, Bool}
 use Rattle.std.specs.Char.{is_ascii_digit}
 use Rattle.unicode_ident.specs.Ident.{is_xid_continue}

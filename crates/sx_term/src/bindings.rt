@@ -1,6 +1,6 @@
 //! Finite maps from variables to terms.
 
-ghost use Rattle.std.specs.Prelude.{◌≡◌, ℕ, ◌+◌, ◌-◌, ◌^◌, ◌<◌, ◌≤◌, ◌==◌, ◌++◌, ◌∷◌, [], ◌↔◌, IsTrue, IfOk, OnOk, OnErr, MatchOption, Some, None, if◌then◌else◌, slice_get, length, take, min};
+ghost use Rattle.std.specs.Prelude.{◌≡◌, ℕ, ◌+◌, ◌-◌, ◌^◌, ◌<◌, ◌≤◌, ◌==◌, ◌++◌, ◌∷◌, [], ◌↔◌, IsTrue, IfOk, IfSome, OnOk, OnErr, MatchOption, Some, None, if◌then◌else◌, slice_get, length, take, min};
 ghost use Rattle.sx_term.specs.Tree.{depth_of};
 ghost use Rattle.sx_term.specs.Term.{tree};
 ghost use Rattle.sx_term.specs.Bindings.{lookup};
@@ -11,14 +11,15 @@ use crate::no_memory::NoMemory;
 use crate::term::Term;
 use std::alloc::Global;
 
-/// A finite map from variables to terms.
+/// A finite map from variables to terms. A variable is its number, and each term that it is bound to has depth 1,000 at most.
+/// An entry is found by going through them, since a rule has few variables.
 #[derive(Drop)]
 pub struct Bindings {
     pub(crate) entries: Vec<Binding>,
 }
 
 impl Bindings {
-    /// Binds nothing.
+    /// The map that binds nothing. It takes no memory.
     pub fn new(alloc: Global) -> Bindings
         ensures { bindings result ≡ [] }
     {
@@ -27,7 +28,7 @@ impl Bindings {
         }
     }
 
-    /// The place of the first entry of the variable.
+    /// The place of the first entry of the variable, or None where it is not bound.
     fn find(&self, variable: u32) -> Option<usize>
         ensures { MatchOption result (lookup (bindings self.now) variable ≡ None)
             (λ place. IsFirstAt (bindings self.now) variable place) }
@@ -40,7 +41,7 @@ impl Bindings {
         None
     }
 
-    /// The entry of the variable.
+    /// The entry of the variable, or None where it is not bound.
     pub(crate) fn entry(&self, variable: u32) -> Option<&Binding>
         ensures { MatchOption result (lookup (bindings self.now) variable ≡ None)
             (λ b. lookup (bindings self.now) variable ≡ Some (tree b.now.term)) }
@@ -53,8 +54,9 @@ impl Bindings {
 
     /// What the variable is bound to, or None where it is not bound.
     pub fn get(&self, variable: u32) -> Option<&Term>
-        ensures { MatchOption result (lookup (bindings self.now) variable ≡ None)
+        ensures value { MatchOption result (lookup (bindings self.now) variable ≡ None)
             (λ term. lookup (bindings self.now) variable ≡ Some (tree term.now)) }
+        ensures depth { IfSome result (λ term. depth_of (tree term.now) ≤ 1000) }
     {
         match self.entry(variable) {
             Some(binding) => Some(&binding.term),
@@ -62,7 +64,7 @@ impl Bindings {
         }
     }
 
-    /// Binds the variable to the term, in place of what it was bound to.
+    /// Binds the variable to the term, in place of what it was bound to. Where memory is lacking, the map is as before.
     pub fn set(&mut self, variable: u32, term: Term) -> Result<(), NoMemory>
         requires { depth_of (tree term) ≤ 1000 }
         ensures ok { OnOk result ((v : ℕ) → lookup (bindings self.new) v
@@ -78,7 +80,7 @@ impl Bindings {
         }
     }
 
-    /// Binds a variable that is not bound.
+    /// Binds a variable that is not bound. Where memory is lacking, the map is as before.
     pub(crate) fn push(&mut self, variable: u32, term: Term) -> Result<(), NoMemory>
         requires { depth_of (tree term) ≤ 1000 }
         ensures ok { OnOk result (bindings self.new ≡ bindings self.old ++ (variable, tree term) ∷ []) }

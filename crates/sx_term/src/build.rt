@@ -1,6 +1,7 @@
 //! The core notation: the term of a core text.
 
 ghost use Rattle.std.specs.Prelude.{◌≡◌, ℕ, ◌<◌, ◌≤◌, ◌++◌, List, ◌+◌, take, drop, length, IfOk};
+ghost use Rattle.std.specs.Str.{IsUtf8};
 ghost use Rattle.sx_term.specs.Tree.{Tree, depth_of, lexeme};
 ghost use Rattle.sx_term.specs.Term.{tree};
 ghost use Rattle.sx_term.specs.Core.{core, HasCore, NoDigit};
@@ -11,6 +12,7 @@ use crate::no_memory::NoMemory;
 use crate::scan::{lead, number};
 use crate::term::Term;
 use crate::text::Text;
+use crate::text_error::TextError;
 use std::alloc::Global;
 
 /// The term whose core text begins at the place, and the place after it.
@@ -76,13 +78,15 @@ fn build_lexeme(alloc: Global, text: &[u8], at: usize) -> Result<(Term, usize), 
 
 /// The text of so many bytes at the place.
 fn text_at(alloc: Global, bytes: &[u8], start: usize, len: u32) -> Result<Text, NoMemory>
-    requires { start + len ≤ length bytes.now }
+    requires place { start + len ≤ length bytes.now }
+    requires utf8 { IsUtf8 (take len (drop start bytes.now)) }
     ensures { IfOk result (λ t. t ≡ take len (drop start bytes.now)) }
 {
     let rest = &bytes[start..];
     match Text::make(alloc, &rest[..len as usize]) {
         Ok(text) => Ok(text),
-        Err(_) => Err(NoMemory::Memory),
+        Err(TextError::Memory) => Err(NoMemory::Memory),
+        Err(TextError::NotUtf8(_)) => unreachable!(),
     }
 }
 

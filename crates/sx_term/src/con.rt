@@ -7,7 +7,7 @@ use crate::no_memory::NoMemory;
 use crate::sort::Sort;
 use std::alloc::Global;
 
-/// A constructor: its sort and the sorts of its parts.
+/// A constructor of terms: the sort of what it makes, and the sorts of its parts in order.
 #[derive(Drop)]
 pub struct Con {
     pub sort: Sort,
@@ -15,7 +15,7 @@ pub struct Con {
 }
 
 impl Con {
-    /// An equal constructor.
+    /// An equal constructor. The one refusal is want of memory.
     pub fn copy(&self, alloc: Global) -> Result<Con, NoMemory>
         ensures { IfOk result (λ x. shape x ≡ shape self.now) }
     {

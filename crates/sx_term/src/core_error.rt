@@ -3,15 +3,19 @@
 use crate::no_memory::NoMemory;
 use thiserror::Error;
 
-/// The first byte that can't stand where it does, or the depth of a text that is too deep.
+/// Why no core text is read at a place.
 #[derive(Debug, Drop, Error)]
 pub enum CoreError {
+    /// Memory is lacking.
     #[error("out of memory")]
     Memory,
+    /// No core text stands at the place. The byte with this number, from 0, is the first that can't stand where it does; it is the
+    /// number of bytes where the text is cut off.
     #[error("bad core text at byte {0}")]
     BadCore(usize),
+    /// A core text stands there, of a term with this depth, which is more than 1,000.
     #[error("depth {0} is over 1000")]
-    TooDeep(usize),
+    TooDeep(u64),
 }
 
 impl From<NoMemory> for CoreError {

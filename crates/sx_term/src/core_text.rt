@@ -10,7 +10,9 @@ use crate::no_memory::NoMemory;
 use crate::term::Term;
 use std::alloc::Global;
 
-/// Appends the core text of the term.
+/// Appends the core text of the term: `(`, the label and the kids, each behind a blank, and `)` for a node; the first letter of
+/// its kind, the number of its bytes, `:` and the bytes for a lexeme; `?` and the number for a variable. Where memory is lacking,
+/// `into` is as before.
 pub fn write_core(alloc: Global, term: &Term, into: &mut Vec<u8>) -> Result<(), NoMemory>
     requires depth { depth_of (tree term.now) ≤ 1000 }
     requires writable { IsWritable (tree term.now) }
@@ -62,6 +64,7 @@ fn append_core(alloc: Global, term: &Term, into: &mut Vec<u8>) -> Result<(), NoM
     }
 }
 
+/// The letter of the kind.
 fn byte_of_kind(kind: LexKind) -> u8
     ensures { result ≡ kind_byte kind }
 {
@@ -72,7 +75,7 @@ fn byte_of_kind(kind: LexKind) -> u8
     }
 }
 
-/// Appends the number without leading zeros.
+/// Appends the number in decimal, without leading zeros.
 fn append_decimal(alloc: Global, number: u32, into: &mut Vec<u8>) -> Result<(), NoMemory>
     ensures ok { OnOk result (into.new.items ≡ into.old.items ++ decimal number) }
     ensures err { OnErr result (into.new.items ≡ into.old.items) }

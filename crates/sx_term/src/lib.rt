@@ -1,9 +1,20 @@
 //! Terms: what every other crate of soundx speaks of.
+//!
+//! - Terms and what they are made of: `Term`, `LexKind`, `Text`, `Path`; the names of variables: `Vars`.
+//! - Sorts of terms: `Sort`, `Con`, `Shapes`.
+//! - Instances and matching: `Bindings`, `subst`, `match_term`, `Fit`.
+//! - Core notation, in which a term is one line of text: `write_core`, `read_core`, and the laws that join them.
+//! - Tokens: `Mark`, `literal_shape`, the runs of characters in `runs`, and the laws of cutting a text into tokens.
+//! - `Steps` counts the tries of a search.
+//!
+//! Contracts see a term as a plain tree (`specs/Tree.antt`), a text as its bytes, bindings as a list of variables with trees, and
+//! shapes as lists of sorts. What a call that can refuse answers is one definition by cases on its result, in which `Memory` is free.
 #![tactic(auto)]
 
 mod binding;
 mod bindings;
 mod build;
+mod candidate;
 mod con;
 mod core_error;
 mod core_text;
@@ -25,8 +36,11 @@ mod sort;
 mod steps;
 mod term;
 mod term_error;
+#[cfg(test)]
+mod tests;
 mod text;
 mod text_error;
+mod vars;
 
 pub use bindings::Bindings;
 pub use con::Con;
@@ -35,7 +49,7 @@ pub use core_text::write_core;
 pub use cutting_laws::{one_outcome, spaced_is_cut};
 pub use fit::Fit;
 pub use instance::subst;
-pub use laws::{one_reading, read_again};
+pub use laws::{one_reading, read_again, written_core_is_read};
 pub use lex_kind::LexKind;
 pub use literal::{LiteralShape, literal_shape};
 pub use mark::Mark;
@@ -50,3 +64,4 @@ pub use term::Term;
 pub use term_error::TermError;
 pub use text::Text;
 pub use text_error::TextError;
+pub use vars::Vars;

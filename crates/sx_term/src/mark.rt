@@ -2,10 +2,13 @@
 
 use crate::lex_kind::LexKind;
 
-/// What a token is: a literal by its place in the list of literals, a lexeme, or a metavariable.
+/// What a token is.
 #[derive(Clone, Copy, PartialEq, Eq, Debug)]
 pub enum Mark {
+    /// A literal, by its place in the list of literals, from 0.
     Lit(u32),
+    /// A lexeme of this kind.
     Lex(LexKind),
+    /// A metavariable of a rule: `~` and its word.
     Meta,
 }

@@ -3,9 +3,10 @@
 use std::alloc::{AllocError, AllocFailed};
 use thiserror::Error;
 
-/// Memory is lacking.
+/// Memory is lacking: the one refusal of a call that otherwise always answers.
 #[derive(Debug, Drop, Error)]
 pub enum NoMemory {
+    /// The allocator refused.
     #[error("out of memory")]
     Memory,
 }

@@ -11,19 +11,26 @@ use unicode_ident::{is_xid_continue, is_xid_start};
 /// The characters of which a run is made.
 #[derive(Clone, Copy)]
 pub enum Run {
+    /// The characters that can go on with a word.
     Word,
+    /// The ASCII digits.
     Digits,
+    /// What may stand between the quotes of a string: any but a quote and a line feed.
     Inside,
+    /// What may stand in a comment: any but a line feed.
     Line,
+    /// The symbol characters.
     Symbols,
 }
 
+/// Whether the character is ASCII punctuation other than `"`, `_` and `~`.
 pub fn is_symbol(c: char) -> bool
     ensures { result ≡ is_symbol c }
 {
     c.is_ascii_punctuation() && !(c == '"' || (c == '_' || c == '~'))
 }
 
+/// Whether the character goes on with the run.
 fn passes(run: Run, c: char) -> bool
     ensures { result ≡ passes run c }
 {
@@ -36,7 +43,7 @@ fn passes(run: Run, c: char) -> bool
     }
 }
 
-/// How many bytes the run at the front of the text takes.
+/// How many bytes the longest run at the front of the text takes.
 pub fn run_len(run: Run, text: &str) -> usize
     ensures run { IsMaximalRun (passes run) (take result text.now) (drop result text.now) }
     ensures bound { result ≤ length text.now }
@@ -45,13 +52,14 @@ pub fn run_len(run: Run, text: &str) -> usize
     text.find(|c: char| !passes(run, c)).unwrap_or(text.len())
 }
 
+/// Whether a word can begin with the character.
 fn begins_word(c: char) -> bool
     ensures { result ≡ begins_word c }
 {
     is_xid_start(c) || c == '_'
 }
 
-/// The first character of the text.
+/// The first character of the text, or None of an empty text.
 pub fn first_char(text: &str) -> Option<char>
     ensures none { IfNone result (text.now ≡ []) }
     ensures some { IfSome result (λ c. text.now ≡ encode_utf8 c ++ drop (len_utf8 c) text.now) }

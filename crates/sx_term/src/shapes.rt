@@ -12,7 +12,7 @@ use crate::sort::Sort;
 use crate::term::Term;
 use std::alloc::Global;
 
-/// The constructors of the labels 0, 1, 2 and so on.
+/// The constructors of the labels 0, 1, 2 and so on, by which terms are well sorted.
 #[derive(Drop)]
 pub struct Shapes {
     pub cons: Vec<Con>,
@@ -25,7 +25,7 @@ fn same_sort(left: Sort, right: Sort) -> bool
     left == right
 }
 
-/// The sort of a variable.
+/// The sort of the variable with this number, or None where there is no such number.
 fn sort_at(vars: &[Sort], variable: u32) -> Option<Sort>
     ensures { result ≡ slice_get vars.now variable }
 {
@@ -37,7 +37,7 @@ fn sort_at(vars: &[Sort], variable: u32) -> Option<Sort>
 }
 
 impl Shapes {
-    /// The constructor of the label.
+    /// The constructor of the label, or None where there is no such label.
     fn con(&self, label: u32) -> Option<&Con>
         ensures { MatchOption result (slice_get (shapes self.now) label ≡ None)
             (λ con. slice_get (shapes self.now) label ≡ Some (shape con.now)) }
@@ -49,7 +49,7 @@ impl Shapes {
         None
     }
 
-    /// Whether the term has the sort, where the variables have these sorts.
+    /// Whether the term is well sorted and has the sort, where the variables 0, 1, 2 and so on have these sorts.
     #[cycle(fits)]
     pub fn fits(&self, term: &Term, vars: &[Sort], sort: Sort) -> bool
         requires { depth_of (tree term.now) ≤ 1000 }
@@ -73,7 +73,7 @@ impl Shapes {
         }
     }
 
-    /// Equal shapes.
+    /// Equal shapes. The one refusal is want of memory.
     pub fn copy(&self, alloc: Global) -> Result<Shapes, NoMemory>
         ensures { IfOk result (λ x. shapes x ≡ shapes self.now) }
     {

@@ -5,7 +5,8 @@ ghost use Rattle.std.specs.Prelude.{◌≡◌, ℕ, ◌+◌, ◌<◌};
 use std::marker::Model;
 use std::sync::ledger::{Blank, Book, Ledger, Share};
 
-/// How many tries were made. It takes no bytes, and only `tick` changes it.
+/// How many tries a search has made. One tick is one try: a hypothesis or a rule is held against a goal. The count stands in the
+/// ledger `L` of proofs alone, so that it takes no bytes and has no greatest value, and only `tick` changes it.
 #[derive(Drop)]
 pub struct Steps<L: Ledger> {
     book: Book<L>,
@@ -21,6 +22,7 @@ impl<L: Ledger> Model for Steps<L> {
 }
 
 impl<L: Ledger> Steps<L> {
+    /// No tries, in a ledger that is blank.
     pub fn new(blank: Blank) -> Steps<L>
         requires name { blank.name ≡ L.name }
         requires parts { blank.parts ≡ L.parts }
@@ -31,6 +33,7 @@ impl<L: Ledger> Steps<L> {
         Steps { book, share }
     }
 
+    /// Counts one try.
     pub fn tick(&mut self)
         ensures { self.new ≡ self.old + 1 }
     {

@@ -1,6 +1,6 @@
 //! Terms: nodes, lexemes and variables.
 
-ghost use Rattle.std.specs.Prelude.{◌≡◌, ℕ, ◌+◌, ◌-◌, ◌^◌, ◌<◌, ◌≤◌, ◌↔◌, IsTrue, IfOk, MatchOption, Some, None, map, min};
+ghost use Rattle.std.specs.Prelude.{◌≡◌, ℕ, ◌+◌, ◌-◌, ◌^◌, ◌<◌, ◌≤◌, ◌↔◌, IsTrue, IfOk, IfSome, MatchOption, Some, None, map, min};
 ghost use Rattle.sx_term.specs.Tree.{depth_of, greatest_depth, forest, size_of, part_at};
 ghost use Rattle.sx_term.specs.Term.{tree};
 
@@ -10,16 +10,20 @@ use crate::path::Path;
 use crate::text::Text;
 use std::alloc::{AllocError, AllocFailed, Global};
 
-/// A term: a node with a label and kids, a lexeme, or a variable. A label is a position in `Shapes::cons`.
+/// A term. The depth of a lexeme, a variable or a node without kids is 1, and that of another node is 1 more than its deepest kid's.
+/// Every call that recurs on a term asks for a depth of 1,000 at most.
 #[derive(Drop)]
 pub enum Term {
+    /// A node. Its label is a position in `Shapes::cons`.
     Node { label: u32, kids: Vec<Term> },
+    /// A lexeme: a piece of source text of a kind.
     Lex { kind: LexKind, text: Text },
+    /// The variable with this number.
     Var(u32),
 }
 
 impl Term {
-    /// The number of nodes, lexemes and variables, or the greatest u64 where it is more.
+    /// The size: the number of nodes, lexemes and variables, or the greatest u64 where there are more.
     pub fn size(&self) -> u64
         requires { depth_of (tree self.now) ≤ 1000 }
         ensures { result ≡ min (size_of (tree self.now)) (2 ^ 64 - 1) }
@@ -37,7 +41,7 @@ impl Term {
         }
     }
 
-    /// The depth.
+    /// The depth, from 1.
     pub fn depth(&self) -> u32
         requires { depth_of (tree self.now) ≤ 1000 }
         ensures { result ≡ depth_of (tree self.now) }
@@ -55,7 +59,7 @@ impl Term {
         }
     }
 
-    /// Whether the terms are equal.
+    /// Whether the terms are equal: label by label, kid by kid, and lexemes by kind and bytes.
     #[cycle(same)]
     pub fn same(&self, other: &Term) -> bool
         requires self_depth { depth_of (tree self.now) ≤ 1000 }
@@ -82,7 +86,7 @@ impl Term {
         }
     }
 
-    /// An equal term.
+    /// An equal term. The one refusal is want of memory.
     pub fn copy(&self, alloc: Global) -> Result<Term, NoMemory>
         requires { depth_of (tree self.now) ≤ 1000 }
         ensures { IfOk result (λ t. tree t ≡ tree self.now) }
@@ -106,10 +110,11 @@ impl Term {
         }
     }
 
-    /// The part at the path, or None where the path leaves the tree.
+    /// The part at the path, or None exactly where the path leaves the tree.
     pub fn at(&self, path: &Path) -> Option<&Term>
-        ensures { MatchOption result (part_at (tree self.now) path.now.steps.items ≡ None)
+        ensures part { MatchOption result (part_at (tree self.now) path.now.steps.items ≡ None)
             (λ part. part_at (tree self.now) path.now.steps.items ≡ Some (tree part.now)) }
+        ensures depth { IfSome result (λ part. depth_of (tree part.now) ≤ depth_of (tree self.now)) }
     {
         let mut here = self;
         for step in &path.steps {
@@ -125,6 +130,7 @@ impl Term {
     }
 }
 
+/// Whether there are as many terms, and each is equal to the other's at its place.
 #[cycle(same)]
 fn same_kids(left: &[Term], right: &[Term]) -> bool
     requires left_depth { greatest_depth (forest (map tree left.now)) ≤ 1000 }

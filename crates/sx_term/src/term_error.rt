@@ -3,13 +3,16 @@
 use crate::no_memory::NoMemory;
 use thiserror::Error;
 
-/// Which limit a term passes, with its depth or its size.
+/// Why no instance is made.
 #[derive(Debug, Drop, Error)]
 pub enum TermError {
+    /// Memory is lacking.
     #[error("out of memory")]
     Memory,
+    /// The instance has this depth, which is more than 1,000.
     #[error("depth {0} is over 1000")]
     TooDeep(u32),
+    /// The instance has so many nodes, lexemes and variables, which are more than 1,000,000. The number stays at the greatest u64.
     #[error("a term has {0} nodes, over 1000000")]
     TooBig(u64),
 }

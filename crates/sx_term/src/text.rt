@@ -7,9 +7,10 @@ ghost use Rattle.sx_term.specs.Text.{IsMade};
 use crate::no_memory::NoMemory;
 use crate::text_error::TextError;
 use std::alloc::{AllocError, Global};
+use std::hash::{Hash, Hasher};
 use std::marker::Model;
 
-/// A byte list that is always UTF-8.
+/// A byte list that is always UTF-8. Texts are compared by their bytes, without normalisation.
 #[derive(Debug, Drop)]
 pub struct Text {
     string: String,
@@ -23,8 +24,42 @@ impl Model for Text {
     ghost view = { λ t. string_bytes t.string };
 }
 
+impl PartialEq for Text {
+    ghost use Rattle.std.specs.Str.{bytes_eq};
+    ghost use Rattle.std.specs.Cmp.{partial_equiv_from_equiv};
+    ghost use Rattle.std.specs.Cmp.Lexicographic.{nat_list_eq_equiv};
+
+    ghost eq = { bytes_eq };
+
+    ghost laws = { partial_equiv_from_equiv nat_list_eq_equiv };
+
+    fn eq(&self, other: &Self) -> bool {
+        self.as_str() == other.as_str()
+    }
+}
+
+impl Eq for Text {
+    ghost use Rattle.std.specs.Cmp.Lexicographic.{nat_list_eq_equiv};
+
+    ghost laws = { nat_list_eq_equiv };
+}
+
+impl Hash for Text {
+    ghost use Rattle.std.specs.Hash as fed;
+    ghost use Rattle.std.proofs.Common.{ap};
+    ghost use Rattle.std.proofs.lemmas.Slice.Eq.{bytes_eq-Decides};
+
+    ghost hash_input = { fed.str };
+
+    ghost respects_eq = { λ x y same. ap fed.str ((bytes_eq-Decides x y).0 same) };
+
+    fn hash<H: Hasher>(&self, state: &mut H) {
+        self.as_str().hash(state);
+    }
+}
+
 impl Text {
-    /// The text with these bytes.
+    /// The text with these bytes, or NotUtf8 exactly where they are not UTF-8.
     pub fn make(alloc: Global, bytes: &[u8]) -> Result<Text, TextError>
         ensures { IsMade bytes.now result }
     {
@@ -44,14 +79,14 @@ impl Text {
         self.string.as_str().as_bytes()
     }
 
-    /// The text as a `str`.
+    /// The same bytes as a `str`.
     pub fn as_str(&self) -> &str
         ensures { result.now ≡ self.now }
     {
         self.string.as_str()
     }
 
-    /// An equal text.
+    /// An equal text. The one refusal is want of memory.
     pub fn copy(&self, alloc: Global) -> Result<Text, NoMemory>
         ensures { IfOk result (λ t. t ≡ self.now) }
     {

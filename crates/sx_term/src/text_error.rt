@@ -6,8 +6,10 @@ use thiserror::Error;
 /// Why bytes are no text.
 #[derive(Debug, Drop, Error)]
 pub enum TextError {
+    /// Memory is lacking.
     #[error("out of memory")]
     Memory,
+    /// The bytes are not UTF-8: so many of them stand before the first bad sequence.
     #[error("not UTF-8 at byte {0}")]
     NotUtf8(usize),
 }

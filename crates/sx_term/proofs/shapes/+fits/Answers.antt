@@ -1,4 +1,4 @@
-use Rattle.std.proofs.Common.{rules, ◌≡◌, ◌<◌, ◌≤◌, length, arith, drop, ap, sym, refl, ◌∙◌, false, true}
+use Rattle.std.proofs.Common.{rules, ◌≡◌, ap, sym, refl, ◌∙◌, false, true}
 use Rattle.sx_term.specs.declared.term.Term.TheViews.{the_lemmas}
 use Rattle.sx_term.proofs.Kids.{trees, tree-at_node, greatest_depth-kids, greatest_depth-at}
 use Rattle.sx_term.specs.Tree.{node}

@@ -1,0 +1,115 @@
+//! Headers of module files.
+
+ghost use Rattle.std.specs.Prelude.{◌≡◌, ◌+◌, ◌-◌, ◌^◌, ◌<◌, ◌≤◌, length, drop, IfOk, Ok, IfErr, IfSome};
+ghost use Rattle.sx_lines.specs.FirstBad.{IsFirstBad};
+ghost use Rattle.sx_interface.specs.Headers.{HeaderParts};
+ghost use Rattle.sx_interface.specs.StatedHeader.{StatesHeader};
+ghost use Rattle.std.specs.Str.{IsUtf8};
+ghost use Rattle.sx_lines.specs.Lines.{lines_from};
+ghost use Rattle.sx_lines.specs.Reading.{Gives, kept};
+ghost use Rattle.sx_interface.specs.Headers as spec;
+ghost use Rattle.sx_interface.specs.HeaderView.{parts_view, header_view};
+ghost use Rattle.sx_interface.specs.Reading.{Refuses, RefusesText, IsText, line_of};
+
+use crate::error::HeaderError;
+use crate::rows::{end_line, module_line, name_row, name_rows};
+use std::alloc::Global;
+use sx_lines::Rest;
+use sx_term::Text;
+
+/// The header of a module file.
+#[derive(Debug, Drop)]
+pub struct Header {
+    /// The module's name.
+    pub name: Text,
+    /// The name of its language.
+    pub language: Text,
+    /// The names of the extensions that it uses, in order and distinct.
+    pub uses: Vec<Text>,
+    /// The names of the modules that it imports, in order and distinct.
+    pub imports: Vec<Text>,
+    /// How many bytes stand before the body.
+    pub body: usize,
+    /// The number of the body's first line, from 1.
+    pub line: u32,
+}
+
+/// What stands in a header, and the body.
+#[derive(Drop)]
+struct Parts<'a> {
+    language: Text,
+    uses: Vec<Text>,
+    imports: Vec<Text>,
+    body: Rest<'a>,
+}
+
+/// The header that the lines of a module's file state.
+#[tactic(auto, unfolding(crate::specs::Headers::header_of))]
+fn header_parts<'a>(alloc: Global, name: &Text, bytes: &'a [u8]) -> Result<Parts<'a>, HeaderError>
+    requires { length bytes.now + 1 < 2 ^ 32 }
+    ensures { Gives (parts_view name.now) Refuses result (spec.header_of name.now (kept (lines_from 1 bytes.entry.now))) }
+{
+    let rest = module_line(name.bytes(), Rest::all(bytes))?;
+    let (language, rest) = name_row(alloc, b"language ", rest)?;
+    let (uses, rest) = name_rows(alloc, b"use ", rest)?;
+    let (imports, rest) = name_rows(alloc, b"import ", rest)?;
+    let body = end_line(rest)?;
+    Ok(Parts {
+        language,
+        uses,
+        imports,
+        body,
+    })
+}
+
+/// The header of a module's file, of which nothing else is known.
+fn checked_header(alloc: Global, name: &Text, bytes: &[u8]) -> Result<Header, HeaderError>
+    requires { length bytes.now + 1 < 2 ^ 32 }
+    ensures text { IsText bytes.now result }
+    ensures exact { Gives (header_view bytes.now) (RefusesText bytes.now) result
+        (spec.header_of name.now (kept (lines_from 1 bytes.now))) }
+    ensures within { IfOk result (λ h. h.body ≤ length bytes.now) }
+{
+    match std::str::from_utf8(bytes) {
+        Err(e) => Err(HeaderError::NotUtf8(e.valid_up_to())),
+        Ok(_) => {
+            let parts = header_parts(alloc, name, bytes)?;
+            let body = bytes.len() - parts.body.bytes.len();
+            let line = parts.body.number;
+            Ok(Header {
+                name: name.copy(alloc)?,
+                language: parts.language,
+                uses: parts.uses,
+                imports: parts.imports,
+                body,
+                line,
+            })
+        }
+    }
+}
+
+/// The header of the module file with these bytes, of a module of this name. The file has fewer than 2^32 - 1 bytes,
+/// so that the number of a line fits.
+///
+/// Blank lines and lines that begin with `//` are skipped. The lines are `module` and the name, `language` and a name,
+/// then `use` lines, then `import` lines, then `---`; the body is what follows. No name stands in two `use` lines or in
+/// two `import` lines.
+///
+/// `NotUtf8` comes exactly where the bytes are not UTF-8, and else `Header` exactly where they have no header.
+pub fn read_header(alloc: Global, name: &Text, bytes: &[u8]) -> Result<Header, HeaderError>
+    requires { length bytes.now + 1 < 2 ^ 32 }
+    ensures text { IsText bytes.now result }
+    // What is read is stated.
+    ensures found { IfOk result (λ h. StatesHeader name.now (kept (lines_from 1 bytes.now)) (header_view bytes.now h)) }
+    // What is stated is read, unless memory runs out.
+    ensures only { (h : HeaderParts) → StatesHeader name.now (kept (lines_from 1 bytes.now)) h
+        → Gives (header_view bytes.now) (RefusesText bytes.now) result (Ok h) }
+    // The line that is refused is the first that is not as defined.
+    ensures refused { IfErr result (λ e. IfSome (line_of e)
+        (IsFirstBad (StatesHeader name.now) (kept (lines_from 1 bytes.now)))) }
+    ensures exact { Gives (header_view bytes.now) (RefusesText bytes.now) result
+        (spec.header_of name.now (kept (lines_from 1 bytes.now))) }
+    ensures within { IfOk result (λ h. h.body ≤ length bytes.now) }
+{
+    checked_header(alloc, name, bytes)
+}

@@ -1,0 +1,23 @@
+//! Headers of modules, interfaces and digests.
+#![tactic(auto)]
+
+mod error;
+mod hashing;
+mod headers;
+mod interface_reading;
+mod interface_writing;
+mod interfaces;
+mod marks;
+mod rows;
+mod texts;
+
+pub use error::HeaderError;
+pub use hashing::digest;
+pub use headers::{Header, read_header};
+pub use interface_reading::{read_interface, written_interface_is_read};
+pub use interface_writing::write_interface;
+pub use interfaces::{ImportMark, Interface};
+pub use marks::{Digest, read_digest, write_digest};
+
+#[cfg(test)]
+mod tests;

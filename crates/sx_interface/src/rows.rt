@@ -1,0 +1,120 @@
+//! The rows of headers and interfaces.
+
+ghost use Rattle.std.specs.Prelude.{◌≡◌, ℕ, ◌+◌, [], ◌∷◌, ◌++◌, List, codes, true, false, IfSome};
+ghost use Rattle.std.specs.Option.{option_copied};
+ghost use Rattle.std.specs.Str.{bytes_eq};
+ghost use Rattle.sx_lines.specs.Left.{left};
+ghost use Rattle.sx_lines.specs.Reading.{Gives, the_line, next_line, kept};
+ghost use Rattle.sx_lines.specs.Rows as spec;
+ghost use Rattle.sx_lines.specs.Words.{is_name};
+ghost use Rattle.sx_interface.specs.Reading.{Refuses};
+
+use crate::error::HeaderError;
+use crate::texts::name_text;
+use std::alloc::Global;
+use sx_lines::{Rest, after, is_name};
+use sx_term::Text;
+
+/// The name that a row with this front states.
+#[tactic(auto, unfolding(sx_lines::specs::Rows::name_after))]
+fn name_after<'a>(text: &'a [u8], front: &[u8]) -> Option<&'a [u8]>
+    ensures value { option_copied result ≡ spec.name_after front.now text.entry.now }
+    ensures named { IfSome result (λ name. is_name false name.now ≡ true) }
+{
+    match after(text, front) {
+        Some(name) => {
+            if !is_name(false, name) {
+                return None;
+            }
+            Some(name)
+        }
+        None => None,
+    }
+}
+
+/// Whether the name stands among the names.
+fn contains(names: &[Text], name: &[u8]) -> bool
+    ensures { result ≡ spec.has_key (λ x. x) names.now name.now }
+{
+    for (at, x) in names.iter().enumerate() {
+        if x.bytes() == name {
+            return true;
+        }
+    }
+    false
+}
+
+/// Whether the text is the front and then the name.
+pub fn is_row(text: &[u8], front: &[u8], name: &[u8]) -> bool
+    ensures { result ≡ bytes_eq text.now (front.now ++ name.now) }
+{
+    match after(text, front) {
+        Some(found) => found == name,
+        None => false,
+    }
+}
+
+/// What is left after the line `module` and the name.
+#[tactic(auto, unfolding(sx_lines::specs::Reading::the_line))]
+pub fn module_line<'a>(name: &[u8], rest: Rest<'a>) -> Result<Rest<'a>, HeaderError>
+    ensures { Gives (λ x. kept (left x)) Refuses result (the_line (codes "module " ++ name.now) (kept (left rest.entry))) }
+{
+    let (line, more) = rest.next_kept()?;
+    if !is_row(line.text, b"module ", name) {
+        return Err(HeaderError::Header(line.number));
+    }
+    Ok(more)
+}
+
+/// The name in the next row, and what is left after it.
+#[tactic(auto, unfolding(sx_lines::specs::Reading::next_line))]
+pub fn name_row<'a>(
+    alloc: Global,
+    front: &[u8],
+    rest: Rest<'a>,
+) -> Result<(Text, Rest<'a>), HeaderError>
+    ensures { Gives (λ x. (x.0, kept (left x.1))) Refuses result (next_line (spec.name_after front.now) (kept (left rest.entry))) }
+{
+    let (line, more) = rest.next_kept()?;
+    match name_after(line.text, front) {
+        Some(name) => Ok((name_text(alloc, name)?, more)),
+        None => Err(HeaderError::Header(line.number)),
+    }
+}
+
+/// The distinct names in the next rows, and what is left after them.
+pub fn name_rows<'a>(
+    alloc: Global,
+    front: &[u8],
+    rest: Rest<'a>,
+) -> Result<(Vec<Text>, Rest<'a>), HeaderError>
+    ensures { Gives (λ x. (x.0.items, kept (left x.1))) Refuses result (spec.distinct_names front.now (kept (left rest.entry))) }
+{
+    let mut names = Vec::new(alloc);
+    let mut rest = rest;
+    'rows: while let Ok((line, more)) = rest.next_kept() {
+        match name_after(line.text, front) {
+            Some(name) => {
+                if contains(names.as_slice(), name) {
+                    return Err(HeaderError::Header(line.number));
+                }
+                names.push(name_text(alloc, name)?)?;
+            }
+            None => return Ok((names, rest)),
+        }
+        rest = more;
+    }
+    Ok((names, rest))
+}
+
+/// What is left after the line `---`: the body.
+#[tactic(auto, unfolding(sx_lines::specs::Rows::bytes_after))]
+pub fn end_line<'a>(rest: Rest<'a>) -> Result<Rest<'a>, HeaderError>
+    ensures { Gives (λ x. (x.number, x.bytes.now)) Refuses result (spec.bytes_after (codes "---") (kept (left rest.entry))) }
+{
+    let (line, more) = rest.next_kept()?;
+    if line.text != b"---".as_slice() {
+        return Err(HeaderError::Header(line.number));
+    }
+    Ok(more)
+}

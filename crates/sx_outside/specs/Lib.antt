@@ -1,0 +1,11 @@
+pub mod Files
+pub mod FilesLaws
+pub mod Faults
+pub mod Told
+pub mod Calls
+pub mod Kinds
+pub mod Table
+pub mod Views
+pub mod Shelf
+pub mod Sink
+pub mod Source

@@ -1,0 +1,14 @@
+-- What reading a derivation list answers.
+use Rattle.std.specs.Prelude.{◌≡◌, ℕ, Option, Some, None, Result, Err}
+use Rattle.sx_rules.specs.declared.list_error.ListError.{ListError}
+use Rattle.sx_rules.specs.declared.list_error.ListError.TheVariants.{Memory, BadList}
+
+-- the line that a refusal names
+abbrev pub refusal : ListError → Option ℕ
+refusal Memory = None
+refusal (BadList n) = Some n
+
+-- an error for want of memory, or at the line that reading refuses
+abbrev pub Refuses : {Y : Type 0} → ListError → Result Y ℕ → Type 0
+Refuses Memory read = Unit {0}
+Refuses (BadList n) read = read ≡ Err n

@@ -1,0 +1,60 @@
+//! The names of variables.
+
+ghost use Rattle.std.specs.Prelude.{◌≡◌, ◌+◌, ◌-◌, ◌^◌, ◌<◌, ◌≤◌, [], length, slice_get, option_copied, IfOk, OnErr};
+ghost use Rattle.sx_term.specs.Cutting.{AreDistinct};
+ghost use Rattle.sx_term.specs.Vars.{IsAdded};
+
+use crate::no_memory::NoMemory;
+use crate::text::Text;
+use indexmap::IndexSet;
+use std::alloc::Global;
+use std::marker::Model;
+
+/// A list of distinct texts: the names of variables 0, 1, 2 and so on. A name is found by its hash.
+#[derive(Drop)]
+pub struct Vars {
+    names: IndexSet<Text>,
+}
+
+impl Model for Vars {
+    ghost use Rattle.std.specs.Prelude.{List, ℕ};
+    ghost use Rattle.std.specs.Str.{bytes_eq};
+    ghost use Rattle.indexmap.specs.IndexSet.{IsUnique};
+
+    ghost Value = { List (List ℕ) };
+
+    ghost view = { λ v. v.names.keys };
+
+    ghost invariant = { λ v. IsUnique bytes_eq v.names };
+}
+
+impl Vars {
+    /// The list without names. It takes no memory.
+    pub fn new(alloc: Global) -> Vars
+        ensures { result ≡ [] }
+    {
+        Vars {
+            names: IndexSet::new(alloc),
+        }
+    }
+
+    /// The number of the name, which is added last where it is not there. Where memory is lacking, the names are as before.
+    pub fn add(&mut self, name: Text) -> Result<u32, NoMemory>
+        requires { length self.old < 2 ^ 32 - 1 }
+        ensures ok { IfOk result (λ number. IsAdded self.old self.new name number) }
+        ensures err { OnErr result (self.new ≡ self.old) }
+        ensures grows { length self.new ≤ length self.old + 1 }
+        ensures distinct { AreDistinct self.new }
+    {
+        let (number, _) = self.names.insert_full(name)?;
+        Ok(number as u32)
+    }
+
+    /// The name of the variable with this number, or None where there is no such number.
+    pub fn name(&self, number: u32) -> Option<&Text>
+        ensures value { option_copied result ≡ slice_get self.now number }
+        ensures distinct { AreDistinct self.now }
+    {
+        self.names.get_index(number as usize)
+    }
+}

@@ -1,0 +1,73 @@
+//! The cutting of a text.
+
+ghost use Rattle.std.specs.Prelude.{◌≡◌, ◌≤◌, ◌++◌, [], ◌∷◌, length, IfSome, IfErr, OnOk};
+ghost use Rattle.sx_term.specs.Cutting.{IsOutcome};
+ghost use Rattle.sx_token.specs.Table.{IsTable};
+ghost use Rattle.sx_token.specs.Tokens.{pieces, outcome_of};
+
+use crate::front::{Front, front_of};
+use crate::table::Table;
+use crate::token::{Token, text_of};
+use crate::token_error::TokenError;
+use std::alloc::Global;
+use sx_term::Mark;
+
+/// The most tokens that a text may have.
+const MOST_TOKENS: usize = 10_000;
+
+fn push_token(
+    alloc: Global,
+    out: &mut Vec<Token>,
+    mark: Mark,
+    text: &str,
+    from: u32,
+    to: u32,
+) -> Result<(), TokenError>
+    ensures ok { OnOk result (pieces out.new.items ≡ pieces out.old.items ++ record { mark = mark; text = text.now; from = from; to = to } ∷ []) }
+    ensures memory { IfErr result (λ e. e ≡ TokenError.Memory) }
+{
+    let text = text_of(alloc, text)?;
+    out.push(Token {
+        mark,
+        text,
+        from,
+        to,
+    })?;
+    Ok(())
+}
+
+/// The tokens of the text, or its first defect.
+pub(crate) fn cut(
+    alloc: Global,
+    table: &Table,
+    text: &str,
+    metas: bool,
+) -> Result<Vec<Token>, TokenError>
+    requires table { IsTable table.now.literals.now table.now }
+    requires short { length text.now ≤ 262144 }
+    ensures { IfSome (outcome_of result) (IsOutcome table.now.literals.now metas text.now) }
+{
+    let mut out = Vec::new(alloc);
+    let mut rest = text;
+    while !rest.is_empty() {
+        let from = (text.len() - rest.len()) as u32;
+        match front_of(table, rest, metas) {
+            Front::Skip(len) => {
+                let (_, after) = rest.split_at(len);
+                rest = after;
+            }
+            Front::Token(mark, len) => {
+                if out.len() == MOST_TOKENS {
+                    return Err(TokenError::TooManyTokens);
+                }
+                let (token, after) = rest.split_at(len);
+                let to = (text.len() - after.len()) as u32;
+                push_token(alloc, &mut out, mark, token, from, to)?;
+                rest = after;
+            }
+            Front::Open => return Err(TokenError::OpenString(from)),
+            Front::Bad => return Err(TokenError::BadToken(from)),
+        }
+    }
+    Ok(out)
+}

@@ -1,0 +1,28 @@
+//! Tokens.
+
+ghost use Rattle.std.specs.Prelude.{◌≡◌, IfOk, IfErr};
+
+use crate::token_error::TokenError;
+use std::alloc::Global;
+use sx_term::{Mark, Text, TextError};
+
+/// A token: its mark, its text, and the places of its first byte and of the byte after it, in bytes from 0.
+#[derive(Drop)]
+pub struct Token {
+    pub mark: Mark,
+    pub text: Text,
+    pub from: u32,
+    pub to: u32,
+}
+
+/// The text with these bytes, which are UTF-8.
+pub(crate) fn text_of(alloc: Global, text: &str) -> Result<Text, TokenError>
+    ensures ok { IfOk result (λ t. t ≡ text.now) }
+    ensures memory { IfErr result (λ e. e ≡ TokenError.Memory) }
+{
+    match Text::make(alloc, text.as_bytes()) {
+        Ok(text) => Ok(text),
+        Err(TextError::Memory) => Err(TokenError::Memory),
+        Err(TextError::NotUtf8(_)) => unreachable!(),
+    }
+}

@@ -1,0 +1,6 @@
+pub mod OptionLaws
+pub mod CommandLaws
+pub mod MisfitLaws
+pub mod ColonLaws
+pub mod TurnLaws
+pub mod OneAnswer

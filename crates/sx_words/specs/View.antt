@@ -1,0 +1,51 @@
+-- Commands, options and errors as plain data.
+use Rattle.std.specs.Prelude.{◌≡◌, ℕ, List, map, Option, Some, None, Result, Ok, Err}
+use Rattle.std.specs.Borrow.{Bor}
+use Rattle.sx_words.specs.declared.audit.Audit.{Audit}
+use Rattle.sx_words.specs.declared.command.Command.{Command}
+use Rattle.sx_words.specs.declared.command.Command.TheVariants as command
+use Rattle.sx_words.specs.declared.options.Options.{Options}
+use Rattle.sx_words.specs.declared.given.Given as declared
+use Rattle.sx_words.specs.declared.given.Given.TheVariants as given
+use Rattle.sx_words.specs.declared.words_error.WordsError.{WordsError}
+use Rattle.sx_words.specs.declared.words_error.WordsError.TheVariants.{Memory, Words}
+use Rattle.sx_words.specs.Commands.{Given, core, tries, nodes, audit, AuditWord, Settings, Meant, builds, compiles, checks, verifies, samples, Spells, IsMisfit}
+
+abbrev pub audit_view : Audit → AuditWord
+audit_view a = record { kind = a.kind; setting = a.setting; word = a.word }
+
+-- a command without where it lies in memory
+abbrev pub command_view : Command → Meant
+command_view (command.Build of_core name most_tries most_nodes audits) = builds of_core name most_tries most_nodes (map audit_view audits.items)
+command_view (command.Compile name most_tries most_nodes audits) = compiles name most_tries most_nodes (map audit_view audits.items)
+command_view (command.Check name most_tries) = checks name most_tries
+command_view (command.Verify of_core name) = verifies of_core name
+command_view (command.Sample n) = samples n
+
+abbrev pub settings_view : Options → Settings
+settings_view o = record { core = o.core; tries = o.tries; nodes = o.nodes; audits = map audit_view o.audits.items }
+
+abbrev pub given_view : declared.Given → Given
+given_view given.Core = core
+given_view (given.Tries n) = tries n
+given_view (given.Nodes n) = nodes n
+given_view (given.Audit kind setting) = audit kind.now setting.now
+
+-- an error for want of memory, or at the word that reading refuses
+abbrev pub Refuses : {Y : Type 0} → WordsError → Result Y ℕ → Type 0
+Refuses Memory read = Unit {0}
+Refuses (Words n) read = read ≡ Err n
+
+-- the command that the words spell, or the first word that does not fit
+abbrev pub IsAnswer : List (List ℕ) → Result Command WordsError → Type 0
+IsAnswer words (Ok c) = Spells words (command_view c)
+IsAnswer words (Err Memory) = Unit {0}
+IsAnswer words (Err (Words n)) = IsMisfit words n
+
+abbrev pub pair_view : Bor (List ℕ) × Bor (List ℕ) → List ℕ × List ℕ
+pair_view p = (p.0.now, p.1.now)
+
+-- the place that an error names
+abbrev pub place_of : WordsError → Option ℕ
+place_of Memory = None
+place_of (Words n) = Some n

@@ -1,0 +1,50 @@
+//! Budgets of derivations.
+
+ghost use Rattle.std.specs.Prelude.{◌≡◌, ◌++◌, OnOk};
+ghost use Rattle.sx_words.specs.RefusalText.{budget_text};
+
+use crate::parts::{number, put};
+use std::alloc::Global;
+use sx_term::NoMemory;
+
+/// Which budget or limit a derivation passes. At `Place::Rule` in accepting a rule.
+#[derive(Debug, Drop)]
+pub enum BudgetDefect {
+    /// The tries that the walk may take.
+    Tries(u64),
+    /// The derivation is too deep.
+    Depth,
+    /// The nodes that a rewritten derivation may have.
+    Nodes(u64),
+    /// The rewritten derivation is too deep.
+    RewriteDepth,
+}
+
+/// Appends the defect's text.
+pub(crate) fn put_budget(
+    alloc: Global,
+    defect: &BudgetDefect,
+    into: &mut Vec<u8>,
+) -> Result<(), NoMemory>
+    ensures { OnOk result (into.new.items ≡ into.old.items ++ budget_text defect.now) }
+{
+    match defect {
+        BudgetDefect::Tries(n) => {
+            let n = number(alloc, *n)?;
+            put(&[b"more than ", n.as_str().as_bytes(), b" tries"], into)
+        }
+        BudgetDefect::Depth => put(&[b"derivation deeper than 3000"], into),
+        BudgetDefect::Nodes(n) => {
+            let n = number(alloc, *n)?;
+            put(
+                &[
+                    b"rewriting needs more than ",
+                    n.as_str().as_bytes(),
+                    b" nodes",
+                ],
+                into,
+            )
+        }
+        BudgetDefect::RewriteDepth => put(&[b"rewritten derivation deeper than 3000"], into),
+    }
+}

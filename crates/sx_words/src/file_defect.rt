@@ -1,0 +1,64 @@
+//! Defects of the words and of whole files.
+
+ghost use Rattle.std.specs.Prelude.{◌≡◌, ◌++◌, OnOk};
+ghost use Rattle.sx_words.specs.RefusalText.{file_text};
+
+use crate::parts::{number, put};
+use std::alloc::Global;
+use sx_term::{NoMemory, Text};
+
+/// What is wrong with the words or with a file as a whole.
+#[derive(Debug, Drop)]
+pub enum FileDefect {
+    /// Words that are no command: the first word that does not fit, from 1.
+    Word(u32),
+    /// There is no such file.
+    Absent,
+    /// The file has more bytes than it may have.
+    TooLong,
+    /// The file could not be read.
+    ReadFault,
+    /// The file could not be written.
+    WriteFault,
+    /// How many bytes stand before the first that are not UTF-8.
+    NotUtf8(u64),
+    /// The kind of a bad line in lower case. At `Place::Line`.
+    Notation(Text),
+    /// A bad line of a header or an interface. At `Place::Line`.
+    Header,
+    /// Another version than 1.
+    Version(u64),
+    /// A bad line of a derivation list. At `Place::Line`.
+    BadList,
+}
+
+/// Appends the defect's text.
+pub(crate) fn put_file(
+    alloc: Global,
+    defect: &FileDefect,
+    into: &mut Vec<u8>,
+) -> Result<(), NoMemory>
+    ensures { OnOk result (into.new.items ≡ into.old.items ++ file_text defect.now) }
+{
+    match defect {
+        FileDefect::Word(n) => {
+            let n = number(alloc, u64::from(*n))?;
+            put(&[b"word ", n.as_str().as_bytes()], into)
+        }
+        FileDefect::Absent => put(&[b"absent"], into),
+        FileDefect::TooLong => put(&[b"too long"], into),
+        FileDefect::ReadFault => put(&[b"read fault"], into),
+        FileDefect::WriteFault => put(&[b"write fault"], into),
+        FileDefect::NotUtf8(n) => {
+            let n = number(alloc, *n)?;
+            put(&[b"not UTF-8 at byte ", n.as_str().as_bytes()], into)
+        }
+        FileDefect::Notation(text) => put(&[text.bytes()], into),
+        FileDefect::Header => put(&[b"bad header"], into),
+        FileDefect::Version(n) => {
+            let n = number(alloc, *n)?;
+            put(&[b"version ", n.as_str().as_bytes()], into)
+        }
+        FileDefect::BadList => put(&[b"bad entry"], into),
+    }
+}

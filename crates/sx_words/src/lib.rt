@@ -1,0 +1,45 @@
+//! The words of the command line, and the lines that name a refusal.
+#![tactic(auto)]
+
+mod audit;
+mod budget_defect;
+mod closure_defect;
+mod command;
+mod extension_defect;
+mod file_defect;
+mod given;
+mod goal_defect;
+mod grammar_defect;
+mod line;
+mod list_defect;
+mod options;
+mod parts;
+mod place;
+mod print_defect;
+mod reading;
+mod refusal;
+mod rule_defect;
+mod text_defect;
+mod verb;
+mod words_error;
+
+pub use audit::Audit;
+pub use budget_defect::BudgetDefect;
+pub use closure_defect::{ClosureDefect, Kept};
+pub use command::Command;
+pub use extension_defect::ExtensionDefect;
+pub use file_defect::FileDefect;
+pub use goal_defect::GoalDefect;
+pub use grammar_defect::GrammarDefect;
+pub use line::write_line;
+pub use list_defect::ListDefect;
+pub use place::Place;
+pub use print_defect::{PrintDefect, PrintedPart};
+pub use reading::{one_answer_is_due, read_words};
+pub use refusal::{Defect, Refusal, write_refusal};
+pub use rule_defect::RuleDefect;
+pub use text_defect::TextDefect;
+pub use words_error::WordsError;
+
+#[cfg(test)]
+mod tests;

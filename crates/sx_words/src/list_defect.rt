@@ -1,0 +1,52 @@
+//! Derivation lists that fit nothing.
+
+ghost use Rattle.std.specs.Prelude.{◌≡◌, ◌++◌, OnOk};
+ghost use Rattle.sx_words.specs.RefusalText.{list_text};
+
+use crate::parts::{number, put};
+use std::alloc::Global;
+use sx_term::NoMemory;
+
+/// Why a derivation list fits no derivation. Entries are counted from 1.
+#[derive(Debug, Drop)]
+pub enum ListDefect {
+    /// The first entry that fits no derivation.
+    WrongAt(u64),
+    /// A derivation wants more entries.
+    EndsEarly,
+    /// The first entry after the derivation.
+    LongList(u64),
+    /// The first entry that stands too deep.
+    DeepList(u64),
+}
+
+/// Appends the defect's text.
+pub(crate) fn put_list(
+    alloc: Global,
+    defect: &ListDefect,
+    into: &mut Vec<u8>,
+) -> Result<(), NoMemory>
+    ensures { OnOk result (into.new.items ≡ into.old.items ++ list_text defect.now) }
+{
+    match defect {
+        ListDefect::WrongAt(n) => {
+            let n = number(alloc, *n)?;
+            put(
+                &[b"entry ", n.as_str().as_bytes(), b" fits no derivation"],
+                into,
+            )
+        }
+        ListDefect::EndsEarly => put(&[b"list ends early"], into),
+        ListDefect::LongList(n) => {
+            let n = number(alloc, *n)?;
+            put(&[b"entry ", n.as_str().as_bytes(), b" is left over"], into)
+        }
+        ListDefect::DeepList(n) => {
+            let n = number(alloc, *n)?;
+            put(
+                &[b"entry ", n.as_str().as_bytes(), b" is deeper than 3000"],
+                into,
+            )
+        }
+    }
+}

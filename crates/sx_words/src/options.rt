@@ -1,0 +1,170 @@
+//! What the options say.
+
+ghost use Rattle.std.specs.Prelude.{◌≡◌, ◌&&◌, true, OnOk, IfOk, IfSome, option_map, map};
+ghost use Rattle.sx_words.specs.Commands as spec;
+ghost use Rattle.sx_words.specs.Reading.{next_option};
+ghost use Rattle.sx_words.specs.View.{audit_view, given_view, settings_view, command_view};
+ghost use Rattle.sx_words.specs.Texts.{IsGivenUtf8};
+ghost use Rattle.std.specs.Str.{IsUtf8};
+
+use crate::audit::Audit;
+use crate::command::Command;
+use crate::given::{Given, option_of};
+use crate::verb::Verb;
+use std::alloc::Global;
+use sx_term::{NoMemory, Text, TextError};
+
+/// The most tries and nodes, and what stands where nothing is said.
+const MOST: u64 = 1_000_000;
+
+/// What the options say so far.
+#[derive(Drop)]
+pub(crate) struct Options {
+    pub core: bool,
+    pub tries: Option<u64>,
+    pub nodes: Option<u64>,
+    pub audits: Vec<Audit>,
+}
+
+impl Options {
+    /// Nothing is said.
+    pub fn new(alloc: Global) -> Options
+        ensures { settings_view result ≡ spec.nothing_said }
+    {
+        Options {
+            core: false,
+            tries: None,
+            nodes: None,
+            audits: Vec::new(alloc),
+        }
+    }
+}
+
+/// Whether an auditor of the kind is named.
+fn has_kind(audits: &[Audit], kind: &[u8]) -> bool
+    ensures { result ≡ spec.has_kind (map audit_view audits.now) kind.now }
+{
+    for (at, audit) in audits.iter().enumerate() {
+        if audit.kind.bytes() == kind {
+            return true;
+        }
+    }
+    false
+}
+
+/// Whether the command takes the option.
+fn takes(verb: Verb, option: &Given<'_>) -> bool
+    ensures { result ≡ spec.takes verb (given_view option.now) }
+{
+    match verb {
+        Verb::Build => true,
+        Verb::Compile => !matches!(option, Given::Core),
+        Verb::Check => matches!(option, Given::Tries(_)),
+        Verb::Verify => matches!(option, Given::Core),
+    }
+}
+
+/// Whether the option may stand after what was said.
+#[tactic(auto, unfolding(crate::specs::Commands::is_new))]
+fn is_new(said: &Options, option: &Given<'_>) -> bool
+    ensures { result ≡ spec.is_new (settings_view said.now) (given_view option.now) }
+{
+    match option {
+        Given::Core => !said.core && said.nodes.is_none() && said.audits.is_empty(),
+        Given::Tries(_) => said.tries.is_none(),
+        Given::Nodes(_) => said.nodes.is_none() && !said.core,
+        Given::Audit(kind, _) => !said.core && !has_kind(said.audits.as_slice(), kind),
+    }
+}
+
+/// The option that the word spells, where it may stand there.
+#[tactic(auto, unfolding(crate::specs::Reading::next_option))]
+pub(crate) fn option_after<'a>(verb: Verb, said: &Options, word: &'a [u8]) -> Option<Given<'a>>
+    ensures value { option_map given_view result ≡ next_option verb (settings_view said.now) word.entry.now }
+    ensures utf8 { IsUtf8 word.entry.now → IfSome result IsGivenUtf8 }
+{
+    match option_of(word) {
+        Some(option) => {
+            if takes(verb, &option) && is_new(said, &option) {
+                return Some(option);
+            }
+            None
+        }
+        None => None,
+    }
+}
+
+/// The text of UTF-8 bytes.
+fn utf8_text(alloc: Global, bytes: &[u8]) -> Result<Text, NoMemory>
+    requires { IsUtf8 bytes.now }
+    ensures { IfOk result (λ t. t ≡ bytes.now) }
+{
+    match Text::make(alloc, bytes) {
+        Ok(text) => Ok(text),
+        Err(TextError::Memory) => Err(NoMemory::Memory),
+        Err(TextError::NotUtf8(_)) => unreachable!(),
+    }
+}
+
+/// Says what the option at this place among the words says.
+#[tactic(auto, unfolding(crate::specs::Commands::with_option))]
+pub(crate) fn say(
+    alloc: Global,
+    said: &mut Options,
+    option: Given<'_>,
+    place: u32,
+) -> Result<(), NoMemory>
+    requires { IsGivenUtf8 option }
+    ensures { OnOk result (settings_view said.new ≡ spec.with_option place (settings_view said.old) (given_view option.entry)) }
+{
+    match option {
+        Given::Core => said.core = true,
+        Given::Tries(tries) => said.tries = Some(tries),
+        Given::Nodes(nodes) => said.nodes = Some(nodes),
+        Given::Audit(kind, setting) => {
+            let kind = utf8_text(alloc, kind)?;
+            let setting = utf8_text(alloc, setting)?;
+            said.audits.push(Audit {
+                kind,
+                setting,
+                word: place,
+            })?;
+        }
+    }
+    Ok(())
+}
+
+/// The command of this name, with what the options say.
+#[tactic(auto, unfolding(crate::specs::Commands::meant))]
+pub(crate) fn command(
+    alloc: Global,
+    verb: Verb,
+    said: Options,
+    name: &Text,
+) -> Result<Command, NoMemory>
+    ensures { IfOk result (λ c. command_view c ≡ spec.meant verb (settings_view said) name.now) }
+{
+    let name = name.copy(alloc)?;
+    let tries = said.tries.unwrap_or(MOST);
+    let nodes = said.nodes.unwrap_or(MOST);
+    match verb {
+        Verb::Build => Ok(Command::Build {
+            core: said.core,
+            name,
+            tries,
+            nodes,
+            audits: said.audits,
+        }),
+        Verb::Compile => Ok(Command::Compile {
+            name,
+            tries,
+            nodes,
+            audits: said.audits,
+        }),
+        Verb::Check => Ok(Command::Check { name, tries }),
+        Verb::Verify => Ok(Command::Verify {
+            core: said.core,
+            name,
+        }),
+    }
+}

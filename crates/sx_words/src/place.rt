@@ -1,0 +1,56 @@
+//! Where the thing stands that a refusal names.
+
+ghost use Rattle.std.specs.Prelude.{◌≡◌, ◌++◌, OnOk};
+ghost use Rattle.sx_words.specs.RefusalText.{place_text};
+
+use crate::parts::{number, put};
+use std::alloc::Global;
+use sx_term::{NoMemory, Text};
+
+/// Where in its file the thing stands that a refusal names: what its text says first. The defects say which of these they
+/// take; where they say nothing it is `Nowhere`.
+#[derive(Debug, Drop)]
+pub enum Place {
+    /// The text says no place.
+    Nowhere,
+    /// A line, from 1.
+    Line(u32),
+    /// A line and a column, from 1.
+    Spot { line: u32, column: u32 },
+    /// The name of a rule.
+    Rule(Text),
+    /// The label of a plain body.
+    Plain(Text),
+    /// The label of a production.
+    Production(Text),
+}
+
+/// Appends the place.
+pub(crate) fn put_place(alloc: Global, place: &Place, into: &mut Vec<u8>) -> Result<(), NoMemory>
+    ensures { OnOk result (into.new.items ≡ into.old.items ++ place_text place.now) }
+{
+    match place {
+        Place::Nowhere => put(&[], into),
+        Place::Line(line) => {
+            let line = number(alloc, u64::from(*line))?;
+            put(&[b"line ", line.as_str().as_bytes(), b": "], into)
+        }
+        Place::Spot { line, column } => {
+            let line = number(alloc, u64::from(*line))?;
+            let column = number(alloc, u64::from(*column))?;
+            put(
+                &[
+                    b"line ",
+                    line.as_str().as_bytes(),
+                    b" column ",
+                    column.as_str().as_bytes(),
+                    b": ",
+                ],
+                into,
+            )
+        }
+        Place::Rule(rule) => put(&[b"rule ", rule.bytes(), b": "], into),
+        Place::Plain(label) => put(&[b"plain ", label.bytes(), b": "], into),
+        Place::Production(label) => put(&[b"production ", label.bytes(), b": "], into),
+    }
+}

@@ -1,0 +1,80 @@
+//! Printed texts that cannot be written.
+
+ghost use Rattle.std.specs.Prelude.{◌≡◌, ◌++◌, OnOk};
+ghost use Rattle.sx_words.specs.RefusalText.{part_text, print_text};
+
+use crate::parts::{number, put};
+use std::alloc::Global;
+use sx_term::{NoMemory, Text};
+
+/// Which printed text it is.
+#[derive(Clone, Copy, Debug)]
+pub enum PrintedPart {
+    /// The body of a module.
+    Body,
+    /// The signature of its interface.
+    Signature,
+}
+
+/// Why a printed text cannot be written.
+#[derive(Debug, Drop)]
+pub enum PrintDefect {
+    /// The bytes of the file.
+    Bytes(u64),
+    /// The tokens of the print.
+    Tokens(u64),
+    /// Reading the print needs too many items.
+    Items,
+    /// The depth of a reading of the print.
+    Depth(u64),
+    /// Two readings of the print.
+    Ambiguous { one: Text, other: Text },
+}
+
+/// Appends the name of the part.
+pub(crate) fn put_part(part: PrintedPart, into: &mut Vec<u8>) -> Result<(), NoMemory>
+    ensures { OnOk result (into.new.items ≡ into.old.items ++ part_text part) }
+{
+    match part {
+        PrintedPart::Body => put(&[b"printed text "], into),
+        PrintedPart::Signature => put(&[b"printed signature "], into),
+    }
+}
+
+/// Appends the defect's text, which follows the name of the part.
+pub(crate) fn put_print(
+    alloc: Global,
+    defect: &PrintDefect,
+    into: &mut Vec<u8>,
+) -> Result<(), NoMemory>
+    ensures { OnOk result (into.new.items ≡ into.old.items ++ print_text defect.now) }
+{
+    match defect {
+        PrintDefect::Bytes(n) => {
+            let n = number(alloc, *n)?;
+            put(
+                &[b"has ", n.as_str().as_bytes(), b" bytes, over 262144"],
+                into,
+            )
+        }
+        PrintDefect::Tokens(n) => {
+            let n = number(alloc, *n)?;
+            put(
+                &[b"has ", n.as_str().as_bytes(), b" tokens, over 10000"],
+                into,
+            )
+        }
+        PrintDefect::Items => put(&[b"needs more than 2000000 items"], into),
+        PrintDefect::Depth(n) => {
+            let n = number(alloc, *n)?;
+            put(
+                &[b"has depth ", n.as_str().as_bytes(), b", over 1000"],
+                into,
+            )
+        }
+        PrintDefect::Ambiguous { one, other } => put(
+            &[b"has two readings: ", one.bytes(), b" and ", other.bytes()],
+            into,
+        ),
+    }
+}

@@ -1,0 +1,169 @@
+//! Reading the words from the left.
+
+ghost use Rattle.std.specs.Prelude.{◌≡◌, ◌+◌, ◌≤◌, ◌<◌, ◌^◌, ℕ, List, [], ◌∷◌, drop, length, slice_index, is_some, Ok};
+ghost use Rattle.sx_lines.specs.Reading.{Gives};
+ghost use Rattle.sx_words.specs.Commands as command;
+ghost use Rattle.sx_words.specs.Commands.{Meant, Spells, IsMisfit};
+ghost use Rattle.sx_words.specs.Reading as spec;
+ghost use Rattle.sx_words.specs.View.{command_view, settings_view, Refuses, IsAnswer};
+
+use crate::command::Command;
+use crate::given::count_of;
+use crate::options::{Options, command, option_after, say};
+use crate::verb::Verb;
+use crate::words_error::WordsError;
+use std::alloc::Global;
+use sx_lines::{after, is_name};
+use sx_term::Text;
+
+/// Whether the word begins with `--`.
+#[tactic(auto, unfolding(crate::specs::Reading::is_option))]
+fn is_option(word: &[u8]) -> bool
+    ensures { result ≡ spec.is_option word.now }
+{
+    after(word, b"--").is_some()
+}
+
+/// The command whose last word is the one at `at`.
+#[tactic(auto, unfolding(crate::specs::Reading::last_word))]
+fn last_word(
+    alloc: Global,
+    verb: Verb,
+    said: Options,
+    name: &Text,
+    place: u32,
+    rest: &[Text],
+) -> Result<Command, WordsError>
+    requires { place + 1 < 2 ^ 32 }
+    ensures { Gives command_view Refuses result
+        (spec.last_word verb place (settings_view said) name.now rest.now) }
+{
+    if !is_name(false, name.bytes()) {
+        return Err(WordsError::Words(place));
+    }
+    match rest {
+        [] => Ok(command(alloc, verb, said, name)?),
+        [_, ..] => Err(WordsError::Words(place + 1)),
+    }
+}
+
+/// The command that the words after its first one make.
+fn after_verb(alloc: Global, verb: Verb, words: &[Text]) -> Result<Command, WordsError>
+    requires { length words.now + 2 < 2 ^ 32 }
+    ensures { Gives command_view Refuses result (spec.after_verb verb 2 command.nothing_said words.now) }
+{
+    let mut said = Options::new(alloc);
+    let mut at = 0;
+    while at < words.len() {
+        let word = &words[at];
+        let place = at as u32 + 2;
+        if !is_option(word.bytes()) {
+            let (_, rest) = words.split_at(at + 1);
+            return last_word(alloc, verb, said, word, place, rest);
+        }
+        match option_after(verb, &said, word.bytes()) {
+            Some(option) => say(alloc, &mut said, option, place)?,
+            None => return Err(WordsError::Words(place)),
+        }
+        at += 1;
+    }
+    Err(WordsError::Words(at as u32 + 2))
+}
+
+/// The sample of the size that a word spells, where no word follows it.
+fn sample(size: &Text, rest: &[Text]) -> Result<Command, WordsError>
+    ensures { Gives command_view Refuses result (spec.sample_of (spec.count_of 300 size.now) rest.now) }
+{
+    match count_of(300, size.bytes()) {
+        Some(n) => {
+            if !rest.is_empty() {
+                return Err(WordsError::Words(3));
+            }
+            Ok(Command::Sample { n: n as u32 })
+        }
+        None => Err(WordsError::Words(2)),
+    }
+}
+
+/// The command that the words after `sample` make.
+#[tactic(auto, unfolding(crate::specs::Reading::after_sample))]
+fn after_sample(words: &[Text]) -> Result<Command, WordsError>
+    ensures { Gives command_view Refuses result (spec.after_sample words.now) }
+{
+    match words.split_first() {
+        None => Err(WordsError::Words(2)),
+        Some((size, rest)) => sample(size, rest),
+    }
+}
+
+/// The command that a word is.
+#[tactic(auto, unfolding(crate::specs::Reading::verb_of))]
+fn verb_of(word: &[u8]) -> Option<Verb>
+    ensures { result ≡ spec.verb_of word.now }
+{
+    if word == b"build".as_slice() {
+        Some(Verb::Build)
+    } else if word == b"compile".as_slice() {
+        Some(Verb::Compile)
+    } else if word == b"check".as_slice() {
+        Some(Verb::Check)
+    } else if word == b"verify".as_slice() {
+        Some(Verb::Verify)
+    } else {
+        None
+    }
+}
+
+/// The command that the words make whose first one is this.
+#[tactic(auto, unfolding(crate::specs::Reading::command_from))]
+fn command_from(alloc: Global, first: &Text, rest: &[Text]) -> Result<Command, WordsError>
+    requires { length rest.now + 2 < 2 ^ 32 }
+    ensures { Gives command_view Refuses result (spec.command_from first.now (spec.verb_of first.now) rest.now) }
+{
+    match verb_of(first.bytes()) {
+        Some(verb) => after_verb(alloc, verb, rest),
+        None => {
+            if first.bytes() != b"sample".as_slice() {
+                return Err(WordsError::Words(1));
+            }
+            after_sample(rest)
+        }
+    }
+}
+
+/// The command that the words make, read from the left.
+#[tactic(auto, unfolding(crate::specs::Reading::command_of))]
+fn command_of(alloc: Global, words: &[Text]) -> Result<Command, WordsError>
+    requires { length words.now + 1 < 2 ^ 32 }
+    ensures { Gives command_view Refuses result (spec.command_of words.now) }
+{
+    match words.split_first() {
+        None => Err(WordsError::Words(1)),
+        Some((first, rest)) => command_from(alloc, first, rest),
+    }
+}
+
+/// The command that the words spell: the words of the command line, without the program's name. There are fewer than
+/// 2^32 - 1 of them, so that each place among them fits.
+///
+/// The first word is `build`, `compile`, `check`, `verify` or `sample`. Then come options, in any order and each at most
+/// once: `--tries=N` of `build`, `compile` and `check`; `--nodes=N` and `--audit=KIND:SETTING`, once for each kind, of
+/// `build` and `compile`; `--core` of `build` and `verify`, not with `--nodes` and `--audit`. The last word is a name, or
+/// for `sample` a number from 1 to 300. N is a number from 1 to 1,000,000 without a leading zero.
+///
+/// `Words` comes exactly where the words spell no command, with the number of the first word after which none can follow.
+pub fn read_words(alloc: Global, words: &[Text]) -> Result<Command, WordsError>
+    requires { length words.now + 1 < 2 ^ 32 }
+    ensures answer { IsAnswer words.now result }
+    // What is spelled is read, unless memory runs out.
+    ensures only { (c : Meant) → Spells words.now c → Gives command_view Refuses result (Ok c) }
+{
+    command_of(alloc, words)
+}
+
+/// Words have one answer: they spell one command, or they have one first word that does not fit.
+pub fn one_answer_is_due()
+    ensures command { (words : List (List ℕ)) (one other : Meant) → Spells words one → Spells words other → one ≡ other }
+    ensures misfit { (words : List (List ℕ)) (one other : ℕ) → IsMisfit words one → IsMisfit words other → one ≡ other }
+    ensures either { (words : List (List ℕ)) (c : Meant) (n : ℕ) → Spells words c → IsMisfit words n → ⊥ }
+{}

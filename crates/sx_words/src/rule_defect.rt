@@ -1,0 +1,55 @@
+//! Defects of rule sets.
+
+ghost use Rattle.std.specs.Prelude.{◌≡◌, ◌++◌, OnOk};
+ghost use Rattle.sx_words.specs.RefusalText.{rule_text};
+
+use crate::parts::{number, put};
+use std::alloc::Global;
+use sx_term::{NoMemory, Text};
+
+/// What is wrong with a set of rules.
+#[derive(Debug, Drop)]
+pub enum RuleDefect {
+    /// More rules than a set may have.
+    TooManyRules,
+    /// More variables than a rule may have. At `Place::Rule`.
+    TooManyVars,
+    /// The name of two rules.
+    SameRule(Text),
+    /// A term of another sort than its place. At `Place::Rule`.
+    SortDiffers,
+    /// A part of the discipline that a premise breaks. At `Place::Rule`.
+    Discipline { part: u32, premise: u32 },
+    /// A variable that is not bound, with the mark before its name: `~V`, in a core file `?N`. At `Place::Rule`.
+    NotModed(Text),
+}
+
+/// Appends the defect's text.
+pub(crate) fn put_rule(
+    alloc: Global,
+    defect: &RuleDefect,
+    into: &mut Vec<u8>,
+) -> Result<(), NoMemory>
+    ensures { OnOk result (into.new.items ≡ into.old.items ++ rule_text defect.now) }
+{
+    match defect {
+        RuleDefect::TooManyRules => put(&[b"more than 4096 rules"], into),
+        RuleDefect::TooManyVars => put(&[b"more than 64 variables"], into),
+        RuleDefect::SameRule(text) => put(&[b"rule ", text.bytes(), b" stands twice"], into),
+        RuleDefect::SortDiffers => put(&[b"sorts differ"], into),
+        RuleDefect::Discipline { part, premise } => {
+            let part = number(alloc, u64::from(*part))?;
+            let premise = number(alloc, u64::from(*premise))?;
+            put(
+                &[
+                    b"part ",
+                    part.as_str().as_bytes(),
+                    b" of the discipline at premise ",
+                    premise.as_str().as_bytes(),
+                ],
+                into,
+            )
+        }
+        RuleDefect::NotModed(text) => put(&[text.bytes(), b" is not bound"], into),
+    }
+}

@@ -1,0 +1,66 @@
+//! Defects of texts and terms.
+
+ghost use Rattle.std.specs.Prelude.{◌≡◌, ◌++◌, OnOk};
+ghost use Rattle.sx_words.specs.RefusalText.{text_text};
+
+use crate::parts::{number, put};
+use std::alloc::Global;
+use sx_term::{NoMemory, Text};
+
+/// What is wrong with a text that is cut into tokens and read.
+#[derive(Debug, Drop)]
+pub enum TextDefect {
+    /// No token begins there. At `Place::Spot`.
+    BadToken,
+    /// A string has no end in its line. At `Place::Spot`.
+    OpenString,
+    /// No reading goes on there. At `Place::Spot`.
+    NoReading,
+    /// At `Place::Line` in a language or extension file.
+    TooManyTokens,
+    /// At `Place::Line` in a language or extension file.
+    TooHard,
+    /// The depth of a reading or a term. At `Place::Line` of a line that is read, at `Place::Rule` in accepting a rule, at
+    /// `Place::Plain` of a plain body.
+    TooDeep(u64),
+    /// The size of a term. At `Place::Rule` in accepting a rule, at `Place::Plain` of a plain body.
+    TooBig(u64),
+    /// Two readings. At `Place::Line` of a line that is read by a grammar.
+    Ambiguous { one: Text, other: Text },
+}
+
+/// Appends the defect's text.
+pub(crate) fn put_text(
+    alloc: Global,
+    defect: &TextDefect,
+    into: &mut Vec<u8>,
+) -> Result<(), NoMemory>
+    ensures { OnOk result (into.new.items ≡ into.old.items ++ text_text defect.now) }
+{
+    match defect {
+        TextDefect::BadToken => put(&[b"bad token"], into),
+        TextDefect::OpenString => put(&[b"string without end"], into),
+        TextDefect::NoReading => put(&[b"no reading"], into),
+        TextDefect::TooManyTokens => put(&[b"more than 10000 tokens"], into),
+        TextDefect::TooHard => put(&[b"parsing needs more than 2000000 items"], into),
+        TextDefect::TooDeep(n) => {
+            let n = number(alloc, *n)?;
+            put(&[b"depth ", n.as_str().as_bytes(), b" is over 1000"], into)
+        }
+        TextDefect::TooBig(n) => {
+            let n = number(alloc, *n)?;
+            put(
+                &[
+                    b"a term has ",
+                    n.as_str().as_bytes(),
+                    b" nodes, over 1000000",
+                ],
+                into,
+            )
+        }
+        TextDefect::Ambiguous { one, other } => put(
+            &[b"two readings: ", one.bytes(), b" and ", other.bytes()],
+            into,
+        ),
+    }
+}
