@@ -1,3 +1,4 @@
+-- Headers as plain data.
 use Rattle.std.specs.Prelude.{ℕ, List, drop}
 use Rattle.sx_interface.specs.declared.headers.Header.{Header}
 use Rattle.sx_interface.specs.declared.headers.Parts.{Parts}

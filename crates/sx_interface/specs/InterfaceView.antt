@@ -10,9 +10,11 @@ use Rattle.sx_interface.specs.Interfaces.{Mark, InterfaceParts}
 abbrev pub mark_view : mark.ImportMark → Mark
 mark_view m = record { name = m.name; digest = m.digest.bytes }
 
+-- the marks one after the other
 abbrev pub marks_view : List mark.ImportMark → List Mark
 marks_view marks = map mark_view marks
 
+-- a name and a digest as a mark
 abbrev pub pair_view : Bor (List ℕ) × Digest → Mark
 pair_view p = record { name = p.0.now; digest = p.1.bytes }
 

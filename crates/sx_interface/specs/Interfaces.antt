@@ -35,6 +35,7 @@ interface_lines it =
     codes "sxint 1" ∷ (codes "module " ++ it.name) ∷ (codes "language " ++ mark_text it.language) ∷ (codes "base " ++ encode_lower it.base)
     ∷ (import_lines it.imports ++ codes "---" ∷ it.signature ∷ [])
 
+-- the mark with this name, where the name is one and there is a digest
 abbrev pub mark_if : List ℕ → Option (List ℕ) → Option Mark
 mark_if name (Some digest) = if is_name false name then Some (record { name = name; digest = digest }) else None
 mark_if name None = None
@@ -43,10 +44,11 @@ mark_if name None = None
 unfoldable pub mark_of : List ℕ → Option Mark
 mark_of text = mark_if (word_of text).0 (digest_of (word_of text).1)
 
--- what a row with this front states
+-- the mark that a row with this front states
 unfoldable pub mark_after : List ℕ → List ℕ → Option Mark
 mark_after front text = option_and_then mark_of (after front text)
 
+-- the digest that a row with this front states
 unfoldable pub digest_after : List ℕ → List ℕ → Option (List ℕ)
 digest_after front text = option_and_then digest_of (after front text)
 

@@ -1,13 +1,12 @@
 -- A look-up after an insertion.
 use Rattle.std.proofs.Common.{◌≡◌, ℕ, List, refl, ap, ◌∙◌, Bool, true, false}
-use Rattle.std.specs.Prelude.{Option, Some, None, Vec, String, if◌then◌else◌, string_bytes}
+use Rattle.std.specs.Prelude.{Option, Some, Vec, if◌then◌else◌, string_bytes}
 use Rattle.std.specs.declared.alloc.Global.{Global}
 use Rattle.std.specs.HashMap as hash
 use Rattle.std.specs.Str.{bytes_eq}
 use Rattle.std.specs.String.{string_eq}
-use Rattle.std.specs.Map.{update}
 use Rattle.std.proofs.lemmas.Map.Text.{hash_map_updates_text}
-use Rattle.sx_outside.specs.Files.{Files, put}
+use Rattle.sx_outside.specs.Files.{put}
 use Rattle.sx_outside.specs.Table.{Entries, files_in, bytes_in}
 
 chosen_bytes : (b : Bool) (bytes : Vec ℕ Global) (held : Option (Vec ℕ Global)) → bytes_in (if b then Some bytes else held) ≡ (if b then Some bytes.items else bytes_in held)

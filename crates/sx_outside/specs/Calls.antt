@@ -1,5 +1,5 @@
 -- The calls made on an object in memory.
-use Rattle.std.specs.Prelude.{◌≡◌, ℕ, List, [], Contains}
+use Rattle.std.specs.Prelude.{ℕ, List, [], Contains}
 use Rattle.sx_outside.specs.Faults.{next}
 
 -- how many calls were made, and the numbers of those that are to fail

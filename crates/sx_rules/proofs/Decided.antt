@@ -1,5 +1,5 @@
 -- Whether a rule is well sorted is decided, and so a rule without a breach is good.
-use Rattle.std.proofs.Common.{◌≡◌, ℕ, zero, suc, ◌+◌, ◌<◌, ◌≤◌, length, map, Bool, true, false, List, [], ◌∷◌, ◌⊎◌, inl, inr, refl, ap, ◌∙◌, sym, subst, arith, Option, Some, None, nat_eq}
+use Rattle.std.proofs.Common.{◌≡◌, ℕ, ◌<◌, ◌≤◌, length, map, Bool, true, false, List, [], ◌∷◌, ◌⊎◌, inl, inr, refl, ap, ◌∙◌, sym, subst, arith, Option, Some, None, nat_eq}
 use Rattle.std.specs.Prelude.{slice_get}
 use Rattle.sx_term.specs.declared.lex_kind.LexKind.{LexKind}
 use Rattle.sx_term.specs.declared.lex_kind.LexKind.TheVariants.{Id, Num, Str}
@@ -11,7 +11,7 @@ use Rattle.sx_rules.specs.declared.error.RuleError.TheVariants.{TooManyVars, Sam
 use Rattle.sx_rules.specs.Rules.{Judgement, Premise, holds, apart, Rule}
 use Rattle.sx_term.specs.Sorts.{Shape, HasSort, KidsHaveSorts, HaveSorts}
 use Rattle.sx_rules.specs.Views.{FormData, NamedRule}
-use Rattle.sx_rules.specs.Fits.{JudgementFits, AreOfOneKind, PremiseFits, PremisesFit, RuleFits}
+use Rattle.sx_rules.specs.Fits.{JudgementFits, AreOfOneKind, PremisesFit, RuleFits}
 use Rattle.sx_rules.specs.Subjects.{broken_part}
 use Rattle.sx_rules.specs.Unmoded.{unbound}
 use Rattle.sx_rules.specs.Good.{IsAmong, IsGood, IsBreach}

@@ -11,7 +11,7 @@ use Rattle.sx_rules.specs.declared.rule.Rule.{Rule as RuleOf}
 use Rattle.sx_rules.specs.Rules.{Premise, holds, apart, Rule}
 use Rattle.sx_rules.specs.Modes.{AllModed}
 use Rattle.sx_rules.specs.Sorts.{RulesAreSorted}
-use Rattle.sx_rules.specs.Deep.{AreShallow, PremiseIsShallow, PremisesAreShallow, RuleIsShallow, RulesAreShallow}
+use Rattle.sx_rules.specs.Deep.{AreShallow, PremiseIsShallow, PremisesAreShallow, RulesAreShallow}
 use Rattle.sx_rules.specs.Views.{FormData, NamedRule, named, rule, modes_of, sorts_of}
 use Rattle.sx_rules.specs.Good.{IsAmong, AllGood, IsRuleSet, names_of}
 use Rattle.sx_rules.specs.RuleNames.{AreDistinct}

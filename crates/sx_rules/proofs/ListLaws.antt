@@ -11,7 +11,7 @@ use Rattle.std.proofs.lemmas.List.{append-nil}
 use Rattle.sx_lines.specs.Lines.{Lines, lines_from, texts, IsLineText}
 use Rattle.sx_lines.specs.Words.{after, number_within, is_name}
 use Rattle.sx_lines.specs.Reading.{◌>>=◌, the_line, each_line, written, Gives}
-use Rattle.sx_lines.specs.FirstBad.{NoneStates, IsFirstBad}
+use Rattle.sx_rules.specs.BadLine.{NoneStates, IsFirstBad}
 use Rattle.sx_lines.proofs.WordLaws.{after_front, front_of, not_after}
 use Rattle.sx_lines.proofs.DecimalLaws.{number_again, number_spelled}
 use Rattle.sx_lines.proofs.TextLaws.{IsPlain, IsPlain-append, plain_text, plain_decimal, plain_from_test, NoBlank, name_no_blank, no_blank_plain, lines_written}
@@ -291,3 +291,9 @@ pub is_refused : (names : List (List ℕ)) (lines : Lines) (r : Result (Vec Entr
 is_refused names lines (Ok v) h n g = tt
 is_refused names lines (Err Memory) h n g = tt
 is_refused names lines (Err (BadList k)) h n g = list_refused names lines k h n g
+
+-- what holds of each entry holds of the entry at each place
+pub all_entries : (names : List (List ℕ)) (list : List Entry) → AllByRecursion (IsEntry names) list → (k : ℕ) (d : Entry) → k < length list → IsEntry names (get_or list k d)
+all_entries names [] h k d lt = absurd (omega arith)
+all_entries names (e ∷ list) h zero d lt = h.0
+all_entries names (e ∷ list) h (suc k) d lt = all_entries names list h.1 k d (omega arith)

@@ -1,12 +1,10 @@
 -- Loops that look for the first item.
-use Rattle.std.proofs.Common.{◌≡◌, ℕ, zero, suc, ◌+◌, ◌-◌, ◌<◌, ◌≤◌, drop, take, length, get_or, map, Bool, true, false, List, [], ◌∷◌, ◌++◌, refl, ap, ◌∙◌, sym, subst, arith, Option, Some, None, if◌then◌else◌, nat_eq}
-use Rattle.std.specs.List.{list_all}
+use Rattle.std.proofs.Common.{◌≡◌, ℕ, suc, ◌+◌, ◌-◌, ◌<◌, ◌≤◌, drop, length, get_or, Bool, true, false, List, [], ◌∷◌, ◌++◌, refl, ap, ◌∙◌, sym, arith, Some, None, if◌then◌else◌, nat_eq}
 use Rattle.std.proofs.lemmas.List.{at_drop_more, at_drop_all}
 use Rattle.sx_term.specs.Tree.{Tree, node, lexeme, hole}
-use Rattle.sx_term.specs.declared.sort.Sort.{Sort}
 use Rattle.sx_rules.specs.declared.subject.Subject.{Subject}
-use Rattle.sx_rules.specs.declared.subject.Subject.TheVariants.{Absent, Bare, Other}
-use Rattle.sx_rules.specs.Subjects.{first_at, has_bare, is_bare, is_again, first_again, count_in, is_settled, subject_kind, bare_or_other, after_one, with_one}
+use Rattle.sx_rules.specs.declared.subject.Subject.TheVariants.{Absent, Other}
+use Rattle.sx_rules.specs.Subjects.{first_at, has_bare, is_bare, is_again, first_again, count_in, subject_kind, bare_or_other, after_one, with_one}
 use Rattle.sx_rules.specs.Chosen.{pick}
 use Rattle.sx_rules.specs.Unmoded.{has_number, first_missing}
 

@@ -4,17 +4,16 @@ use Rattle.std.specs.Prelude.{slice_get}
 use Rattle.std.proofs.lemmas.Option.{slice_get_within}
 use Rattle.sx_term.specs.Tree.{Tree, Trees, node, lexeme, hole, none, ◌▹◌}
 use Rattle.sx_term.specs.declared.sort.Sort.{Sort}
-use Rattle.sx_term.specs.declared.sort.Sort.TheVariants.{Lex}
 use Rattle.sx_rules.specs.declared.rule.Place.{Place}
 use Rattle.sx_rules.specs.declared.chosen.Part.TheVariants.{Inputs, Subjects, Outputs}
 use Rattle.sx_rules.specs.Instances.{Stands, StandsInKids, StandsAmong}
 use Rattle.sx_rules.specs.Rules.{Judgement, Premise, holds, apart, Rule}
 use Rattle.sx_rules.specs.Modes.{inputs, outputs, inputs_of, outputs_of, AreModed, IsModed}
 use Rattle.sx_term.specs.Sorts.{Shape, HasSort, KidsHaveSorts, HaveSorts}
-use Rattle.sx_rules.specs.Views.{FormData, places_at, is_out, is_sub, modes_of, subjects_in}
-use Rattle.sx_rules.specs.Fits.{JudgementFits, PremiseFits, PremisesFit, RuleFits}
+use Rattle.sx_rules.specs.Views.{FormData, places_at, is_out, is_sub, modes_of}
+use Rattle.sx_rules.specs.Fits.{PremisesFit, RuleFits}
 use Rattle.sx_rules.specs.Chosen.{negation, pick, chosen, holes_of, holes_in, holes_among}
-use Rattle.sx_rules.specs.Unmoded.{has_number, put_new, joined, first_unbound, first_missing, or_else, uses_of, binds_of, unbound_from, bound_first, unbound}
+use Rattle.sx_rules.specs.Unmoded.{has_number, put_new, joined, first_unbound, first_missing, or_else, binds_of, unbound_from, bound_first, unbound}
 
 abbrev pub Has : ℕ → List ℕ → Type 0
 Has v xs = has_number v xs ≡ true

@@ -1,10 +1,10 @@
 -- Rows of terms and of premises.
-use Rattle.std.proofs.Common.{◌≡◌, ℕ, zero, suc, ◌+◌, ◌<◌, ◌≤◌, ◌↔◌, IsTrue, drop, length, get_or, map, Bool, true, false, List, [], ◌∷◌, ◌⊎◌, inl, inr, refl, ap, ◌∙◌, sym, subst, arith}
+use Rattle.std.proofs.Common.{◌≡◌, ℕ, zero, suc, ◌+◌, ◌<◌, ◌≤◌, ◌↔◌, IsTrue, drop, length, get_or, map, Bool, true, false, List, [], ◌∷◌, refl, ap, ◌∙◌, sym, subst, arith}
 use Rattle.std.proofs.lemmas.List.{at_drop_more, at_drop_all, get_or-map, length-map}
 use Rattle.sx_term.specs.declared.lex_kind.LexKind.{LexKind}
 use Rattle.sx_term.specs.declared.lex_kind.LexKind.TheVariants.{Id, Num, Str}
 use Rattle.sx_term.specs.declared.term.Term.{Term}
-use Rattle.sx_term.specs.Tree.{Tree, forest, depth_of}
+use Rattle.sx_term.specs.Tree.{Tree}
 use Rattle.sx_term.specs.Term.{tree}
 use Rattle.sx_term.proofs.Kids.{trees}
 use Rattle.sx_term.specs.declared.sort.Sort.{Sort}

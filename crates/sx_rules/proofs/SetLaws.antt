@@ -1,5 +1,5 @@
 -- Rules checked one after the other, and the laws of good rules.
-use Rattle.std.proofs.Common.{◌≡◌, ℕ, zero, suc, ◌+◌, ◌<◌, ◌≤◌, ◌↔◌, IsTrue, length, map, drop, take, get_or, Bool, true, false, List, [], ◌∷◌, ◌++◌, ◌⊎◌, inl, inr, refl, ap, ◌∙◌, sym, subst, arith, Option, Some, None, Ok, Err}
+use Rattle.std.proofs.Common.{◌≡◌, ℕ, zero, suc, ◌+◌, ◌<◌, ◌≤◌, ◌↔◌, IsTrue, length, map, drop, take, get_or, Bool, true, false, List, [], ◌∷◌, ◌++◌, ◌⊎◌, inl, inr, refl, ap, ◌∙◌, sym, subst, arith, Option, Some, None, Err}
 use Rattle.std.specs.Prelude.{slice_get, option_map}
 use Rattle.std.proofs.lemmas.Option.{slice_get-map, slice_get_read}
 use Rattle.sx_rules.specs.declared.rule.Rule.{Rule as RuleOf}
@@ -7,13 +7,13 @@ use Rattle.sx_rules.specs.declared.error.RuleError.{RuleError}
 use Rattle.sx_rules.specs.declared.error.RuleError.TheVariants.{Memory, TooManyRules, TooManyVars, SameRule, SortDiffers, Discipline, NotModed}
 use Rattle.sx_rules.specs.Rules.{Judgement, Premise, holds, apart, Rule}
 use Rattle.sx_term.specs.Sorts.{Shape, HaveSorts}
-use Rattle.sx_rules.specs.Sorts.{RuleIsSorted, JudgementIsSorted, PremisesAreSorted}
+use Rattle.sx_rules.specs.Sorts.{JudgementIsSorted, PremisesAreSorted}
 use Rattle.sx_rules.specs.Views.{FormData, NamedRule, named, rule, sorts_of, places_or_none}
 use Rattle.sx_rules.specs.Deep.{RuleIsShallow, RulesAreShallow}
 use Rattle.sx_rules.specs.Fits.{RuleFits, JudgementFits, PremisesFit}
 use Rattle.sx_rules.specs.Subjects.{broken_part}
 use Rattle.sx_rules.specs.Unmoded.{unbound}
-use Rattle.sx_rules.specs.Good.{IsAmong, IsGood, IsBreach, AllGood, IsFirstBreach, IsRuleSet, IsRefused, IsChecked, AreChecked, names_of}
+use Rattle.sx_rules.specs.Good.{IsAmong, IsGood, IsBreach, AllGood, IsFirstBreach, IsRefused, IsChecked, AreChecked, names_of}
 use Rattle.sx_rules.specs.Laws.{NoneBrokenIsDisciplined, NoneUnboundIsModed, GoodHasNoBreach, BreachIsUnique, FittingIsSorted}
 use Rattle.sx_term.proofs.SortLaws.{true_is_false}
 use Rattle.sx_rules.proofs.RowLaws.{map_drop, map_drop_all}

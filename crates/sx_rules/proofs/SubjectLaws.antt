@@ -1,5 +1,5 @@
 -- A rule that breaks no part is disciplined, and the other way round.
-use Rattle.std.proofs.Common.{◌≡◌, ℕ, zero, suc, ◌+◌, ◌<◌, ◌≤◌, ◌↔◌, length, map, Bool, true, false, List, [], ◌∷◌, ◌++◌, ◌⊎◌, inl, inr, refl, ap, ◌∙◌, sym, subst, arith, Option, Some, None, if◌then◌else◌, nat_eq, ◌&&◌}
+use Rattle.std.proofs.Common.{◌≡◌, ℕ, ◌+◌, map, Bool, true, false, List, [], ◌∷◌, ◌++◌, ◌⊎◌, inl, inr, refl, ap, ◌∙◌, sym, subst, arith, Option, Some, None, if◌then◌else◌, nat_eq, ◌&&◌}
 use Rattle.std.specs.Prelude.{slice_get}
 use Rattle.std.specs.List.{list_all}
 use Rattle.sx_term.specs.Tree.{Tree, Trees, node, lexeme, hole, none, ◌▹◌}
@@ -7,13 +7,13 @@ use Rattle.sx_term.specs.declared.sort.Sort.{Sort}
 use Rattle.sx_term.specs.declared.sort.Sort.TheVariants.{Lex, Plain, Typed}
 use Rattle.sx_rules.specs.declared.chosen.Part.TheVariants.{Subjects}
 use Rattle.sx_rules.specs.declared.subject.Subject.{Subject}
-use Rattle.sx_rules.specs.declared.subject.Subject.TheVariants.{Absent, Bare, Other}
+use Rattle.sx_rules.specs.declared.subject.Subject.TheVariants.{Absent}
 use Rattle.sx_rules.specs.Instances.{StandsAmong}
 use Rattle.sx_rules.specs.Rules.{Judgement, Premise, holds, apart, Rule, judgements_of}
 use Rattle.sx_rules.specs.Discipline.{one_when, times_in, times_in_kids, times_among, subjects_of, IsSubjectIn, IsBareSubject, AreBareSubjects, IsDisciplined}
 use Rattle.sx_rules.specs.Views.{FormData, places_at, subjects_in}
 use Rattle.sx_rules.specs.Chosen.{negation, chosen, holes_of, holes_in, holes_among}
-use Rattle.sx_rules.specs.Subjects.{bare_or_other, subject_kind, premise_subject, first_at, is_other, count_in, is_not_once, is_bare, has_bare, is_again, first_again, is_typed, is_settled, part_of, broken, subject_uses, broken_part}
+use Rattle.sx_rules.specs.Subjects.{subject_kind, premise_subject, first_at, is_other, count_in, is_not_once, is_bare, has_bare, is_again, first_again, is_typed, is_settled, part_of, subject_uses, broken_part}
 use Rattle.sx_rules.proofs.ModeLaws.{same_number, number_same, chosen_subjects, Has, has-first, has-later, has-which, among_to, to_among}
 
 -- how often a variable stands

@@ -1,6 +1,6 @@
 -- Derivations: what it is to derive a judgement.
-use Rattle.std.specs.Prelude.{◌≡◌, ℕ, zero, suc, ◌+◌, ◌≤◌, max, List, [], ◌∷◌, map, length, Option, Some, None, slice_get}
-use Rattle.sx_term.specs.Tree.{Tree, depth_of}
+use Rattle.std.specs.Prelude.{◌≡◌, ℕ, zero, suc, ◌+◌, max, List, [], ◌∷◌, map, length, Option, Some, None, slice_get}
+use Rattle.sx_term.specs.Tree.{Tree}
 use Rattle.sx_rules.specs.Instances.{instance, bound_by}
 use Rattle.sx_rules.specs.Rules.{Judgement, Rule, Hypotheses, judgement_instance, judgements_of, AllApart}
 pub use Rattle.sx_rules.specs.Deep.{AreShallow}
@@ -60,6 +60,7 @@ proof_at no_more i = None
 proof_at (p ⊳ ps) zero = Some p
 proof_at (p ⊳ ps) (suc i) = proof_at ps i
 
+-- the proof that is there, or else the given of this number
 abbrev pub put_for : Option Proof → ℕ → Proof
 put_for None i = given i
 put_for (Some p) i = p
@@ -74,10 +75,11 @@ abbrev mutual
   grafts proofs no_more = no_more
   grafts proofs (p ⊳ ps) = graft proofs p ⊳ grafts proofs ps
 
--- the instance of the hypotheses
+-- the instance of a pair
 abbrev pub pair_instance : (ℕ → Tree) → Tree × Tree → Tree × Tree
 pair_instance s p = (instance s p.0, instance s p.1)
 
+-- the instance of the hypotheses
 abbrev pub hypotheses_instance : (ℕ → Tree) → Hypotheses → Hypotheses
 hypotheses_instance s h = record { judgements = map (judgement_instance s) h.judgements; pairs = map (pair_instance s) h.pairs }
 
@@ -101,6 +103,7 @@ abbrev mutual
   HaveShallowBinds no_more = Unit {0}
   HaveShallowBinds (p ⊳ ps) = HasShallowBinds p × HaveShallowBinds ps
 
+-- so it is of the terms of each judgement
 abbrev pub ShallowJudgements : List Judgement → Type 0
 ShallowJudgements [] = Unit {0}
 ShallowJudgements (j ∷ js) = AreShallow j.places × ShallowJudgements js

@@ -1,4 +1,5 @@
-use Rattle.std.specs.Prelude.{◌≡◌, ℕ, ◌+◌, Bool, true, false, List, [], ◌∷◌, ◌⊎◌, Option, Some, None, length, slice_get, nat_eq}
+-- The subject discipline of rules.
+use Rattle.std.specs.Prelude.{◌≡◌, ℕ, ◌+◌, Bool, true, false, List, [], ◌∷◌, ◌⊎◌, Some, slice_get, nat_eq}
 use Rattle.sx_term.specs.Tree.{Tree, Trees, node, lexeme, hole, none, ◌▹◌}
 use Rattle.sx_rules.specs.Instances.{StandsAmong}
 use Rattle.sx_term.specs.declared.sort.Sort.{Sort}
@@ -32,6 +33,7 @@ abbrev mutual
   times_in_kids v none = 0
   times_in_kids v (t ▹ ts) = times_in v t + times_in_kids v ts
 
+-- how often the variable stands among the terms
 abbrev pub times_among : ℕ → List Tree → ℕ
 times_among v [] = 0
 times_among v (t ∷ ts) = times_in v t + times_among v ts
@@ -42,15 +44,18 @@ IsBareSubject subjects conclusion before j =
     (subjects_of subjects j ≡ [])
     ⊎ (v : ℕ) × (subjects_of subjects j ≡ hole v ∷ []) × (times_among v (subjects_of subjects conclusion) ≡ 1) × (IsSubjectIn subjects v before → ⊥)
 
+-- so it is for each of the judgements, after those that are before it
 abbrev pub AreBareSubjects : Modes → Judgement → List Judgement → List Judgement → Type 0
 AreBareSubjects subjects conclusion before [] = Unit {0}
 AreBareSubjects subjects conclusion before (j ∷ js) = IsBareSubject subjects conclusion before j × AreBareSubjects subjects conclusion (j ∷ before) js
 
--- the subject discipline
+-- The subject discipline: each premise's subject is a bare variable, which stands once in the conclusion's subject and is the
+-- subject of no premise before; and each variable of a typed sort in the conclusion's subject is the subject of a premise.
 pub record IsDisciplined (subjects : Modes) (rule : Rule) : Type 0 where
   pub bare : AreBareSubjects subjects rule.conclusion [] (judgements_of rule.premises)
   pub every : (v k : ℕ) → slice_get rule.sorts v ≡ Some (Typed k) → StandsAmong v (subjects_of subjects rule.conclusion) → IsSubjectIn subjects v (judgements_of rule.premises)
 
+-- none of the sorts is typed
 abbrev pub AreUntypedSorts : List Sort → Type 0
 AreUntypedSorts [] = Unit {0}
 AreUntypedSorts (sort ∷ sorts) = IsUntypedSort sort × AreUntypedSorts sorts

@@ -1,11 +1,8 @@
 -- Good rules, and the first breach of a bad one.
-use Rattle.std.specs.Prelude.{◌≡◌, ℕ, ◌<◌, ◌≤◌, List, [], ◌∷◌, ◌++◌, ◌⊎◌, Option, Some, None, map, length, Result, Ok, Err}
-use Rattle.sx_term.specs.declared.shapes.Shapes.{Shapes}
-use Rattle.sx_rules.specs.declared.rule.Form.{Form}
+use Rattle.std.specs.Prelude.{◌≡◌, ℕ, ◌<◌, ◌≤◌, List, [], ◌∷◌, ◌++◌, ◌⊎◌, Some, None, map, length, Result, Ok, Err}
 use Rattle.sx_rules.specs.declared.rule.Rule.{Rule as RuleOf}
 use Rattle.sx_rules.specs.declared.error.RuleError.{RuleError}
 use Rattle.sx_rules.specs.declared.error.RuleError.TheVariants.{Memory, TooManyRules, TooManyVars, SameRule, SortDiffers, Discipline, NotModed}
-use Rattle.sx_rules.specs.Rules.{Rule}
 use Rattle.sx_rules.specs.Modes.{IsModed}
 use Rattle.sx_term.specs.Sorts.{Shape}
 use Rattle.sx_rules.specs.Discipline.{IsDisciplined}
@@ -69,6 +66,7 @@ IsChecked shapes forms names r (Ok x) = IsGood shapes forms names r
 IsChecked shapes forms names r (Err Memory) = Unit {0}
 IsChecked shapes forms names r (Err e) = IsBreach shapes forms names r e
 
+-- the names of the rules
 abbrev pub names_of : List RuleOf → List (List ℕ)
 names_of rs = map (λ r. r.name) rs
 

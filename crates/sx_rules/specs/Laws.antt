@@ -4,7 +4,7 @@ use Rattle.sx_rules.specs.declared.error.RuleError.{RuleError}
 use Rattle.sx_rules.specs.Rules.{Rule}
 use Rattle.sx_rules.specs.Modes.{IsModed}
 use Rattle.sx_term.specs.Sorts.{Shape}
-use Rattle.sx_rules.specs.Sorts.{FormSorts, RuleIsSorted}
+use Rattle.sx_rules.specs.Sorts.{RuleIsSorted}
 use Rattle.sx_rules.specs.Discipline.{IsDisciplined}
 use Rattle.sx_rules.specs.Views.{FormData, NamedRule, modes_of, subjects_in, sorts_of}
 use Rattle.sx_rules.specs.Fits.{RuleFits}

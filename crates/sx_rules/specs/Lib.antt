@@ -24,3 +24,4 @@ pub mod RuleNames
 pub mod ListText
 pub mod ListRead
 pub mod ListLaws
+pub mod BadLine

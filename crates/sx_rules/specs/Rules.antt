@@ -1,3 +1,4 @@
+-- Rules as plain data, and what it is for two terms to be apart.
 use Rattle.std.specs.Prelude.{◌≡◌, ◌≢◌, ℕ, List, [], ◌∷◌, ◌⊎◌, map}
 use Rattle.sx_term.specs.declared.sort.Sort.{Sort}
 use Rattle.sx_term.specs.Tree.{Tree, lexeme}
@@ -34,10 +35,12 @@ judgements_of [] = []
 judgements_of (holds j ∷ ps) = j ∷ judgements_of ps
 judgements_of (apart s t ∷ ps) = judgements_of ps
 
+-- both terms are lexemes, and they differ
 abbrev pub AreDifferentLexemes : Tree → Tree → Type 0
 AreDifferentLexemes (lexeme k x) (lexeme m y) = lexeme k x ≢ lexeme m y
 AreDifferentLexemes _ _ = ⊥
 
+-- the two terms are one of the pairs, in this order
 abbrev pub IsPair : List (Tree × Tree) → Tree → Tree → Type 0
 IsPair [] s t = ⊥
 IsPair (p ∷ ps) s t = ((p.0 ≡ s) × (p.1 ≡ t)) ⊎ IsPair ps s t

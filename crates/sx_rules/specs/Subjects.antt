@@ -17,6 +17,7 @@ bare_or_other (node label kids) = Other
 bare_or_other (lexeme kind text) = Other
 bare_or_other (hole v) = Bare v
 
+-- what stands at the subject places: nothing, one bare variable, or something else
 abbrev pub subject_kind : List Tree → Subject
 subject_kind [] = Absent
 subject_kind (t ∷ []) = bare_or_other t
@@ -28,10 +29,12 @@ after_one Absent t = bare_or_other t
 after_one (Bare v) t = Other
 after_one Other t = Other
 
+-- what is found after a term that may stand at a subject place
 abbrev pub with_one : Subject → Bool → Tree → Subject
 with_one found true t = after_one found t
 with_one found false t = found
 
+-- the subject of a premise; two terms that are to be apart have none
 abbrev pub premise_subject : List FormData → Premise → Subject
 premise_subject forms (holds j) = subject_kind (chosen Subjects (places_at forms j.form) j.places)
 premise_subject forms (apart t u) = Absent
@@ -41,6 +44,7 @@ abbrev pub first_at : {A : Type 0} → (A → Bool) → ℕ → List A → Optio
 first_at test n [] = None
 first_at test n (x ∷ xs) = if test x then Some n else first_at test (n + 1) xs
 
+-- whether something else than a bare variable stands there
 abbrev pub is_other : Subject → Bool
 is_other Absent = false
 is_other (Bare v) = false
@@ -61,11 +65,13 @@ is_not_once uses Absent = false
 is_not_once uses (Bare v) = negation (nat_eq (count_in v uses) 1)
 is_not_once uses Other = false
 
+-- whether the variable stands there
 abbrev pub is_bare : ℕ → Subject → Bool
 is_bare v Absent = false
 is_bare v (Bare w) = nat_eq v w
 is_bare v Other = false
 
+-- whether the variable is one of the subjects
 abbrev pub has_bare : ℕ → List Subject → Bool
 has_bare v [] = false
 has_bare v (s ∷ ss) = if is_bare v s then true else has_bare v ss
@@ -81,6 +87,7 @@ abbrev pub first_again : ℕ → List Subject → List Subject → Option ℕ
 first_again n before [] = None
 first_again n before (s ∷ ss) = if is_again before s then Some n else first_again (n + 1) (before ++ s ∷ []) ss
 
+-- whether there is a sort and it is typed
 abbrev pub is_typed : Option Sort → Bool
 is_typed None = false
 is_typed (Some (Lex k)) = false
@@ -91,6 +98,7 @@ is_typed (Some (Typed n)) = true
 abbrev pub is_settled : List Sort → List Subject → ℕ → Bool
 is_settled sorts subjects v = if is_typed (slice_get sorts v) then has_bare v subjects else true
 
+-- the part with the number that was found, or else the next
 abbrev pub part_of : ℕ → Option ℕ → Option (ℕ × ℕ) → Option (ℕ × ℕ)
 part_of part None next = next
 part_of part (Some n) next = Some (part, n)
@@ -107,5 +115,7 @@ broken sorts subjects uses =
 abbrev pub subject_uses : List FormData → Rule → List ℕ
 subject_uses forms rule = holes_among (chosen Subjects (places_at forms rule.conclusion.form) rule.conclusion.places)
 
+-- The first part of the discipline that the rule breaks, and the first premise that breaks it; that there is none exactly where
+-- the rule is disciplined is a law.
 abbrev pub broken_part : List FormData → Rule → Option (ℕ × ℕ)
 broken_part forms rule = broken rule.sorts (map (premise_subject forms) rule.premises) (subject_uses forms rule)

@@ -1,11 +1,8 @@
 -- Rules and what belongs to them as plain data.
-use Rattle.std.specs.Prelude.{ℕ, Bool, true, false, List, [], map, length, slice_get, Option, Some, None, option_and_then}
+use Rattle.std.specs.Prelude.{ℕ, Bool, true, false, List, [], map, slice_get, Option, Some, None}
 use Rattle.sx_term.specs.Tree.{Tree}
 use Rattle.sx_term.specs.declared.term.Term.{Term}
 use Rattle.sx_term.specs.Term.{tree}
-use Rattle.sx_term.specs.declared.sort.Sort.{Sort}
-use Rattle.sx_term.specs.declared.con.Con.{Con}
-use Rattle.sx_term.specs.declared.shapes.Shapes.{Shapes}
 use Rattle.sx_rules.specs.declared.rule.Role.{Role}
 use Rattle.sx_rules.specs.declared.rule.Role.TheVariants.{In, Sub, Out}
 use Rattle.sx_rules.specs.declared.rule.Place.{Place}
@@ -18,9 +15,9 @@ use Rattle.sx_rules.specs.declared.rule.Rule.{Rule as RuleOf}
 use Rattle.sx_rules.specs.declared.rule.Hyps.{Hyps}
 use Rattle.sx_rules.specs.Rules.{Judgement, Premise, holds, apart, Rule, Hypotheses}
 use Rattle.sx_rules.specs.Modes.{Modes, Goal}
-use Rattle.sx_term.specs.Sorts.{Shape}
 use Rattle.sx_rules.specs.Sorts.{FormSorts}
 
+-- a judgement, a goal, a premise and a rule as plain data
 abbrev pub judgement : JudgementOf → Judgement
 judgement j = record { form = j.form; places = map tree j.places.items }
 
@@ -34,6 +31,7 @@ premise (Apart s t) = apart (tree s) (tree t)
 abbrev pub rule : RuleOf → Rule
 rule r = record { sorts = r.vars.items; premises = map premise r.premises.items; conclusion = judgement r.conclusion }
 
+-- a pair of terms, and hypotheses
 abbrev pub pair : Term × Term → Tree × Tree
 pair p = (tree p.0, tree p.1)
 
@@ -45,6 +43,7 @@ pub record FormData : Type 0 where
   pub name : List ℕ
   pub places : List Place
 
+-- the view of a form, and of forms
 abbrev pub form : Form → FormData
 form f = record { name = f.name; places = f.places.items }
 
@@ -56,17 +55,20 @@ pub record NamedRule : Type 0 where
   pub name : List ℕ
   pub rule : Rule
 
+-- the view of a rule with its name
 abbrev pub named : RuleOf → NamedRule
 named r = record { name = r.name; rule = rule r }
 
--- the places of the form with a number; none where there is no such form
+-- the places of a form, or none
 abbrev pub places_or_none : Option FormData → List Place
 places_or_none None = []
 places_or_none (Some f) = f.places
 
+-- the places of the form with a number; none where there is no such form
 abbrev pub places_at : List FormData → ℕ → List Place
 places_at fs n = places_or_none (slice_get fs n)
 
+-- whether the role is that of an output, or of a subject
 abbrev pub is_out : Role → Bool
 is_out In = false
 is_out Sub = false

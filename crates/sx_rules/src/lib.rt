@@ -22,6 +22,8 @@ mod proof;
 mod rule;
 mod rule_set;
 mod subject;
+#[cfg(test)]
+mod tests;
 
 pub use derivation_laws::{
     derivations_are_sorted, discipline_suffices, grafts_are_derivations, order_is_unique,

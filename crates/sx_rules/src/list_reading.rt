@@ -3,7 +3,7 @@
 ghost use Rattle.std.specs.Prelude.{◌≡◌, ℕ, ◌+◌, ◌<◌, ◌^◌, List, length, codes, Ok, IfOk, IfErr, IfSome};
 ghost use Rattle.sx_lines.specs.Left.{left};
 ghost use Rattle.sx_lines.specs.Lines.{lines_from, texts};
-ghost use Rattle.sx_lines.specs.FirstBad.{IsFirstBad};
+ghost use Rattle.sx_rules.specs.BadLine.{IsFirstBad};
 ghost use Rattle.sx_lines.specs.Reading.{Gives, the_line, each_line};
 ghost use Rattle.sx_rules.specs.RuleNames.{AreNames, place_from};
 ghost use Rattle.sx_rules.specs.Sets.{names_in};

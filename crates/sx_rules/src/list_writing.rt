@@ -1,6 +1,7 @@
 //! Writing derivation lists.
 
 ghost use Rattle.std.specs.Prelude.{◌≡◌, ◌++◌, [], ◌∷◌, OnOk, OnErr, All};
+ghost use Rattle.std.specs.List.{AllByRecursion};
 ghost use Rattle.sx_lines.specs.Reading.{BeginsWith, written};
 ghost use Rattle.sx_rules.specs.Sets.{names_in};
 ghost use Rattle.sx_rules.specs.ListText.{IsEntry, entry_line, list_lines};
@@ -76,7 +77,7 @@ pub fn write_list(
     list: &[Entry],
     into: &mut Vec<u8>,
 ) -> Result<(), NoMemory>
-    requires { All (IsEntry (names_in rules.now)) list.now }
+    requires { AllByRecursion (IsEntry (names_in rules.now)) list.now }
     ensures ok { OnOk result (into.new.items ≡ into.old.items ++ written (list_lines (names_in rules.now) list.now)) }
     ensures err { OnErr result (into.new.items ≡ into.old.items) }
 {

@@ -36,6 +36,7 @@ pub data Meant : Type 0 where
 
 -- ---- how words are spelled
 
+-- the word of a command that is given a name
 abbrev pub verb_word : Verb → List ℕ
 verb_word Build = codes "build"
 verb_word Compile = codes "compile"
@@ -45,6 +46,7 @@ verb_word Verify = codes "verify"
 abbrev pub colon : ℕ
 colon = 58
 
+-- the word of an option
 abbrev pub option_word : Given → List ℕ
 option_word core = codes "--core"
 option_word (tries n) = codes "--tries=" ++ decimal n
@@ -64,6 +66,7 @@ IsGiven (audit kind setting) = NoColon kind
 
 -- ---- which options a command takes
 
+-- the command takes the option
 abbrev pub takes : Verb → Given → Bool
 takes Build option = true
 takes Compile core = false
@@ -73,10 +76,12 @@ takes Check option = false
 takes Verify core = true
 takes Verify option = false
 
+-- an auditor of the kind is named
 abbrev pub has_kind : List AuditWord → List ℕ → Bool
 has_kind [] kind = false
 has_kind (a ∷ audits) kind = bytes_eq a.kind kind || has_kind audits kind
 
+-- no auditor is named
 abbrev pub has_none : List AuditWord → Bool
 has_none [] = true
 has_none (a ∷ audits) = false
@@ -90,6 +95,7 @@ is_new s (audit kind setting) = not s.core && not (has_kind s.audits kind)
 
 -- ---- what options say
 
+-- no option stands
 abbrev pub nothing_said : Settings
 nothing_said = record { core = false; tries = None; nodes = None; audits = [] }
 
@@ -115,6 +121,7 @@ MayStand verb place s (option ∷ options) =
 abbrev pub or_most : Option ℕ → ℕ
 or_most n = unwrap_or n 1000000
 
+-- the command of this name, with what its options say
 unfoldable pub meant : Verb → Settings → List ℕ → Meant
 meant Build s name = builds s.core name (or_most s.tries) (or_most s.nodes) s.audits
 meant Compile s name = compiles name (or_most s.tries) (or_most s.nodes) s.audits

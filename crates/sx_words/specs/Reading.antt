@@ -64,12 +64,13 @@ after_verb verb place s (word ∷ words) =
     if is_option word then then_option place (next_option verb s word) (λ option. after_verb verb (place + 1) (with_option place s option) words)
     else last_word verb place s word words
 
--- the words after `sample`
+-- the sample of the size, where no word follows it
 abbrev pub sample_of : Option ℕ → List (List ℕ) → Result Meant ℕ
 sample_of None rest = Err 2
 sample_of (Some n) [] = Ok (samples n)
 sample_of (Some n) (next ∷ rest) = Err 3
 
+-- the words after `sample`
 unfoldable pub after_sample : List (List ℕ) → Result Meant ℕ
 after_sample [] = Err 2
 after_sample (word ∷ rest) = sample_of (count_of 300 word) rest
@@ -83,6 +84,7 @@ verb_of word =
     else if bytes_eq word (verb_word Verify) then Some Verify
     else None
 
+-- the command that the first word begins, and the words after it
 unfoldable pub command_from : List ℕ → Option Verb → List (List ℕ) → Result Meant ℕ
 command_from word (Some verb) words = after_verb verb 2 nothing_said words
 command_from word None words = if bytes_eq word (codes "sample") then after_sample words else Err 1

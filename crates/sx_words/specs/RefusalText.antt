@@ -113,6 +113,7 @@ grammar_text (grammar.Cyclic sort) = joined (codes "sort " ∷ sort ∷ codes " 
 
 -- ---- what a text says of printed texts and of files that do not go together
 
+-- which printed text it is
 abbrev pub part_text : PrintedPart → List ℕ
 part_text print.Body = joined (codes "printed text " ∷ [])
 part_text print.Signature = joined (codes "printed signature " ∷ [])
@@ -155,6 +156,7 @@ place_text (place.Rule name) = joined (codes "rule " ∷ name ∷ codes ": " ∷
 place_text (place.Plain label) = joined (codes "plain " ∷ label ∷ codes ": " ∷ [])
 place_text (place.Production label) = joined (codes "production " ∷ label ∷ codes ": " ∷ [])
 
+-- what a text says is wrong
 abbrev pub defect_text : Defect → List ℕ
 defect_text (defect.File x) = file_text x
 defect_text (defect.Text x) = text_text x

@@ -11,6 +11,7 @@ use Rattle.sx_words.specs.declared.words_error.WordsError.{WordsError}
 use Rattle.sx_words.specs.declared.words_error.WordsError.TheVariants.{Memory, Words}
 use Rattle.sx_words.specs.Commands.{Given, core, tries, nodes, audit, AuditWord, Settings, Meant, builds, compiles, checks, verifies, samples, Spells, IsMisfit}
 
+-- an option that names an auditor, without where it lies in memory
 abbrev pub audit_view : Audit → AuditWord
 audit_view a = record { kind = a.kind; setting = a.setting; word = a.word }
 
@@ -22,9 +23,11 @@ command_view (command.Check name most_tries) = checks name most_tries
 command_view (command.Verify of_core name) = verifies of_core name
 command_view (command.Sample n) = samples n
 
+-- what the options say, without where it lies in memory
 abbrev pub settings_view : Options → Settings
 settings_view o = record { core = o.core; tries = o.tries; nodes = o.nodes; audits = map audit_view o.audits.items }
 
+-- an option, without where it lies in memory
 abbrev pub given_view : declared.Given → Given
 given_view given.Core = core
 given_view (given.Tries n) = tries n
@@ -42,6 +45,7 @@ IsAnswer words (Ok c) = Spells words (command_view c)
 IsAnswer words (Err Memory) = Unit {0}
 IsAnswer words (Err (Words n)) = IsMisfit words n
 
+-- two texts, without where they lie in memory
 abbrev pub pair_view : Bor (List ℕ) × Bor (List ℕ) → List ℕ × List ℕ
 pair_view p = (p.0.now, p.1.now)
 

@@ -1,4 +1,3 @@
-use Rattle.std.proofs.Common.{rules, ◌≡◌, ◌<◌, ◌≤◌, length, arith, drop}
 use Rattle.sx_term.specs.Shapes.{shapes}
 use Rattle.sx_rules.specs.Views.{forms}
 use Rattle.sx_rules.proofs.RowLaws.{premises_differ, premises_more, premises_all, premise_shallow_at}

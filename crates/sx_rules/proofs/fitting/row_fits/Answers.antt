@@ -1,4 +1,3 @@
-use Rattle.std.proofs.Common.{rules, ◌≡◌, ◌<◌, ◌≤◌, length, arith, drop}
 use Rattle.sx_term.specs.Shapes.{shapes}
 use Rattle.sx_rules.proofs.Holes.{shallow_at}
 use Rattle.sx_rules.proofs.RowLaws.{row_differs, row_more, row_all, row_unlike}

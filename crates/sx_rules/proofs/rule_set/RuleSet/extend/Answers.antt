@@ -1,4 +1,4 @@
-use Rattle.std.proofs.Common.{subst, sym, ap, map}
+use Rattle.std.proofs.Common.{subst, sym, map}
 use Rattle.sx_rules.specs.Views.{rule}
 use Rattle.sx_rules.specs.Deep.{RulesAreShallow}
 use Rattle.sx_rules.specs.Sets.{bare_rules_in}

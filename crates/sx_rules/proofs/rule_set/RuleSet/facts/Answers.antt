@@ -1,5 +1,3 @@
-use Rattle.std.specs.Prelude.{map}
-use Rattle.sx_rules.specs.Views.{rule}
 use Rattle.sx_rules.specs.Sets.{shapes_in, forms_in, rules_in, bare_rules_in}
 use Rattle.sx_rules.proofs.Facts.{kept_good, kept_moded, kept_sorted, kept_shallow, kept_distinct}
 use Rattle.sx_rules.proofs.rule_set.RuleSet.facts.Goals as goal

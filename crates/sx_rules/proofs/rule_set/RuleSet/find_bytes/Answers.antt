@@ -1,4 +1,4 @@
-use Rattle.std.proofs.Common.{◌<◌, ap, sym, ◌∙◌, arith}
+use Rattle.std.proofs.Common.{ap, sym, ◌∙◌, arith}
 use Rattle.std.specs.Prelude.{slice_get}
 use Rattle.sx_rules.specs.Sets.{shapes_in, forms_in}
 use Rattle.sx_rules.proofs.Facts.{number_within}

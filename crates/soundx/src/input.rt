@@ -1,0 +1,40 @@
+//! Standard input as a source. It tells nothing of its content.
+
+ghost use Rattle.std.specs.Prelude.{◌≡◌, None};
+
+use std::io::Read;
+use sx_outside::{Source, TakeAnswer};
+
+/// Standard input, with how many takes have failed.
+#[derive(Drop)]
+pub struct Input<'a> {
+    rt: &'a HostRuntime,
+    failed: u64,
+}
+
+impl<'a> Input<'a> {
+    /// Standard input, without faults.
+    pub fn new(rt: &'a HostRuntime) -> Input<'a> {
+        Input { rt, failed: 0 }
+    }
+}
+
+impl<'a> Source for Input<'a> {
+    ghost content = { λ _. None };
+
+    ghost faults = { λ input. input.failed };
+
+    fn take(&mut self, into: &mut [u8]) -> TakeAnswer {
+        if into.is_empty() {
+            return TakeAnswer::Took(0);
+        }
+        match self.rt.stdin().read(into) {
+            Ok(0) => TakeAnswer::End,
+            Ok(count) => TakeAnswer::Took(count),
+            Err(_) => {
+                self.failed = self.failed.saturating_add(1);
+                TakeAnswer::Failed
+            }
+        }
+    }
+}

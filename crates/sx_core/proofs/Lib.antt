@@ -1,0 +1,15 @@
+pub mod TermsLaws
+pub mod Wording
+pub mod RowLaws
+pub mod Feeds
+pub mod DeclaredLaws
+pub mod NumberLaws
+pub mod SortLaws
+pub mod ResolveLaws
+pub mod ResolveViews
+pub mod StatementLaws
+pub mod FileLaws
+pub mod GroundLaws
+pub mod StatementViews
+pub mod FirstViews
+pub mod FeedlessLaws

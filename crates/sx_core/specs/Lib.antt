@@ -1,0 +1,13 @@
+pub mod Problem
+pub mod File
+pub mod Stated
+pub mod TermsText
+pub mod FirstForm
+pub mod Words
+pub mod Rows
+pub mod Cut
+pub mod Declares
+pub mod Numbering
+pub mod Resolving
+pub mod Statements
+pub mod FirstLines

@@ -1,0 +1,46 @@
+//! Forms, found by their names.
+
+ghost use Rattle.std.specs.Prelude.{◌≡◌, ℕ, ◌<◌, ◌^◌, length, Some, None, slice_get, MatchOption, MatchResult, map};
+ghost use Rattle.sx_rules.specs.Views.{form, forms};
+ghost use Rattle.sx_core.specs.Stated.{AreDistinct};
+ghost use Rattle.sx_core.specs.Numbering.{NotDistinct};
+ghost use Rattle.sx_core.specs.Statements.{known_in, names_in, IsFormTable};
+
+use crate::numbers::{Numbers, form_names, number_names};
+use crate::terms_row::RowError;
+use std::alloc::Global;
+use sx_rules::{Form, Place};
+
+/// The forms with the number of each name.
+#[derive(Drop)]
+pub(crate) struct FormTable<'a> {
+    pub numbers: Numbers<'a>,
+    pub forms: &'a [Form],
+}
+
+/// The table of the forms, where no name stands twice.
+pub(crate) fn make_form_table<'a>(alloc: Global, all: &'a [Form]) -> Result<FormTable<'a>, RowError>
+    requires { length all.now < 2 ^ 32 }
+    ensures { MatchResult result (λ t. (known_in t ≡ forms all.entry.now) × IsFormTable t × AreDistinct (names_in (forms all.entry.now))) (λ e. NotDistinct (names_in (forms all.entry.now)) e) }
+{
+    let names = form_names(alloc, all)?;
+    match number_names(alloc, &names) {
+        Ok(numbers) => Ok(FormTable {
+            numbers,
+            forms: all,
+        }),
+        Err(e) => Err(e),
+    }
+}
+
+/// The form with this number.
+fn form_at(all: &[Form], number: u32) -> Option<&Form>
+    ensures { MatchOption result (slice_get (forms all.now) number ≡ None)
+        (λ f. slice_get (forms all.now) number ≡ Some (form f.now)) }
+{
+    let i = number as usize;
+    if i < all.len() {
+        return Some(&all[i]);
+    }
+    None
+}

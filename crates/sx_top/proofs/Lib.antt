@@ -1,0 +1,9 @@
+mod Writes
+mod StepsOn
+mod CoreReads
+mod Simple
+mod Axioms
+mod Inputs
+mod Plans
+mod CorePromise
+mod Endings

@@ -1,0 +1,53 @@
+-- How a result goes through steps one after another.
+use Rattle.std.proofs.Common.{ℕ, refl, inl, inr}
+use Rattle.std.specs.Prelude.{Result, Ok, Err, Option}
+use Rattle.sx_outside.specs.Files.{Files}
+use Rattle.sx_top.specs.Refusal.{Stop, refused, read_fault}
+use Rattle.sx_top.specs.Steps.{Then, Goes}
+use Rattle.sx_top.specs.Stop.{Gives, OnlyReads, IsReadFault, RisesBy, Tried, refusal_of}
+use Rattle.sx_top.specs.declared.step_error.StepError.{StepError}
+use Rattle.sx_top.specs.declared.step_error.StepError.TheVariants as errors
+
+-- where the first step stops, all of them do
+pub stops_first : {X Y A B : Type 0} (view : X → A) (seen : Y → B) (first : Result A Stop → Type 0) (next : A → Result B Stop → Type 0) (e : StepError) → Gives view first (Err e) → Gives seen (Then first next) (Err e)
+stops_first view seen first next errors.Memory here = tt
+stops_first view seen first next (errors.ReadFault file) here = record { given = Err (read_fault file); begins = here; goes = refl }
+stops_first view seen first next (errors.Refused refusal) here = record { given = Err (refused (refusal_of refusal)); begins = here; goes = refl }
+
+-- where the first step gives something, the next one goes on
+pub goes_next : {Y A B : Type 0} (seen : Y → B) (first : Result A Stop → Type 0) (next : A → Result B Stop → Type 0) (given : A) (result : Result Y StepError) → first (Ok given) → Gives seen (next given) result → Gives seen (Then first next) result
+goes_next seen first next given (Ok y) begins there = record { given = Ok given; begins = begins; goes = there }
+goes_next seen first next given (Err errors.Memory) begins there = tt
+goes_next seen first next given (Err (errors.ReadFault file)) begins there = record { given = Ok given; begins = begins; goes = there }
+goes_next seen first next given (Err (errors.Refused refusal)) begins there = record { given = Ok given; begins = begins; goes = there }
+
+-- a later step that reads nothing leaves it so
+pub reads_on : {X Y : Type 0} (old new : Option Files) (reads reads_after writes writes_after : ℕ) (result : Result X StepError) (later : Result Y StepError) → OnlyReads old new reads reads_after writes writes_after result → (IsReadFault later → ⊥) → OnlyReads old new reads reads_after writes writes_after later
+reads_on old new reads reads_after writes writes_after result later so none = record { content = so.content; reads = so.reads; writes = so.writes; cause = λ fault. absurd (none fault) }
+
+-- where steps end without a stop, the first of them gave something, and the next one went on from it
+pub record Went {A B : Type 0} (first : Result A Stop → Type 0) (next : A → Result B Stop → Type 0) (result : B) : Type 0 where
+  pub given : A
+  pub begins : first (Ok given)
+  pub goes : next given (Ok result)
+
+went_by : {A B : Type 0} (first : Result A Stop → Type 0) (next : A → Result B Stop → Type 0) (result : B) (given : Result A Stop) → first given → Goes next given (Ok result) → Went first next result
+went_by first next result (Ok given) begins goes = record { given = given; begins = begins; goes = goes }
+went_by first next result (Err stop) begins goes = absurd cc
+
+pub went : {A B : Type 0} (first : Result A Stop → Type 0) (next : A → Result B Stop → Type 0) (result : B) → Then first next (Ok result) → Went first next result
+went first next result steps = went_by first next result steps.given steps.begins steps.goes
+
+-- where the walks were made, they were tried, whatever came then
+pub tried_all : {X : Type 0} (Walks : ℕ → Type 0) (result : Result X StepError) (before after : ℕ) → RisesBy Walks before after → Tried Walks result before after
+tried_all Walks (Ok x) before after rises = rises
+tried_all Walks (Err e) before after rises = inr rises
+
+rises_more : (Walks Others : ℕ → Type 0) (before after : ℕ) → ((tries : ℕ) → Walks tries → Others tries) → RisesBy Walks before after → RisesBy Others before after
+rises_more Walks Others before after more rises = (rises.0, more rises.0 rises.1, rises.2)
+
+-- the same tries, seen as those of other walks
+pub tried_more : {X : Type 0} (Walks Others : ℕ → Type 0) (result : Result X StepError) (before after : ℕ) → ((tries : ℕ) → Walks tries → Others tries) → Tried Walks result before after → Tried Others result before after
+tried_more Walks Others (Ok x) before after more tried = rises_more Walks Others before after more tried
+tried_more Walks Others (Err e) before after more (inl none) = inl none
+tried_more Walks Others (Err e) before after more (inr rises) = inr (rises_more Walks Others before after more rises)

@@ -1,0 +1,41 @@
+-- The step that finds the first derivation of a core problem's goal.
+use Rattle.std.specs.Prelude.{◌≡◌, ◌⊎◌, ℕ, ◌+◌, List, [], length, map, Result, Ok, Err, None}
+use Rattle.sx_term.specs.Tree.{Tree}
+use Rattle.sx_rules.specs.Rules.{Rule, Hypotheses}
+use Rattle.sx_rules.specs.Views.{modes_of}
+use Rattle.sx_rules.specs.Derivations.{by, no_more}
+use Rattle.sx_rules.specs.First.{Answer, IsFirst, IsUnderivable}
+use Rattle.sx_core.specs.Problem.{Problem}
+use Rattle.sx_top.specs.CoreTexts.{goal_text}
+use Rattle.sx_top.specs.Refusal.{Stop, refused, read_fault, absent, bad_word, not_read_yet, no_rule}
+
+-- nothing is given
+abbrev pub no_hypotheses : Hypotheses
+no_hypotheses = record { judgements = []; pairs = [] }
+
+-- the rules of a problem without their names
+abbrev pub rules_of : Problem → List Rule
+rules_of problem = map (λ r. r.rule) problem.rules
+
+-- the first derivation of the problem's goal by its rules, with the outputs that it gives
+abbrev pub IsFirstOf : Problem → Answer → Type 0
+IsFirstOf problem answer = IsFirst (modes_of problem.forms) (rules_of problem) no_hypotheses problem.goal None answer
+
+-- the problem's goal has no derivation by its rules
+abbrev pub HasNone : Problem → Type 0
+HasNone problem = IsUnderivable (modes_of problem.forms) (rules_of problem) no_hypotheses problem.goal None
+
+-- the first derivation, or the goal of the file has none
+abbrev pub Finds : List ℕ → Problem → Result Answer Stop → Type 0
+Finds file problem (Ok answer) = IsFirstOf problem answer
+Finds file problem (Err (refused (no_rule other goal))) = (other ≡ file) × (goal ≡ goal_text problem.forms problem.goal) × HasNone problem
+Finds file problem (Err (refused (absent other))) = ⊥
+Finds file problem (Err (refused (bad_word place))) = ⊥
+Finds file problem (Err (refused (not_read_yet other))) = ⊥
+Finds file problem (Err (read_fault other)) = ⊥
+
+-- The walk of the goal compares it with so many rules: with those up to the rule of the first derivation, or with all.
+abbrev pub HasTries : Problem → ℕ → Type 0
+HasTries problem tries =
+    ((number : ℕ) × (outputs : List Tree) × IsFirstOf problem (by number [] no_more, outputs) × (tries ≡ number + 1))
+    ⊎ (HasNone problem × (tries ≡ length problem.rules))

@@ -1,0 +1,56 @@
+//! The top call.
+
+ghost use Rattle.std.specs.Prelude.{◌≡◌, ◌⊎◌};
+ghost use Rattle.sx_outside.specs.Told.{WhereTold};
+ghost use Rattle.sx_outside.specs.Faults.{Rose};
+ghost use Rattle.sx_top.specs.Ending.{BothTell, Ends, KeepsPromise, HasNoDefect, IsDoneOrShort, IsCounted, RisesWithin};
+
+use crate::perform::perform;
+use crate::plan::plan;
+use crate::status::Status;
+use crate::tell::tell;
+use std::alloc::Global;
+use std::sync::ledger::Ledger;
+use sx_outside::{Shelf, Sink, Source};
+use sx_term::{Steps, Text};
+
+/// Does what the words say, which are the command line without the program's name.
+/// Reads and writes files on the shelf, and writes lines on `out`. No command takes from `input`.
+pub fn run<S: Shelf, I: Source, K: Sink, L: Ledger>(
+    alloc: Global,
+    words: &[Text],
+    shelf: &mut S,
+    input: &mut I,
+    out: &mut K,
+    steps: &mut Steps<L>,
+) -> Status
+    // By the words and the files: the status, what stands on the shelf, and what the sink got.
+    ensures ends { BothTell (Ends words.now result)
+        (S.content shelf.old) (S.content shelf.new) (K.content out.old) (K.content out.new) }
+
+    // When it is done, the command keeps its promise.
+    ensures promise { BothTell (KeepsPromise words.now result)
+        (S.content shelf.old) (S.content shelf.new) (K.content out.old) (K.content out.new) }
+
+    // A fault has its cause.
+    ensures read_fault { result ≡ Status.ReadFault → Rose (S.read_faults shelf.old) (S.read_faults shelf.new) }
+    ensures write_fault { result ≡ Status.WriteFault
+        → Rose (S.write_faults shelf.old) (S.write_faults shelf.new) ⊎ Rose (K.faults out.old) (K.faults out.new) }
+
+    // Where nothing is wrong with the words and the files, and no fault came, it is done, or memory lacked.
+    ensures complete { WhereTold (S.content shelf.old) (λ files. HasNoDefect words.now files
+        → (Rose (S.read_faults shelf.old) (S.read_faults shelf.new) → ⊥)
+        → (Rose (S.write_faults shelf.old) (S.write_faults shelf.new) → ⊥)
+        → (Rose (K.faults out.old) (K.faults out.new) → ⊥)
+        → IsDoneOrShort result) }
+
+    // The steps are those of the command's walks.
+    ensures steps { WhereTold (S.content shelf.old) (λ files. IsCounted words.now files result steps.old steps.new) }
+    ensures most { RisesWithin 4096 steps.old steps.new }
+{
+    let _ = input;
+    match plan(alloc, words, shelf, steps) {
+        Ok(work) => perform(alloc, &work, shelf, out),
+        Err(error) => tell(alloc, &error, out),
+    }
+}

@@ -1,0 +1,24 @@
+//! The top call.
+#![tactic(auto)]
+
+mod build_core;
+mod call;
+mod command;
+mod forms;
+mod line;
+mod perform;
+mod plan;
+mod read_core;
+mod refusal;
+mod search;
+mod status;
+mod step_error;
+mod tell;
+mod texts;
+mod work;
+
+pub use call::run;
+pub use status::Status;
+
+#[cfg(test)]
+mod tests;

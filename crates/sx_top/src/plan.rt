@@ -1,0 +1,56 @@
+//! What the words come to.
+
+ghost use Rattle.sx_outside.specs.Told.{WhereTold};
+ghost use Rattle.sx_top.specs.Outcome.{Outcome, Runs};
+ghost use Rattle.sx_top.specs.Ending.{HasWalks, RisesWithin};
+ghost use Rattle.sx_top.specs.Stop.{Gives, OnlyReads, Tried};
+ghost use Rattle.sx_top.specs.Tries.{TriesOf};
+ghost use Rattle.sx_top.specs.Work.{plan_of};
+
+use crate::build_core::plan_build_core;
+use crate::command::{Command, read_command};
+use crate::step_error::StepError;
+use crate::work::Work;
+use std::alloc::Global;
+use std::sync::ledger::Ledger;
+use sx_outside::Shelf;
+use sx_term::{Steps, Text};
+
+/// The steps of a command.
+fn run_command<S: Shelf, L: Ledger>(
+    alloc: Global,
+    command: Command,
+    shelf: &mut S,
+    steps: &mut Steps<L>,
+) -> Result<Work, StepError>
+    ensures step { WhereTold (S.content shelf.old) (λ files. Gives plan_of (Runs command files) result) }
+    ensures reads { OnlyReads (S.content shelf.old) (S.content shelf.new)
+        (S.read_faults shelf.old) (S.read_faults shelf.new)
+        (S.write_faults shelf.old) (S.write_faults shelf.new) result }
+    ensures tries { WhereTold (S.content shelf.old) (λ files. TriesOf command files result steps.old steps.new) }
+    ensures most { RisesWithin 4096 steps.old steps.new }
+{
+    match command {
+        Command::BuildCore { name } => plan_build_core(alloc, &name, shelf, steps),
+    }
+}
+
+/// What the words come to: what is to be written, or why nothing is.
+pub fn plan<S: Shelf, L: Ledger>(
+    alloc: Global,
+    words: &[Text],
+    shelf: &mut S,
+    steps: &mut Steps<L>,
+) -> Result<Work, StepError>
+    ensures outcome { WhereTold (S.content shelf.old) (λ files. Gives plan_of (Outcome words.now files) result) }
+    ensures reads { OnlyReads (S.content shelf.old) (S.content shelf.new)
+        (S.read_faults shelf.old) (S.read_faults shelf.new)
+        (S.write_faults shelf.old) (S.write_faults shelf.new) result }
+    ensures tries { WhereTold (S.content shelf.old) (λ files. Tried (HasWalks words.now files) result steps.old steps.new) }
+    ensures most { RisesWithin 4096 steps.old steps.new }
+{
+    match read_command(alloc, words) {
+        Ok(command) => run_command(alloc, command, shelf, steps),
+        Err(e) => Err(e),
+    }
+}
