@@ -9,7 +9,7 @@ ghost use Rattle.sx_core.specs.Statements.{known_in, names_in, IsFormTable};
 use crate::numbers::{Numbers, form_names, number_names};
 use crate::terms_row::RowError;
 use std::alloc::Global;
-use sx_rules::{Form, Place};
+use sx_rules::Form;
 
 /// The forms with the number of each name.
 #[derive(Drop)]
@@ -31,16 +31,4 @@ pub(crate) fn make_form_table<'a>(alloc: Global, all: &'a [Form]) -> Result<Form
         }),
         Err(e) => Err(e),
     }
-}
-
-/// The form with this number.
-fn form_at(all: &[Form], number: u32) -> Option<&Form>
-    ensures { MatchOption result (slice_get (forms all.now) number ≡ None)
-        (λ f. slice_get (forms all.now) number ≡ Some (form f.now)) }
-{
-    let i = number as usize;
-    if i < all.len() {
-        return Some(&all[i]);
-    }
-    None
 }

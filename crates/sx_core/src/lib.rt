@@ -21,3 +21,6 @@ mod words;
 pub use error::CoreFileError;
 pub use problem::CoreProblem;
 pub use read::read_core_file;
+
+#[cfg(test)]
+mod tests;

@@ -17,7 +17,7 @@ use crate::form_table::{FormTable, make_form_table};
 use crate::ground::are_ground;
 use crate::resolved::subject_count;
 use crate::terms_row::{RowError, read_terms};
-use crate::words::{after_front, read_name, read_names};
+use crate::words::{after_front, read_name};
 use std::alloc::Global;
 use sx_rules::{Form, Goal, Judgement, Place, Role, Rule};
 use sx_term::{NoMemory, Shapes, Sort, Term, Text};
