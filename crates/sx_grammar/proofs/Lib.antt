@@ -1,0 +1,15 @@
+pub mod Soundness
+pub mod Completeness
+pub mod Printing
+pub mod Depth
+pub mod Tallies
+pub mod Deciding
+pub mod Ordering
+pub mod Answering
+pub mod Emptying
+pub mod Filing
+pub mod Stepping
+pub mod Linking
+pub mod Searching
+pub mod FirstLaws
+pub mod DistinctLaws

@@ -1,0 +1,20 @@
+use Rattle.std.proofs.Common.{arith, sym, ◌∙◌}
+use Rattle.std.proofs.lemmas.Bool.{false≢true}
+use Rattle.sx_grammar.specs.Parts.{texts}
+use Rattle.sx_grammar.specs.Made.{IsUnknown}
+use Rattle.sx_grammar.proofs.FirstLaws.{text_at, texts_length, none_more, none_all, first_here}
+use Rattle.sx_grammar.proofs.firsts.first_unknown.Goals as goal
+
+pub loop-name-preserved : goal.loop-name-preserved
+loop-name-preserved c = λ names is.
+    let at = text_at c.args.list.now c.loop-name.name-index c.name-item.result c.loop-name-test.true c.name-item.is in
+    none_more (IsUnknown names) (texts c.args.list.now) c.loop-name.name-index c.name-item.result.now at (c.loop-name.invariant names is) (λ bad. false≢true (sym c.if-is_unknown.false ∙ (c.is_unknown.ensures names is).1 bad))
+
+pub returns-then-is_unknown : goal.returns-then-is_unknown
+returns-then-is_unknown c = λ names is.
+    let at = text_at c.args.list.now c.loop-name.name-index c.name-item.result c.loop-name-test.true c.name-item.is in
+    first_here (IsUnknown names) (texts c.args.list.now) c.loop-name.name-index c.name-item.result.now at (c.loop-name.invariant names is) ((c.is_unknown.ensures names is).0 c.if-is_unknown.true)
+
+pub returns : goal.returns
+returns c = λ names is.
+    none_all (IsUnknown names) (texts c.args.list.now) c.loop-name.name-index (omega (arith, texts_length c.args.list.now, c.loop-name-test.false)) (c.loop-name.invariant names is)

@@ -1,0 +1,16 @@
+pub mod Grammar
+pub mod Reading
+pub mod Items
+pub mod Cyclic
+pub mod Print
+pub mod Laws
+pub mod Tally
+pub mod Order
+pub mod ReadOne
+pub mod TallyLaws
+pub mod Parts
+pub mod Made
+pub mod Numbered
+pub mod Cycles
+pub mod Numbering
+pub mod Distinct

@@ -1,0 +1,31 @@
+//! Grammars: what they are made of, what it is to read tokens by them, and what stands in print.
+#![tactic(auto)]
+
+mod cycle;
+mod distinct;
+mod empty_sorts;
+mod firsts;
+mod grammar_error;
+mod grammar_parts;
+mod head;
+mod item;
+mod laws;
+mod numbered;
+mod production;
+mod sort_line;
+mod standing;
+mod steps;
+mod symbol;
+
+pub use grammar_error::GrammarError;
+pub use grammar_parts::GrammarParts;
+pub use head::Head;
+pub use item::Item;
+pub use laws::{
+    answers_are_one, depth_is_bounded, inner_spans_are_found, items_are_read, kids_come_before,
+    prints_are_read, ranked_is_not_cyclic, spans_are_found, spans_are_read, tallies_are_counted,
+};
+pub use numbered::{NumberedProduction, NumberedSymbol};
+pub use production::Production;
+pub use sort_line::SortLine;
+pub use symbol::Symbol;
