@@ -127,13 +127,13 @@ parts_feedless lines p h =
 
 -- ---- the whole file
 
-file_lines_are : (bytes : List ℕ) (p : Problem) (s : StatesFirst bytes p) → AreLines bytes (file_lines s.file)
+pub file_lines_are : (bytes : List ℕ) (p : Problem) (s : StatesFirst bytes p) → AreLines bytes (file_lines s.file)
 file_lines_are bytes p s = record {
   parts = s.text;
   feedless = parts_feedless (file_lines s.file) p (parts (file_lines s.file) p (record { file = s.file; text = refl; states = s.states; axioms = s.axioms; goal = s.goal }));
 }
 
-state_lines : (bytes : List ℕ) (lines : List (List ℕ)) (p : Problem) → AreLines bytes lines → StatesFirst bytes p → LinesState lines p
+pub state_lines : (bytes : List ℕ) (lines : List (List ℕ)) (p : Problem) → AreLines bytes lines → StatesFirst bytes p → LinesState lines p
 state_lines bytes lines p a s = record { file = s.file; text = same_lines bytes lines (file_lines s.file) a (file_lines_are bytes p s); states = s.states; axioms = s.axioms; goal = s.goal }
 
 pub first_no_lines : (bytes : List ℕ) (e : RowError) → LinesRefused bytes e → IsFirstRead bytes (Err (first_error e))

@@ -344,3 +344,8 @@ parts lines p h =
       };
       rule_set = s.rule_set;
     }
+
+-- the sorts are those of the parts
+pub parts_sorts : (lines : List (List ℕ)) (p : Problem) (h : LinesState lines p) → p.sorts ≡ map (λ row. row.name) (sort_rows (parts lines p h).declarations)
+unfolding parts
+parts_sorts lines p h = h.states.sorts

@@ -13,3 +13,4 @@ pub mod GroundLaws
 pub mod StatementViews
 pub mod FirstViews
 pub mod FeedlessLaws
+pub mod OneProblem

@@ -11,3 +11,4 @@ pub mod Numbering
 pub mod Resolving
 pub mod Statements
 pub mod FirstLines
+pub mod Laws

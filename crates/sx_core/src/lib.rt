@@ -6,6 +6,7 @@ mod error;
 mod first_lines;
 mod form_table;
 mod ground;
+mod laws;
 mod lines;
 mod numbers;
 mod problem;
@@ -19,6 +20,7 @@ mod terms_row;
 mod words;
 
 pub use error::CoreFileError;
+pub use laws::one_problem_is_stated;
 pub use problem::CoreProblem;
 pub use read::read_core_file;
 
