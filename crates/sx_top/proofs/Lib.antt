@@ -7,3 +7,5 @@ mod Inputs
 mod Plans
 mod CorePromise
 mod Endings
+mod Firsts
+mod OutcomeLaws

@@ -16,3 +16,4 @@ pub mod Ending
 pub mod Performing
 pub mod Telling
 pub mod Tries
+pub mod Laws

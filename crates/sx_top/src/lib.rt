@@ -5,6 +5,7 @@ mod build_core;
 mod call;
 mod command;
 mod forms;
+mod laws;
 mod line;
 mod perform;
 mod plan;
@@ -18,6 +19,7 @@ mod texts;
 mod work;
 
 pub use call::run;
+pub use laws::one_outcome;
 pub use status::Status;
 
 #[cfg(test)]
