@@ -1,0 +1,54 @@
+-- The first answer of a goal.
+use Rattle.std.proofs.Common.{◌≡◌, ℕ, List, Option, Some, None, Vec, refl, sym, ap, ◌∙◌}
+use Rattle.std.specs.declared.alloc.Global.{Global}
+use Rattle.sx_rules.specs.Rules.{Rule}
+use Rattle.sx_rules.specs.Modes.{Modes}
+use Rattle.sx_derive.specs.Walk.{depth_spent, Event, Answer}
+use Rattle.sx_derive.specs.Search.{found, stopped, spent, exhausted, walk}
+use Rattle.sx_derive.specs.declared.chains.Head.{Head}
+use Rattle.sx_derive.specs.declared.places.Limit.{Limit}
+use Rattle.sx_derive.specs.declared.store.Store.{Store}
+use Rattle.sx_derive.specs.declared.tasks.Ending.TheVariants.{Found, Passed, DepthSpent, Spent, Exhausted}
+use Rattle.sx_derive.specs.Handing.{answer_in}
+use Rattle.sx_derive.specs.Quiet.{IsQuiet, first_given, IsFirstFound}
+use Rattle.sx_derive.specs.Walked.{IsWalkedTo}
+use Rattle.sx_derive.proofs.Quiet.{first_ending, quiet_walk}
+
+module _ (modes : Modes) (rules : List Rule) (old new : Store) (budget : ℕ) (es fs : List (Event Answer)) (e : es ≡ fs) (q : IsQuiet budget fs) where
+  ends : walk None budget es ≡ first_ending (first_given fs)
+  ends = ap (walk None budget) e ∙ quiet_walk budget fs q.no_stop q.few
+
+  pub first_found : (head : Head) (outs : Vec ℕ Global) → IsWalkedTo modes rules old new None budget es (Found head outs) → IsFirstFound modes rules old new fs (Some (record { head = head; outputs = outs }))
+  first_found head outs (g, (a, b, w)) = (g, (a, b, go (first_given fs) (sym w ∙ ends)))
+    where
+      go : (o : Option Answer) → found (answer_in new head outs.items) ≡ first_ending o → o ≡ Some (answer_in new head outs.items)
+      go None f = cc
+      go (Some x) f = let z : answer_in new head outs.items ≡ x = cc in ap Some (sym z)
+
+  pub first_none : IsWalkedTo modes rules old new None budget es Exhausted → IsFirstFound modes rules old new fs None
+  first_none (g, w) = (g, go (first_given fs) (sym w ∙ ends))
+    where
+      go : (o : Option Answer) → exhausted ≡ first_ending o → o ≡ None
+      go None f = refl
+      go (Some x) f = cc
+
+  pub first_passed : (l : Limit) → IsWalkedTo modes rules old new None budget es (Passed l) → ⊥
+  first_passed l (g, (c, i, w)) = go (first_given fs) (sym w ∙ ends)
+    where
+      go : (o : Option Answer) → stopped c ≡ first_ending o → ⊥
+      go None f = cc
+      go (Some x) f = cc
+
+  pub first_deep : IsWalkedTo modes rules old new None budget es DepthSpent → ⊥
+  first_deep (g, w) = go (first_given fs) (sym w ∙ ends)
+    where
+      go : (o : Option Answer) → stopped depth_spent ≡ first_ending o → ⊥
+      go None f = cc
+      go (Some x) f = cc
+
+  pub first_spent : IsWalkedTo modes rules old new None budget es Spent → ⊥
+  first_spent (g, w) = go (first_given fs) (sym w ∙ ends)
+    where
+      go : (o : Option Answer) → spent ≡ first_ending o → ⊥
+      go None f = cc
+      go (Some x) f = cc

@@ -1,0 +1,278 @@
+-- A turn of a walk.
+use Rattle.std.proofs.Common.{◌≡◌, ℕ, suc, ◌+◌, ◌-◌, ◌<◌, ◌≤◌, ◌⊎◌, inl, inr, Bool, true, false, List, [], ◌∷◌, ◌++◌, map, length, Option, Some, None, refl, sym, ap, ◌∙◌, arith, subst}
+use Rattle.std.specs.Prelude.{Vec, MatchOption, IsTrue, ◌↔◌}
+use Rattle.std.proofs.lemmas.Bool.{cases_lt}
+use Rattle.std.specs.declared.alloc.Global.{Global}
+use Rattle.sx_rules.specs.Rules.{Judgement, Rule, Hypotheses}
+use Rattle.sx_rules.specs.Modes.{Modes}
+use Rattle.sx_derive.specs.Walk.{depth_spent, Event, try, Answer}
+use Rattle.sx_derive.specs.Search.{walk, are_wanted, found_when, tries_of, tries_unless}
+use Rattle.sx_derive.specs.Machine.{Task, hypotheses_from, Result, nothing, stops, answers, goes_on, tasks_events, result_events}
+use Rattle.sx_derive.specs.declared.chains.Head.{Head}
+use Rattle.sx_derive.specs.declared.pairs.Pair.{Pair}
+use Rattle.sx_derive.specs.declared.places.Limit.{Limit}
+use Rattle.sx_derive.specs.declared.step.Step.{Step}
+use Rattle.sx_derive.specs.declared.step.Step.TheVariants.{Nothing, Passed, DepthSpent, Done, Goes}
+use Rattle.sx_derive.specs.declared.store.Store.{Store}
+use Rattle.sx_derive.specs.declared.tasks.Task.{Task as TaskOf}
+use Rattle.sx_derive.specs.declared.tasks.Ending.TheVariants.{Found, Passed as WasPassed, DepthSpent as WasSpent}
+use Rattle.sx_derive.specs.Arena.{tree_at, AreBelow}
+use Rattle.sx_derive.specs.Candidates.{goal_in}
+use Rattle.sx_derive.specs.Handing.{hyps_in, answer_in, frames_in}
+use Rattle.sx_derive.specs.Pairs.{ArePairs}
+use Rattle.sx_derive.specs.Chains.{HeadFits}
+use Rattle.sx_derive.specs.Step.{IsStep}
+use Rattle.sx_derive.specs.Store.{IsStore, Grows, store_trees, store_envs, store_kids, store_frames}
+use Rattle.sx_derive.specs.Tasks.{task_from, task_in, stacked, events_left, TaskFits, TasksFit, IsNext, wanted_in, WantedBelow}
+use Rattle.sx_derive.specs.Turns.{IsTurn}
+use Rattle.sx_derive.proofs.Arenas.{distinct, maps_same, below_more}
+use Rattle.sx_derive.proofs.Chained.{frames_stay_at}
+use Rattle.sx_derive.proofs.Growing.{extends-length}
+use Rattle.sx_derive.proofs.Parted.{pairs_stay}
+use Rattle.sx_derive.proofs.Resumed.{sizes}
+use Rattle.sx_derive.proofs.Tasked.{task_hypotheses, next_given, next_rule, next_none, rule_there, judgement_there}
+use Rattle.sx_derive.proofs.Tried.{numbers_same, numbers_differ}
+
+module _ (modes : Modes) (rules : List Rule) (js : List Judgement) where
+  pub stack_push : (s : Store) (xs : List TaskOf) (t : TaskOf) (ts : List Task) → stacked modes rules js s (xs ++ t ∷ []) ts ≡ task_in modes rules js s t ∷ stacked modes rules js s xs ts
+  stack_push s [] t ts = refl
+  stack_push s (x ∷ xs) t ts = stack_push s xs t (task_in modes rules js s x ∷ ts)
+
+  -- more in the store changes no task
+  pub task_stays : (s t : Store) (n : ℕ) (k : TaskOf) → Grows modes rules s t → TaskFits modes rules s n k → task_in modes rules js t k ≡ task_in modes rules js s k
+  task_stays s t n k g f =
+      let e = maps_same (store_trees s) (store_trees t) g.trees k.terms.items f.terms in
+      let z = (sizes modes rules s).frames in
+      let l = f.frames in
+      let q = frames_stay_at (store_frames modes rules s) (store_frames modes rules t) g.frames k.frames (omega arith) in
+      λ i. task_from k.next js rules k.levels (record { form = k.form; terms = e i }) (q i)
+
+  pub stack_stays : (s t : Store) (n : ℕ) (xs : List TaskOf) (ts : List Task) → Grows modes rules s t → TasksFit modes rules s n xs → stacked modes rules js t xs ts ≡ stacked modes rules js s xs ts
+  stack_stays s t n [] ts g f = refl
+  stack_stays s t n (x ∷ xs) ts g f = ap (λ k. stacked modes rules js t xs (k ∷ ts)) (task_stays s t n x g f.0) ∙ stack_stays s t n xs (task_in modes rules js s x ∷ ts) g f.1
+
+module _ (modes : Modes) (rules : List Rule) (n : ℕ) where
+  pub fit_more : (s t : Store) (k : TaskOf) → Grows modes rules s t → TaskFits modes rules s n k → TaskFits modes rules t n k
+  fit_more s t k g f =
+      let a = (sizes modes rules s).frames in
+      let b = (sizes modes rules t).frames in
+      let x = extends-length (store_frames modes rules s) (store_frames modes rules t) g.frames in
+      let l = f.frames in
+      record {
+        next = f.next;
+        terms = below_more (length (store_trees s)) (length (store_trees t)) (extends-length (store_trees s) (store_trees t) g.trees) k.terms.items f.terms;
+        frames = (omega arith);
+      }
+
+  pub fits_more : (s t : Store) (xs : List TaskOf) → Grows modes rules s t → TasksFit modes rules s n xs → TasksFit modes rules t n xs
+  fits_more s t [] g f = tt
+  fits_more s t (x ∷ xs) g f = (fit_more s t x g f.0, fits_more s t xs g f.1)
+
+  pub fits_push : (s : Store) (xs : List TaskOf) (k : TaskOf) → TasksFit modes rules s n xs → TaskFits modes rules s n k → TasksFit modes rules s n (xs ++ k ∷ [])
+  fits_push s [] k f g = (g, tt)
+  fits_push s (x ∷ xs) k f g = (f.0, fits_push s xs k f.1 g)
+
+  pub fits_pop : (s : Store) (xs : List TaskOf) (k : TaskOf) → TasksFit modes rules s n (xs ++ k ∷ []) → TasksFit modes rules s n xs × TaskFits modes rules s n k
+  fits_pop s [] k f = (tt, f.0)
+  fits_pop s (x ∷ xs) k f = let r = fits_pop s xs k f.1 in ((f.0, r.0), r.1)
+
+-- a task without a candidate has no events
+pub events_pop : (modes : Modes) (rules : List Rule) (pairs : List Pair) (js : List Judgement) (s : Store) (xs : List TaskOf) (k : TaskOf) → length js + length rules ≤ k.next →
+    events_left modes rules pairs js s (xs ++ k ∷ []) ≡ events_left modes rules pairs js s xs
+events_pop modes rules pairs js s xs k h =
+    ap (tasks_events modes rules (hyps_in pairs s js)) (stack_push modes rules js s xs k [])
+    ∙ next_none modes rules (hyps_in pairs s js) k.levels (goal_in s k.form k.terms.items) (frames_in modes rules s k.frames) k.next h (stacked modes rules js s xs [])
+
+module _ (modes : Modes) (rules : List Rule) (pairs : List Pair) (js : List Judgement) (wanted : Option (Vec ℕ Global)) (n : ℕ) (old new : Store) (t after : TaskOf) (tasks : List TaskOf) (step : Step)
+    (hs : IsStore modes rules old) (hp : ArePairs (length (store_trees old)) pairs) (hw : WantedBelow (length (store_trees old)) wanted) (ft : TaskFits modes rules old n t) (fs : TasksFit modes rules old n tasks)
+    (less : t.next < n) (x : IsNext modes rules pairs js old new t step)
+    (a_next : after.next ≡ t.next + 1) (a_form : after.form ≡ t.form) (a_terms : after.terms.items ≡ t.terms.items) (a_levels : after.levels ≡ t.levels) (a_frames : after.frames ≡ t.frames) where
+  abbrev hyps : Hypotheses
+  hyps = hyps_in pairs old js
+
+  hyps_same : hyps_in pairs new js ≡ hyps_in pairs old js
+  hyps_same = λ i. record { judgements = js; pairs = pairs_stay (store_trees old) (store_trees new) x.grows.trees pairs hp i }
+
+  after_fits : TaskFits modes rules new n after
+  after_fits =
+      let f = fit_more modes rules n old new t x.grows ft in
+      let z = f.frames in
+      record {
+        next = (omega arith);
+        terms = subst (λ is. AreBelow (length (store_trees new)) is) (sym a_terms) f.terms;
+        frames = (omega arith);
+      }
+
+  -- the task that is left, and the tasks before it
+  abbrev left_task : Task
+  left_task = task_from (suc t.next) js rules t.levels (goal_in old t.form t.terms.items) (frames_in modes rules old t.frames)
+
+  abbrev left_stack : List Task
+  left_stack = left_task ∷ stacked modes rules js old tasks []
+
+  pub left_fits : TasksFit modes rules new n (tasks ++ after ∷ [])
+  left_fits = fits_push modes rules n new tasks after (fits_more modes rules n old new tasks x.grows fs) after_fits
+
+  after_is : task_in modes rules js new after ≡ left_task
+  after_is =
+      let m : after.next ≡ suc t.next = omega arith in
+      let e : map (tree_at (store_trees new)) after.terms.items ≡ map (tree_at (store_trees old)) t.terms.items =
+      ap (map (tree_at (store_trees new))) a_terms ∙ maps_same (store_trees old) (store_trees new) x.grows.trees t.terms.items ft.terms in
+      let z = (sizes modes rules old).frames in
+      let l = ft.frames in
+      let q : frames_in modes rules new after.frames ≡ frames_in modes rules old t.frames = ap (frames_in modes rules new) a_frames ∙ frames_stay_at (store_frames modes rules old) (store_frames modes rules new) x.grows.frames t.frames (omega arith) in
+      λ i. task_from (m i) js rules (a_levels i) (record { form = a_form i; terms = e i }) (q i)
+
+  stack_is : stacked modes rules js new (tasks ++ after ∷ []) [] ≡ left_stack
+  stack_is = stack_push modes rules js new tasks after [] ∙ (λ i. after_is i ∷ stack_stays modes rules js old new n tasks [] x.grows fs i)
+
+  left_is : events_left modes rules pairs js new (tasks ++ after ∷ []) ≡ tasks_events modes rules hyps left_stack
+  left_is = λ i. tasks_events modes rules (hyps_same i) (stack_is i)
+
+  old_is : (r : Result) → x.result ≡ r → events_left modes rules pairs js old (tasks ++ t ∷ []) ≡ try ∷ (result_events modes rules hyps r ++ tasks_events modes rules hyps left_stack)
+  old_is r e =
+      ap (tasks_events modes rules hyps) (stack_push modes rules js old tasks t [])
+      ∙ x.events (stacked modes rules js old tasks [])
+      ∙ ap (λ q. try ∷ (result_events modes rules hyps q ++ tasks_events modes rules hyps left_stack)) e
+
+  pub turn_nothing : step ≡ Nothing → IsTurn modes rules pairs js wanted n old new t tasks (tasks ++ after ∷ []) None
+  turn_nothing e =
+      let r : x.result ≡ nothing = subst (λ (y : Step). IsStep modes rules js new answers y x.result) e x.is in
+      let q = old_is nothing r in
+      record {
+        grows = x.grows;
+        fits = left_fits;
+        outcome = λ left. (
+          ap (walk (wanted_in old wanted) (suc left)) q ∙ ap (walk (wanted_in old wanted) left) (sym left_is),
+          ap (tries_of (wanted_in old wanted) (suc left)) q ∙ ap (λ es. suc (tries_of (wanted_in old wanted) left es)) (sym left_is),
+        );
+      }
+
+  pub turn_passed : (l : Limit) → step ≡ Passed l → IsTurn modes rules pairs js wanted n old new t tasks (tasks ++ after ∷ []) (Some (WasPassed l))
+  turn_passed l e =
+      let r = subst (λ (y : Step). IsStep modes rules js new answers y x.result) e x.is in
+      let q = old_is (stops r.0) r.2 in
+      record {
+        grows = x.grows;
+        fits = left_fits;
+        outcome = λ left. (
+          (r.0, r.1, ap (walk (wanted_in old wanted) (suc left)) q),
+          ap (tries_of (wanted_in old wanted) (suc left)) q,
+        );
+      }
+
+  pub turn_spent : step ≡ DepthSpent → IsTurn modes rules pairs js wanted n old new t tasks (tasks ++ after ∷ []) (Some WasSpent)
+  turn_spent e =
+      let r : x.result ≡ stops depth_spent = subst (λ (y : Step). IsStep modes rules js new answers y x.result) e x.is in
+      let q = old_is (stops depth_spent) r in
+      record {
+        grows = x.grows;
+        fits = left_fits;
+        outcome = λ left. (ap (walk (wanted_in old wanted) (suc left)) q, ap (tries_of (wanted_in old wanted) (suc left)) q);
+      }
+
+  pub turn_goes : (form : ℕ) (terms : Vec ℕ Global) (levels frames : ℕ) (more : TaskOf) → step ≡ Goes form terms levels frames → more ≡ record { next = 0; form = form; terms = terms; levels = levels; frames = frames } →
+      IsTurn modes rules pairs js wanted n old new t tasks ((tasks ++ after ∷ []) ++ more ∷ []) None
+  turn_goes form terms levels frames more e f =
+      let r = subst (λ (y : Step). IsStep modes rules js new answers y x.result) e x.is in
+      let goal = goal_in new form terms.items in
+      let fr = frames_in modes rules new frames in
+      let q = old_is (goes_on (hypotheses_from 0 js levels goal fr)) r.2 in
+      let z = (sizes modes rules new).frames in
+      let l = r.1 in
+      let k : TasksFit modes rules new n ((tasks ++ after ∷ []) ++ more ∷ []) = subst (λ (m : TaskOf). TasksFit modes rules new n ((tasks ++ after ∷ []) ++ m ∷ [])) (sym f)
+      (fits_push modes rules n new (tasks ++ after ∷ []) (record { next = 0; form = form; terms = terms; levels = levels; frames = frames }) left_fits (record { next = (omega arith); terms = r.0; frames = (omega arith) })) in
+      let s : events_left modes rules pairs js new ((tasks ++ after ∷ []) ++ more ∷ []) ≡ tasks_events modes rules hyps (hypotheses_from 0 js levels goal fr ∷ left_stack) =
+      ap (tasks_events modes rules (hyps_in pairs new js)) (stack_push modes rules js new (tasks ++ after ∷ []) more [] ∙ ap (λ (m : TaskOf). task_in modes rules js new m ∷ stacked modes rules js new (tasks ++ after ∷ []) []) f)
+      ∙ (λ i. tasks_events modes rules (hyps_same i) (task_from 0 js rules levels goal fr ∷ stack_is i))
+      ∙ sym (task_hypotheses modes rules hyps levels goal fr 0 left_stack (omega arith)) in
+      record {
+        grows = x.grows;
+        fits = k;
+        outcome = λ left. (
+          ap (walk (wanted_in old wanted) (suc left)) q ∙ ap (walk (wanted_in old wanted) left) (sym s),
+          ap (tries_of (wanted_in old wanted) (suc left)) q ∙ ap (λ es. suc (tries_of (wanted_in old wanted) left es)) (sym s),
+        );
+      }
+
+  module _ (head : Head) (outs : Vec ℕ Global) (e : step ≡ Done head outs) where
+    told : HeadFits (length (store_envs new)) (length (store_kids new)) head × AreBelow (length (store_trees new)) outs.items × (x.result ≡ answers (answer_in new head outs.items))
+    told = subst (λ (y : Step). IsStep modes rules js new answers y x.result) e x.is
+
+    pub done_below : AreBelow (length (store_trees new)) outs.items
+    done_below = told.1
+
+    pub turn_found : are_wanted (wanted_in old wanted) (map (tree_at (store_trees new)) outs.items) ≡ true → IsTurn modes rules pairs js wanted n old new t tasks (tasks ++ after ∷ []) (Some (Found head outs))
+    turn_found w =
+        let q = old_is (answers (answer_in new head outs.items)) told.2 in
+        record {
+          grows = x.grows;
+          fits = left_fits;
+          outcome = λ left. (
+            (told.0, told.1, ap (walk (wanted_in old wanted) (suc left)) q ∙ ap (λ b. found_when b (answer_in new head outs.items) (walk (wanted_in old wanted) left (tasks_events modes rules hyps left_stack))) w),
+            ap (tries_of (wanted_in old wanted) (suc left)) q ∙ ap (λ b. suc (tries_unless b (tries_of (wanted_in old wanted) left (tasks_events modes rules hyps left_stack)))) w,
+          );
+        }
+
+    pub turn_other : are_wanted (wanted_in old wanted) (map (tree_at (store_trees new)) outs.items) ≡ false → IsTurn modes rules pairs js wanted n old new t tasks (tasks ++ after ∷ []) None
+    turn_other w =
+        let q = old_is (answers (answer_in new head outs.items)) told.2 in
+        record {
+          grows = x.grows;
+          fits = left_fits;
+          outcome = λ left. (
+            ap (walk (wanted_in old wanted) (suc left)) q ∙ ap (λ b. found_when b (answer_in new head outs.items) (walk (wanted_in old wanted) left (tasks_events modes rules hyps left_stack))) w ∙ ap (walk (wanted_in old wanted) left) (sym left_is),
+            ap (tries_of (wanted_in old wanted) (suc left)) q ∙ ap (λ b. suc (tries_unless b (tries_of (wanted_in old wanted) left (tasks_events modes rules hyps left_stack)))) w
+                ∙ ap (λ es. suc (tries_of (wanted_in old wanted) left es)) (sym left_is),
+          );
+        }
+
+-- the outputs are wanted just where the numbers are the same
+pub wanted_true : (modes : Modes) (rules : List Rule) (old new : Store) (w : Vec ℕ Global) (outs : List ℕ) → Grows modes rules old new → AreBelow (length (store_trees old)) w.items → outs ≡ w.items → are_wanted (wanted_in old (Some w)) (map (tree_at (store_trees new)) outs) ≡ true
+wanted_true modes rules old new w outs g b e =
+    ap (λ ts. are_wanted (Some ts) (map (tree_at (store_trees new)) outs)) (sym (maps_same (store_trees old) (store_trees new) g.trees w.items b)) ∙ numbers_same (store_trees new) outs w.items e
+
+pub wanted_false : (modes : Modes) (rules : List Rule) (old new : Store) (w : Vec ℕ Global) (outs : List ℕ) → Grows modes rules old new → AreBelow (length (store_trees old)) w.items → AreBelow (length (store_trees new)) outs → (outs ≡ w.items → ⊥) → are_wanted (wanted_in old (Some w)) (map (tree_at (store_trees new)) outs) ≡ false
+wanted_false modes rules old new w outs g b c d =
+    ap (λ ts. are_wanted (Some ts) (map (tree_at (store_trees new)) outs)) (sym (maps_same (store_trees old) (store_trees new) g.trees w.items b))
+    ∙ numbers_differ (store_trees new) (distinct new.arena.cells.keys g.store.arena) outs w.items c (below_more (length (store_trees old)) (length (store_trees new)) (extends-length (store_trees old) (store_trees new) g.trees) w.items b) d
+
+-- what the test says, by cases on what is wanted
+pub tested_true : (modes : Modes) (rules : List Rule) (old new : Store) (wanted : Option (Vec ℕ Global)) (outs : List ℕ) (b : Bool) → Grows modes rules old new → WantedBelow (length (store_trees old)) wanted →
+    MatchOption wanted (b ≡ true) (λ w. IsTrue b ↔ (outs ≡ w.items)) → b ≡ true → are_wanted (wanted_in old wanted) (map (tree_at (store_trees new)) outs) ≡ true
+tested_true modes rules old new None outs b g l t e = refl
+tested_true modes rules old new (Some w) outs b g l t e = wanted_true modes rules old new w outs g l (t.0 e)
+
+pub tested_false : (modes : Modes) (rules : List Rule) (old new : Store) (wanted : Option (Vec ℕ Global)) (outs : List ℕ) (b : Bool) → Grows modes rules old new → WantedBelow (length (store_trees old)) wanted → AreBelow (length (store_trees new)) outs →
+    MatchOption wanted (b ≡ true) (λ w. IsTrue b ↔ (outs ≡ w.items)) → b ≡ false → are_wanted (wanted_in old wanted) (map (tree_at (store_trees new)) outs) ≡ false
+tested_false modes rules old new None outs b g l c t e = (let q : true ≡ false = sym t ∙ e in cc)
+tested_false modes rules old new (Some w) outs b g l c t e = wanted_false modes rules old new w outs g l c (λ f. let q : true ≡ false = sym (t.1 f) ∙ e in let z : ⊥ = cc in z)
+
+pub not_less : (m n : ℕ) → (m < n → IsTrue false) → n ≤ m
+not_less m n h = go (cases_lt m n)
+  where
+    go : (m < n) ⊎ (n ≤ m) → n ≤ m
+    go (inl x) = (let q : false ≡ true = h x in cc)
+    go (inr x) = x
+
+-- where a task has a candidate its events begin with a try
+pub events_try : (modes : Modes) (rules : List Rule) (pairs : List Pair) (js : List Judgement) (s : Store) (xs : List TaskOf) (k : TaskOf) → k.next < length js + length rules →
+    (more : List (Event Answer)) × (events_left modes rules pairs js s (xs ++ k ∷ []) ≡ try ∷ more)
+events_try modes rules pairs js s xs k h = go (cases_lt k.next (length js))
+  where
+    hyps : Hypotheses
+    hyps = hyps_in pairs s js
+
+    ends : (more : List (Event Answer)) → tasks_events modes rules (hyps_in pairs s js) (task_in modes rules js s k ∷ stacked modes rules js s xs []) ≡ try ∷ more →
+        (more : List (Event Answer)) × (events_left modes rules pairs js s (xs ++ k ∷ []) ≡ try ∷ more)
+    ends more e = (more, ap (tasks_events modes rules (hyps_in pairs s js)) (stack_push modes rules js s xs k []) ∙ e)
+
+    go : (k.next < length js) ⊎ (length js ≤ k.next) → (more : List (Event Answer)) × (events_left modes rules pairs js s (xs ++ k ∷ []) ≡ try ∷ more)
+    go (inl x) =
+        let j = judgement_there js k.next x in
+        ends _ (next_given modes rules (hyps_in pairs s js) k.levels (goal_in s k.form k.terms.items) (frames_in modes rules s k.frames) k.next j.0 j.1 x (stacked modes rules js s xs []))
+    go (inr x) =
+        let l : k.next - length js < length rules = omega arith in
+        let r = rule_there rules (k.next - length js) l in
+        let n : k.next ≡ length js + (k.next - length js) = omega arith in
+        ends _ (next_rule modes rules (hyps_in pairs s js) k.levels (goal_in s k.form k.terms.items) (frames_in modes rules s k.frames) k.next (k.next - length js) r.0 n r.1 (stacked modes rules js s xs []))

@@ -1,0 +1,177 @@
+-- A walk on its way.
+use Rattle.std.proofs.Common.{◌≡◌, ℕ, suc, ◌+◌, ◌-◌, ◌<◌, ◌≤◌, List, [], ◌∷◌, ◌++◌, length, Option, Some, None, refl, sym, ap, ◌∙◌, arith, subst}
+use Rattle.std.specs.Prelude.{Vec, Result, Ok, Err}
+use Rattle.std.specs.declared.alloc.Global.{Global}
+use Rattle.sx_term.specs.declared.no_memory.NoMemory.{NoMemory}
+use Rattle.sx_term.specs.Tree.{Tree}
+use Rattle.sx_rules.specs.Rules.{Judgement, Rule}
+use Rattle.sx_rules.specs.Modes.{Modes}
+use Rattle.sx_derive.specs.Walk.{Event, try, Answer}
+use Rattle.sx_derive.specs.Search.{walk, tries_of}
+use Rattle.sx_derive.specs.declared.candidates.Fact.{Fact}
+use Rattle.sx_derive.specs.declared.pairs.Pair.{Pair}
+use Rattle.sx_derive.specs.declared.store.Store.{Store}
+use Rattle.sx_derive.specs.declared.tasks.Task.{Task as TaskOf}
+use Rattle.sx_derive.specs.declared.tasks.Ending.{Ending as EndingOf}
+use Rattle.sx_derive.specs.declared.tasks.Ending.TheVariants.{Spent, Exhausted}
+use Rattle.sx_derive.specs.Arena.{AreBelow, Extends}
+use Rattle.sx_derive.specs.Candidates.{goal_in, IsFact, AreFacts}
+use Rattle.sx_derive.specs.Handing.{hyps_in}
+use Rattle.sx_derive.specs.Store.{IsStore, Grows, store_trees}
+use Rattle.sx_derive.specs.Tasks.{events_left, TasksFit, wanted_in, WantedBelow, IsEnding, IsOutcome}
+use Rattle.sx_derive.specs.Turns.{IsPopped, IsTurn}
+use Rattle.sx_derive.specs.Walked.{events_in, IsWalked}
+use Rattle.sx_derive.proofs.Arenas.{maps_same, below_more}
+use Rattle.sx_derive.proofs.Growing.{extends-length}
+use Rattle.sx_derive.proofs.Stored.{grows_same, grows_then}
+use Rattle.sx_derive.proofs.Tasked.{task_starts, facts_length}
+use Rattle.sx_derive.proofs.Turned.{events_try}
+
+-- more terms change no hypothesis
+fact_stays : (modes : Modes) (ts us : List Tree) → Extends ts us → (j : Judgement) (f : Fact) → IsFact modes ts j f → IsFact modes us j f
+fact_stays modes ts us x j f h = record {
+  form = h.form;
+  inputs_below = below_more (length ts) (length us) (extends-length ts us x) f.inputs.items h.inputs_below;
+  outputs_below = below_more (length ts) (length us) (extends-length ts us x) f.outputs.items h.outputs_below;
+  inputs = maps_same ts us x f.inputs.items h.inputs_below ∙ h.inputs;
+  outputs = maps_same ts us x f.outputs.items h.outputs_below ∙ h.outputs;
+}
+
+pub facts_stay : (modes : Modes) (ts us : List Tree) → Extends ts us → (js : List Judgement) (fs : List Fact) → AreFacts modes ts js fs → AreFacts modes us js fs
+facts_stay modes ts us x [] [] a = tt
+facts_stay modes ts us x [] (f ∷ fs) a = absurd a
+facts_stay modes ts us x (j ∷ js) [] a = absurd a
+facts_stay modes ts us x (j ∷ js) (f ∷ fs) a = (fact_stays modes ts us x j f a.0, facts_stay modes ts us x js fs a.1)
+
+-- more terms change nothing of what is wanted
+pub wanted_stays : (s t : Store) → Extends (store_trees s) (store_trees t) → (w : Option (Vec ℕ Global)) → WantedBelow (length (store_trees s)) w → wanted_in t w ≡ wanted_in s w
+wanted_stays s t x None b = refl
+wanted_stays s t x (Some w) b = ap Some (maps_same (store_trees s) (store_trees t) x w.items b)
+
+pub wanted_below : (m n : ℕ) → m ≤ n → (w : Option (Vec ℕ Global)) → WantedBelow m w → WantedBelow n w
+wanted_below m n l None b = tt
+wanted_below m n l (Some w) b = below_more m n l w.items b
+
+module _ (modes : Modes) (rules : List Rule) (pairs : List Pair) (facts : List Fact) (wanted : Option (Vec ℕ Global)) (old : Store) (budget : ℕ) (start : List TaskOf) (first : ℕ) where
+  abbrev events_first : List Judgement → List (Event Answer)
+  events_first js = events_left modes rules pairs js old start
+
+  -- what is left of the walk with the tries that are left
+  pub record Walking (now : Store) (left last : ℕ) (tasks : List TaskOf) : Type 0 where
+    pub grows : Grows modes rules old now
+    pub fits : TasksFit modes rules now (length facts + length rules) tasks
+    pub less : left ≤ budget
+    pub steps : last ≡ first + (budget - left)
+    pub walks : (js : List Judgement) → AreFacts modes (store_trees old) js facts →
+        walk (wanted_in old wanted) budget (events_first js) ≡ walk (wanted_in old wanted) left (events_left modes rules pairs js now tasks)
+    pub tries : (js : List Judgement) → AreFacts modes (store_trees old) js facts →
+        tries_of (wanted_in old wanted) budget (events_first js) ≡ (budget - left) + tries_of (wanted_in old wanted) left (events_left modes rules pairs js now tasks)
+
+  pub walking_first : IsStore modes rules old → TasksFit modes rules old (length facts + length rules) start → Walking old budget first start
+  walking_first h f = record {
+    grows = grows_same modes rules old h;
+    fits = f;
+    less = (omega arith);
+    steps = (omega arith);
+    walks = λ js a. refl;
+    tries = λ js a. let n = tries_of (wanted_in old wanted) budget (events_first js) in let z : n ≡ (budget - budget) + n = omega arith in z;
+  }
+
+  module _ (now : Store) (left last : ℕ) (tasks : List TaskOf) (w : Walking now left last tasks) where
+    pub facts_now : (js : List Judgement) → AreFacts modes (store_trees old) js facts → AreFacts modes (store_trees now) js facts
+    facts_now js a = facts_stay modes (store_trees old) (store_trees now) w.grows.trees js facts a
+
+    pub walking_end : (rest : List TaskOf) → ((js : List Judgement) (s : Store) → length js ≡ length facts → IsPopped modes rules pairs js s (length facts + length rules) tasks rest None) →
+        (js : List Judgement) → AreFacts modes (store_trees old) js facts → IsWalked modes rules old now wanted budget (events_first js) first last (Ok Exhausted)
+    walking_end rest p js a =
+        let l : length js ≡ length facts = sym (facts_length modes (store_trees old) js facts a) in
+        let e = p js now l in
+        let t = w.tries js a ∙ ap (λ es. (budget - left) + tries_of (wanted_in old wanted) left es) e in
+        let s = w.steps in
+        (w.grows, w.walks js a ∙ ap (walk (wanted_in old wanted) left) e, (omega arith))
+
+    module _ (task : TaskOf) (rest : List TaskOf) (p : (js : List Judgement) (s : Store) → length js ≡ length facts → IsPopped modes rules pairs js s (length facts + length rules) tasks rest (Some task)) where
+      popped_is : (js : List Judgement) → AreFacts modes (store_trees old) js facts → events_left modes rules pairs js now tasks ≡ events_left modes rules pairs js now (rest ++ task ∷ [])
+      popped_is js a = (p js now (sym (facts_length modes (store_trees old) js facts a))).1
+
+      begins : (js : List Judgement) → AreFacts modes (store_trees old) js facts → (more : List (Event Answer)) × (events_left modes rules pairs js now (rest ++ task ∷ []) ≡ try ∷ more)
+      begins js a =
+          let l = facts_length modes (store_trees old) js facts a in
+          let n = (p js now (sym l)).0 in
+          events_try modes rules pairs js now rest task (omega arith)
+
+      pub walking_spent : left ≡ 0 → (js : List Judgement) → AreFacts modes (store_trees old) js facts → IsWalked modes rules old now wanted budget (events_first js) first last (Ok Spent)
+      walking_spent z js a =
+          let b = begins js a in
+          let e : events_left modes rules pairs js now tasks ≡ try ∷ b.0 = popped_is js a ∙ b.1 in
+          let t : tries_of (wanted_in old wanted) budget (events_first js) ≡ (budget - left) + 0 =
+          w.tries js a ∙ ap (λ es. (budget - left) + tries_of (wanted_in old wanted) left es) e ∙ ap (λ (k : ℕ). (budget - left) + tries_of (wanted_in old wanted) k (try ∷ b.0)) z in
+          let s = w.steps in
+          (w.grows, w.walks js a ∙ ap (walk (wanted_in old wanted) left) e ∙ ap (λ (k : ℕ). walk (wanted_in old wanted) k (try ∷ b.0)) z, (omega arith))
+
+      -- without memory the try of the task is counted, and no more
+      pub walking_failed : (e : NoMemory) → 0 < left → (js : List Judgement) → AreFacts modes (store_trees old) js facts → (new : Store) (after : ℕ) → after ≡ last + 1 → IsWalked modes rules old new wanted budget (events_first js) first after (Err e)
+      walking_failed e l js a new after f =
+          let b = begins js a in
+          let g : events_left modes rules pairs js now tasks ≡ try ∷ b.0 = popped_is js a ∙ b.1 in
+          let k : left ≡ suc (left - 1) = omega arith in
+          let t : tries_of (wanted_in old wanted) budget (events_first js) ≡ (budget - left) + suc (tries_of (wanted_in old wanted) (left - 1) b.0) =
+          w.tries js a ∙ ap (λ es. (budget - left) + tries_of (wanted_in old wanted) left es) g ∙ ap (λ (n : ℕ). (budget - left) + tries_of (wanted_in old wanted) n (try ∷ b.0)) k in
+          let s = w.steps in
+          let m = w.less in
+          ((omega arith), (omega arith))
+
+      module _ (l : 0 < left) (hw : WantedBelow (length (store_trees old)) wanted) (new : Store) (more : List TaskOf) where
+        turned : (o : Option EndingOf) (x : (js : List Judgement) → AreFacts modes (store_trees now) js facts → IsTurn modes rules pairs js wanted (length facts + length rules) now new task rest more o) →
+            (js : List Judgement) → AreFacts modes (store_trees old) js facts → IsOutcome new (wanted_in old wanted) (left - 1) (events_left modes rules pairs js now tasks) (events_left modes rules pairs js new more) o
+        turned o x js a =
+            let i = (x js (facts_now js a)).outcome (left - 1) in
+            subst (λ es. IsOutcome new (wanted_in old wanted) (left - 1) es (events_left modes rules pairs js new more) o) (sym (popped_is js a))
+            (subst (λ v. IsOutcome new v (left - 1) (events_left modes rules pairs js now (rest ++ task ∷ [])) (events_left modes rules pairs js new more) o) (wanted_stays old now w.grows.trees wanted hw) i)
+
+        pub walking_more : (x : (js : List Judgement) → AreFacts modes (store_trees now) js facts → IsTurn modes rules pairs js wanted (length facts + length rules) now new task rest more None) →
+            (js : List Judgement) → AreFacts modes (store_trees old) js facts → (after : ℕ) → after ≡ last + 1 → Walking new (left - 1) after more
+        walking_more x one b after f =
+            let y = x one (facts_now one b) in
+            let k : suc (left - 1) ≡ left = omega arith in
+            let s = w.steps in
+            let m = w.less in
+            record {
+              grows = grows_then modes rules old now new w.grows y.grows;
+              fits = y.fits;
+              less = (omega arith);
+              steps = (omega arith);
+              walks = λ js a. w.walks js a ∙ ap (λ (n : ℕ). walk (wanted_in old wanted) n (events_left modes rules pairs js now tasks)) (sym k) ∙ (turned None x js a).0;
+              tries = λ js a.
+                  let t : tries_of (wanted_in old wanted) budget (events_first js) ≡ (budget - left) + suc (tries_of (wanted_in old wanted) (left - 1) (events_left modes rules pairs js new more)) =
+                  w.tries js a ∙ ap (λ (n : ℕ). (budget - left) + tries_of (wanted_in old wanted) n (events_left modes rules pairs js now tasks)) (sym k) ∙ ap (λ (n : ℕ). (budget - left) + n) (turned None x js a).1 in
+                  (let z = t in omega arith);
+            }
+
+        pub walking_ends : (ending : EndingOf) (x : (js : List Judgement) → AreFacts modes (store_trees now) js facts → IsTurn modes rules pairs js wanted (length facts + length rules) now new task rest more (Some ending)) →
+            (after : ℕ) → after ≡ last + 1 → (js : List Judgement) → AreFacts modes (store_trees old) js facts → IsWalked modes rules old new wanted budget (events_first js) first after (Ok ending)
+        walking_ends ending x after f js a =
+            let y = x js (facts_now js a) in
+            let k : suc (left - 1) ≡ left = omega arith in
+            let s = w.steps in
+            let m = w.less in
+            let o = turned (Some ending) x js a in
+            let e : walk (wanted_in old wanted) budget (events_first js) ≡ walk (wanted_in old wanted) (suc (left - 1)) (events_left modes rules pairs js now tasks) =
+            w.walks js a ∙ ap (λ (n : ℕ). walk (wanted_in old wanted) n (events_left modes rules pairs js now tasks)) (sym k) in
+            let t : tries_of (wanted_in old wanted) budget (events_first js) ≡ (budget - left) + 1 =
+            w.tries js a ∙ ap (λ (n : ℕ). (budget - left) + tries_of (wanted_in old wanted) n (events_left modes rules pairs js now tasks)) (sym k) ∙ ap (λ (n : ℕ). (budget - left) + n) o.1 in
+            (grows_then modes rules old now new w.grows y.grows, subst (IsEnding new ending) (sym e) o.0, (let z = t in omega arith))
+
+-- the events of a goal are those of its first task
+pub first_events : (modes : Modes) (rules : List Rule) (pairs : List Pair) (js : List Judgement) (s : Store) (form : ℕ) (terms : Vec ℕ Global) (levels : ℕ) (tasks : List TaskOf) →
+    tasks ≡ record { next = 0; form = form; terms = terms; levels = levels; frames = 0 } ∷ [] → events_left modes rules pairs js s tasks ≡ events_in modes rules pairs js s levels form terms.items
+first_events modes rules pairs js s form terms levels tasks e = ap (events_left modes rules pairs js s) e ∙ sym (task_starts modes rules (hyps_in pairs s js) levels (goal_in s form terms.items))
+
+pub first_fits : (modes : Modes) (rules : List Rule) (s : Store) (n form : ℕ) (terms : Vec ℕ Global) (levels : ℕ) (tasks : List TaskOf) → AreBelow (length (store_trees s)) terms.items →
+    tasks ≡ record { next = 0; form = form; terms = terms; levels = levels; frames = 0 } ∷ [] → TasksFit modes rules s n tasks
+first_fits modes rules s n form terms levels tasks b e =
+    subst (λ (ts : List TaskOf). TasksFit modes rules s n ts) (sym e) (record { next = (omega arith); terms = b; frames = (omega arith) }, tt)
+
+pub walked_as : (modes : Modes) (rules : List Rule) (old new : Store) (wanted : Option (Vec ℕ Global)) (budget : ℕ) (es fs : List (Event Answer)) (first last : ℕ) (r : Result EndingOf NoMemory) → es ≡ fs →
+    IsWalked modes rules old new wanted budget es first last r → IsWalked modes rules old new wanted budget fs first last r
+walked_as modes rules old new wanted budget es fs first last r e h = subst (λ (xs : List (Event Answer)). IsWalked modes rules old new wanted budget xs first last r) e h

@@ -1,0 +1,74 @@
+use Rattle.std.proofs.Common.{◌<◌, List, map, refl, sym, ◌∙◌, subst, length, arith}
+use Rattle.sx_term.specs.Term.{tree}
+use Rattle.sx_rules.specs.Modes.{outputs}
+use Rattle.sx_rules.specs.Deep.{AreShallow}
+use Rattle.sx_derive.specs.Matching.{match_all}
+use Rattle.sx_derive.specs.Arena.{tree_at}
+use Rattle.sx_derive.specs.Binds.{env_at}
+use Rattle.sx_derive.specs.declared.store.Store.{Store}
+use Rattle.sx_derive.specs.Store.{store_trees, store_envs}
+use Rattle.sx_derive.specs.Views.{rules_of, modes_of, rule_of, judgement_of}
+use Rattle.sx_derive.proofs.Patterns.{ok_weaker}
+use Rattle.sx_derive.proofs.Premised.{IsShallowPremise, shallow_premise_at}
+use Rattle.sx_derive.proofs.Resumed.{shallow_at, sizes, waits_at, holds_at, resumed_none, resumed_more, kid_store}
+use Rattle.sx_derive.proofs.handing.resume.Goals as goal
+
+pub fit_places-requires-clause-shallow : goal.fit_places-requires-clause-shallow
+fit_places-requires-clause-shallow c =
+    let x = waits_at _ _ c.args.store.now _ c.requires.frame _ c.rule_at-rule.ensures in
+    let l = holds_at c.rule_at-rule.result.now.premises.items c.args.frame.premise _ _ _ x.1 c.index.ensures c.in-Holds.is in
+    let r = shallow_at _ _ _ c.requires.shallow c.rule_at-rule.ensures in
+    subst (λ (xs : List _). AreShallow (map tree xs)) (sym c.deref.ensures.value) (subst IsShallowPremise c.in-Holds.is (shallow_premise_at _ r.1 c.args.frame.premise _ l.0 c.index.ensures))
+
+pub fit_places-requires-clause-env : goal.fit_places-requires-clause-env
+fit_places-requires-clause-env c =
+    let z = sizes (modes_of c.args.rules.now) (rules_of c.args.rules.now) c.args.store.now in
+    let e = z.envs in
+    let w = c.requires.frame.env in
+    omega arith
+
+pub overflow_add-frame : goal.overflow_add-frame
+overflow_add-frame c =
+    let x = waits_at _ _ c.args.store.now _ c.requires.frame _ c.rule_at-rule.ensures in
+    let l : c.args.frame.premise < length c.rule_at-rule.result.now.premises.items = (holds_at c.rule_at-rule.result.now.premises.items c.args.frame.premise _ _ _ x.1 c.index.ensures c.in-Holds.is).0 in
+    let k = c.rule_at-rule.result.now.premises.ok in
+    omega arith
+
+pub premises-requires-clause-shallow : goal.premises-requires-clause-shallow
+premises-requires-clause-shallow c = shallow_at _ _ _ c.requires.shallow c.rule_at-rule.ensures
+
+pub premises-requires-clause-store : goal.premises-requires-clause-store
+premises-requires-clause-store c =
+    let s = c.args.store.now in
+    let t : Store = record { arena = s.arena; binds = c.fit_places.new.binds; kids = s.kids; frames = s.frames } in
+    kid_store (modes_of c.args.rules.now) (rules_of c.args.rules.now) s t (record { arena = s.arena; binds = c.fit_places.new.binds; kids = c.push_kid.new.kids; frames = s.frames }) c.args.frame c.args.head
+    c.requires.store c.requires.frame c.requires.head c.in_ok-fit-in-Holds.ensures.grows refl refl refl refl refl c.in_ok-kids-in-Some.ensures.items refl
+
+pub premises-requires-clause-frames : goal.premises-requires-clause-frames
+premises-requires-clause-frames c =
+    let z = sizes (modes_of c.args.rules.now) (rules_of c.args.rules.now) c.args.store.now in
+    let e = z.frames in
+    let w = c.requires.frame.before in
+    omega arith
+
+pub returns-in-None : goal.returns-in-None
+returns-in-None c =
+    let x = waits_at _ _ c.args.store.now _ c.requires.frame _ c.rule_at-rule.ensures in
+    let l = holds_at c.rule_at-rule.result.now.premises.items c.args.frame.premise _ _ _ x.1 c.index.ensures c.in-Holds.is in
+    let s = c.args.store.now in
+    resumed_none (modes_of c.args.rules.now) (rules_of c.args.rules.now) _ s (record { arena = s.arena; binds = c.fit_places.new.binds; kids = s.kids; frames = s.frames }) c.args.frame (rule_of c.rule_at-rule.result.now) (judgement_of c.in-Holds.judgement) c.args.head c.args.outputs.now
+    c.requires.store c.requires.pairs c.requires.frame c.rule_at-rule.ensures l.1 c.requires.head c.in_ok-fit-in-Holds.ensures.grows refl refl refl
+    ((λ i. match_all (outputs (sym c.roles.ensures i) (map tree (sym c.deref.ensures.value i))) (map (tree_at (store_trees s)) c.args.outputs.now) (env_at (store_envs s) c.args.frame.env))
+    ∙ (rw c.in-None.is at c.in_ok-fit-in-Holds.ensures.fit))
+
+pub returns-in_ok-kids-in-Some : goal.returns-in_ok-kids-in-Some
+returns-in_ok-kids-in-Some c =
+    let x = waits_at _ _ c.args.store.now _ c.requires.frame _ c.rule_at-rule.ensures in
+    let l = holds_at c.rule_at-rule.result.now.premises.items c.args.frame.premise _ _ _ x.1 c.index.ensures c.in-Holds.is in
+    let s = c.args.store.now in
+    let f = rw c.in-Some.is at c.in_ok-fit-in-Holds.ensures.fit in
+    ok_weaker _ _ (λ step p. resumed_more (modes_of c.args.rules.now) (rules_of c.args.rules.now) _ s (record { arena = s.arena; binds = c.fit_places.new.binds; kids = s.kids; frames = s.frames }) c.args.frame (rule_of c.rule_at-rule.result.now) (judgement_of c.in-Holds.judgement) c.args.head c.args.outputs.now
+    c.requires.store c.requires.pairs c.requires.frame c.rule_at-rule.ensures l.1 c.requires.head c.in_ok-fit-in-Holds.ensures.grows refl refl refl
+    (record { arena = s.arena; binds = c.fit_places.new.binds; kids = c.push_kid.new.kids; frames = s.frames }) c.premises.new.store c.in-Some.env _ step f.0
+    ((λ i. match_all (outputs (sym c.roles.ensures i) (map tree (sym c.deref.ensures.value i))) (map (tree_at (store_trees s)) c.args.outputs.now) (env_at (store_envs s) c.args.frame.env)) ∙ f.1)
+    refl refl c.in_ok-kids-in-Some.ensures.items refl c.in_ok-kids-in-Some.ensures.chain p) c.premises.result c.premises.ensures

@@ -1,0 +1,7 @@
+use Rattle.std.proofs.Common.{map, drop}
+use Rattle.sx_derive.specs.Views.{rule_of, rules_of, modes_of, premise_of}
+use Rattle.sx_derive.specs.Premises.{ArePassed}
+use Rattle.sx_derive.proofs.premise_loop.premises.Given as goal
+
+abbrev pub invariant-loop-k : goal.invariant-loop-k
+invariant-loop-k l = ArePassed (modes_of l.rules) (rules_of l.rules) l.pairs l.initial.store l.store l.number (rule_of l.rule) l.levels l.env l.kids l.frames (drop l.from (map premise_of l.rule.premises.items)) (drop l.k (map premise_of l.rule.premises.items))

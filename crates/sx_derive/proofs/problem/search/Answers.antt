@@ -1,0 +1,42 @@
+use Rattle.std.proofs.Common.{length, Ok, Err, sym, ap, arith, subst}
+use Rattle.std.proofs.lemmas.List.{length-map}
+use Rattle.sx_rules.specs.Views.{goal as goal_of, hypotheses}
+use Rattle.sx_derive.specs.Candidates.{AreFacts}
+use Rattle.sx_derive.specs.Store.{store_trees}
+use Rattle.sx_derive.specs.Walked.{events_in, IsWalked}
+use Rattle.sx_derive.specs.Views.{rules_of, modes_of, judgement_of}
+use Rattle.sx_derive.proofs.Tasked.{facts_length}
+use Rattle.sx_derive.proofs.Searching.{searched_ok, searched_err}
+use Rattle.sx_derive.proofs.problem.search.Goals as goal
+
+pub walk-requires-clause-few : goal.walk-requires-clause-few
+walk-requires-clause-few g c =
+    let p = c.in-Ok.problem in
+    let h = c.in-Ok.ensures in
+    let a = facts_length (modes_of c.args.rules.now) (store_trees p.store) (hypotheses c.args.given.now).judgements p.facts.items h.facts in
+    let b = length-map c.args.given.now.holds.items judgement_of in
+    let d = ap length c.deref.ensures.value in
+    let f = c.requires.few in
+    omega arith
+
+pub returns-in-Ok-walk : goal.returns-in-Ok-walk
+returns-in-Ok-walk g c =
+    let m = modes_of c.args.rules.now in
+    let rs = rules_of c.args.rules.now in
+    let p = c.in-Ok.problem in
+    let h = c.in-Ok.ensures in
+    let js = (hypotheses c.args.given.now).judgements in
+    searched_ok m rs (hypotheses c.args.given.now) c.args.goal.now.form (goal_of c.args.goal.now).terms _ p h c.walk.new.store c.args.budget c.args.steps.now c.walk.new.steps c.in-Ok-walk.ending
+    (subst (λ ps. IsWalked m rs p.store c.walk.new.store p.wanted c.args.budget (events_in m rs ps js p.store 2999 c.args.goal.now.form p.terms.items) c.args.steps.now c.walk.new.steps (Ok c.in-Ok-walk.ending)) c.deref-2.ensures.value
+    (c.in-Ok-walk.ensures js (subst (λ fs. AreFacts m (store_trees p.store) js fs) (sym c.deref.ensures.value) h.facts)))
+
+pub returns : goal.returns
+returns g c =
+    let m = modes_of c.args.rules.now in
+    let rs = rules_of c.args.rules.now in
+    let p = c.in-Ok.problem in
+    let h = c.in-Ok.ensures in
+    let js = (hypotheses c.args.given.now).judgements in
+    searched_err m rs (hypotheses c.args.given.now) c.args.goal.now.form (goal_of c.args.goal.now).terms _ p h c.walk.new.store c.args.budget c.args.steps.now c.walk.new.steps c.in-Err-walk.e
+    (subst (λ ps. IsWalked m rs p.store c.walk.new.store p.wanted c.args.budget (events_in m rs ps js p.store 2999 c.args.goal.now.form p.terms.items) c.args.steps.now c.walk.new.steps (Err c.in-Err-walk.e)) c.deref-2.ensures.value
+    (c.in-Err-walk.ensures js (subst (λ fs. AreFacts m (store_trees p.store) js fs) (sym c.deref.ensures.value) h.facts)))

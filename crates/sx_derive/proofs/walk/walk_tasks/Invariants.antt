@@ -1,0 +1,9 @@
+use Rattle.sx_derive.specs.Views.{rules_of, modes_of}
+use Rattle.sx_derive.proofs.Walking.{Walking}
+use Rattle.sx_derive.proofs.walk.walk_tasks.Given as goal
+
+abbrev pub invariant-loop-task : goal.invariant-loop-task
+invariant-loop-task g l = Walking (modes_of l.rules) (rules_of l.rules) l.pairs l.facts l.wanted l.initial.store l.budget l.initial.tasks.items l.initial.steps l.store l.left l.steps l.tasks.items
+
+abbrev pub decreases-loop-task : goal.decreases-loop-task
+decreases-loop-task g l = l.left

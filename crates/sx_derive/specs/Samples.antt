@@ -1,0 +1,77 @@
+use Rattle.std.specs.Prelude.{◌≡◌, true, false, List, [], ◌∷◌, Some, None}
+use Rattle.sx_term.specs.declared.lex_kind.LexKind.TheVariants.{Id}
+use Rattle.sx_term.specs.Tree.{Tree, node, lexeme, hole, none, ◌▹◌}
+use Rattle.sx_term.specs.declared.sort.Sort.TheVariants.{Plain, Lex}
+use Rattle.sx_rules.specs.Rules.{Judgement, holds, apart, Rule, Hypotheses}
+use Rattle.sx_rules.specs.Modes.{Modes, Goal, AllModed}
+use Rattle.sx_rules.specs.Derivations.{by, no_more, ◌⊳◌}
+use Rattle.sx_derive.specs.Walk.{events}
+use Rattle.sx_derive.specs.Search.{found, exhausted, walk}
+
+-- form 0 is typing with the environment, the subject and the type as an output; form 1 is lookup
+abbrev pub sample_modes : Modes
+sample_modes form = false ∷ false ∷ true ∷ []
+
+abbrev pub typing : Tree → Tree → Tree → Judgement
+typing c e t = record { form = 0; places = c ∷ e ∷ t ∷ [] }
+
+abbrev pub lookup : Tree → Tree → Tree → Judgement
+lookup c x t = record { form = 1; places = c ∷ x ∷ t ∷ [] }
+
+abbrev pub bind_in : Tree → Tree → Tree → Tree
+bind_in c x t = node 1 (c ▹ x ▹ t ▹ none)
+
+abbrev pub var_of : Tree → Tree
+var_of x = node 2 (x ▹ none)
+
+-- the variable of the nearest binding, a variable further out, and a variable as a term
+abbrev pub here_rule : Rule
+here_rule = record { sorts = Plain 0 ∷ Lex Id ∷ Plain 1 ∷ []; premises = []; conclusion = lookup (bind_in (hole 0) (hole 1) (hole 2)) (hole 1) (hole 2) }
+
+abbrev pub there_rule : Rule
+there_rule = record {
+  sorts = Plain 0 ∷ Lex Id ∷ Plain 1 ∷ Lex Id ∷ Plain 1 ∷ [];
+  premises = apart (hole 1) (hole 3) ∷ holds (lookup (hole 0) (hole 1) (hole 2)) ∷ [];
+  conclusion = lookup (bind_in (hole 0) (hole 3) (hole 4)) (hole 1) (hole 2);
+}
+
+abbrev pub var_rule : Rule
+var_rule = record { sorts = Plain 0 ∷ Lex Id ∷ Plain 1 ∷ []; premises = holds (lookup (hole 0) (hole 1) (hole 2)) ∷ []; conclusion = typing (hole 0) (var_of (hole 1)) (hole 2) }
+
+abbrev pub sample_rules : List Rule
+sample_rules = here_rule ∷ there_rule ∷ var_rule ∷ []
+
+abbrev pub x_name : Tree
+x_name = lexeme Id (120 ∷ [])
+
+abbrev pub y_name : Tree
+y_name = lexeme Id (121 ∷ [])
+
+abbrev pub int_type : Tree
+int_type = node 3 none
+
+abbrev pub str_type : Tree
+str_type = node 4 none
+
+-- the environment x : Int , y : Str
+abbrev pub outer : Tree
+outer = bind_in (node 0 none) x_name int_type
+
+abbrev pub sample_goal : Goal
+sample_goal = record { form = 0; terms = bind_in outer y_name str_type ∷ var_of x_name ∷ [] }
+
+abbrev pub no_hypotheses : Hypotheses
+no_hypotheses = record { judgements = []; pairs = [] }
+
+-- the walk finds that x has the type Int, by the rules var, there and here
+abbrev pub SampleIsFound : Type 0
+SampleIsFound =
+    AllModed sample_modes sample_rules
+    × (walk None 100 (events sample_modes sample_rules no_hypotheses sample_goal 1)
+    ≡ found (
+      by 2 (bind_in outer y_name str_type ∷ x_name ∷ int_type ∷ [])
+          (by 1 (outer ∷ x_name ∷ int_type ∷ y_name ∷ str_type ∷ [])
+          (by 0 (node 0 none ∷ x_name ∷ int_type ∷ []) no_more ⊳ no_more) ⊳ no_more),
+      int_type ∷ [],
+    ))
+    × (walk (Some (str_type ∷ [])) 100 (events sample_modes sample_rules no_hypotheses sample_goal 1) ≡ exhausted)

@@ -1,0 +1,40 @@
+-- The store of a search as plain data, and how it grows.
+use Rattle.std.specs.Prelude.{List}
+use Rattle.sx_term.specs.Tree.{Tree}
+use Rattle.sx_derive.specs.Matching.{Assignment}
+use Rattle.sx_rules.specs.Rules.{Rule}
+use Rattle.sx_rules.specs.Modes.{Modes}
+use Rattle.sx_rules.specs.Derivations.{Proofs}
+use Rattle.sx_derive.specs.Machine.{Frame}
+use Rattle.sx_derive.specs.declared.store.Store.{Store}
+use Rattle.sx_derive.specs.Grown.{Extends}
+use Rattle.sx_derive.specs.Arena.{trees, IsArena}
+use Rattle.sx_derive.specs.Binds.{envs, IsBinds}
+use Rattle.sx_derive.specs.Chains.{kids_of, AreKids, frames_of, AreFrames}
+
+abbrev pub store_trees : Store → List Tree
+store_trees s = trees s.arena
+
+abbrev pub store_envs : Store → List Assignment
+store_envs s = envs (trees s.arena) s.binds
+
+abbrev pub store_kids : Store → List Proofs
+store_kids s = kids_of (store_envs s) s.kids.items
+
+abbrev pub store_frames : Modes → List Rule → Store → List (List Frame)
+store_frames modes rules s = frames_of modes rules (store_envs s) (store_kids s) s.frames.items
+
+-- each cell refers to earlier ones
+pub record IsStore (modes : Modes) (rules : List Rule) (s : Store) : Type 0 where
+  pub arena : IsArena s.arena
+  pub binds : IsBinds (trees s.arena) s.binds
+  pub kids : AreKids (store_envs s) s.kids.items
+  pub frames : AreFrames modes rules (store_envs s) (store_kids s) s.frames.items
+
+-- the store goes on from the other: what was named before stands for the same
+pub record Grows (modes : Modes) (rules : List Rule) (old new : Store) : Type 0 where
+  pub store : IsStore modes rules new
+  pub trees : Extends (store_trees old) (store_trees new)
+  pub envs : Extends (store_envs old) (store_envs new)
+  pub kids : Extends (store_kids old) (store_kids new)
+  pub frames : Extends (store_frames modes rules old) (store_frames modes rules new)

@@ -1,0 +1,24 @@
+-- What a turn of a walk makes of the tasks, and what a walk answers.
+use Rattle.std.specs.Prelude.{◌≡◌, ℕ, ◌<◌, List, [], ◌∷◌, ◌++◌, Option, Some, None, Vec}
+use Rattle.std.specs.declared.alloc.Global.{Global}
+use Rattle.sx_rules.specs.Rules.{Judgement, Rule}
+use Rattle.sx_rules.specs.Modes.{Modes}
+use Rattle.sx_derive.specs.declared.pairs.Pair.{Pair}
+use Rattle.sx_derive.specs.declared.store.Store.{Store}
+use Rattle.sx_derive.specs.declared.tasks.Task.{Task as TaskOf}
+use Rattle.sx_derive.specs.declared.tasks.Ending.{Ending as EndingOf}
+use Rattle.sx_derive.specs.Store.{Grows}
+use Rattle.sx_derive.specs.Tasks.{events_left, TaskFits, TasksFit, wanted_in, IsOutcome}
+
+-- the last task that has a candidate left, and the tasks before it; or none has one
+abbrev pub IsPopped : Modes → List Rule → List Pair → List Judgement → Store → ℕ → List TaskOf → List TaskOf → Option TaskOf → Type 0
+IsPopped modes rules pairs js s candidates old new None = events_left modes rules pairs js s old ≡ []
+IsPopped modes rules pairs js s candidates old new (Some t) =
+    (t.next < candidates) × (events_left modes rules pairs js s old ≡ events_left modes rules pairs js s (new ++ t ∷ []))
+    × (TasksFit modes rules s candidates old → TasksFit modes rules s candidates new × TaskFits modes rules s candidates t)
+
+-- after a try of the task the walk goes on with the tasks that are left, or ends
+pub record IsTurn (modes : Modes) (rules : List Rule) (pairs : List Pair) (js : List Judgement) (wanted : Option (Vec ℕ Global)) (candidates : ℕ) (old new : Store) (t : TaskOf) (tasks left_over : List TaskOf) (o : Option EndingOf) : Type 0 where
+  pub grows : Grows modes rules old new
+  pub fits : TasksFit modes rules new candidates left_over
+  pub outcome : (left : ℕ) → IsOutcome new (wanted_in old wanted) left (events_left modes rules pairs js old (tasks ++ t ∷ [])) (events_left modes rules pairs js new left_over) o

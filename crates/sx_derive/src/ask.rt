@@ -1,0 +1,99 @@
+//! The first answer of a premise's goal, and whether its outputs match.
+
+ghost use Rattle.std.specs.Prelude.{◌≡◌, ℕ, ◌^◌, ◌≤◌, ◌<◌, List, IfOk, length, map};
+ghost use Rattle.sx_term.specs.Term.{tree};
+ghost use Rattle.sx_rules.specs.Deep.{AreShallow};
+ghost use Rattle.sx_rules.specs.Rules.{Judgement as JudgementOf};
+ghost use Rattle.sx_derive.specs.Asking.{asked_events, IsAnswered};
+ghost use Rattle.sx_derive.specs.Candidates.{AreFacts};
+ghost use Rattle.sx_derive.specs.Pairs.{ArePairs};
+ghost use Rattle.sx_derive.specs.Quiet.{IsQuiet, first_given};
+ghost use Rattle.sx_derive.specs.Store.{IsStore, Grows, store_trees};
+ghost use Rattle.sx_derive.specs.Views.{rules_of, modes_of, judgement_of};
+
+use crate::candidates::{Fact, copied};
+use crate::first::first_answer;
+use crate::pairs::Pair;
+use crate::places::{fit_places, make_places};
+use crate::set::roles;
+use crate::store::Store;
+use std::alloc::Global;
+use sx_rules::{Judgement, RuleSet};
+use sx_term::NoMemory;
+
+/// The goal has no answer, or the outputs of its first answer are not those of the premise, or they are, under a chain of bindings.
+#[derive(Drop)]
+pub enum Asked {
+    Unanswered(Vec<usize>),
+    Differs { terms: Vec<usize>, got: Vec<usize> },
+    Matched(usize),
+}
+
+/// What the goal of a premise has as its first answer.
+pub(crate) fn ask(
+    alloc: Global,
+    rules: &RuleSet,
+    facts: &[Fact],
+    pairs: &[Pair],
+    store: &mut Store,
+    judgement: &Judgement,
+    env: usize,
+    levels: usize,
+    budget: u64,
+) -> Result<Asked, NoMemory>
+    requires few { length facts.now < 2 ^ 32 }
+    requires facts { (js : List JudgementOf) × AreFacts (modes_of rules.now) (store_trees store.old) js facts.now }
+    requires store { IsStore (modes_of rules.now) (rules_of rules.now) store.old }
+    requires pairs { ArePairs (length (store_trees store.old)) pairs.now }
+    requires shallow { AreShallow (map tree judgement.now.places.items) }
+    requires env { env ≤ length store.old.binds.cells.items }
+    requires quiet { (js : List JudgementOf) → AreFacts (modes_of rules.now) (store_trees store.old) js facts.now →
+        IsQuiet budget (asked_events (modes_of rules.now) (rules_of rules.now) pairs.now js store.old env levels (judgement_of judgement.now)) }
+    ensures grows { IfOk result (λ r. Grows (modes_of rules.now) (rules_of rules.now) store.old store.new) }
+    ensures answered { IfOk result (λ r. (js : List JudgementOf) → AreFacts (modes_of rules.now) (store_trees store.old) js facts.now →
+        IsAnswered (modes_of rules.now) store.old store.new env (judgement_of judgement.now)
+        (first_given (asked_events (modes_of rules.now) (rules_of rules.now) pairs.now js store.old env levels (judgement_of judgement.now))) r) }
+{
+    let terms = make_places(
+        alloc,
+        &mut store.arena,
+        &store.binds,
+        env,
+        roles(rules, judgement.form),
+        false,
+        &judgement.places,
+    )?;
+    let kept = copied(alloc, &terms)?;
+    let first = first_answer(
+        alloc,
+        rules,
+        facts,
+        pairs,
+        store,
+        judgement.form,
+        terms,
+        levels - 1,
+        budget,
+    )?;
+    match first {
+        None => Ok(Asked::Unanswered(kept)),
+        Some(found) => {
+            let fit = fit_places(
+                &store.arena,
+                &mut store.binds,
+                env,
+                roles(rules, judgement.form),
+                true,
+                &judgement.places,
+                &found.outputs,
+            )?;
+            match fit {
+                None => Ok(Asked::Differs {
+                    terms: kept,
+                    got: found.outputs,
+                }),
+                Some(next) => Ok(Asked::Matched(next)),
+            }
+        }
+    }
+}

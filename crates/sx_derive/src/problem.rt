@@ -1,0 +1,122 @@
+//! A problem in a store, and its search.
+
+ghost use Rattle.std.specs.Prelude.{◌≡◌, ℕ, ◌^◌, ◌<◌, IfOk, MatchOption, length, map, Some};
+ghost use Rattle.std.specs.Option.{option_map};
+ghost use Rattle.sx_term.specs.Term.{tree};
+ghost use Rattle.sx_rules.specs.Deep.{AreShallow};
+ghost use Rattle.sx_rules.specs.Derivations.{ShallowJudgements};
+ghost use Rattle.sx_rules.specs.Views.{goal as goal_of, hypotheses};
+ghost use Rattle.sx_derive.specs.Arena.{IsArena};
+ghost use Rattle.sx_derive.specs.Entered.{ArePairsShallow};
+ghost use Rattle.sx_derive.specs.Problems.{IsWantedIn, IsProblem, IsSearched};
+ghost use Rattle.sx_derive.specs.Views.{rules_of, modes_of};
+
+use crate::arena::Arena;
+use crate::candidates::Fact;
+use crate::enter::{enter_facts, enter_pairs, enter_places};
+use crate::pairs::Pair;
+use crate::store::Store;
+use crate::tasks::Ending;
+use crate::walk::walk;
+use std::alloc::Global;
+use std::sync::ledger::Ledger;
+use sx_rules::{Goal, Hyps, RuleSet};
+use sx_term::{NoMemory, Steps, Term};
+
+/// The hypotheses, the goal's terms and the wanted outputs, by their numbers in a store.
+#[derive(Drop)]
+pub(crate) struct Problem {
+    pub(crate) store: Store,
+    pub(crate) facts: Vec<Fact>,
+    pub(crate) pairs: Vec<Pair>,
+    pub(crate) terms: Vec<usize>,
+    pub(crate) wanted: Option<Vec<usize>>,
+}
+
+/// How a search ended, and what it made.
+#[derive(Drop)]
+pub(crate) struct Searched {
+    pub(crate) store: Store,
+    pub(crate) ending: Ending,
+}
+
+/// What is wanted, by its numbers.
+fn enter_wanted(
+    alloc: Global,
+    arena: &mut Arena,
+    wanted: Option<&Vec<Term>>,
+) -> Result<Option<Vec<usize>>, NoMemory>
+    requires shallow { MatchOption wanted Unit (λ w. AreShallow (map tree w.now.items)) }
+    requires arena { IsArena arena.old }
+    ensures { IfOk result (λ r. IsWantedIn arena.old arena.new (option_map (λ w. map tree w.now.items) wanted.entry) r) }
+{
+    match wanted {
+        None => Ok(None),
+        Some(terms) => Ok(Some(enter_places(alloc, arena, &[], false, terms)?)),
+    }
+}
+
+/// The problem in a new store.
+fn enter_problem(
+    alloc: Global,
+    rules: &RuleSet,
+    given: &Hyps,
+    goal: &Goal,
+    wanted: Option<&Vec<Term>>,
+) -> Result<Problem, NoMemory>
+    requires holds { ShallowJudgements (hypotheses given.now).judgements }
+    requires apart { ArePairsShallow (hypotheses given.now).pairs }
+    requires goal { AreShallow (goal_of goal.now).terms }
+    requires wanted { MatchOption wanted Unit (λ w. AreShallow (map tree w.now.items)) }
+    ensures { IfOk result (λ p. IsProblem (modes_of rules.now) (rules_of rules.now) (hypotheses given.now) (goal_of goal.now).terms (option_map (λ w. map tree w.now.items) wanted.entry) p) }
+{
+    let mut store = Store::new(alloc);
+    let facts = enter_facts(alloc, rules, &mut store.arena, &given.holds)?;
+    let pairs = enter_pairs(alloc, &mut store.arena, &given.apart)?;
+    let terms = enter_places(alloc, &mut store.arena, &[], false, &goal.inputs)?;
+    let wanted = enter_wanted(alloc, &mut store.arena, wanted)?;
+    Ok(Problem {
+        store,
+        facts,
+        pairs,
+        terms,
+        wanted,
+    })
+}
+
+/// How the walk of the goal ends.
+pub(crate) fn search<L: Ledger>(
+    alloc: Global,
+    rules: &RuleSet,
+    given: &Hyps,
+    goal: &Goal,
+    wanted: Option<&Vec<Term>>,
+    budget: u64,
+    steps: &mut Steps<L>,
+) -> Result<Searched, NoMemory>
+    requires few { length given.now.holds.items < 2 ^ 32 }
+    requires holds { ShallowJudgements (hypotheses given.now).judgements }
+    requires apart { ArePairsShallow (hypotheses given.now).pairs }
+    requires goal { AreShallow (goal_of goal.now).terms }
+    requires wanted { MatchOption wanted Unit (λ w. AreShallow (map tree w.now.items)) }
+    ensures { IsSearched (modes_of rules.now) (rules_of rules.now) (hypotheses given.now) (goal_of goal.now) (option_map (λ w. map tree w.now.items) wanted.entry) budget steps.old steps.new result }
+{
+    let problem = match enter_problem(alloc, rules, given, goal, wanted) {
+        Ok(problem) => problem,
+        Err(e) => return Err(e),
+    };
+    let Problem {
+        store,
+        facts,
+        pairs,
+        terms,
+        wanted,
+    } = problem;
+    let mut store = store;
+    match walk(
+        alloc, rules, &facts, &pairs, &mut store, &wanted, goal.form, terms, 2999, budget, steps,
+    ) {
+        Ok(ending) => Ok(Searched { store, ending }),
+        Err(e) => Err(e),
+    }
+}

@@ -1,0 +1,120 @@
+//! Steps of a search.
+
+ghost use Rattle.std.specs.Prelude.{◌≡◌, ℕ, ◌≤◌, List, IfOk, length, map};
+ghost use Rattle.sx_term.specs.Term.{tree};
+ghost use Rattle.sx_derive.specs.Matching.{filled};
+ghost use Rattle.sx_rules.specs.Deep.{AreShallow};
+ghost use Rattle.sx_derive.specs.Walk.{Answer};
+ghost use Rattle.sx_derive.specs.Machine.{Result as StepResult};
+ghost use Rattle.sx_derive.specs.Binds.{env_at};
+ghost use Rattle.sx_derive.specs.Chains.{kids_at};
+ghost use Rattle.sx_derive.specs.Views.{judgement_of, rule_of, rules_of, modes_of};
+ghost use Rattle.sx_derive.specs.Store.{IsStore, store_envs, store_kids};
+ghost use Rattle.sx_derive.specs.Step.{IsConcluded, IsAsked, Awaits};
+
+use crate::chains::{Head, Waiting, push_waiting};
+use crate::places::{Limit, make_places, passed};
+use crate::set::roles;
+use crate::store::Store;
+use std::alloc::Global;
+use sx_rules::{Judgement, Rule, RuleSet};
+use sx_term::NoMemory;
+
+/// What comes of a candidate: nothing, a limit, an answer for the frames that wait, or a new goal with its frames.
+#[derive(Drop)]
+pub enum Step {
+    Nothing,
+    Passed(Limit),
+    DepthSpent,
+    Done {
+        head: Head,
+        outputs: Vec<usize>,
+    },
+    Goes {
+        form: u32,
+        terms: Vec<usize>,
+        levels: usize,
+        frames: usize,
+    },
+}
+
+/// The answer of a rule whose premises are done.
+pub fn concluded(
+    alloc: Global,
+    rules: &RuleSet,
+    rule: &Rule,
+    number: u32,
+    store: &mut Store,
+    env: usize,
+    kids: usize,
+) -> Result<Step, NoMemory>
+    requires shallow { AreShallow (map tree rule.now.conclusion.places.items) }
+    requires store { IsStore (modes_of rules.now) (rules_of rules.now) store.old }
+    requires env { env ≤ length store.old.binds.cells.items }
+    requires kids { kids ≤ length store.old.kids.items }
+    ensures { IfOk result (λ step. IsConcluded (modes_of rules.now) (rules_of rules.now) store.old store.new number (rule_of rule.now) (filled (env_at (store_envs store.old) env)) (kids_at (store_kids store.old) kids) step) }
+{
+    let outputs = make_places(
+        alloc,
+        &mut store.arena,
+        &store.binds,
+        env,
+        roles(rules, rule.conclusion.form),
+        true,
+        &rule.conclusion.places,
+    )?;
+    match passed(&store.arena, &outputs) {
+        Some(limit) => Ok(Step::Passed(limit)),
+        None => Ok(Step::Done {
+            head: Head::By {
+                number,
+                variables: rule.vars.len(),
+                env,
+                kids,
+            },
+            outputs,
+        }),
+    }
+}
+
+/// The goal of a judgement premise, whose rule waits for it.
+pub fn asked(
+    alloc: Global,
+    rules: &RuleSet,
+    judgement: &Judgement,
+    store: &mut Store,
+    waiting: Waiting,
+) -> Result<Step, NoMemory>
+    requires shallow { AreShallow (map tree judgement.now.places.items) }
+    requires store { IsStore (modes_of rules.now) (rules_of rules.now) store.old }
+    requires waits { Awaits (rules_of rules.now) (judgement_of judgement.now) waiting }
+    requires env { waiting.env ≤ length store.old.binds.cells.items }
+    requires kids { waiting.kids ≤ length store.old.kids.items }
+    requires before { waiting.before ≤ length store.old.frames.items }
+    ensures { IfOk result (λ step. IsAsked (modes_of rules.now) (rules_of rules.now) store.old store.new (judgement_of judgement.now) waiting step) }
+{
+    let terms = make_places(
+        alloc,
+        &mut store.arena,
+        &store.binds,
+        waiting.env,
+        roles(rules, judgement.form),
+        false,
+        &judgement.places,
+    )?;
+    match passed(&store.arena, &terms) {
+        Some(limit) => Ok(Step::Passed(limit)),
+        None => {
+            if waiting.levels == 0 {
+                return Ok(Step::DepthSpent);
+            }
+            let frames = push_waiting(&mut store.frames, waiting)?;
+            Ok(Step::Goes {
+                form: judgement.form,
+                terms,
+                levels: waiting.levels - 1,
+                frames,
+            })
+        }
+    }
+}
