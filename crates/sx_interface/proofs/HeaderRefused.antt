@@ -1,5 +1,5 @@
 -- The line at which a header is refused.
-use Rattle.std.proofs.Common.{◌≡◌, ℕ, List, [], ◌∷◌, codes, ◌++◌, Result, Ok, Err, true, false, refl}
+use Rattle.std.proofs.Common.{◌≡◌, ℕ, List, [], codes, ◌++◌, Result, Ok, Err, true, false, refl}
 use Rattle.std.specs.Prelude.{IfErr, IfSome}
 use Rattle.sx_lines.specs.Lines.{Lines, over, line, lines_from}
 use Rattle.sx_lines.specs.FirstBad.{IsFirstBad}

@@ -1,8 +1,8 @@
 -- Rows, one after the other.
-use Rattle.std.proofs.Common.{◌≡◌, ℕ, ◌+◌, ◌<◌, ◌≤◌, Bool, true, false, ◌||◌, List, [], ◌∷◌, ◌++◌, length, get_or, drop, Option, Some, None, Result, Ok, Err, refl, sym, ap, ◌∙◌}
+use Rattle.std.proofs.Common.{◌≡◌, ℕ, Bool, true, false, List, [], ◌∷◌, ◌++◌, Option, Some, None, Result, Ok, Err, refl, sym, ap, ◌∙◌}
 use Rattle.std.specs.Str.{bytes_eq}
 use Rattle.std.proofs.lemmas.Slice.Eq.{bytes_eq-Decides}
-use Rattle.std.proofs.lemmas.List.{at_drop_more, at_drop_all, get_or-map, length-map, map_push, append_cancel_left}
+use Rattle.std.proofs.lemmas.List.{append_cancel_left}
 use Rattle.std.proofs.lemmas.Bool.Decides.{same_from_decides}
 use Rattle.sx_lines.specs.Lines.{Lines, over, line}
 use Rattle.sx_lines.specs.Words.{after}
@@ -28,23 +28,6 @@ none_test front text name false e none = refl
 
 pub row_none : (front text name : List ℕ) → None ≡ after front text → false ≡ bytes_eq text (front ++ name)
 row_none front text name e = none_test front text name (bytes_eq text (front ++ name)) refl (sym e)
-
--- ---- items that were seen
-
-module _ {A : Type 0} (key : A → List ℕ) (items : List A) (name : List ℕ) (i : ℕ) (total : Bool) (so_far : has_key key (drop i items) name ≡ total) (d : A) where
-  has_key_turn : i < length items → has_key key (drop i items) name ≡ (bytes_eq (key (get_or items i d)) name || has_key key (drop (i + 1) items) name)
-  unfolding has_key
-  has_key_turn lt = at_drop_more (λ (xs : List A). has_key key xs name) items i d lt
-
-  pub seen_here : i < length items → bytes_eq (key (get_or items i d)) name ≡ true → true ≡ total
-  seen_here lt e = sym (has_key_turn lt ∙ rw e refl) ∙ so_far
-
-  pub seen_later : i < length items → bytes_eq (key (get_or items i d)) name ≡ false → has_key key (drop (i + 1) items) name ≡ total
-  seen_later lt e = sym (has_key_turn lt ∙ rw e refl) ∙ so_far
-
-  pub not_seen : length items ≤ i → false ≡ total
-  unfolding has_key
-  not_seen le = sym (at_drop_all (λ (xs : List A). has_key key xs name) items i le) ∙ so_far
 
 -- ---- the rows
 

@@ -11,7 +11,7 @@ ghost use Rattle.std.specs.Str.{IsUtf8};
 ghost use Rattle.sx_lines.specs.Left.{left};
 ghost use Rattle.sx_lines.specs.Lines.{lines_from};
 ghost use Rattle.sx_lines.specs.Reading.{Gives, the_line, next_line, no_line};
-ghost use Rattle.sx_lines.specs.Rows.{distinct_rows, has_key};
+ghost use Rattle.sx_lines.specs.Rows.{distinct_rows};
 ghost use Rattle.sx_interface.specs.Interfaces as spec;
 ghost use Rattle.sx_interface.specs.Interfaces.{Mark};
 ghost use Rattle.sx_interface.specs.InterfaceView.{mark_view, marks_view, pair_view, interface_view};
@@ -20,6 +20,7 @@ ghost use Rattle.sx_interface.specs.Reading.{Refuses, RefusesText, IsText, Answe
 use crate::error::HeaderError;
 use crate::interfaces::{ImportMark, Interface};
 use crate::marks::{Digest, read_digest};
+use crate::names::Names;
 use crate::rows::is_row;
 use crate::texts::{name_text, utf8_text};
 use std::alloc::Global;
@@ -122,18 +123,6 @@ fn base_row<'a>(rest: Rest<'a>) -> Result<(Digest, Rest<'a>), HeaderError>
     }
 }
 
-/// Whether a mark has the name.
-fn has_name(marks: &[ImportMark], name: &[u8]) -> bool
-    ensures { result ≡ has_key (λ m. m.name) (marks_view marks.now) name.now }
-{
-    for (at, x) in marks.iter().enumerate() {
-        if x.name.bytes() == name {
-            return true;
-        }
-    }
-    false
-}
-
 /// The marks in the next rows, whose names are distinct, and what is left after them.
 fn import_rows<'a>(
     alloc: Global,
@@ -143,14 +132,16 @@ fn import_rows<'a>(
         (distinct_rows (λ m. m.name) (spec.mark_after (codes "import ")) [] (left rest.entry)) }
     ensures utf8 { IsUtf8 rest.entry.bytes.now → IfOk result (λ x. IsUtf8 x.1.bytes.now) }
 {
+    let mut seen = Names::new(alloc);
     let mut marks = Vec::new(alloc);
     let mut rest = rest;
     'rows: while let Ok((line, more)) = rest.next() {
         match mark_after(line.text, b"import ") {
             Some((name, digest)) => {
-                if has_name(marks.as_slice(), name) {
+                if seen.contains(name) {
                     return Err(HeaderError::Header(line.number));
                 }
+                seen.add(alloc, name)?;
                 let name = name_text(alloc, name)?;
                 marks.push(ImportMark { name, digest })?;
             }

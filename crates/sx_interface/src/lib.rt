@@ -8,6 +8,7 @@ mod interface_reading;
 mod interface_writing;
 mod interfaces;
 mod marks;
+mod names;
 mod rows;
 mod texts;
 

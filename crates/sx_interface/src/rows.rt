@@ -10,6 +10,7 @@ ghost use Rattle.sx_lines.specs.Words.{is_name};
 ghost use Rattle.sx_interface.specs.Reading.{Refuses};
 
 use crate::error::HeaderError;
+use crate::names::Names;
 use crate::texts::name_text;
 use std::alloc::Global;
 use sx_lines::{Rest, after, is_name};
@@ -30,18 +31,6 @@ fn name_after<'a>(text: &'a [u8], front: &[u8]) -> Option<&'a [u8]>
         }
         None => None,
     }
-}
-
-/// Whether the name stands among the names.
-fn contains(names: &[Text], name: &[u8]) -> bool
-    ensures { result ≡ spec.has_key (λ x. x) names.now name.now }
-{
-    for (at, x) in names.iter().enumerate() {
-        if x.bytes() == name {
-            return true;
-        }
-    }
-    false
 }
 
 /// Whether the text is the front and then the name.
@@ -90,14 +79,16 @@ pub fn name_rows<'a>(
 ) -> Result<(Vec<Text>, Rest<'a>), HeaderError>
     ensures { Gives (λ x. (x.0.items, kept (left x.1))) Refuses result (spec.distinct_names front.now (kept (left rest.entry))) }
 {
+    let mut seen = Names::new(alloc);
     let mut names = Vec::new(alloc);
     let mut rest = rest;
     'rows: while let Ok((line, more)) = rest.next_kept() {
         match name_after(line.text, front) {
             Some(name) => {
-                if contains(names.as_slice(), name) {
+                if seen.contains(name) {
                     return Err(HeaderError::Header(line.number));
                 }
+                seen.add(alloc, name)?;
                 names.push(name_text(alloc, name)?)?;
             }
             None => return Ok((names, rest)),

@@ -1,15 +1,12 @@
 -- The first colon of a text.
-use Rattle.std.proofs.Common.{◌≡◌, ◌≢◌, ℕ, zero, suc, ◌+◌, ◌<◌, ◌≤◌, Bool, true, false, eqb, ◌||◌, List, [], ◌∷◌, ◌++◌, length, get_or, take, drop, Option, Some, None, refl, sym, ap, subst, ◌∙◌, arith}
-use Rattle.std.specs.Prelude.{map}
-use Rattle.std.specs.Str.{IsUtf8, bytes_eq}
+use Rattle.std.proofs.Common.{◌≡◌, ◌≢◌, ℕ, zero, suc, ◌+◌, ◌<◌, ◌≤◌, false, eqb, List, [], ◌∷◌, ◌++◌, length, get_or, take, drop, Option, Some, None, refl, sym, ap, subst, ◌∙◌, arith}
+use Rattle.std.specs.Str.{IsUtf8}
 use Rattle.std.proofs.lemmas.Bool.Decides.{nat_tests}
-use Rattle.std.proofs.lemmas.List.{drop_more, drop-drop, take_all, take-append-drop, at_drop_more, at_drop_all, get_or-map, length-map}
+use Rattle.std.proofs.lemmas.List.{drop_more, drop-drop, take_all, take-append-drop}
 use Rattle.sx_lines.proofs.Utf8Laws.{utf8_cut}
-use Rattle.sx_words.specs.declared.audit.Audit.{Audit}
-use Rattle.sx_words.specs.Commands.{AuditWord, colon, NoColon, has_kind}
+use Rattle.sx_words.specs.Commands.{NoColon}
 use Rattle.sx_words.specs.Reading.{at_colon}
 use Rattle.sx_words.specs.Texts.{IsFirstColon}
-use Rattle.sx_words.specs.View.{audit_view}
 use Rattle.sx_words.proofs.OptionLaws.{at_colon-again}
 
 no_colon-take : (text : List ℕ) (n : ℕ) → ((k : ℕ) → k < n → get_or text k 0 ≢ 58) → n ≤ length text → NoColon (take n text)
@@ -46,24 +43,3 @@ colon_utf8 text at kind rest setting h e f g u =
     let k : setting ≡ drop (at + 1) text = g ∙ ap (λ (x : List ℕ). drop 1 x) f ∙ drop-drop 1 at text in
     let cut = utf8_cut (take at text) (drop (at + 1) text) 58 (omega arith) (subst (λ (x : List ℕ). IsUtf8 x) h.parts u) in
     (subst (λ (x : List ℕ). IsUtf8 x) (sym e) cut.0, subst (λ (x : List ℕ). IsUtf8 x) (sym k) cut.1)
-
--- ---- kinds that are named
-
-module _ (audits : List AuditWord) (kind : List ℕ) (i : ℕ) (total : Bool) (so_far : has_kind (drop i audits) kind ≡ total) (d : AuditWord) where
-  kind_turn : i < length audits → has_kind (drop i audits) kind ≡ (bytes_eq (get_or audits i d).kind kind || has_kind (drop (i + 1) audits) kind)
-  kind_turn lt = at_drop_more (λ (xs : List AuditWord). has_kind xs kind) audits i d lt
-
-  pub kind_here : i < length audits → bytes_eq (get_or audits i d).kind kind ≡ true → true ≡ total
-  kind_here lt e = sym (kind_turn lt ∙ rw e refl) ∙ so_far
-
-  pub kind_later : i < length audits → bytes_eq (get_or audits i d).kind kind ≡ false → has_kind (drop (i + 1) audits) kind ≡ total
-  kind_later lt e = sym (kind_turn lt ∙ rw e refl) ∙ so_far
-
-  pub no_kind : length audits ≤ i → false ≡ total
-  no_kind le = sym (at_drop_all (λ (xs : List AuditWord). has_kind xs kind) audits i le) ∙ so_far
-
-pub audit_at : (audits : List Audit) (i : ℕ) (x : Audit) (d : AuditWord) → i < length audits → x ≡ get_or audits i x → get_or (map audit_view audits) i d ≡ audit_view x
-audit_at audits i x d lt e = get_or-map audit_view audits i x d lt ∙ ap audit_view (sym e)
-
-pub length-audits : (audits : List Audit) → length (map audit_view audits) ≡ length audits
-length-audits audits = length-map audits audit_view

@@ -1,13 +1,12 @@
 -- Words are read as a command exactly where they spell it, and refused at the first that does not fit.
-use Rattle.std.proofs.Common.{◌≡◌, ℕ, ◌+◌, ◌^◌, ◌<◌, ◌≤◌, Bool, true, false, cond, eqb, leb, ◌&&◌, List, [], ◌∷◌, ◌++◌, length, codes, Option, Some, None, Result, Ok, Err, refl, sym, ap, subst, ◌∙◌, inl, inr, ◌⊎◌, arith}
-use Rattle.std.specs.Prelude.{map, is_some, decimal}
+use Rattle.std.proofs.Common.{◌≡◌, ℕ, ◌+◌, Bool, true, false, cond, List, [], ◌∷◌, ◌++◌, codes, Option, Some, None, Result, Ok, Err, refl, sym, ap, subst, ◌∙◌, inl, inr, arith}
+use Rattle.std.specs.Prelude.{map, decimal}
 use Rattle.std.specs.Str.{bytes_eq}
-use Rattle.std.proofs.lemmas.List.{append-nil}
 use Rattle.std.proofs.lemmas.Slice.Eq.{bytes_eq-Decides}
 use Rattle.sx_lines.specs.Words.{is_name}
 use Rattle.sx_words.specs.declared.verb.Verb.{Verb}
 use Rattle.sx_words.specs.declared.verb.Verb.TheVariants.{Build, Compile, Check, Verify}
-use Rattle.sx_words.specs.Commands.{Given, Settings, Meant, samples, verb_word, option_word, IsGiven, takes, is_new, nothing_said, with_option, with_options, MayStand, meant, SpellsNamed, SpellsSample, Spells, NoneSpells, IsMisfit}
+use Rattle.sx_words.specs.Commands.{Given, Settings, Meant, samples, verb_word, option_word, nothing_said, with_option, with_options, MayStand, meant, SpellsNamed, SpellsSample, Spells}
 use Rattle.sx_words.specs.Reading.{count_of, next_option, is_option, last_word, then_option, after_verb, sample_of, after_sample, verb_of, command_from, command_of}
 use Rattle.sx_words.proofs.OptionLaws.{count_found, count_again, next_found, next_again, option_begins, name_no_option}
 

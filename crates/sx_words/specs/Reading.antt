@@ -1,5 +1,5 @@
 -- Reading words from the left.
-use Rattle.std.specs.Prelude.{◌≡◌, ℕ, ◌+◌, ◌≤◌, nat_le, ◌==◌, ◌&&◌, Bool, true, false, List, [], ◌∷◌, ◌++◌, codes, Option, Some, None, is_some, option_map, option_and_then, Result, Ok, Err, if◌then◌else◌}
+use Rattle.std.specs.Prelude.{ℕ, ◌+◌, ◌==◌, ◌&&◌, Bool, false, List, [], ◌∷◌, codes, Option, Some, None, is_some, option_map, option_and_then, Result, Ok, Err, if◌then◌else◌}
 use Rattle.std.specs.Str.{bytes_eq}
 use Rattle.sx_lines.specs.Words.{after, is_name, number_within}
 use Rattle.sx_words.specs.declared.verb.Verb.{Verb}

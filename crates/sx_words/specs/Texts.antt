@@ -1,7 +1,6 @@
 -- Parts of words that are UTF-8.
-use Rattle.std.specs.Prelude.{◌≡◌, ◌≢◌, ℕ, ◌+◌, ◌<◌, List, ◌∷◌, ◌++◌, length, take, drop}
+use Rattle.std.specs.Prelude.{◌≡◌, ℕ, ◌+◌, ◌<◌, List, ◌∷◌, ◌++◌, length, take, drop}
 use Rattle.std.specs.Borrow.{Bor}
-use Rattle.std.specs.List.{AllByRecursion}
 use Rattle.std.specs.Str.{IsUtf8}
 use Rattle.sx_words.specs.declared.given.Given.{Given}
 use Rattle.sx_words.specs.declared.given.Given.TheVariants.{Core, Tries, Nodes, Audit}

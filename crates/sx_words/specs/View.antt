@@ -1,6 +1,8 @@
 -- Commands, options and errors as plain data.
 use Rattle.std.specs.Prelude.{◌≡◌, ℕ, List, map, Option, Some, None, Result, Ok, Err}
 use Rattle.std.specs.Borrow.{Bor}
+use Rattle.std.specs.List.{list_any}
+use Rattle.std.specs.Str.{bytes_eq}
 use Rattle.sx_words.specs.declared.audit.Audit.{Audit}
 use Rattle.sx_words.specs.declared.command.Command.{Command}
 use Rattle.sx_words.specs.declared.command.Command.TheVariants as command
@@ -9,7 +11,7 @@ use Rattle.sx_words.specs.declared.given.Given as declared
 use Rattle.sx_words.specs.declared.given.Given.TheVariants as given
 use Rattle.sx_words.specs.declared.words_error.WordsError.{WordsError}
 use Rattle.sx_words.specs.declared.words_error.WordsError.TheVariants.{Memory, Words}
-use Rattle.sx_words.specs.Commands.{Given, core, tries, nodes, audit, AuditWord, Settings, Meant, builds, compiles, checks, verifies, samples, Spells, IsMisfit}
+use Rattle.sx_words.specs.Commands.{Given, core, tries, nodes, audit, AuditWord, Settings, Meant, builds, compiles, checks, verifies, samples, Spells, IsMisfit, has_kind}
 
 -- an option that names an auditor, without where it lies in memory
 abbrev pub audit_view : Audit → AuditWord
@@ -26,6 +28,10 @@ command_view (command.Sample n) = samples n
 -- what the options say, without where it lies in memory
 abbrev pub settings_view : Options → Settings
 settings_view o = record { core = o.core; tries = o.tries; nodes = o.nodes; audits = map audit_view o.audits.items }
+
+-- the kinds that are found are those of the auditors
+abbrev pub HasKinds : Options → Type 0
+HasKinds o = (kind : List ℕ) → list_any (λ k. bytes_eq kind k.items) o.kinds.keys ≡ has_kind (map audit_view o.audits.items) kind
 
 -- an option, without where it lies in memory
 abbrev pub given_view : declared.Given → Given

@@ -3,7 +3,7 @@
 ghost use Rattle.std.specs.Prelude.{◌≡◌, ◌&&◌, true, OnOk, IfOk, IfSome, option_map, map};
 ghost use Rattle.sx_words.specs.Commands as spec;
 ghost use Rattle.sx_words.specs.Reading.{next_option};
-ghost use Rattle.sx_words.specs.View.{audit_view, given_view, settings_view, command_view};
+ghost use Rattle.sx_words.specs.View.{audit_view, given_view, settings_view, command_view, HasKinds};
 ghost use Rattle.sx_words.specs.Texts.{IsGivenUtf8};
 ghost use Rattle.std.specs.Str.{IsUtf8};
 
@@ -11,6 +11,7 @@ use crate::audit::Audit;
 use crate::command::Command;
 use crate::given::{Given, option_of};
 use crate::verb::Verb;
+use indexmap::IndexSet;
 use std::alloc::Global;
 use sx_term::{NoMemory, Text, TextError};
 
@@ -23,33 +24,33 @@ pub(crate) struct Options {
     pub core: bool,
     pub tries: Option<u64>,
     pub nodes: Option<u64>,
+    /// The kinds of the auditors, found by their hash.
+    pub kinds: IndexSet<Vec<u8>>,
     pub audits: Vec<Audit>,
 }
 
 impl Options {
     /// Nothing is said.
     pub fn new(alloc: Global) -> Options
-        ensures { settings_view result ≡ spec.nothing_said }
+        ensures said { settings_view result ≡ spec.nothing_said }
+        ensures kinds { HasKinds result }
     {
         Options {
             core: false,
             tries: None,
             nodes: None,
+            kinds: IndexSet::new(alloc),
             audits: Vec::new(alloc),
         }
     }
-}
 
-/// Whether an auditor of the kind is named.
-fn has_kind(audits: &[Audit], kind: &[u8]) -> bool
-    ensures { result ≡ spec.has_kind (map audit_view audits.now) kind.now }
-{
-    for (at, audit) in audits.iter().enumerate() {
-        if audit.kind.bytes() == kind {
-            return true;
-        }
+    /// Whether an auditor of the kind is named.
+    fn has_kind(&self, kind: &[u8]) -> bool
+        requires { HasKinds self.now }
+        ensures { result ≡ spec.has_kind (map audit_view self.now.audits.items) kind.now }
+    {
+        self.kinds.contains(kind)
     }
-    false
 }
 
 /// Whether the command takes the option.
@@ -67,19 +68,21 @@ fn takes(verb: Verb, option: &Given<'_>) -> bool
 /// Whether the option may stand after what was said.
 #[tactic(auto, unfolding(crate::specs::Commands::is_new))]
 fn is_new(said: &Options, option: &Given<'_>) -> bool
+    requires { HasKinds said.now }
     ensures { result ≡ spec.is_new (settings_view said.now) (given_view option.now) }
 {
     match option {
         Given::Core => !said.core && said.nodes.is_none() && said.audits.is_empty(),
         Given::Tries(_) => said.tries.is_none(),
         Given::Nodes(_) => said.nodes.is_none() && !said.core,
-        Given::Audit(kind, _) => !said.core && !has_kind(said.audits.as_slice(), kind),
+        Given::Audit(kind, _) => !said.core && !said.has_kind(kind),
     }
 }
 
 /// The option that the word spells, where it may stand there.
 #[tactic(auto, unfolding(crate::specs::Reading::next_option))]
 pub(crate) fn option_after<'a>(verb: Verb, said: &Options, word: &'a [u8]) -> Option<Given<'a>>
+    requires { HasKinds said.now }
     ensures value { option_map given_view result ≡ next_option verb (settings_view said.now) word.entry.now }
     ensures utf8 { IsUtf8 word.entry.now → IfSome result IsGivenUtf8 }
 {
@@ -114,14 +117,17 @@ pub(crate) fn say(
     option: Given<'_>,
     place: u32,
 ) -> Result<(), NoMemory>
-    requires { IsGivenUtf8 option }
-    ensures { OnOk result (settings_view said.new ≡ spec.with_option place (settings_view said.old) (given_view option.entry)) }
+    requires utf8 { IsGivenUtf8 option }
+    requires kinds { HasKinds said.old }
+    ensures said { OnOk result (settings_view said.new ≡ spec.with_option place (settings_view said.old) (given_view option.entry)) }
+    ensures kinds { OnOk result (HasKinds said.new) }
 {
     match option {
         Given::Core => said.core = true,
         Given::Tries(tries) => said.tries = Some(tries),
         Given::Nodes(nodes) => said.nodes = Some(nodes),
         Given::Audit(kind, setting) => {
+            said.kinds.insert(Vec::from_slice(alloc, kind)?)?;
             let kind = utf8_text(alloc, kind)?;
             let setting = utf8_text(alloc, setting)?;
             said.audits.push(Audit {

@@ -26,34 +26,52 @@ fn misfit(rt: &HostRuntime, line: &[u8]) -> Result<u32, Fail> {
 }
 
 #[test]
-fn words_that_do_not_fit(rt: HostRuntime) -> Result<(), Fail> {
+fn no_words(rt: HostRuntime) {
     assert!(rt; matches!(read_words(rt.alloc(), &[]), Err(WordsError::Words(1))));
-    for (line, want) in [
-        (b"build".as_slice(), 2),
-        (b"Build Main".as_slice(), 1),
-        (b"build Main".as_slice(), 0),
-        (b"build Main --core".as_slice(), 3),
-        (b"build --tries=0 Main".as_slice(), 2),
-        (b"build --tries=01 Main".as_slice(), 2),
-        (b"build --tries=1000001 Main".as_slice(), 2),
-        (b"build --tries=1000000 --core Main".as_slice(), 0),
-        (b"build --tries=1 --tries=2 Main".as_slice(), 3),
-        (b"build --core --nodes=1 Main".as_slice(), 3),
-        (b"build --audit=deny:R --core Main".as_slice(), 3),
-        (b"build --audit=deny Main".as_slice(), 2),
-        (b"build --audit=deny:R --audit=deny:S Main".as_slice(), 3),
-        (b"compile --core Main".as_slice(), 2),
-        (b"check --nodes=1 Let".as_slice(), 2),
-        (b"verify --core One".as_slice(), 0),
-        (b"verify 1One".as_slice(), 2),
-        (b"verify One-Two".as_slice(), 2),
-        (b"sample 300".as_slice(), 0),
-        (b"sample 301".as_slice(), 2),
-        (b"sample 1 2".as_slice(), 3),
-        (b"sample".as_slice(), 2),
-    ] {
-        assert_eq!(rt; misfit(&rt, line)?, want);
-    }
+}
+
+#[test]
+fn words_of_commands(rt: HostRuntime) -> Result<(), Fail> {
+    assert_eq!(rt; misfit(&rt, b"build")?, 2);
+    assert_eq!(rt; misfit(&rt, b"Build Main")?, 1);
+    assert_eq!(rt; misfit(&rt, b"build Main")?, 0);
+    assert_eq!(rt; misfit(&rt, b"build Main --core")?, 3);
+    assert_eq!(rt; misfit(&rt, b"check --nodes=1 Let")?, 2);
+    assert_eq!(rt; misfit(&rt, b"verify --core One")?, 0);
+    assert_eq!(rt; misfit(&rt, b"verify 1One")?, 2);
+    assert_eq!(rt; misfit(&rt, b"verify One-Two")?, 2);
+    Ok(())
+}
+
+#[test]
+fn numbers_of_tries(rt: HostRuntime) -> Result<(), Fail> {
+    assert_eq!(rt; misfit(&rt, b"build --tries=0 Main")?, 2);
+    assert_eq!(rt; misfit(&rt, b"build --tries=01 Main")?, 2);
+    assert_eq!(rt; misfit(&rt, b"build --tries=1000001 Main")?, 2);
+    assert_eq!(rt; misfit(&rt, b"build --tries=1000000 --core Main")?, 0);
+    assert_eq!(rt; misfit(&rt, b"build --tries=1 --tries=2 Main")?, 3);
+    Ok(())
+}
+
+#[test]
+fn options_together(rt: HostRuntime) -> Result<(), Fail> {
+    assert_eq!(rt; misfit(&rt, b"build --core --nodes=1 Main")?, 3);
+    assert_eq!(rt; misfit(&rt, b"build --audit=deny:R --core Main")?, 3);
+    assert_eq!(rt; misfit(&rt, b"build --audit=deny Main")?, 2);
+    assert_eq!(rt;
+        misfit(&rt, b"build --audit=deny:R --audit=deny:S Main")?,
+        3
+    );
+    assert_eq!(rt; misfit(&rt, b"compile --core Main")?, 2);
+    Ok(())
+}
+
+#[test]
+fn words_of_a_sample(rt: HostRuntime) -> Result<(), Fail> {
+    assert_eq!(rt; misfit(&rt, b"sample 300")?, 0);
+    assert_eq!(rt; misfit(&rt, b"sample 301")?, 2);
+    assert_eq!(rt; misfit(&rt, b"sample 1 2")?, 3);
+    assert_eq!(rt; misfit(&rt, b"sample")?, 2);
     Ok(())
 }
 
@@ -92,91 +110,111 @@ fn text(rt: &HostRuntime, bytes: &[u8]) -> Result<Text, Fail> {
     Ok(Text::make(rt.alloc(), bytes).ok().ok_or("a text")?)
 }
 
-/// The line of the refusal about `M.mod`.
-fn line_of(rt: &HostRuntime, place: Place, defect: Defect) -> Result<Vec<u8>, Fail> {
+/// Whether this is the line of the refusal about `M.mod`.
+fn is_line(rt: &HostRuntime, place: Place, defect: Defect, want: &[u8]) -> Result<bool, Fail> {
     let mut line = Vec::new(rt.alloc());
     let file = text(rt, b"M.mod")?;
     let refusal = Refusal { place, defect };
     write_refusal(rt.alloc(), &file, &refusal, &mut line)
         .ok()
         .ok_or("memory")?;
-    Ok(line)
+    Ok(line.as_slice() == want)
 }
 
 #[test]
-fn lines_of_refusals(rt: HostRuntime) -> Result<(), Fail> {
+fn a_line(rt: HostRuntime) -> Result<(), Fail> {
     let mut line = Vec::new(rt.alloc());
-    write_line(
-        rt.alloc(),
-        &text(&rt, b"words")?,
-        &text(&rt, b"word 2")?,
-        &mut line,
-    )
-    .ok()
-    .ok_or("memory")?;
+    let file = text(&rt, b"words")?;
+    let said = text(&rt, b"word 2")?;
+    write_line(rt.alloc(), &file, &said, &mut line)
+        .ok()
+        .ok_or("memory")?;
     assert_eq!(rt; line.as_slice(), b"soundx: words: word 2\n".as_slice());
-    let line = line_of(
-        &rt,
-        Place::Spot { line: 3, column: 7 },
-        Defect::Text(TextDefect::BadToken),
-    )?;
-    assert_eq!(rt;
-        line.as_slice(),
-        b"soundx: M.mod: line 3 column 7: bad token\n".as_slice()
+    Ok(())
+}
+
+#[test]
+fn lines_with_places(rt: HostRuntime) -> Result<(), Fail> {
+    let spot = Place::Spot { line: 3, column: 7 };
+    let token = Defect::Text(TextDefect::BadToken);
+    assert!(rt;
+        is_line(
+            &rt,
+            spot,
+            token,
+            b"soundx: M.mod: line 3 column 7: bad token\n"
+        )?
     );
-    let line = line_of(&rt, Place::Line(4), Defect::File(FileDefect::Header))?;
-    assert_eq!(rt;
-        line.as_slice(),
-        b"soundx: M.mod: line 4: bad header\n".as_slice()
+    let header = Defect::File(FileDefect::Header);
+    assert!(rt;
+        is_line(
+            &rt,
+            Place::Line(4),
+            header,
+            b"soundx: M.mod: line 4: bad header\n"
+        )?
     );
-    let variable = text(&rt, b"~t")?;
-    let line = line_of(
-        &rt,
-        Place::Rule(text(&rt, b"T-App")?),
-        Defect::Rule(RuleDefect::NotModed(variable)),
-    )?;
-    assert_eq!(rt;
-        line.as_slice(),
-        b"soundx: M.mod: rule T-App: ~t is not bound\n".as_slice()
+    Ok(())
+}
+
+#[test]
+fn a_line_of_a_rule(rt: HostRuntime) -> Result<(), Fail> {
+    let place = Place::Rule(text(&rt, b"T-App")?);
+    let defect = Defect::Rule(RuleDefect::NotModed(text(&rt, b"~t")?));
+    assert!(rt;
+        is_line(
+            &rt,
+            place,
+            defect,
+            b"soundx: M.mod: rule T-App: ~t is not bound\n"
+        )?
     );
-    let goal = GoalDefect::Mismatch {
-        goal: text(&rt, b"x : int")?,
+    Ok(())
+}
+
+#[test]
+fn a_line_of_a_goal(rt: HostRuntime) -> Result<(), Fail> {
+    let goal = text(&rt, b"x : int")?;
+    let rule = text(&rt, b"T-If")?;
+    let defect = Defect::Goal(GoalDefect::Mismatch {
+        goal,
         premise: 2,
-        rule: text(&rt, b"T-If")?,
-    };
-    let line = line_of(&rt, Place::Nowhere, Defect::Goal(goal))?;
-    assert_eq!(rt;
-        line.as_slice(),
-        b"soundx: M.mod: x : int is not what premise 2 of T-If asks for\n".as_slice()
+        rule,
+    });
+    assert!(rt;
+        is_line(
+            &rt,
+            Place::Nowhere,
+            defect,
+            b"soundx: M.mod: x : int is not what premise 2 of T-If asks for\n"
+        )?
     );
-    let mut names = Vec::new(rt.alloc());
-    names.push(text(&rt, b"A")?).ok().ok_or("memory")?;
-    names.push(text(&rt, b"B")?).ok().ok_or("memory")?;
-    names.push(text(&rt, b"A")?).ok().ok_or("memory")?;
-    let line = line_of(
-        &rt,
-        Place::Nowhere,
-        Defect::Closure(ClosureDefect::Cycle(names)),
-    )?;
-    assert_eq!(rt; line.as_slice(), b"soundx: M.mod: cycle A B A\n".as_slice());
-    let print = Defect::Print {
+    Ok(())
+}
+
+#[test]
+fn a_line_of_a_print(rt: HostRuntime) -> Result<(), Fail> {
+    let defect = Defect::Print {
         part: PrintedPart::Signature,
         defect: PrintDefect::Depth(1001),
     };
-    let line = line_of(&rt, Place::Nowhere, print)?;
-    assert_eq!(rt;
-        line.as_slice(),
-        b"soundx: M.mod: printed signature has depth 1001, over 1000\n".as_slice()
+    assert!(rt;
+        is_line(
+            &rt,
+            Place::Nowhere,
+            defect,
+            b"soundx: M.mod: printed signature has depth 1001, over 1000\n"
+        )?
     );
-    let differs = ClosureDefect::Differs {
-        what: Kept::ImportDigest(text(&rt, b"I")?),
-        kept: text(&rt, b"00")?,
-        found: text(&rt, b"11")?,
-    };
-    let line = line_of(&rt, Place::Nowhere, Defect::Closure(differs))?;
-    assert_eq!(rt;
-        line.as_slice(),
-        b"soundx: M.mod: import I digest kept 00, found 11\n".as_slice()
-    );
+    Ok(())
+}
+
+#[test]
+fn a_line_of_a_cycle(rt: HostRuntime) -> Result<(), Fail> {
+    let mut names = Vec::new(rt.alloc());
+    names.push(text(&rt, b"A")?).ok().ok_or("memory")?;
+    names.push(text(&rt, b"A")?).ok().ok_or("memory")?;
+    let defect = Defect::Closure(ClosureDefect::Cycle(names));
+    assert!(rt; is_line(&rt, Place::Nowhere, defect, b"soundx: M.mod: cycle A A\n")?);
     Ok(())
 }

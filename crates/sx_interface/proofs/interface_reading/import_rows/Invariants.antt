@@ -1,4 +1,4 @@
-use Rattle.std.proofs.Common.{◌≡◌, [], length, codes}
+use Rattle.std.proofs.Common.{◌≡◌, [], length, map, codes}
 use Rattle.std.specs.Str.{IsUtf8}
 use Rattle.sx_lines.specs.Left.{left}
 use Rattle.sx_lines.specs.Rows.{distinct_rows}
@@ -8,7 +8,8 @@ use Rattle.sx_interface.proofs.interface_reading.import_rows.Given as goal
 
 abbrev pub invariant-rows : goal.invariant-rows
 invariant-rows l =
-    (distinct_rows (λ m. m.name) (mark_after (codes "import ")) (marks_view l.marks.items) (left l.rest) ≡ distinct_rows (λ m. m.name) (mark_after (codes "import ")) [] (left l.fn.rest))
+    (l.seen ≡ map (λ m. m.name) (marks_view l.marks.items))
+    × (distinct_rows (λ m. m.name) (mark_after (codes "import ")) (marks_view l.marks.items) (left l.rest) ≡ distinct_rows (λ m. m.name) (mark_after (codes "import ")) [] (left l.fn.rest))
     × (IsUtf8 l.fn.rest.bytes.now → IsUtf8 l.rest.bytes.now)
 
 abbrev pub decreases-rows : goal.decreases-rows
