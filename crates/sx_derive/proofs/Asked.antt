@@ -4,28 +4,28 @@ use Rattle.std.specs.declared.alloc.Global.{Global}
 use Rattle.sx_term.specs.Tree.{Tree}
 use Rattle.sx_rules.specs.Rules.{Judgement, Rule, Hypotheses, judgement_instance}
 use Rattle.sx_rules.specs.Modes.{Modes, inputs_of, outputs_of, Goal, goal_of}
-use Rattle.sx_derive.specs.Matching.{match_all, filled}
+use Rattle.sx_arena.specs.Matching.{match_all, filled}
 use Rattle.sx_derive.specs.Walk.{goal_events}
 use Rattle.sx_derive.specs.declared.ask.Asked.TheVariants.{Unanswered, Differs, Matched}
 use Rattle.sx_derive.specs.declared.first.Found.{Found}
-use Rattle.sx_derive.specs.declared.candidates.Fact.{Fact}
-use Rattle.sx_derive.specs.declared.pairs.Pair.{Pair}
+use Rattle.sx_arena.specs.declared.fact.Fact.{Fact}
+use Rattle.sx_arena.specs.declared.pairs.Pair.{Pair}
 use Rattle.sx_derive.specs.declared.store.Store.{Store}
-use Rattle.sx_derive.specs.Arena.{trees, tree_at, AreBelow}
+use Rattle.sx_arena.specs.Arena.{trees, tree_at, AreBelow}
 use Rattle.sx_derive.specs.Candidates.{IsFact, AreFacts}
 use Rattle.sx_rules.proofs.Moded.{judgement_known, goal_same}
 use Rattle.sx_derive.specs.Asking.{asked_goal, asked_events, AreTermsOf, IsAnswered}
-use Rattle.sx_derive.specs.Binds.{env_at, BindsGrow}
+use Rattle.sx_arena.specs.Binds.{env_at, BindsGrow}
 use Rattle.sx_derive.specs.Handing.{answer_in}
-use Rattle.sx_derive.specs.Pairs.{ArePairs}
-use Rattle.sx_derive.specs.Places.{AreHeld}
+use Rattle.sx_arena.specs.Pairs.{ArePairs}
+use Rattle.sx_arena.specs.Places.{AreHeld}
 use Rattle.sx_derive.specs.Quiet.{IsQuiet, first_given, IsFirstFound}
 use Rattle.sx_derive.specs.Store.{IsStore, Grows, store_trees, store_envs}
 use Rattle.sx_derive.specs.Walked.{events_in}
-use Rattle.sx_derive.proofs.Arenas.{maps_same, below_more}
-use Rattle.sx_derive.proofs.BindChains.{env_stays}
-use Rattle.sx_derive.proofs.Growing.{extends-length}
-use Rattle.sx_derive.proofs.Parted.{pairs_stay}
+use Rattle.sx_arena.proofs.Arenas.{maps_same, below_more}
+use Rattle.sx_arena.proofs.BindChains.{env_stays}
+use Rattle.sx_arena.proofs.Growing.{extends-length}
+use Rattle.sx_arena.proofs.Parted.{pairs_stay}
 use Rattle.sx_derive.proofs.Resumed.{sizes}
 use Rattle.sx_derive.proofs.Stored.{grows_terms, grows_then, grows_binds}
 

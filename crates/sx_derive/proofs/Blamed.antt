@@ -2,7 +2,7 @@ use Rattle.std.proofs.Common.{◌≡◌, ℕ, zero, suc, ◌-◌, ◌&&◌, Bool
 use Rattle.std.specs.Prelude.{nat_eq}
 use Rattle.std.proofs.lemmas.Bool.{eq-eqb}
 use Rattle.sx_rules.specs.Instances.{instance}
-use Rattle.sx_derive.specs.Matching.{same_all, Assignment, unbound, match_when, match_all, filled}
+use Rattle.sx_arena.specs.Matching.{same_all, Assignment, unbound, match_when, match_all, filled}
 use Rattle.sx_rules.specs.Rules.{Judgement, Premise, holds, apart, Rule, Hypotheses, judgement_instance}
 use Rattle.sx_rules.specs.Modes.{Modes, inputs_of, outputs_of, Goal, goal_of, AllModed}
 use Rattle.sx_rules.specs.Derivations.{Proofs}
@@ -12,9 +12,9 @@ use Rattle.sx_derive.specs.Search.{DerivesGoal, EachGiven, IsReached, HasStop, I
 use Rattle.sx_derive.specs.Stuck.{no_rule, unequal, mismatch, Blame, path_of, PremisesStuck, RulesStuck, GivensStuck, IsStuck}
 use Rattle.sx_derive.specs.Quiet.{first_given}
 use Rattle.sx_derive.specs.Laws.{StuckGoalExists, ExhaustedHasNoStop}
-use Rattle.sx_derive.proofs.Sameness.{and_left, and_right, and_both, nat_same, same_all_true, same_all_self}
+use Rattle.sx_arena.proofs.Sameness.{and_left, and_right, and_both, nat_same, same_all_true, same_all_self}
 use Rattle.sx_rules.proofs.Moded.{goal_same}
-use Rattle.sx_derive.proofs.Filled.{apart-true, true-apart}
+use Rattle.sx_arena.proofs.Filled.{apart-true, true-apart}
 use Rattle.sx_derive.proofs.Walked.{at_most_self, before_at_most}
 use Rattle.sx_derive.proofs.Sound.{events_sound}
 use Rattle.sx_derive.proofs.Walked.{goal_reached}

@@ -1,5 +1,5 @@
 use Rattle.std.proofs.Common.{◌≡◌, ℕ, zero, suc, List, [], ◌∷◌, ◌++◌, ◌⊎◌, inl, inr, Some, None, refl, sym, ap, ◌∙◌, subst}
-use Rattle.sx_derive.specs.Matching.{Assignment, match_all, filled}
+use Rattle.sx_arena.specs.Matching.{Assignment, match_all, filled}
 use Rattle.sx_rules.specs.Rules.{Judgement, Premise, holds, apart, Rule, Hypotheses, judgement_instance}
 use Rattle.sx_rules.specs.Modes.{Modes, outputs_of, Goal, goal_of, AllModed}
 use Rattle.sx_rules.specs.Orders.{Entry, order_of, IsAtMost}

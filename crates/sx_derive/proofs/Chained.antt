@@ -1,7 +1,7 @@
 -- Chains of proofs and of frames stay as they are when the store grows.
 use Rattle.std.proofs.Common.{◌≡◌, ℕ, zero, suc, ◌+◌, ◌≤◌, List, [], ◌∷◌, ◌++◌, length, get_or, refl, sym, ap, ◌∙◌, arith, subst}
 use Rattle.std.proofs.lemmas.List.{get_or_push}
-use Rattle.sx_derive.specs.Matching.{Assignment, filled}
+use Rattle.sx_arena.specs.Matching.{Assignment, filled}
 use Rattle.sx_rules.specs.Rules.{Rule}
 use Rattle.sx_rules.specs.Modes.{Modes}
 use Rattle.sx_rules.specs.Derivations.{Proofs, by, no_more, ◌⊳◌}
@@ -11,10 +11,10 @@ use Rattle.sx_derive.specs.declared.chains.Head.{Head}
 use Rattle.sx_derive.specs.declared.chains.Head.TheVariants.{Given, By}
 use Rattle.sx_derive.specs.declared.chains.Kid.{Kid}
 use Rattle.sx_derive.specs.declared.chains.Waiting.{Waiting}
-use Rattle.sx_derive.specs.Grown.{Extends, grown_from}
+use Rattle.sx_arena.specs.Grown.{Extends, grown_from}
 use Rattle.sx_derive.specs.Chains.{kids_at, head_proof, kid_step, HeadFits, KidFits, kids_of, AreKids, frame_of, frames_at, waiting_step, WaitingFits, frames_of, AreFrames}
-use Rattle.sx_derive.proofs.Growing.{extends-same, extends-length, extends-at, grown_from-one, grown-length, fits-one, grown-same}
-use Rattle.sx_derive.proofs.BindChains.{env_stays}
+use Rattle.sx_arena.proofs.Growing.{extends-same, extends-length, extends-at, grown_from-one, grown-length, fits-one, grown-same}
+use Rattle.sx_arena.proofs.BindChains.{env_stays}
 
 pub kids_stay_at : (ks ls : List Proofs) → Extends ks ls → (i : ℕ) → i ≤ length ks → kids_at ls i ≡ kids_at ks i
 kids_stay_at ks ls x zero h = refl

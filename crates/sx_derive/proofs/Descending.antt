@@ -5,11 +5,11 @@ use Rattle.sx_rules.specs.Instances.{instance}
 use Rattle.sx_rules.specs.Rules.{Judgement, Premise, holds, apart, Rule, Hypotheses, judgement_instance}
 use Rattle.sx_rules.specs.Modes.{Modes, outputs_of, Goal, goal_of, AllModed}
 use Rattle.sx_rules.specs.First.{Answer}
-use Rattle.sx_derive.specs.Matching.{Assignment, match_all, filled}
+use Rattle.sx_arena.specs.Matching.{Assignment, match_all, filled}
 use Rattle.sx_derive.specs.Walk.{are_apart, goal_events}
 use Rattle.sx_derive.specs.Quiet.{IsQuiet, first_given}
 use Rattle.sx_derive.specs.Stuck.{unequal, mismatch, Blame, path_of, PremisesStuck, IsStuck}
-use Rattle.sx_derive.proofs.Filled.{apart-true, true-apart}
+use Rattle.sx_arena.proofs.Filled.{apart-true, true-apart}
 use Rattle.sx_derive.proofs.Blamed.{none_reached, is_first}
 use Rattle.sx_derive.proofs.Walked.{goal_reached}
 

@@ -6,7 +6,7 @@ use Rattle.sx_rules.specs.Modes.{Modes}
 use Rattle.sx_derive.specs.Walk.{depth_spent, Event, Answer}
 use Rattle.sx_derive.specs.Search.{found, stopped, spent, exhausted, walk}
 use Rattle.sx_derive.specs.declared.chains.Head.{Head}
-use Rattle.sx_derive.specs.declared.places.Limit.{Limit}
+use Rattle.sx_arena.specs.declared.places.Limit.{Limit}
 use Rattle.sx_derive.specs.declared.store.Store.{Store}
 use Rattle.sx_derive.specs.declared.tasks.Ending.TheVariants.{Found, Passed, DepthSpent, Spent, Exhausted}
 use Rattle.sx_derive.specs.Handing.{answer_in}

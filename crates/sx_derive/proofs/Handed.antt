@@ -6,19 +6,19 @@ use Rattle.sx_derive.specs.Walk.{Answer}
 use Rattle.sx_derive.specs.Machine.{Frame, Result, answers, hand_on}
 use Rattle.sx_derive.specs.declared.chains.Head.{Head}
 use Rattle.sx_derive.specs.declared.chains.Waiting.{Waiting}
-use Rattle.sx_derive.specs.declared.pairs.Pair.{Pair}
+use Rattle.sx_arena.specs.declared.pairs.Pair.{Pair}
 use Rattle.sx_derive.specs.declared.step.Step.{Step}
 use Rattle.sx_derive.specs.declared.step.Step.TheVariants.{Nothing, Passed, DepthSpent, Done, Goes}
 use Rattle.sx_derive.specs.declared.store.Store.{Store}
-use Rattle.sx_derive.specs.Arena.{AreBelow}
+use Rattle.sx_arena.specs.Arena.{AreBelow}
 use Rattle.sx_derive.specs.Chains.{HeadFits, frame_of, waiting_step, WaitingFits}
 use Rattle.sx_derive.specs.Handing.{hyps_in, answer_in, frames_in, waiting_in, IsWaiting, IsResumed, IsHanded}
-use Rattle.sx_derive.specs.Pairs.{ArePairs}
+use Rattle.sx_arena.specs.Pairs.{ArePairs}
 use Rattle.sx_derive.specs.Step.{IsStep}
 use Rattle.sx_derive.specs.Store.{IsStore, Grows, store_trees, store_envs, store_kids, store_frames}
-use Rattle.sx_derive.proofs.Growing.{grown-length, extends-length, grown-at}
+use Rattle.sx_arena.proofs.Growing.{grown-length, extends-length, grown-at}
 use Rattle.sx_derive.proofs.Chained.{frames_stay_at}
-use Rattle.sx_derive.proofs.Parted.{pairs_stay}
+use Rattle.sx_arena.proofs.Parted.{pairs_stay}
 use Rattle.sx_derive.proofs.Resumed.{sizes}
 use Rattle.sx_derive.proofs.Stored.{grows_same, grows_then}
 use Rattle.std.specs.Prelude.{Vec}

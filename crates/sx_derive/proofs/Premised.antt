@@ -4,29 +4,29 @@ use Rattle.std.specs.Prelude.{slice_get}
 use Rattle.std.proofs.lemmas.List.{drop_all, length-map}
 use Rattle.sx_term.specs.Tree.{Tree}
 use Rattle.sx_rules.specs.Instances.{instance}
-use Rattle.sx_derive.specs.Matching.{filled}
+use Rattle.sx_arena.specs.Matching.{filled}
 use Rattle.sx_rules.specs.Rules.{Judgement, Premise, holds, apart, Rule}
 use Rattle.sx_rules.specs.Modes.{Modes}
 use Rattle.sx_rules.specs.Deep.{PremiseIsShallow, PremisesAreShallow}
 use Rattle.sx_derive.specs.Walk.{Answer, are_apart}
 use Rattle.sx_derive.specs.Machine.{Result, result_when, premises_result}
-use Rattle.sx_derive.specs.declared.pairs.Pair.{Pair}
+use Rattle.sx_arena.specs.declared.pairs.Pair.{Pair}
 use Rattle.sx_rules.specs.declared.rule.Premise.{Premise as PremiseOf}
 use Rattle.sx_derive.specs.declared.store.Store.{Store}
 use Rattle.sx_derive.specs.declared.step.Step.{Step}
 use Rattle.sx_derive.specs.declared.step.Step.TheVariants.{Nothing}
-use Rattle.sx_derive.specs.Binds.{env_at, bind_step}
+use Rattle.sx_arena.specs.Binds.{env_at, bind_step}
 use Rattle.sx_derive.specs.Chains.{kids_at, kid_step, frames_at, waiting_step}
-use Rattle.sx_derive.specs.Pairs.{pairs_of, ArePairs, IsTold}
-use Rattle.sx_derive.specs.Views.{premise_of}
+use Rattle.sx_arena.specs.Pairs.{pairs_of, ArePairs, IsTold}
+use Rattle.sx_arena.specs.Views.{premise_of}
 use Rattle.sx_derive.specs.Store.{IsStore, Grows, store_trees, store_envs, store_kids, store_frames}
 use Rattle.sx_derive.specs.Step.{IsStep, IsConcluded, IsAsked}
 use Rattle.sx_derive.specs.Premises.{result_of, IsPremises, ArePassed}
-use Rattle.sx_derive.proofs.Growing.{grown-length, extends-length}
-use Rattle.sx_derive.proofs.BindChains.{env_stays}
+use Rattle.sx_arena.proofs.Growing.{grown-length, extends-length}
+use Rattle.sx_arena.proofs.BindChains.{env_stays}
 use Rattle.sx_derive.proofs.Chained.{kids_stay_at, frames_stay_at}
-use Rattle.sx_derive.proofs.Parted.{pairs_stay}
-use Rattle.sx_derive.proofs.Placed.{maps_drop}
+use Rattle.sx_arena.proofs.Parted.{pairs_stay}
+use Rattle.sx_arena.proofs.Placed.{maps_drop}
 use Rattle.std.proofs.lemmas.Option.{slice_get-map, slice_get-get_or}
 use Rattle.std.specs.Option.{option_map}
 use Rattle.sx_derive.proofs.Stored.{grows_then, grows_terms}

@@ -8,15 +8,15 @@ use Rattle.sx_rules.specs.declared.proof.Proof.{Proof as ProofOf, By as ByOf}
 use Rattle.sx_rules.specs.Derivations.{Proof, Proofs, by, no_more, ◌⊳◌}
 use Rattle.sx_rules.specs.ProofView.{proof, boxed}
 use Rattle.sx_rules.proofs.ProofRows.{proof-at_by}
-use Rattle.sx_derive.specs.Matching.{Assignment, filled}
+use Rattle.sx_arena.specs.Matching.{Assignment, filled}
 use Rattle.sx_derive.specs.Walk.{first_values}
 use Rattle.sx_derive.specs.Machine.{joined}
 use Rattle.sx_derive.specs.declared.chains.Head.{Head}
 use Rattle.sx_derive.specs.declared.chains.Head.TheVariants.{Given, By}
 use Rattle.sx_derive.specs.declared.chains.Kid.{Kid}
-use Rattle.sx_derive.specs.Binds.{env_at}
+use Rattle.sx_arena.specs.Binds.{env_at}
 use Rattle.sx_derive.specs.Chains.{kids_at, head_proof, kid_step, HeadFits, KidFits, kids_of, AreKids}
-use Rattle.sx_derive.proofs.Growing.{extends-length, extends-same, grown-at}
+use Rattle.sx_arena.proofs.Growing.{extends-length, extends-same, grown-at}
 use Rattle.sx_derive.proofs.Chained.{kids_stay_at, head_stays}
 use Rattle.sx_derive.proofs.Stepped.{joined-assoc, joined-none}
 

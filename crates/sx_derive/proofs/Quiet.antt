@@ -4,7 +4,7 @@ use Rattle.sx_term.specs.Tree.{Tree}
 use Rattle.sx_rules.specs.Instances.{instance}
 use Rattle.sx_rules.specs.Rules.{Judgement, Premise, holds, apart, Hypotheses, judgement_instance}
 use Rattle.sx_rules.specs.Modes.{Modes, inputs_of, outputs_of, Goal, goal_of}
-use Rattle.sx_derive.specs.Matching.{Assignment, match_all, filled}
+use Rattle.sx_arena.specs.Matching.{Assignment, match_all, filled}
 use Rattle.sx_derive.specs.Walk.{Cause, Event, try, give, stop, Answer, then_each, when, when_matched, limit_passed, unless_passed, are_apart, put_first, after_kid, premise_events}
 use Rattle.sx_derive.specs.Search.{HasStop, Ending, found, exhausted, are_wanted, found_when, walk}
 use Rattle.sx_derive.proofs.Blamed.{stop_left, stop_right, stop-then_each, stop-first}

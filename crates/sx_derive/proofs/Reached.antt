@@ -3,16 +3,16 @@ use Rattle.std.specs.Prelude.{slice_get, nat_eq, ◌&&◌}
 use Rattle.std.proofs.lemmas.Bool.{eq-eqb}
 use Rattle.sx_term.specs.Tree.{Tree}
 use Rattle.sx_rules.specs.Instances.{instance, StandsAmong, bound_by}
-use Rattle.sx_derive.specs.Matching.{same_all, Assignment, unbound, match_all, filled, IsBound, Agrees}
+use Rattle.sx_arena.specs.Matching.{same_all, Assignment, unbound, match_all, filled, IsBound, Agrees}
 use Rattle.sx_rules.specs.Rules.{Judgement, Premise, holds, apart, Rule, Hypotheses, judgement_instance, judgements_of, AllApart}
 use Rattle.sx_rules.specs.Modes.{Modes, inputs_of, outputs_of, Goal, goal_of, AreModed, IsModed, AllModed}
 use Rattle.sx_rules.specs.Derivations.{Proof, Proofs, by, given, no_more, ◌⊳◌, Derives, DeriveEach}
 use Rattle.sx_rules.specs.Orders.{of_given, order_of, order_of_all}
 use Rattle.sx_derive.specs.Walk.{Event, give, Answer, then_each, when_matched, limit_passed, are_apart, put_first, after_kid, premise_events, first_values, conclude, after_match, rule_events, rules_events, given_event, given_events, goal_events}
-use Rattle.sx_derive.proofs.Sameness.{and_both, same_all_self}
-use Rattle.sx_derive.proofs.Matchings.{match_all-matches, match_all_found, stays-bound}
+use Rattle.sx_arena.proofs.Sameness.{and_both, same_all_self}
+use Rattle.sx_arena.proofs.Matchings.{match_all-matches, match_all_found, stays-bound}
 use Rattle.sx_rules.proofs.Moded.{inputs-map, outputs-map, moded-at}
-use Rattle.sx_derive.proofs.Filled.{filled-agrees, filled-instance, filled-goal, filled-outputs, first_values-bound, true-apart}
+use Rattle.sx_arena.proofs.Filled.{filled-agrees, filled-instance, filled-goal, filled-outputs, first_values-bound, true-apart}
 use Rattle.sx_derive.proofs.Settled.{Precedes, precedes-append, precedes_after, Passes, Settle, passes-append, passes-when, passes-when_matched, passes-unless_passed, passes-then_each, settle_left, settle_right, settle-when, settle-when_matched, settle-unless_passed, settle-then_each}
 
 -- what is given before q, and what is q

@@ -4,31 +4,31 @@ use Rattle.std.specs.Prelude.{slice_get}
 use Rattle.sx_rules.specs.declared.rule.Judgement.{Judgement as JudgementOf}
 use Rattle.sx_rules.specs.declared.rule.Premise.{Premise as PremiseOf}
 use Rattle.sx_rules.specs.declared.rule.Premise.TheVariants.{Holds}
-use Rattle.sx_derive.specs.Views.{premise_of, judgement_of}
+use Rattle.sx_arena.specs.Views.{premise_of, judgement_of}
 use Rattle.sx_rules.specs.Rules.{Judgement, Premise, holds, Rule}
 use Rattle.sx_rules.specs.Modes.{Modes, outputs_of}
 use Rattle.sx_rules.specs.Deep.{RuleIsShallow, RulesAreShallow}
 use Rattle.sx_rules.specs.Derivations.{no_more, ◌⊳◌}
-use Rattle.sx_derive.specs.Matching.{Assignment, match_all}
+use Rattle.sx_arena.specs.Matching.{Assignment, match_all}
 use Rattle.sx_derive.specs.Machine.{Frame, Result, result_matched, premises_result, hand_on, joined}
 use Rattle.sx_derive.specs.declared.chains.Head.{Head}
 use Rattle.sx_derive.specs.declared.chains.Waiting.{Waiting}
-use Rattle.sx_derive.specs.declared.pairs.Pair.{Pair}
+use Rattle.sx_arena.specs.declared.pairs.Pair.{Pair}
 use Rattle.sx_derive.specs.declared.step.Step.{Step}
 use Rattle.sx_derive.specs.declared.step.Step.TheVariants.{Nothing}
 use Rattle.sx_derive.specs.declared.store.Store.{Store}
-use Rattle.sx_derive.specs.Arena.{trees, tree_at}
-use Rattle.sx_derive.specs.Binds.{env_at, bind_step, BindsGrow}
+use Rattle.sx_arena.specs.Arena.{trees, tree_at}
+use Rattle.sx_arena.specs.Binds.{env_at, bind_step, BindsGrow}
 use Rattle.sx_derive.specs.Chains.{kids_at, kid_step, head_proof, HeadFits, waiting_step}
 use Rattle.sx_derive.specs.Handing.{hyps_in, answer_in, frames_in, waiting_in, IsWaiting, IsResumed}
-use Rattle.sx_derive.specs.Pairs.{pairs_of, ArePairs}
+use Rattle.sx_arena.specs.Pairs.{pairs_of, ArePairs}
 use Rattle.sx_derive.specs.Premises.{IsPremises}
 use Rattle.sx_derive.specs.Step.{IsStep}
 use Rattle.sx_derive.specs.Store.{IsStore, store_trees, store_envs, store_kids, store_frames}
-use Rattle.sx_derive.proofs.Growing.{grown-length, extends-length}
-use Rattle.sx_derive.proofs.BindChains.{env_stays}
+use Rattle.sx_arena.proofs.Growing.{grown-length, extends-length}
+use Rattle.sx_arena.proofs.BindChains.{env_stays}
 use Rattle.sx_derive.proofs.Chained.{head_stays, head_fits_more, kids_stay_at, frames_stay_at}
-use Rattle.sx_derive.proofs.Parted.{pairs_stay}
+use Rattle.sx_arena.proofs.Parted.{pairs_stay}
 use Rattle.sx_derive.proofs.Steps.{frame_is}
 use Rattle.sx_derive.proofs.Stored.{grows_then, grows_binds, grows_kid}
 

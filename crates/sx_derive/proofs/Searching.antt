@@ -6,22 +6,22 @@ use Rattle.sx_rules.specs.Rules.{Rule, Hypotheses}
 use Rattle.sx_rules.specs.Modes.{Modes}
 use Rattle.sx_derive.specs.Walk.{goal_events, events}
 use Rattle.sx_derive.specs.Search.{walk, tries_of}
-use Rattle.sx_derive.specs.declared.arena.Arena.{Arena}
+use Rattle.sx_arena.specs.declared.arena.Arena.{Arena}
 use Rattle.sx_derive.specs.declared.problem.Problem.{Problem}
 use Rattle.sx_derive.specs.declared.store.Store.{Store}
 use Rattle.sx_derive.specs.declared.tasks.Ending.{Ending as EndingOf}
-use Rattle.sx_derive.specs.Arena.{trees}
-use Rattle.sx_derive.specs.Entered.{AreFactsIn, ArePairsIn}
-use Rattle.sx_derive.specs.Places.{AreHeld}
+use Rattle.sx_arena.specs.Arena.{trees}
+use Rattle.sx_arena.specs.Entered.{AreFactsIn, ArePairsIn}
+use Rattle.sx_arena.specs.Places.{AreHeld}
 use Rattle.sx_derive.specs.Problems.{IsWantedIn, IsProblem, IsSearched}
 use Rattle.sx_derive.specs.Store.{IsStore}
 use Rattle.sx_derive.specs.Tasks.{IsEnding}
 use Rattle.sx_derive.specs.Walked.{events_in, IsWalked}
-use Rattle.sx_derive.proofs.Arenas.{maps_same, below_more}
-use Rattle.sx_derive.proofs.Growing.{extends-then, extends-length}
-use Rattle.sx_derive.proofs.Parted.{pairs_more_terms, pairs_stay}
+use Rattle.sx_arena.proofs.Arenas.{maps_same, below_more}
+use Rattle.sx_arena.proofs.Growing.{extends-then, extends-length}
+use Rattle.sx_arena.proofs.Parted.{pairs_more_terms, pairs_stay}
 use Rattle.sx_derive.proofs.Stored.{grows_terms}
-use Rattle.sx_derive.proofs.Walking.{facts_stay}
+use Rattle.sx_arena.proofs.Facts.{facts_stay}
 
 pub problem_is : (modes : Modes) (rules : List Rule) (hyps : Hypotheses) (terms : List Tree) (wanted : Option (List Tree)) (s : Store) (a b c : Arena) (p : Problem) → IsStore modes rules s →
     AreFactsIn modes s.arena a hyps.judgements p.facts.items → ArePairsIn a b hyps.pairs p.pairs.items → AreHeld b c p.terms.items terms → IsWantedIn c p.store.arena wanted p.wanted →

@@ -1,5 +1,5 @@
 use Rattle.std.proofs.Common.{◌≡◌, Bool, true, false, List, [], ◌∷◌, ◌++◌, ◌⊎◌, inl, inr, Option, Some, None, refl}
-use Rattle.sx_derive.specs.Matching.{Assignment}
+use Rattle.sx_arena.specs.Matching.{Assignment}
 use Rattle.sx_rules.specs.Orders.{Entry, EntryBefore, IsBefore}
 use Rattle.sx_derive.specs.Walk.{Cause, Event, try, give, stop, then_each, when, when_matched, unless_passed}
 

@@ -2,16 +2,16 @@ use Rattle.std.proofs.Common.{◌≡◌, ℕ, zero, suc, ◌+◌, ◌<◌, Bool,
 use Rattle.std.specs.Prelude.{slice_get, nat_eq, ◌&&◌}
 use Rattle.sx_term.specs.Tree.{Tree}
 use Rattle.sx_rules.specs.Instances.{instance, StandsAmong, bound_by}
-use Rattle.sx_derive.specs.Matching.{same_all, Assignment, unbound, match_all, value_or, filled, IsBound, Extends, Agrees}
+use Rattle.sx_arena.specs.Matching.{same_all, Assignment, unbound, match_all, value_or, filled, IsBound, Extends, Agrees}
 use Rattle.sx_rules.specs.Rules.{Judgement, Premise, holds, apart, Rule, Hypotheses, judgement_instance, judgements_of, AreApart, AllApart}
 use Rattle.sx_rules.specs.Modes.{Modes, inputs_of, outputs_of, Goal, goal_of, AreModed, IsModed, AllModed}
 use Rattle.sx_rules.specs.Derivations.{Proofs, by, given, Derives, DeriveEach}
 use Rattle.sx_derive.specs.Walk.{Cause, Event, try, give, stop, Answer, then_each, when, when_matched, limit_passed, unless_passed, are_apart, put_first, after_kid, premise_events, first_values, conclude, after_match, rule_events, rules_events, given_event, given_events, goal_events}
 use Rattle.sx_derive.specs.Search.{DerivesGoal, EachGiven}
-use Rattle.sx_derive.proofs.Sameness.{and_left, and_right, nat_same, same_all_true}
-use Rattle.sx_derive.proofs.Matchings.{match_all-matches, stays-bound, stays-agreed}
+use Rattle.sx_arena.proofs.Sameness.{and_left, and_right, nat_same, same_all_true}
+use Rattle.sx_arena.proofs.Matchings.{match_all-matches, stays-bound, stays-agreed}
 use Rattle.sx_rules.proofs.Moded.{inputs-map, outputs-map, goal_same, judgement_known, moded-at}
-use Rattle.sx_derive.proofs.Filled.{filled-instance, filled-goal, filled-outputs, first_values-at, length-first_values, apart-true}
+use Rattle.sx_arena.proofs.Filled.{filled-instance, filled-goal, filled-outputs, first_values-at, length-first_values, apart-true}
 
 module _ {A : Type 0} (P : A → Type 0) where
   pub given-append : (es fs : List (Event A)) → EachGiven P es → EachGiven P fs → EachGiven P (es ++ fs)

@@ -3,33 +3,33 @@ use Rattle.std.proofs.Common.{◌≡◌, ℕ, ◌+◌, ◌≤◌, List, [], ◌�
 use Rattle.std.specs.declared.alloc.Global.{Global}
 use Rattle.std.proofs.lemmas.List.{length_push}
 use Rattle.sx_term.specs.Tree.{Tree}
-use Rattle.sx_derive.specs.Matching.{filled}
+use Rattle.sx_arena.specs.Matching.{filled}
 use Rattle.sx_rules.specs.Rules.{Judgement, holds, Rule, Hypotheses, judgement_instance}
 use Rattle.sx_rules.specs.Modes.{Modes, inputs_of, outputs_of, goal_of}
 use Rattle.sx_rules.specs.Derivations.{by}
 use Rattle.sx_derive.specs.Walk.{Cause, too_deep, too_big, limit_passed, first_values}
 use Rattle.sx_derive.specs.Machine.{goal_result, goes_on, hypotheses_from, result_unless}
 use Rattle.sx_derive.specs.declared.chains.Head.TheVariants.{By}
-use Rattle.sx_derive.specs.declared.places.Limit.{Limit}
-use Rattle.sx_derive.specs.declared.places.Limit.TheVariants.{TooDeep, TooBig}
-use Rattle.sx_derive.specs.declared.arena.Arena.{Arena}
+use Rattle.sx_arena.specs.declared.places.Limit.{Limit}
+use Rattle.sx_arena.specs.declared.places.Limit.TheVariants.{TooDeep, TooBig}
+use Rattle.sx_arena.specs.declared.arena.Arena.{Arena}
 use Rattle.sx_rules.specs.declared.rule.Rule.{Rule as RuleOf}
 use Rattle.sx_derive.specs.declared.store.Store.{Store}
 use Rattle.sx_derive.specs.declared.step.Step.TheVariants.{Passed, DepthSpent, Done, Goes}
-use Rattle.sx_derive.specs.Arena.{trees, tree_at, AreBelow}
-use Rattle.sx_derive.specs.Binds.{env_at, bind_step}
-use Rattle.sx_derive.specs.Places.{AreHeld, IsLimit}
+use Rattle.sx_arena.specs.Arena.{trees, tree_at, AreBelow}
+use Rattle.sx_arena.specs.Binds.{env_at, bind_step}
+use Rattle.sx_arena.specs.Places.{AreHeld, IsLimit}
 use Rattle.sx_derive.specs.Chains.{kids_at, kid_step, head_proof, patterns_of, no_rule, frame_of, frames_at, waiting_step, WaitingFits}
-use Rattle.sx_derive.specs.Views.{rule_of}
+use Rattle.sx_arena.specs.Views.{rule_of}
 use Rattle.sx_derive.specs.Store.{IsStore, store_trees, store_envs, store_kids, store_frames}
 use Rattle.sx_derive.specs.Step.{IsConcluded, Awaits, waiting_frame, asked_result, IsAsked}
-use Rattle.sx_derive.proofs.Growing.{grown-length, extends-length}
+use Rattle.sx_arena.proofs.Growing.{grown-length, extends-length}
 use Rattle.sx_derive.proofs.Chained.{head_stays, kids_stay_at, frames_stay_at}
-use Rattle.sx_derive.proofs.BindChains.{env_stays}
+use Rattle.sx_arena.proofs.BindChains.{env_stays}
 use Rattle.sx_derive.specs.declared.chains.Waiting.{Waiting}
 use Rattle.std.specs.Prelude.{zero, suc, slice_get, ◌-◌, drop}
 use Rattle.std.proofs.lemmas.Option.{get_or_from_slice_get}
-use Rattle.sx_derive.specs.Matching.{Assignment}
+use Rattle.sx_arena.specs.Matching.{Assignment}
 use Rattle.sx_rules.specs.Derivations.{Proofs}
 use Rattle.sx_derive.proofs.Stored.{grows_terms, grows_frame, grows_then}
 
@@ -76,9 +76,6 @@ concluded_done modes rules s t number env kids variables rule outs h a b k f i v
             ∙ (λ j. next (sym o j, sym a.are j)),
       );
     }
-
-pub held_as : (a b : Arena) (is : List ℕ) (ts us : List Tree) → ts ≡ us → AreHeld a b is ts → AreHeld a b is us
-held_as a b is ts us e h = record { arena = h.arena; extends = h.extends; within = h.within; are = h.are ∙ e }
 
 module _ (modes : Modes) (rules : List Rule) (s t : Store) (j : Judgement) (c : Waiting) (terms : List ℕ) (h : IsStore modes rules s)
     (a : AreHeld s.arena t.arena terms (inputs_of modes (judgement_instance (filled (env_at (store_envs s) c.env)) j))) (b : t.binds ≡ s.binds) (k : t.kids.items ≡ s.kids.items) (f : t.frames.items ≡ s.frames.items) where

@@ -1,22 +1,22 @@
 -- A store grows by terms, bindings, proofs and frames.
 use Rattle.std.proofs.Common.{◌≡◌, ◌+◌, ◌≤◌, List, [], ◌∷◌, ◌++◌, length, sym, ap, ◌∙◌, subst}
-use Rattle.sx_derive.specs.Matching.{Assignment}
+use Rattle.sx_arena.specs.Matching.{Assignment}
 use Rattle.sx_rules.specs.Rules.{Rule}
 use Rattle.sx_rules.specs.Modes.{Modes}
 use Rattle.sx_rules.specs.Derivations.{Proofs, no_more, ◌⊳◌}
 use Rattle.sx_derive.specs.Machine.{joined}
-use Rattle.sx_derive.specs.declared.arena.Arena.{Arena}
-use Rattle.sx_derive.specs.declared.binds.Binds.{Binds}
+use Rattle.sx_arena.specs.declared.arena.Arena.{Arena}
+use Rattle.sx_arena.specs.declared.binds.Binds.{Binds}
 use Rattle.sx_derive.specs.declared.chains.Kid.{Kid}
 use Rattle.sx_derive.specs.declared.chains.Waiting.{Waiting}
 use Rattle.sx_derive.specs.declared.store.Store.{Store}
-use Rattle.sx_derive.specs.Grown.{Extends}
-use Rattle.sx_derive.specs.Arena.{trees, IsArena}
-use Rattle.sx_derive.specs.Binds.{envs, IsBinds, BindsGrow}
+use Rattle.sx_arena.specs.Grown.{Extends}
+use Rattle.sx_arena.specs.Arena.{trees, IsArena}
+use Rattle.sx_arena.specs.Binds.{envs, IsBinds, BindsGrow}
 use Rattle.sx_derive.specs.Chains.{kids_at, head_proof, HeadFits, kids_of, AreKids, frame_of, frames_at, WaitingFits, frames_of, AreFrames}
 use Rattle.sx_derive.specs.Store.{store_trees, store_envs, store_kids, store_frames, IsStore, Grows}
-use Rattle.sx_derive.proofs.Growing.{extends-same, extends-is, extends-then}
-use Rattle.sx_derive.proofs.BindChains.{envs_stay}
+use Rattle.sx_arena.proofs.Growing.{extends-same, extends-is, extends-then}
+use Rattle.sx_arena.proofs.BindChains.{envs_stay}
 use Rattle.sx_derive.proofs.Chained.{kids_stay, kids_one, frames_stay, frames_one}
 
 pub grows_same : (modes : Modes) (rules : List Rule) (s : Store) → IsStore modes rules s → Grows modes rules s s

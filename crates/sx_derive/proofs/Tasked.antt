@@ -6,8 +6,8 @@ use Rattle.sx_rules.specs.Rules.{Judgement, Rule, Hypotheses}
 use Rattle.sx_rules.specs.Modes.{Modes, Goal}
 use Rattle.sx_derive.specs.Walk.{try, goal_events}
 use Rattle.sx_derive.specs.Machine.{Frame, Task, hypotheses_from, rules_from, given_result, rule_result, tasks_events, result_events}
-use Rattle.sx_derive.specs.declared.candidates.Fact.{Fact}
-use Rattle.sx_derive.specs.declared.pairs.Pair.{Pair}
+use Rattle.sx_arena.specs.declared.fact.Fact.{Fact}
+use Rattle.sx_arena.specs.declared.pairs.Pair.{Pair}
 use Rattle.sx_derive.specs.declared.step.Step.{Step}
 use Rattle.sx_derive.specs.declared.store.Store.{Store}
 use Rattle.sx_derive.specs.declared.tasks.Task.{Task as TaskOf}

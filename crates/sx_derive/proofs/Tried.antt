@@ -7,30 +7,30 @@ use Rattle.sx_term.specs.Tree.{Tree}
 use Rattle.sx_rules.specs.Rules.{Judgement, Rule, Hypotheses}
 use Rattle.sx_rules.specs.Modes.{Modes, inputs_of, outputs_of}
 use Rattle.sx_rules.specs.Derivations.{given, no_more}
-use Rattle.sx_derive.specs.Matching.{same_all, Assignment, unbound, match_all}
+use Rattle.sx_arena.specs.Matching.{same_all, Assignment, unbound, match_all}
 use Rattle.sx_derive.specs.Machine.{Result, answers, result_when, result_matched, premises_result, hand_on, rule_result, given_result}
-use Rattle.sx_derive.specs.declared.candidates.Fact.{Fact}
+use Rattle.sx_arena.specs.declared.fact.Fact.{Fact}
 use Rattle.sx_derive.specs.declared.chains.Head.{Head}
 use Rattle.sx_derive.specs.declared.chains.Head.TheVariants.{Given}
-use Rattle.sx_derive.specs.declared.pairs.Pair.{Pair}
+use Rattle.sx_arena.specs.declared.pairs.Pair.{Pair}
 use Rattle.sx_derive.specs.declared.step.Step.{Step}
 use Rattle.sx_derive.specs.declared.step.Step.TheVariants.{Nothing, Done}
 use Rattle.sx_derive.specs.declared.store.Store.{Store}
-use Rattle.sx_derive.specs.Arena.{trees, tree_at, AreBelow}
-use Rattle.sx_derive.specs.Binds.{env_at, BindsGrow}
+use Rattle.sx_arena.specs.Arena.{trees, tree_at, AreBelow}
+use Rattle.sx_arena.specs.Binds.{env_at, BindsGrow}
 use Rattle.sx_derive.specs.Candidates.{goal_in, IsFact, IsTried}
 use Rattle.sx_derive.specs.Chains.{HeadFits}
 use Rattle.sx_derive.specs.Handing.{hyps_in, answer_in, frames_in, IsHanded}
-use Rattle.sx_derive.specs.Pairs.{pairs_of, ArePairs}
+use Rattle.sx_arena.specs.Pairs.{pairs_of, ArePairs}
 use Rattle.sx_derive.specs.Premises.{IsPremises}
 use Rattle.sx_derive.specs.Step.{IsStep}
 use Rattle.sx_derive.specs.Store.{IsStore, Grows, store_trees, store_envs, store_kids, store_frames}
-use Rattle.sx_derive.proofs.Arenas.{Distinct, distinct}
+use Rattle.sx_arena.proofs.Arenas.{Distinct, distinct}
 use Rattle.sx_derive.proofs.Chained.{frames_stay_at}
 use Rattle.sx_derive.proofs.Handed.{step_other}
-use Rattle.sx_derive.proofs.Parted.{pairs_stay}
+use Rattle.sx_arena.proofs.Parted.{pairs_stay}
 use Rattle.sx_derive.proofs.Resumed.{sizes}
-use Rattle.sx_derive.proofs.Sameness.{same_all_true, same_all_self}
+use Rattle.sx_arena.proofs.Sameness.{same_all_true, same_all_self}
 use Rattle.sx_derive.proofs.Stored.{grows_same, grows_then, grows_binds}
 
 number_false : (m n : ℕ) → (m ≡ n → ⊥) → nat_eq m n ≡ false

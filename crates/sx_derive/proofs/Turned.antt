@@ -9,26 +9,26 @@ use Rattle.sx_derive.specs.Walk.{depth_spent, Event, try, Answer}
 use Rattle.sx_derive.specs.Search.{walk, are_wanted, found_when, tries_of, tries_unless}
 use Rattle.sx_derive.specs.Machine.{Task, hypotheses_from, Result, nothing, stops, answers, goes_on, tasks_events, result_events}
 use Rattle.sx_derive.specs.declared.chains.Head.{Head}
-use Rattle.sx_derive.specs.declared.pairs.Pair.{Pair}
-use Rattle.sx_derive.specs.declared.places.Limit.{Limit}
+use Rattle.sx_arena.specs.declared.pairs.Pair.{Pair}
+use Rattle.sx_arena.specs.declared.places.Limit.{Limit}
 use Rattle.sx_derive.specs.declared.step.Step.{Step}
 use Rattle.sx_derive.specs.declared.step.Step.TheVariants.{Nothing, Passed, DepthSpent, Done, Goes}
 use Rattle.sx_derive.specs.declared.store.Store.{Store}
 use Rattle.sx_derive.specs.declared.tasks.Task.{Task as TaskOf}
 use Rattle.sx_derive.specs.declared.tasks.Ending.TheVariants.{Found, Passed as WasPassed, DepthSpent as WasSpent}
-use Rattle.sx_derive.specs.Arena.{tree_at, AreBelow}
+use Rattle.sx_arena.specs.Arena.{tree_at, AreBelow}
 use Rattle.sx_derive.specs.Candidates.{goal_in}
 use Rattle.sx_derive.specs.Handing.{hyps_in, answer_in, frames_in}
-use Rattle.sx_derive.specs.Pairs.{ArePairs}
+use Rattle.sx_arena.specs.Pairs.{ArePairs}
 use Rattle.sx_derive.specs.Chains.{HeadFits}
 use Rattle.sx_derive.specs.Step.{IsStep}
 use Rattle.sx_derive.specs.Store.{IsStore, Grows, store_trees, store_envs, store_kids, store_frames}
 use Rattle.sx_derive.specs.Tasks.{task_from, task_in, stacked, events_left, TaskFits, TasksFit, IsNext, wanted_in, WantedBelow}
 use Rattle.sx_derive.specs.Turns.{IsTurn}
-use Rattle.sx_derive.proofs.Arenas.{distinct, maps_same, below_more}
+use Rattle.sx_arena.proofs.Arenas.{distinct, maps_same, below_more}
 use Rattle.sx_derive.proofs.Chained.{frames_stay_at}
-use Rattle.sx_derive.proofs.Growing.{extends-length}
-use Rattle.sx_derive.proofs.Parted.{pairs_stay}
+use Rattle.sx_arena.proofs.Growing.{extends-length}
+use Rattle.sx_arena.proofs.Parted.{pairs_stay}
 use Rattle.sx_derive.proofs.Resumed.{sizes}
 use Rattle.sx_derive.proofs.Tasked.{task_hypotheses, next_given, next_rule, next_none, rule_there, judgement_there}
 use Rattle.sx_derive.proofs.Tried.{numbers_same, numbers_differ}

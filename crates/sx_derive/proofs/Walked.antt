@@ -1,6 +1,6 @@
 use Rattle.std.proofs.Common.{◌≡◌, ℕ, zero, suc, ◌-◌, Bool, true, false, List, [], ◌∷◌, ◌++◌, ◌⊎◌, inl, inr, Option, Some, None, refl, sym, ap, ◌∙◌, subst, arith}
 use Rattle.sx_term.specs.Tree.{Tree}
-use Rattle.sx_derive.specs.Matching.{same_all}
+use Rattle.sx_arena.specs.Matching.{same_all}
 use Rattle.sx_rules.specs.Rules.{Rule, Hypotheses}
 use Rattle.sx_rules.specs.Modes.{Modes, outputs_of, Goal, goal_of, AllModed}
 use Rattle.sx_rules.specs.Derivations.{Proof}
@@ -8,7 +8,7 @@ use Rattle.sx_rules.specs.Orders.{Entry, of_given, of_rule, EntryBefore, order_o
 use Rattle.sx_derive.specs.Walk.{Event, try, give, stop, Answer, goal_events, events}
 use Rattle.sx_derive.specs.Search.{DerivesGoal, EachGiven, IsReached, IsGivenBeforeStop, HasStop, AreWanted, found, exhausted, are_wanted, found_when, walk}
 use Rattle.sx_derive.specs.Laws.{EventsAreSound, EventsAreComplete, EachDerivationIsGiven, EventsAreInOrder, FoundIsFirst, ExhaustedMeansNone}
-use Rattle.sx_derive.proofs.Sameness.{same_all_true, same_all_self}
+use Rattle.sx_arena.proofs.Sameness.{same_all_true, same_all_self}
 use Rattle.sx_derive.proofs.Settled.{Settle, precedes_before}
 use Rattle.sx_derive.proofs.Reached.{AnswerBefore, IsAnswer, reached}
 use Rattle.sx_derive.proofs.Sound.{events_sound}

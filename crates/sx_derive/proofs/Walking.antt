@@ -8,40 +8,25 @@ use Rattle.sx_rules.specs.Rules.{Judgement, Rule}
 use Rattle.sx_rules.specs.Modes.{Modes}
 use Rattle.sx_derive.specs.Walk.{Event, try, Answer}
 use Rattle.sx_derive.specs.Search.{walk, tries_of}
-use Rattle.sx_derive.specs.declared.candidates.Fact.{Fact}
-use Rattle.sx_derive.specs.declared.pairs.Pair.{Pair}
+use Rattle.sx_arena.specs.declared.fact.Fact.{Fact}
+use Rattle.sx_arena.specs.declared.pairs.Pair.{Pair}
 use Rattle.sx_derive.specs.declared.store.Store.{Store}
 use Rattle.sx_derive.specs.declared.tasks.Task.{Task as TaskOf}
 use Rattle.sx_derive.specs.declared.tasks.Ending.{Ending as EndingOf}
 use Rattle.sx_derive.specs.declared.tasks.Ending.TheVariants.{Spent, Exhausted}
-use Rattle.sx_derive.specs.Arena.{AreBelow, Extends}
+use Rattle.sx_arena.specs.Arena.{AreBelow, Extends}
 use Rattle.sx_derive.specs.Candidates.{goal_in, IsFact, AreFacts}
 use Rattle.sx_derive.specs.Handing.{hyps_in}
 use Rattle.sx_derive.specs.Store.{IsStore, Grows, store_trees}
 use Rattle.sx_derive.specs.Tasks.{events_left, TasksFit, wanted_in, WantedBelow, IsEnding, IsOutcome}
 use Rattle.sx_derive.specs.Turns.{IsPopped, IsTurn}
 use Rattle.sx_derive.specs.Walked.{events_in, IsWalked}
-use Rattle.sx_derive.proofs.Arenas.{maps_same, below_more}
-use Rattle.sx_derive.proofs.Growing.{extends-length}
+use Rattle.sx_arena.proofs.Facts.{facts_stay}
+use Rattle.sx_arena.proofs.Arenas.{maps_same, below_more}
+use Rattle.sx_arena.proofs.Growing.{extends-length}
 use Rattle.sx_derive.proofs.Stored.{grows_same, grows_then}
 use Rattle.sx_derive.proofs.Tasked.{task_starts, facts_length}
 use Rattle.sx_derive.proofs.Turned.{events_try}
-
--- more terms change no hypothesis
-fact_stays : (modes : Modes) (ts us : List Tree) → Extends ts us → (j : Judgement) (f : Fact) → IsFact modes ts j f → IsFact modes us j f
-fact_stays modes ts us x j f h = record {
-  form = h.form;
-  inputs_below = below_more (length ts) (length us) (extends-length ts us x) f.inputs.items h.inputs_below;
-  outputs_below = below_more (length ts) (length us) (extends-length ts us x) f.outputs.items h.outputs_below;
-  inputs = maps_same ts us x f.inputs.items h.inputs_below ∙ h.inputs;
-  outputs = maps_same ts us x f.outputs.items h.outputs_below ∙ h.outputs;
-}
-
-pub facts_stay : (modes : Modes) (ts us : List Tree) → Extends ts us → (js : List Judgement) (fs : List Fact) → AreFacts modes ts js fs → AreFacts modes us js fs
-facts_stay modes ts us x [] [] a = tt
-facts_stay modes ts us x [] (f ∷ fs) a = absurd a
-facts_stay modes ts us x (j ∷ js) [] a = absurd a
-facts_stay modes ts us x (j ∷ js) (f ∷ fs) a = (fact_stays modes ts us x j f a.0, facts_stay modes ts us x js fs a.1)
 
 -- more terms change nothing of what is wanted
 pub wanted_stays : (s t : Store) → Extends (store_trees s) (store_trees t) → (w : Option (Vec ℕ Global)) → WantedBelow (length (store_trees s)) w → wanted_in t w ≡ wanted_in s w

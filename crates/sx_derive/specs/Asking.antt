@@ -2,14 +2,14 @@
 use Rattle.std.specs.Prelude.{◌≡◌, ℕ, ◌≤◌, List, map, length, Option, Some, None}
 use Rattle.sx_rules.specs.Rules.{Judgement, Rule, judgement_instance}
 use Rattle.sx_rules.specs.Modes.{Modes, outputs_of, Goal, goal_of}
-use Rattle.sx_derive.specs.Matching.{match_all, filled}
+use Rattle.sx_arena.specs.Matching.{match_all, filled}
 use Rattle.sx_derive.specs.Walk.{Event, Answer, goal_events}
 use Rattle.sx_derive.specs.declared.ask.Asked.{Asked}
 use Rattle.sx_derive.specs.declared.ask.Asked.TheVariants.{Unanswered, Differs, Matched}
-use Rattle.sx_derive.specs.declared.pairs.Pair.{Pair}
+use Rattle.sx_arena.specs.declared.pairs.Pair.{Pair}
 use Rattle.sx_derive.specs.declared.store.Store.{Store}
-use Rattle.sx_derive.specs.Arena.{tree_at, AreBelow}
-use Rattle.sx_derive.specs.Binds.{env_at}
+use Rattle.sx_arena.specs.Arena.{tree_at, AreBelow}
+use Rattle.sx_arena.specs.Binds.{env_at}
 use Rattle.sx_derive.specs.Handing.{hyps_in}
 use Rattle.sx_derive.specs.Store.{store_trees, store_envs}
 

@@ -1,7 +1,7 @@
 -- Proofs and frames as chains of cells that share what they have in common.
 use Rattle.std.specs.Prelude.{◌≡◌, ℕ, zero, suc, ◌+◌, ◌≤◌, List, [], ◌∷◌, drop, length, get_or, slice_get, Option, Some, None}
 use Rattle.sx_term.specs.Tree.{Tree}
-use Rattle.sx_derive.specs.Matching.{Assignment, filled}
+use Rattle.sx_arena.specs.Matching.{Assignment, filled}
 use Rattle.sx_rules.specs.Rules.{Judgement, Premise, holds, apart, Rule}
 use Rattle.sx_rules.specs.Modes.{Modes, outputs_of}
 use Rattle.sx_rules.specs.Derivations.{Proof, Proofs, by, given, no_more, ◌⊳◌}
@@ -11,8 +11,8 @@ use Rattle.sx_derive.specs.declared.chains.Head.{Head}
 use Rattle.sx_derive.specs.declared.chains.Head.TheVariants.{Given, By}
 use Rattle.sx_derive.specs.declared.chains.Kid.{Kid}
 use Rattle.sx_derive.specs.declared.chains.Waiting.{Waiting}
-use Rattle.sx_derive.specs.Grown.{grown_from, Fits}
-use Rattle.sx_derive.specs.Binds.{env_at}
+use Rattle.sx_arena.specs.Grown.{grown_from, Fits}
+use Rattle.sx_arena.specs.Binds.{env_at}
 
 -- a chain of proofs: 0 has none, and n + 1 is the one that ends with cell n
 abbrev pub kids_at : List Proofs → ℕ → Proofs

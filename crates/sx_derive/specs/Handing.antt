@@ -6,12 +6,12 @@ use Rattle.sx_derive.specs.Walk.{Answer}
 use Rattle.sx_derive.specs.Machine.{Frame, answers, hand_on}
 use Rattle.sx_derive.specs.declared.chains.Head.{Head}
 use Rattle.sx_derive.specs.declared.chains.Waiting.{Waiting}
-use Rattle.sx_derive.specs.declared.pairs.Pair.{Pair}
+use Rattle.sx_arena.specs.declared.pairs.Pair.{Pair}
 use Rattle.sx_derive.specs.declared.step.Step.{Step}
 use Rattle.sx_derive.specs.declared.store.Store.{Store}
-use Rattle.sx_derive.specs.Arena.{tree_at}
+use Rattle.sx_arena.specs.Arena.{tree_at}
 use Rattle.sx_derive.specs.Chains.{head_proof, frames_at, waiting_step, WaitingFits}
-use Rattle.sx_derive.specs.Pairs.{pairs_of}
+use Rattle.sx_arena.specs.Pairs.{pairs_of}
 use Rattle.sx_derive.specs.Store.{Grows, store_trees, store_envs, store_kids, store_frames}
 use Rattle.sx_derive.specs.Step.{IsStep}
 

@@ -6,7 +6,7 @@ use Rattle.sx_rules.specs.Modes.{Modes, Goal, goal_of, outputs_of, AllModed}
 use Rattle.sx_rules.specs.Derivations.{height_of, AreShallow, HasShallowBinds, ShallowJudgements, Proof, Derives}
 use Rattle.sx_rules.specs.Orders.{order_of, IsBefore}
 use Rattle.sx_rules.specs.First.{Answer, DerivesGoal, AreWanted, IsFirst}
-use Rattle.sx_derive.specs.Matching.{Assignment, match, IsMatch}
+use Rattle.sx_arena.specs.Matching.{Assignment, match, IsMatch}
 use Rattle.sx_derive.specs.Walk.{Event, try, give, goal_events, events}
 use Rattle.sx_derive.specs.Search.{EachGiven, IsReached, IsGivenBeforeStop, HasStop, found, exhausted, walk}
 use Rattle.sx_derive.specs.Stuck.{Blame, IsStuck}
@@ -54,13 +54,6 @@ ExhaustedMeansNone =
     (goal : Goal) (wanted : Option (List Tree)) (budget depth : ℕ) →
     walk wanted budget (events modes rules hyps goal depth) ≡ exhausted →
     (q : Answer) → DerivesGoal modes rules hyps goal q → AreWanted wanted q.1 → ⊥
-
--- a match is the extension of the bindings by just the pattern's variables that makes the term the pattern's instance; none is found just where there is none
-abbrev pub MatchIsExact : Type 0
-MatchIsExact =
-    (pattern term : Tree) (env : Assignment) →
-    ((more : Assignment) → (match pattern term env ≡ Some more) ↔ IsMatch pattern term env more)
-    × ((match pattern term env ≡ None) ↔ ((more : Assignment) → IsMatch pattern term env more → ⊥))
 
 -- a stack of tasks makes the events of a goal: each step takes one task, makes one try, and leaves the events of its result and of the tasks after it
 pub record TasksMakeEvents (modes : Modes) (rules : List Rule) (hyps : Hypotheses) : Type 0 where

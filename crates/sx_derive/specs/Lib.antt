@@ -1,16 +1,9 @@
-pub mod Matching
 pub mod Walk
 pub mod Search
 pub mod Machine
 pub mod Stuck
 pub mod Samples
 pub mod Laws
-pub mod Views
-pub mod Grown
-pub mod Arena
-pub mod Binds
-pub mod Places
-pub mod Pairs
 pub mod Chains
 pub mod Store
 pub mod Step
@@ -20,7 +13,6 @@ pub mod Candidates
 pub mod Tasks
 pub mod Turns
 pub mod Walked
-pub mod Entered
 pub mod Problems
 pub mod Quiet
 pub mod Asking

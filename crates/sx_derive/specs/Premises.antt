@@ -4,12 +4,12 @@ use Rattle.sx_rules.specs.Rules.{Judgement, Premise, Rule}
 use Rattle.sx_rules.specs.Modes.{Modes}
 use Rattle.sx_derive.specs.Walk.{Answer}
 use Rattle.sx_derive.specs.Machine.{Result, premises_result}
-use Rattle.sx_derive.specs.declared.pairs.Pair.{Pair}
+use Rattle.sx_arena.specs.declared.pairs.Pair.{Pair}
 use Rattle.sx_derive.specs.declared.store.Store.{Store}
 use Rattle.sx_derive.specs.declared.step.Step.{Step}
-use Rattle.sx_derive.specs.Binds.{env_at}
+use Rattle.sx_arena.specs.Binds.{env_at}
 use Rattle.sx_derive.specs.Chains.{kids_at, frames_at}
-use Rattle.sx_derive.specs.Pairs.{pairs_of}
+use Rattle.sx_arena.specs.Pairs.{pairs_of}
 use Rattle.sx_derive.specs.Store.{Grows, store_trees, store_envs, store_kids, store_frames}
 use Rattle.sx_derive.specs.Step.{IsStep}
 

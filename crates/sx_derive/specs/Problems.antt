@@ -7,12 +7,12 @@ use Rattle.sx_rules.specs.Rules.{Rule, Hypotheses}
 use Rattle.sx_rules.specs.Modes.{Modes, Goal}
 use Rattle.sx_derive.specs.Walk.{events}
 use Rattle.sx_derive.specs.Search.{walk, tries_of}
-use Rattle.sx_derive.specs.declared.arena.Arena.{Arena}
+use Rattle.sx_arena.specs.declared.arena.Arena.{Arena}
 use Rattle.sx_derive.specs.declared.problem.Problem.{Problem}
 use Rattle.sx_derive.specs.declared.problem.Searched.{Searched}
-use Rattle.sx_derive.specs.Arena.{trees, tree_at, IsArena, AreBelow, Extends}
+use Rattle.sx_arena.specs.Arena.{trees, tree_at, IsArena, AreBelow, Extends}
 use Rattle.sx_derive.specs.Candidates.{AreFacts}
-use Rattle.sx_derive.specs.Pairs.{pairs_of, ArePairs}
+use Rattle.sx_arena.specs.Pairs.{pairs_of, ArePairs}
 use Rattle.sx_derive.specs.Store.{IsStore, store_trees}
 use Rattle.sx_derive.specs.Tasks.{wanted_at, WantedBelow, IsEnding}
 

@@ -6,7 +6,7 @@ use Rattle.sx_derive.specs.Walk.{Event, try, give, stop, Answer}
 use Rattle.sx_derive.specs.Search.{HasStop}
 use Rattle.sx_derive.specs.declared.first.Found.{Found}
 use Rattle.sx_derive.specs.declared.store.Store.{Store}
-use Rattle.sx_derive.specs.Arena.{AreBelow}
+use Rattle.sx_arena.specs.Arena.{AreBelow}
 use Rattle.sx_derive.specs.Chains.{HeadFits}
 use Rattle.sx_derive.specs.Handing.{answer_in}
 use Rattle.sx_derive.specs.Store.{Grows, store_trees, store_envs, store_kids}

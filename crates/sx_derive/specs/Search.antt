@@ -1,6 +1,6 @@
 use Rattle.std.specs.Prelude.{◌≡◌, ℕ, zero, suc, Bool, true, false, List, [], ◌∷◌, ◌⊎◌, Option, Some, None}
 use Rattle.sx_term.specs.Tree.{Tree}
-use Rattle.sx_derive.specs.Matching.{same_all}
+use Rattle.sx_arena.specs.Matching.{same_all}
 use Rattle.sx_rules.specs.Orders.{order_of, IsBefore}
 use Rattle.sx_derive.specs.Walk.{Cause, Event, try, give, stop, Answer}
 pub use Rattle.sx_rules.specs.First.{DerivesGoal, AreWanted, IsFirst}

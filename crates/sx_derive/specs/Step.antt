@@ -6,15 +6,15 @@ use Rattle.sx_rules.specs.Modes.{Modes, inputs_of, outputs_of, goal_of}
 use Rattle.sx_rules.specs.Derivations.{Proofs, by}
 use Rattle.sx_derive.specs.Walk.{Cause, depth_spent, Answer, limit_passed, first_values}
 use Rattle.sx_derive.specs.Machine.{Frame, goal_result, Result, nothing, stops, goes_on, hypotheses_from, result_unless}
-use Rattle.sx_derive.specs.Matching.{Assignment, filled}
+use Rattle.sx_arena.specs.Matching.{Assignment, filled}
 use Rattle.sx_derive.specs.declared.chains.Waiting.{Waiting}
-use Rattle.sx_derive.specs.Binds.{env_at}
+use Rattle.sx_arena.specs.Binds.{env_at}
 use Rattle.sx_derive.specs.Chains.{kids_at}
 use Rattle.sx_derive.specs.declared.store.Store.{Store}
 use Rattle.sx_derive.specs.declared.step.Step.{Step}
 use Rattle.sx_derive.specs.declared.step.Step.TheVariants.{Nothing, Passed, DepthSpent, Done, Goes}
-use Rattle.sx_derive.specs.Arena.{tree_at, AreBelow}
-use Rattle.sx_derive.specs.Places.{IsLimit}
+use Rattle.sx_arena.specs.Arena.{tree_at, AreBelow}
+use Rattle.sx_arena.specs.Places.{IsLimit}
 use Rattle.sx_derive.specs.Chains.{HeadFits, head_proof, frames_at}
 use Rattle.sx_derive.specs.Store.{Grows, store_trees, store_envs, store_kids, store_frames}
 

@@ -1,15 +1,15 @@
 -- The store of a search as plain data, and how it grows.
 use Rattle.std.specs.Prelude.{List}
 use Rattle.sx_term.specs.Tree.{Tree}
-use Rattle.sx_derive.specs.Matching.{Assignment}
+use Rattle.sx_arena.specs.Matching.{Assignment}
 use Rattle.sx_rules.specs.Rules.{Rule}
 use Rattle.sx_rules.specs.Modes.{Modes}
 use Rattle.sx_rules.specs.Derivations.{Proofs}
 use Rattle.sx_derive.specs.Machine.{Frame}
 use Rattle.sx_derive.specs.declared.store.Store.{Store}
-use Rattle.sx_derive.specs.Grown.{Extends}
-use Rattle.sx_derive.specs.Arena.{trees, IsArena}
-use Rattle.sx_derive.specs.Binds.{envs, IsBinds}
+use Rattle.sx_arena.specs.Grown.{Extends}
+use Rattle.sx_arena.specs.Arena.{trees, IsArena}
+use Rattle.sx_arena.specs.Binds.{envs, IsBinds}
 use Rattle.sx_derive.specs.Chains.{kids_of, AreKids, frames_of, AreFrames}
 
 abbrev pub store_trees : Store → List Tree

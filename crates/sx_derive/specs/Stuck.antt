@@ -1,7 +1,7 @@
 use Rattle.std.specs.Prelude.{◌≡◌, ◌≢◌, ℕ, zero, suc, Bool, true, false, List, [], ◌∷◌, ◌++◌, ◌⊎◌, Option, Some, None, nat_eq}
 use Rattle.sx_term.specs.Tree.{Tree, Trees, node, lexeme, hole, none, ◌▹◌}
 use Rattle.sx_rules.specs.Instances.{instance}
-use Rattle.sx_derive.specs.Matching.{Assignment, unbound, match_when, match_all, filled}
+use Rattle.sx_arena.specs.Matching.{Assignment, unbound, match_when, match_all, filled}
 use Rattle.sx_rules.specs.Rules.{Judgement, Premise, holds, apart, Rule, Hypotheses, judgement_instance, AreApart}
 use Rattle.sx_rules.specs.Modes.{Modes, inputs_of, outputs_of, Goal, goal_of}
 use Rattle.sx_derive.specs.Walk.{Answer}

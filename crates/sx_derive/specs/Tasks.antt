@@ -7,17 +7,17 @@ use Rattle.sx_rules.specs.Modes.{Modes, Goal}
 use Rattle.sx_derive.specs.Walk.{Cause, depth_spent, Event, try, Answer}
 use Rattle.sx_derive.specs.Search.{Ending, found, stopped, spent, exhausted, walk, tries_of}
 use Rattle.sx_derive.specs.Machine.{Frame, Task, hypotheses_from, rules_from, Result, answers, tasks_events, result_events}
-use Rattle.sx_derive.specs.declared.pairs.Pair.{Pair}
+use Rattle.sx_arena.specs.declared.pairs.Pair.{Pair}
 use Rattle.sx_derive.specs.declared.step.Step.{Step}
 use Rattle.sx_derive.specs.declared.store.Store.{Store}
 use Rattle.sx_derive.specs.declared.tasks.Task.{Task as TaskOf}
 use Rattle.sx_derive.specs.declared.tasks.Ending.{Ending as EndingOf}
 use Rattle.sx_derive.specs.declared.tasks.Ending.TheVariants.{Found, Passed, DepthSpent, Spent, Exhausted}
-use Rattle.sx_derive.specs.Arena.{tree_at, AreBelow}
+use Rattle.sx_arena.specs.Arena.{tree_at, AreBelow}
 use Rattle.sx_derive.specs.Candidates.{goal_in}
 use Rattle.sx_derive.specs.Chains.{HeadFits}
 use Rattle.sx_derive.specs.Handing.{hyps_in, answer_in, frames_in}
-use Rattle.sx_derive.specs.Places.{IsLimit}
+use Rattle.sx_arena.specs.Places.{IsLimit}
 use Rattle.sx_derive.specs.Step.{IsStep}
 use Rattle.sx_derive.specs.Store.{Grows, store_trees, store_envs, store_kids}
 

@@ -3,7 +3,7 @@ use Rattle.std.specs.Prelude.{◌≡◌, ℕ, ◌<◌, List, [], ◌∷◌, ◌+
 use Rattle.std.specs.declared.alloc.Global.{Global}
 use Rattle.sx_rules.specs.Rules.{Judgement, Rule}
 use Rattle.sx_rules.specs.Modes.{Modes}
-use Rattle.sx_derive.specs.declared.pairs.Pair.{Pair}
+use Rattle.sx_arena.specs.declared.pairs.Pair.{Pair}
 use Rattle.sx_derive.specs.declared.store.Store.{Store}
 use Rattle.sx_derive.specs.declared.tasks.Task.{Task as TaskOf}
 use Rattle.sx_derive.specs.declared.tasks.Ending.{Ending as EndingOf}

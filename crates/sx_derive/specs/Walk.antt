@@ -1,17 +1,12 @@
 use Rattle.std.specs.Prelude.{ℕ, zero, suc, ◌-◌, ◌&&◌, ◌||◌, Bool, true, false, List, [], ◌∷◌, ◌++◌, length, Option, Some, None, nat_eq, nat_lt}
 use Rattle.sx_term.specs.Tree.{Tree, lexeme, depth_of, size_of}
 use Rattle.sx_rules.specs.Instances.{instance}
-use Rattle.sx_derive.specs.Matching.{same, same_all, Assignment, unbound, match_all, filled}
+use Rattle.sx_arena.specs.Matching.{same, same_all, Assignment, unbound, match_all, filled}
 use Rattle.sx_rules.specs.Rules.{Judgement, Premise, holds, apart, Rule, Hypotheses, judgement_instance}
 use Rattle.sx_rules.specs.Modes.{Modes, inputs_of, outputs_of, Goal, goal_of}
 use Rattle.sx_rules.specs.Derivations.{Proof, Proofs, by, given, no_more, ◌⊳◌}
 pub use Rattle.sx_rules.specs.First.{Answer}
-
--- the limit that was passed
-pub data Cause : Type 0 where
-  depth_spent : Cause
-  too_deep : ℕ → Cause
-  too_big : ℕ → Cause
+pub use Rattle.sx_arena.specs.Limits.{Cause, depth_spent, too_deep, too_big, limit_passed, are_apart, first_values}
 
 -- a step of the search: a candidate is compared, something is found, a limit is passed
 pub data Event (A : Type 0) : Type 0 where
@@ -34,36 +29,9 @@ abbrev pub when_matched : {A : Type 0} → Option Assignment → (Assignment →
 when_matched None f = []
 when_matched (Some env) f = f env
 
--- the limit that a term passes: depth 1,000, or else size 1,000,000
-abbrev pub term_limit : Bool → Bool → Tree → Option Cause
-term_limit true b t = Some (too_deep (depth_of t))
-term_limit false true t = Some (too_big (size_of t))
-term_limit false false t = None
-
-abbrev pub first_cause : Option Cause → Option Cause → Option Cause
-first_cause (Some c) d = Some c
-first_cause None d = d
-
--- the first limit that the terms pass
-unfoldable pub limit_passed : List Tree → Option Cause
-limit_passed [] = None
-limit_passed (t ∷ ts) = first_cause (term_limit (nat_lt 1000 (depth_of t)) (nat_lt 1000000 (size_of t)) t) (limit_passed ts)
-
 abbrev pub unless_passed : {A : Type 0} → Option Cause → List (Event A) → List (Event A)
 unless_passed None es = es
 unless_passed (Some c) es = stop c ∷ []
-
-abbrev pub different_lexemes : Tree → Tree → Bool
-different_lexemes (lexeme k x) (lexeme m y) = elim (same (lexeme k x) (lexeme m y)) [ true ↦ false | false ↦ true ]
-different_lexemes _ _ = false
-
-abbrev pub is_pair : List (Tree × Tree) → Tree → Tree → Bool
-is_pair [] s t = false
-is_pair (p ∷ ps) s t = (same p.0 s && same p.1 t) || is_pair ps s t
-
--- whether two terms are apart
-abbrev pub are_apart : Hypotheses → Tree → Tree → Bool
-are_apart hyps s t = is_pair hyps.pairs s t || (is_pair hyps.pairs t s || different_lexemes s t)
 
 abbrev pub put_first : Proof → Assignment × Proofs → List (Event (Assignment × Proofs))
 put_first kid found = give (found.0, kid ⊳ found.1) ∷ []
@@ -82,11 +50,6 @@ premise_events modes hyps below (holds j ∷ ps) env =
     unless_passed (limit_passed (inputs_of modes (judgement_instance (filled env) j)))
     (then_each (after_kid (premise_events modes hyps below ps) (outputs_of modes j) env)
     (below (goal_of modes (judgement_instance (filled env) j))))
-
--- the first n values of a substitution
-abbrev pub first_values : ℕ → (ℕ → Tree) → List Tree
-first_values zero s = []
-first_values (suc n) s = s 0 ∷ first_values n (λ v. s (suc v))
 
 -- the rule's conclusion under the assignment at the end
 abbrev pub conclude : Modes → ℕ → Rule → Assignment × Proofs → List (Event Answer)

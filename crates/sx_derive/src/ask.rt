@@ -6,18 +6,15 @@ ghost use Rattle.sx_rules.specs.Deep.{AreShallow};
 ghost use Rattle.sx_rules.specs.Rules.{Judgement as JudgementOf};
 ghost use Rattle.sx_derive.specs.Asking.{asked_events, IsAnswered};
 ghost use Rattle.sx_derive.specs.Candidates.{AreFacts};
-ghost use Rattle.sx_derive.specs.Pairs.{ArePairs};
+ghost use Rattle.sx_arena.specs.Pairs.{ArePairs};
 ghost use Rattle.sx_derive.specs.Quiet.{IsQuiet, first_given};
 ghost use Rattle.sx_derive.specs.Store.{IsStore, Grows, store_trees};
-ghost use Rattle.sx_derive.specs.Views.{rules_of, modes_of, judgement_of};
+ghost use Rattle.sx_arena.specs.Views.{rules_of, modes_of, judgement_of};
 
-use crate::candidates::{Fact, copied};
 use crate::first::first_answer;
-use crate::pairs::Pair;
-use crate::places::{fit_places, make_places};
-use crate::set::roles;
 use crate::store::Store;
 use std::alloc::Global;
+use sx_arena::{Fact, Pair, copied, fit_places, make_places, roles};
 use sx_rules::{Judgement, RuleSet};
 use sx_term::NoMemory;
 

@@ -3,47 +3,23 @@
 ghost use Rattle.std.specs.Prelude.{◌≡◌, ℕ, ◌≤◌, ◌<◌, ◌↔◌, Some, IsTrue, IfOk, length, slice_get};
 ghost use Rattle.sx_rules.specs.Deep.{RulesAreShallow};
 ghost use Rattle.sx_rules.specs.Rules.{Judgement, Rule};
-ghost use Rattle.sx_derive.specs.Arena.{AreBelow};
+ghost use Rattle.sx_arena.specs.Arena.{AreBelow};
 ghost use Rattle.sx_derive.specs.Candidates.{goal_in, IsFact, IsTried};
 ghost use Rattle.sx_derive.specs.Handing.{frames_in};
 ghost use Rattle.sx_derive.specs.Machine.{rule_result, given_result};
-ghost use Rattle.sx_derive.specs.Pairs.{ArePairs};
+ghost use Rattle.sx_arena.specs.Pairs.{ArePairs};
 ghost use Rattle.sx_derive.specs.Store.{IsStore, store_trees};
-ghost use Rattle.sx_derive.specs.Views.{rules_of, modes_of};
+ghost use Rattle.sx_arena.specs.Views.{rules_of, modes_of};
 
 use crate::chains::Head;
 use crate::handing::hand_on;
-use crate::pairs::Pair;
-use crate::places::fit_places;
 use crate::premise_loop::premises;
-use crate::set::{roles, rule_at};
 use crate::step::Step;
 use crate::store::Store;
 use std::alloc::Global;
+use sx_arena::{Fact, Pair, copied, fit_places, roles, rule_at, same_numbers};
 use sx_rules::RuleSet;
 use sx_term::NoMemory;
-
-/// A hypothesis by its numbers.
-#[derive(Drop)]
-pub struct Fact {
-    pub(crate) form: u32,
-    pub(crate) inputs: Vec<usize>,
-    pub(crate) outputs: Vec<usize>,
-}
-
-/// Whether the numbers are the same.
-pub(crate) fn same_numbers(some: &[usize], others: &[usize]) -> bool
-    ensures { IsTrue result ↔ (some.now ≡ others.now) }
-{
-    some == others
-}
-
-/// The same numbers once more.
-pub(crate) fn copied(alloc: Global, numbers: &[usize]) -> Result<Vec<usize>, NoMemory>
-    ensures { IfOk result (λ r. r.items ≡ numbers.now) }
-{
-    Ok(Vec::from_slice(alloc, numbers)?)
-}
 
 /// What comes of a rule against a goal.
 pub(crate) fn try_rule(

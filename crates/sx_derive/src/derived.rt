@@ -3,17 +3,17 @@
 ghost use Rattle.std.specs.Prelude.{◌≡◌, IfOk, length, map};
 ghost use Rattle.sx_term.specs.Term.{tree};
 ghost use Rattle.sx_rules.specs.ProofView.{proof};
-ghost use Rattle.sx_derive.specs.Arena.{trees, IsArena, AreBelow};
-ghost use Rattle.sx_derive.specs.Binds.{IsBinds};
+ghost use Rattle.sx_arena.specs.Arena.{trees, IsArena, AreBelow};
+ghost use Rattle.sx_arena.specs.Binds.{IsBinds};
 ghost use Rattle.sx_derive.specs.Chains.{HeadFits, AreKids};
 ghost use Rattle.sx_derive.specs.Handing.{answer_in};
 ghost use Rattle.sx_derive.specs.Store.{store_trees, store_envs, store_kids};
 
 use crate::chains::Head;
-use crate::export::export_all;
 use crate::export_proof::export_proof;
 use crate::store::Store;
 use std::alloc::Global;
+use sx_arena::export_all;
 use sx_rules::Proof;
 use sx_term::{NoMemory, Term};
 

@@ -2,15 +2,15 @@
 
 ghost use Rattle.std.specs.Prelude.{◌≡◌, ℕ, IfOk, length};
 ghost use Rattle.sx_rules.specs.ProofView.{proof};
-ghost use Rattle.sx_derive.specs.Arena.{trees, IsArena};
-ghost use Rattle.sx_derive.specs.Binds.{IsBinds};
+ghost use Rattle.sx_arena.specs.Arena.{trees, IsArena};
+ghost use Rattle.sx_arena.specs.Binds.{IsBinds};
 ghost use Rattle.sx_derive.specs.Chains.{HeadFits, AreKids, head_proof};
 ghost use Rattle.sx_derive.specs.Store.{store_envs, store_kids};
 
 use crate::chains::Head;
-use crate::export::export_binds;
 use crate::store::Store;
 use std::alloc::Global;
+use sx_arena::export_binds;
 use sx_rules::Proof;
 use sx_term::NoMemory;
 

@@ -2,21 +2,20 @@
 
 ghost use Rattle.std.specs.Prelude.{◌≡◌, ℕ, ◌+◌, ◌^◌, ◌≤◌, ◌<◌, List, IfOk, length};
 ghost use Rattle.sx_rules.specs.Rules.{Judgement};
-ghost use Rattle.sx_derive.specs.Arena.{AreBelow};
+ghost use Rattle.sx_arena.specs.Arena.{AreBelow};
 ghost use Rattle.sx_derive.specs.Candidates.{AreFacts};
-ghost use Rattle.sx_derive.specs.Pairs.{ArePairs};
+ghost use Rattle.sx_arena.specs.Pairs.{ArePairs};
 ghost use Rattle.sx_derive.specs.Quiet.{IsQuiet, IsFirstFound};
 ghost use Rattle.sx_derive.specs.Store.{IsStore, store_trees};
 ghost use Rattle.sx_derive.specs.Walked.{events_in};
-ghost use Rattle.sx_derive.specs.Views.{rules_of, modes_of};
+ghost use Rattle.sx_arena.specs.Views.{rules_of, modes_of};
 
-use crate::candidates::Fact;
 use crate::chains::Head;
-use crate::pairs::Pair;
 use crate::store::Store;
 use crate::tasks::Ending;
 use crate::walk::{first_task, walk_uncounted};
 use std::alloc::Global;
+use sx_arena::{Fact, Pair};
 use sx_rules::RuleSet;
 use sx_term::NoMemory;
 

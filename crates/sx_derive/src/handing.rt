@@ -2,21 +2,19 @@
 
 ghost use Rattle.std.specs.Prelude.{◌≡◌, ℕ, ◌≤◌, IfOk, length};
 ghost use Rattle.sx_rules.specs.Deep.{RulesAreShallow};
-ghost use Rattle.sx_derive.specs.Arena.{AreBelow};
+ghost use Rattle.sx_arena.specs.Arena.{AreBelow};
 ghost use Rattle.sx_derive.specs.Chains.{HeadFits};
 ghost use Rattle.sx_derive.specs.Handing.{IsWaiting, IsResumed, IsHanded};
-ghost use Rattle.sx_derive.specs.Pairs.{ArePairs};
+ghost use Rattle.sx_arena.specs.Pairs.{ArePairs};
 ghost use Rattle.sx_derive.specs.Store.{IsStore, store_trees, store_envs, store_kids};
-ghost use Rattle.sx_derive.specs.Views.{rules_of, modes_of};
+ghost use Rattle.sx_arena.specs.Views.{rules_of, modes_of};
 
 use crate::chains::{Head, Waiting, push_kid};
-use crate::pairs::Pair;
-use crate::places::fit_places;
 use crate::premise_loop::premises;
-use crate::set::{roles, rule_at};
 use crate::step::Step;
 use crate::store::Store;
 use std::alloc::Global;
+use sx_arena::{Pair, fit_places, roles, rule_at};
 use sx_rules::{Premise, RuleSet};
 use sx_term::NoMemory;
 

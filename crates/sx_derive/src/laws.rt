@@ -1,7 +1,7 @@
 //! What is proved of the walk, of the machine and of the stuck goal.
 
 ghost use Rattle.sx_derive.specs.Samples.{SampleIsFound};
-ghost use Rattle.sx_derive.specs.Laws.{AnswersAreBounded, WalkDecides, EventsAreSound, EventsAreComplete, EachDerivationIsGiven, EventsAreInOrder, FoundIsFirst, ExhaustedMeansNone, MatchIsExact, MachineMakesEvents, StuckGoalExists, ExhaustedHasNoStop, StuckGoalIsUnique};
+ghost use Rattle.sx_derive.specs.Laws.{AnswersAreBounded, WalkDecides, EventsAreSound, EventsAreComplete, EachDerivationIsGiven, EventsAreInOrder, FoundIsFirst, ExhaustedMeansNone, MachineMakesEvents, StuckGoalExists, ExhaustedHasNoStop, StuckGoalIsUnique};
 
 /// Whatever is given among the events of a goal derives it.
 pub fn events_are_sound()
@@ -36,11 +36,6 @@ pub fn exhausted_means_none()
 /// The walk on a small goal, with its answer.
 pub fn sample_is_found()
     ensures { SampleIsFound }
-{}
-
-/// A match is the extension of the bindings that makes the term the pattern's instance, and none is found just where there is none.
-pub fn match_is_exact()
-    ensures { MatchIsExact }
 {}
 
 /// A stack of tasks makes the events of a goal.

@@ -1,24 +1,16 @@
 //! The search for derivations.
 #![tactic(auto)]
 
-mod arena;
 mod ask;
-mod binds;
 mod candidates;
 mod chains;
 mod derived;
-mod enter;
-mod export;
 mod export_proof;
 mod first;
 mod handing;
 mod laws;
-mod pairs;
-mod pattern;
-mod places;
 mod premise_loop;
 mod problem;
-mod set;
 mod step;
 mod store;
 mod tasks;
@@ -28,6 +20,5 @@ mod walk;
 pub use laws::{
     answers_are_bounded, each_derivation_is_given, events_are_complete, events_are_in_order,
     events_are_sound, exhausted_has_no_stop, exhausted_means_none, found_is_first,
-    machine_makes_events, match_is_exact, sample_is_found, stuck_goal_exists, stuck_goal_is_unique,
-    walk_decides,
+    machine_makes_events, sample_is_found, stuck_goal_exists, stuck_goal_is_unique, walk_decides,
 };

@@ -2,16 +2,16 @@
 
 ghost use Rattle.std.specs.Prelude.{◌≡◌, ℕ, ◌≤◌, Some, IfOk, length, map, drop, slice_get};
 ghost use Rattle.sx_rules.specs.Deep.{RuleIsShallow};
-ghost use Rattle.sx_derive.specs.Pairs.{ArePairs};
-ghost use Rattle.sx_derive.specs.Views.{rule_of, rules_of, modes_of, premise_of};
+ghost use Rattle.sx_arena.specs.Pairs.{ArePairs};
+ghost use Rattle.sx_arena.specs.Views.{rule_of, rules_of, modes_of, premise_of};
 ghost use Rattle.sx_derive.specs.Store.{IsStore, store_trees};
 ghost use Rattle.sx_derive.specs.Premises.{IsPremises};
 
 use crate::chains::Waiting;
-use crate::pairs::{Pair, instances_apart};
 use crate::step::{Step, asked, concluded};
 use crate::store::Store;
 use std::alloc::Global;
+use sx_arena::{Pair, instances_apart};
 use sx_rules::{Premise, Rule, RuleSet};
 use sx_term::NoMemory;
 

@@ -6,20 +6,17 @@ ghost use Rattle.sx_term.specs.Term.{tree};
 ghost use Rattle.sx_rules.specs.Deep.{AreShallow};
 ghost use Rattle.sx_rules.specs.Derivations.{ShallowJudgements};
 ghost use Rattle.sx_rules.specs.Views.{goal as goal_of, hypotheses};
-ghost use Rattle.sx_derive.specs.Arena.{IsArena};
-ghost use Rattle.sx_derive.specs.Entered.{ArePairsShallow};
+ghost use Rattle.sx_arena.specs.Arena.{IsArena};
+ghost use Rattle.sx_arena.specs.Entered.{ArePairsShallow};
 ghost use Rattle.sx_derive.specs.Problems.{IsWantedIn, IsProblem, IsSearched};
-ghost use Rattle.sx_derive.specs.Views.{rules_of, modes_of};
+ghost use Rattle.sx_arena.specs.Views.{rules_of, modes_of};
 
-use crate::arena::Arena;
-use crate::candidates::Fact;
-use crate::enter::{enter_facts, enter_pairs, enter_places};
-use crate::pairs::Pair;
 use crate::store::Store;
 use crate::tasks::Ending;
 use crate::walk::walk;
 use std::alloc::Global;
 use std::sync::ledger::Ledger;
+use sx_arena::{Arena, Fact, Pair, enter_facts, enter_pairs, enter_places};
 use sx_rules::{Goal, Hyps, RuleSet};
 use sx_term::{NoMemory, Steps, Term};
 

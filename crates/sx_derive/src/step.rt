@@ -2,21 +2,20 @@
 
 ghost use Rattle.std.specs.Prelude.{◌≡◌, ℕ, ◌≤◌, List, IfOk, length, map};
 ghost use Rattle.sx_term.specs.Term.{tree};
-ghost use Rattle.sx_derive.specs.Matching.{filled};
+ghost use Rattle.sx_arena.specs.Matching.{filled};
 ghost use Rattle.sx_rules.specs.Deep.{AreShallow};
 ghost use Rattle.sx_derive.specs.Walk.{Answer};
 ghost use Rattle.sx_derive.specs.Machine.{Result as StepResult};
-ghost use Rattle.sx_derive.specs.Binds.{env_at};
+ghost use Rattle.sx_arena.specs.Binds.{env_at};
 ghost use Rattle.sx_derive.specs.Chains.{kids_at};
-ghost use Rattle.sx_derive.specs.Views.{judgement_of, rule_of, rules_of, modes_of};
+ghost use Rattle.sx_arena.specs.Views.{judgement_of, rule_of, rules_of, modes_of};
 ghost use Rattle.sx_derive.specs.Store.{IsStore, store_envs, store_kids};
 ghost use Rattle.sx_derive.specs.Step.{IsConcluded, IsAsked, Awaits};
 
 use crate::chains::{Head, Waiting, push_waiting};
-use crate::places::{Limit, make_places, passed};
-use crate::set::roles;
 use crate::store::Store;
 use std::alloc::Global;
+use sx_arena::{Limit, make_places, passed, roles};
 use sx_rules::{Judgement, Rule, RuleSet};
 use sx_term::NoMemory;
 

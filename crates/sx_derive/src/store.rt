@@ -5,10 +5,9 @@ ghost use Rattle.sx_rules.specs.Rules.{Rule};
 ghost use Rattle.sx_rules.specs.Modes.{Modes};
 ghost use Rattle.sx_derive.specs.Store.{IsStore};
 
-use crate::arena::Arena;
-use crate::binds::Binds;
 use crate::chains::{Kid, Waiting};
 use std::alloc::Global;
+use sx_arena::{Arena, Binds};
 
 /// The terms, bindings, proofs and frames of a search.
 #[derive(Drop)]

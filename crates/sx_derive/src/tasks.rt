@@ -3,18 +3,17 @@
 ghost use Rattle.std.specs.Prelude.{◌≡◌, ℕ, ◌+◌, ◌^◌, ◌≤◌, ◌<◌, ◌↔◌, ◌∷◌, ◌++◌, [], List, IsTrue, IfOk, length};
 ghost use Rattle.sx_rules.specs.Rules.{Judgement};
 ghost use Rattle.sx_derive.specs.Candidates.{AreFacts};
-ghost use Rattle.sx_derive.specs.Pairs.{ArePairs};
+ghost use Rattle.sx_arena.specs.Pairs.{ArePairs};
 ghost use Rattle.sx_derive.specs.Store.{IsStore, store_trees};
 ghost use Rattle.sx_derive.specs.Tasks.{TaskFits, IsNext};
-ghost use Rattle.sx_derive.specs.Views.{rules_of, modes_of};
+ghost use Rattle.sx_arena.specs.Views.{rules_of, modes_of};
 
-use crate::candidates::{Fact, try_given, try_rule};
+use crate::candidates::{try_given, try_rule};
 use crate::chains::Head;
-use crate::pairs::Pair;
-use crate::places::Limit;
 use crate::step::Step;
 use crate::store::Store;
 use std::alloc::Global;
+use sx_arena::{Fact, Limit, Pair};
 use sx_rules::RuleSet;
 use sx_term::NoMemory;
 

@@ -3,20 +3,19 @@
 ghost use Rattle.std.specs.Prelude.{◌≡◌, ℕ, ◌+◌, ◌^◌, ◌≤◌, ◌<◌, ◌↔◌, IsTrue, IfOk, length, List, MatchOption, true};
 ghost use Rattle.sx_rules.specs.Rules.{Judgement};
 ghost use Rattle.sx_derive.specs.Candidates.{AreFacts};
-ghost use Rattle.sx_derive.specs.Pairs.{ArePairs};
+ghost use Rattle.sx_arena.specs.Pairs.{ArePairs};
 ghost use Rattle.sx_derive.specs.Store.{IsStore, store_trees};
 ghost use Rattle.sx_derive.specs.Tasks.{TaskFits, TasksFit, WantedBelow};
 ghost use Rattle.sx_derive.specs.Turns.{IsPopped, IsTurn};
-ghost use Rattle.sx_derive.specs.Views.{rules_of, modes_of};
-ghost use Rattle.sx_derive.specs.declared.pairs.Pair.{Pair as PairOf};
+ghost use Rattle.sx_arena.specs.Views.{rules_of, modes_of};
+ghost use Rattle.sx_arena.specs.declared.pairs.Pair.{Pair as PairOf};
 ghost use Rattle.sx_derive.specs.declared.store.Store.{Store as StoreOf};
 
-use crate::candidates::{Fact, same_numbers};
-use crate::pairs::Pair;
 use crate::step::Step;
 use crate::store::Store;
 use crate::tasks::{Ending, Task, is_candidate, try_next};
 use std::alloc::Global;
+use sx_arena::{Fact, Pair, same_numbers};
 use sx_rules::RuleSet;
 use sx_term::NoMemory;
 

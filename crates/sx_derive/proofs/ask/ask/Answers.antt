@@ -3,23 +3,23 @@ use Rattle.sx_term.specs.Term.{tree}
 use Rattle.sx_rules.specs.Instances.{instance}
 use Rattle.sx_rules.specs.Rules.{Judgement, judgement_instance}
 use Rattle.sx_rules.specs.Modes.{outputs, inputs_of}
-use Rattle.sx_derive.specs.Matching.{filled, match_all}
+use Rattle.sx_arena.specs.Matching.{filled, match_all}
 use Rattle.sx_derive.specs.declared.store.Store.{Store}
-use Rattle.sx_derive.specs.Arena.{tree_at, AreBelow}
+use Rattle.sx_arena.specs.Arena.{tree_at, AreBelow}
 use Rattle.sx_derive.specs.Asking.{asked_goal, asked_events}
-use Rattle.sx_derive.specs.Binds.{env_at}
+use Rattle.sx_arena.specs.Binds.{env_at}
 use Rattle.sx_derive.specs.Handing.{hyps_in}
-use Rattle.sx_derive.specs.Places.{selected, AreHeld}
+use Rattle.sx_arena.specs.Places.{selected, AreHeld}
 use Rattle.sx_derive.specs.Quiet.{IsQuiet}
 use Rattle.sx_derive.specs.Store.{store_trees, store_envs}
-use Rattle.sx_derive.specs.Views.{rules_of, modes_of, judgement_of}
+use Rattle.sx_arena.specs.Views.{rules_of, modes_of, judgement_of}
 use Rattle.sx_derive.proofs.Asked.{quiet_level, made_grows, made_events, ask_none, ask_differs, ask_matches, facts_unique}
-use Rattle.sx_derive.proofs.Growing.{extends-length}
-use Rattle.sx_derive.proofs.Parted.{pairs_more_terms}
+use Rattle.sx_arena.proofs.Growing.{extends-length}
+use Rattle.sx_arena.proofs.Parted.{pairs_more_terms}
 use Rattle.sx_derive.proofs.Premised.{stays}
-use Rattle.sx_derive.proofs.Steps.{held_as}
+use Rattle.sx_arena.proofs.Placed.{held_as}
 use Rattle.sx_derive.proofs.Stored.{grows_then, grows_binds}
-use Rattle.sx_derive.proofs.Walking.{facts_stay}
+use Rattle.sx_arena.proofs.Facts.{facts_stay}
 use Rattle.sx_derive.proofs.ask.ask.Goals as goal
 
 pub overflow_sub-levels : goal.overflow_sub-levels

@@ -1,5 +1,5 @@
 use Rattle.std.proofs.Common.{◌≡◌, true, false, refl, sym, ◌∙◌}
-use Rattle.sx_derive.proofs.Patterns.{ok_weaker}
+use Rattle.sx_arena.proofs.Patterns.{ok_weaker}
 use Rattle.sx_derive.proofs.Tried.{given_form, given_other, given_handed}
 use Rattle.sx_derive.proofs.candidates.try_given.Goals as goal
 

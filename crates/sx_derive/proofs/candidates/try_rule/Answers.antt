@@ -3,17 +3,17 @@ use Rattle.sx_term.specs.Term.{tree}
 use Rattle.sx_rules.specs.Modes.{inputs}
 use Rattle.sx_rules.specs.Rules.{Rule}
 use Rattle.sx_rules.specs.Deep.{AreShallow}
-use Rattle.sx_derive.specs.Matching.{match_all, unbound}
+use Rattle.sx_arena.specs.Matching.{match_all, unbound}
 use Rattle.sx_derive.specs.Machine.{rule_result}
 use Rattle.sx_derive.specs.declared.store.Store.{Store}
-use Rattle.sx_derive.specs.Arena.{tree_at}
+use Rattle.sx_arena.specs.Arena.{tree_at}
 use Rattle.sx_derive.specs.Candidates.{goal_in, IsTried}
 use Rattle.sx_derive.specs.Handing.{frames_in}
 use Rattle.sx_derive.specs.Store.{store_trees}
-use Rattle.sx_derive.specs.Views.{rules_of, modes_of, rule_of}
-use Rattle.sx_derive.proofs.Growing.{extends-length}
-use Rattle.sx_derive.proofs.Patterns.{ok_weaker}
-use Rattle.sx_derive.proofs.Parted.{pairs_more_terms}
+use Rattle.sx_arena.specs.Views.{rules_of, modes_of, rule_of}
+use Rattle.sx_arena.proofs.Growing.{extends-length}
+use Rattle.sx_arena.proofs.Patterns.{ok_weaker}
+use Rattle.sx_arena.proofs.Parted.{pairs_more_terms}
 use Rattle.sx_derive.proofs.Premised.{stays}
 use Rattle.sx_derive.proofs.Resumed.{shallow_at}
 use Rattle.sx_derive.proofs.Stored.{grows_binds, grows_then}

@@ -1,8 +1,8 @@
 use Rattle.std.proofs.Common.{◌≡◌, ◌<◌, ◌≤◌, length, ap, arith, subst, rules}
-use Rattle.sx_derive.specs.Binds.{bind_step}
+use Rattle.sx_arena.specs.Binds.{bind_step}
 use Rattle.sx_derive.specs.Chains.{HeadFits, kid_step}
 use Rattle.sx_derive.specs.Store.{store_trees, store_envs, store_kids}
-use Rattle.sx_derive.proofs.Growing.{grown-length}
+use Rattle.sx_arena.proofs.Growing.{grown-length}
 use Rattle.sx_derive.proofs.Proved.{head_kids, kid_read, proving_first, proving_more, proving_end}
 use Rattle.sx_derive.proofs.export_proof.+export_proof.Goals as goal
 

@@ -1,6 +1,6 @@
 use Rattle.sx_derive.specs.Tasks.{events_left}
 use Rattle.sx_derive.specs.Walked.{events_in}
-use Rattle.sx_derive.specs.Views.{rules_of, modes_of}
+use Rattle.sx_arena.specs.Views.{rules_of, modes_of}
 use Rattle.sx_derive.proofs.Walking.{first_events}
 use Rattle.sx_derive.proofs.FirstFound.{first_found, first_none, first_passed, first_deep, first_spent}
 use Rattle.sx_derive.proofs.first.first_answer.Goals as goal

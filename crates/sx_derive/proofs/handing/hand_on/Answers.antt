@@ -1,9 +1,9 @@
 use Rattle.std.proofs.Common.{subst}
-use Rattle.sx_derive.specs.Views.{rules_of, modes_of}
+use Rattle.sx_arena.specs.Views.{rules_of, modes_of}
 use Rattle.sx_derive.specs.Handing.{IsResumed}
 use Rattle.sx_derive.specs.declared.step.Step.TheVariants.{Done}
-use Rattle.sx_derive.proofs.Growing.{extends-length}
-use Rattle.sx_derive.proofs.Parted.{pairs_more_terms}
+use Rattle.sx_arena.proofs.Growing.{extends-length}
+use Rattle.sx_arena.proofs.Parted.{pairs_more_terms}
 use Rattle.sx_derive.proofs.Handed.{frame_read, handing_more, handed_stop}
 use Rattle.sx_derive.proofs.handing.hand_on.Goals as goal
 

@@ -1,4 +1,4 @@
-use Rattle.sx_derive.specs.Views.{rules_of, modes_of}
+use Rattle.sx_arena.specs.Views.{rules_of, modes_of}
 use Rattle.sx_derive.proofs.Handed.{Handing}
 use Rattle.sx_derive.proofs.handing.hand_on.Given as goal
 

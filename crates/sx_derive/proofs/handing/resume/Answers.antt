@@ -2,13 +2,13 @@ use Rattle.std.proofs.Common.{◌<◌, List, map, refl, sym, ◌∙◌, subst, l
 use Rattle.sx_term.specs.Term.{tree}
 use Rattle.sx_rules.specs.Modes.{outputs}
 use Rattle.sx_rules.specs.Deep.{AreShallow}
-use Rattle.sx_derive.specs.Matching.{match_all}
-use Rattle.sx_derive.specs.Arena.{tree_at}
-use Rattle.sx_derive.specs.Binds.{env_at}
+use Rattle.sx_arena.specs.Matching.{match_all}
+use Rattle.sx_arena.specs.Arena.{tree_at}
+use Rattle.sx_arena.specs.Binds.{env_at}
 use Rattle.sx_derive.specs.declared.store.Store.{Store}
 use Rattle.sx_derive.specs.Store.{store_trees, store_envs}
-use Rattle.sx_derive.specs.Views.{rules_of, modes_of, rule_of, judgement_of}
-use Rattle.sx_derive.proofs.Patterns.{ok_weaker}
+use Rattle.sx_arena.specs.Views.{rules_of, modes_of, rule_of, judgement_of}
+use Rattle.sx_arena.proofs.Patterns.{ok_weaker}
 use Rattle.sx_derive.proofs.Premised.{IsShallowPremise, shallow_premise_at}
 use Rattle.sx_derive.proofs.Resumed.{shallow_at, sizes, waits_at, holds_at, resumed_none, resumed_more, kid_store}
 use Rattle.sx_derive.proofs.handing.resume.Goals as goal

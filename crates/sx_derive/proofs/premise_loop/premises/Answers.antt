@@ -1,8 +1,8 @@
 use Rattle.std.proofs.Common.{refl, subst, length, ◌<◌, arith}
-use Rattle.sx_derive.specs.Views.{rule_of, rules_of, modes_of}
-use Rattle.sx_derive.proofs.Growing.{extends-length}
-use Rattle.sx_derive.proofs.Patterns.{ok_weaker}
-use Rattle.sx_derive.proofs.Parted.{pairs_more_terms}
+use Rattle.sx_arena.specs.Views.{rule_of, rules_of, modes_of}
+use Rattle.sx_arena.proofs.Growing.{extends-length}
+use Rattle.sx_arena.proofs.Patterns.{ok_weaker}
+use Rattle.sx_arena.proofs.Parted.{pairs_more_terms}
 use Rattle.sx_derive.proofs.Premised.{IsShallowPremise, stays, shallow_premise_at, drop_premise, drop_premises_end, passed_as, premise_get, apart_fails, apart_holds, asked_is, concluded_is}
 use Rattle.sx_derive.proofs.premise_loop.premises.Goals as goal
 

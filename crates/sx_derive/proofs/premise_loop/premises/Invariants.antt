@@ -1,5 +1,5 @@
 use Rattle.std.proofs.Common.{map, drop}
-use Rattle.sx_derive.specs.Views.{rule_of, rules_of, modes_of, premise_of}
+use Rattle.sx_arena.specs.Views.{rule_of, rules_of, modes_of, premise_of}
 use Rattle.sx_derive.specs.Premises.{ArePassed}
 use Rattle.sx_derive.proofs.premise_loop.premises.Given as goal
 

@@ -1,9 +1,9 @@
 use Rattle.std.proofs.Common.{map, refl, ap, subst}
 use Rattle.sx_term.specs.Term.{tree}
 use Rattle.sx_rules.specs.Views.{hypotheses, pair}
-use Rattle.sx_derive.specs.Entered.{AreFactsIn, ArePairsIn}
-use Rattle.sx_derive.specs.Views.{rules_of, modes_of, judgement_of}
-use Rattle.sx_derive.proofs.Steps.{held_as}
+use Rattle.sx_arena.specs.Entered.{AreFactsIn, ArePairsIn}
+use Rattle.sx_arena.specs.Views.{rules_of, modes_of, judgement_of}
+use Rattle.sx_arena.proofs.Placed.{held_as}
 use Rattle.sx_derive.proofs.Searching.{problem_is}
 use Rattle.sx_derive.proofs.problem.enter_problem.Goals as goal
 

@@ -4,7 +4,7 @@ use Rattle.sx_rules.specs.Views.{goal as goal_of, hypotheses}
 use Rattle.sx_derive.specs.Candidates.{AreFacts}
 use Rattle.sx_derive.specs.Store.{store_trees}
 use Rattle.sx_derive.specs.Walked.{events_in, IsWalked}
-use Rattle.sx_derive.specs.Views.{rules_of, modes_of, judgement_of}
+use Rattle.sx_arena.specs.Views.{rules_of, modes_of, judgement_of}
 use Rattle.sx_derive.proofs.Tasked.{facts_length}
 use Rattle.sx_derive.proofs.Searching.{searched_ok, searched_err}
 use Rattle.sx_derive.proofs.problem.search.Goals as goal

@@ -1,13 +1,14 @@
 use Rattle.std.proofs.Common.{map, refl, sym, ap, ◌∙◌, false, Some, subst, List, ℕ}
 use Rattle.sx_term.specs.Term.{tree}
 use Rattle.sx_rules.specs.Instances.{instance}
-use Rattle.sx_derive.specs.Matching.{filled}
+use Rattle.sx_arena.specs.Matching.{filled}
 use Rattle.sx_derive.specs.Walk.{limit_passed}
-use Rattle.sx_derive.specs.Arena.{trees, tree_at}
-use Rattle.sx_derive.specs.Binds.{env_at}
-use Rattle.sx_derive.specs.Places.{selected, IsLimit}
+use Rattle.sx_arena.specs.Arena.{trees, tree_at}
+use Rattle.sx_arena.specs.Binds.{env_at}
+use Rattle.sx_arena.specs.Places.{selected, IsLimit}
 use Rattle.sx_derive.specs.Store.{store_envs}
-use Rattle.sx_derive.proofs.Steps.{held_as, asked_passed, asked_spent, asked_goes}
+use Rattle.sx_arena.proofs.Placed.{held_as}
+use Rattle.sx_derive.proofs.Steps.{asked_passed, asked_spent, asked_goes}
 use Rattle.sx_derive.proofs.step.asked.Goals as goal
 
 pub returns-in-Some : goal.returns-in-Some

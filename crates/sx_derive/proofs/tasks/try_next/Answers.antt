@@ -1,10 +1,10 @@
 use Rattle.std.proofs.Common.{◌≡◌, ◌+◌, ◌-◌, ◌<◌, length, arith, subst}
-use Rattle.sx_derive.specs.Views.{rules_of, modes_of}
+use Rattle.sx_arena.specs.Views.{rules_of, modes_of}
 use Rattle.sx_derive.specs.Store.{store_trees}
 use Rattle.sx_derive.specs.Machine.{given_result, rule_result}
 use Rattle.sx_derive.specs.Candidates.{goal_in, IsTried}
 use Rattle.sx_derive.specs.Handing.{frames_in}
-use Rattle.sx_derive.proofs.Patterns.{ok_weaker}
+use Rattle.sx_arena.proofs.Patterns.{ok_weaker}
 use Rattle.sx_derive.proofs.Tasked.{fact_at, facts_length, given_is_next, rule_is_next, rule_there}
 use Rattle.sx_derive.proofs.tasks.try_next.Goals as goal
 

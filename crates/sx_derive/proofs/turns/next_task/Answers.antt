@@ -1,7 +1,7 @@
 use Rattle.std.proofs.Common.{◌+◌, ◌≤◌, List, length, refl, ap, ◌∙◌, arith, subst}
 use Rattle.sx_derive.specs.declared.tasks.Task.{Task}
 use Rattle.sx_derive.specs.Tasks.{events_left, TasksFit}
-use Rattle.sx_derive.specs.Views.{rules_of, modes_of}
+use Rattle.sx_arena.specs.Views.{rules_of, modes_of}
 use Rattle.sx_derive.proofs.Turned.{events_pop, fits_pop, not_less}
 use Rattle.sx_derive.proofs.turns.next_task.Goals as goal
 

@@ -1,9 +1,9 @@
 use Rattle.std.proofs.Common.{◌≡◌, ◌+◌, List, length}
 use Rattle.sx_rules.specs.Rules.{Judgement}
-use Rattle.sx_derive.specs.declared.pairs.Pair.{Pair}
+use Rattle.sx_arena.specs.declared.pairs.Pair.{Pair}
 use Rattle.sx_derive.specs.declared.store.Store.{Store}
 use Rattle.sx_derive.specs.Tasks.{events_left, TasksFit}
-use Rattle.sx_derive.specs.Views.{rules_of, modes_of}
+use Rattle.sx_arena.specs.Views.{rules_of, modes_of}
 use Rattle.sx_derive.proofs.turns.next_task.Given as goal
 
 abbrev pub invariant-loop-task : goal.invariant-loop-task

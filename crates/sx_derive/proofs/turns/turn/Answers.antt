@@ -2,12 +2,12 @@ use Rattle.std.proofs.Common.{◌+◌, ◌∷◌, [], ◌++◌, List, length, So
 use Rattle.sx_derive.specs.declared.tasks.Task.{Task}
 use Rattle.sx_derive.specs.declared.tasks.Ending.TheVariants.{Found, Passed, DepthSpent}
 use Rattle.std.proofs.Common.{map}
-use Rattle.sx_derive.specs.Arena.{tree_at, AreBelow}
+use Rattle.sx_arena.specs.Arena.{tree_at, AreBelow}
 use Rattle.sx_derive.specs.Search.{are_wanted}
 use Rattle.sx_derive.specs.Store.{store_trees}
 use Rattle.sx_derive.specs.Tasks.{wanted_in}
 use Rattle.sx_derive.specs.Turns.{IsTurn}
-use Rattle.sx_derive.specs.Views.{rules_of, modes_of}
+use Rattle.sx_arena.specs.Views.{rules_of, modes_of}
 use Rattle.sx_derive.proofs.Turned.{turn_nothing, turn_passed, turn_spent, turn_goes, turn_found, turn_other, done_below, tested_true, tested_false}
 use Rattle.sx_derive.proofs.turns.turn.Goals as goal
 

@@ -1,4 +1,4 @@
-use Rattle.sx_derive.specs.Views.{rules_of, modes_of}
+use Rattle.sx_arena.specs.Views.{rules_of, modes_of}
 use Rattle.sx_derive.proofs.Walking.{first_events, walked_as}
 use Rattle.sx_derive.proofs.walk.walk.Goals as goal
 

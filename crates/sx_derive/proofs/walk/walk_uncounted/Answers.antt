@@ -1,8 +1,8 @@
 use Rattle.std.proofs.Common.{◌≡◌, ◌+◌, ◌-◌, ◌<◌, refl, sym, arith, subst}
 use Rattle.sx_derive.specs.Store.{store_trees}
-use Rattle.sx_derive.specs.Views.{rules_of, modes_of}
-use Rattle.sx_derive.proofs.Growing.{extends-length}
-use Rattle.sx_derive.proofs.Parted.{pairs_more_terms}
+use Rattle.sx_arena.specs.Views.{rules_of, modes_of}
+use Rattle.sx_arena.proofs.Growing.{extends-length}
+use Rattle.sx_arena.proofs.Parted.{pairs_more_terms}
 use Rattle.sx_derive.proofs.Tasked.{facts_length}
 use Rattle.sx_derive.proofs.Walking.{Walking, walking_first, facts_now, wanted_below, walking_end, walking_spent, walking_more, walking_ends}
 use Rattle.sx_derive.proofs.walk.walk_uncounted.Goals as goal

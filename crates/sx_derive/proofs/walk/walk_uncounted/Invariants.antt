@@ -1,5 +1,5 @@
 use Rattle.std.proofs.Common.{◌-◌}
-use Rattle.sx_derive.specs.Views.{rules_of, modes_of}
+use Rattle.sx_arena.specs.Views.{rules_of, modes_of}
 use Rattle.sx_derive.proofs.Walking.{Walking}
 use Rattle.sx_derive.proofs.walk.walk_uncounted.Given as goal
 

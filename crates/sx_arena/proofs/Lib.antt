@@ -1,0 +1,15 @@
+pub mod Sameness
+pub mod Matchings
+pub mod Exact
+pub mod Filled
+pub mod Growing
+pub mod Arenas
+pub mod BindChains
+pub mod Patterns
+pub mod Placed
+pub mod Parted
+pub mod Facts
+pub mod Entering
+pub mod Exporting
+pub mod EnteredRows
+pub mod Ruled

@@ -1,0 +1,11 @@
+pub mod Matching
+pub mod Limits
+pub mod Laws
+pub mod Views
+pub mod Grown
+pub mod Arena
+pub mod Binds
+pub mod Places
+pub mod Pairs
+pub mod Facts
+pub mod Entered

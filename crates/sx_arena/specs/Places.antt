@@ -1,0 +1,27 @@
+-- The places of a judgement that are inputs, or those that are outputs.
+use Rattle.std.specs.Prelude.{◌≡◌, ℕ, ◌-◌, ◌^◌, Bool, true, false, List, map, length, min, Option, Some, None}
+use Rattle.sx_term.specs.Tree.{Tree}
+use Rattle.sx_rules.specs.Modes.{inputs, outputs}
+use Rattle.sx_arena.specs.Limits.{Cause, too_deep, too_big}
+use Rattle.sx_arena.specs.declared.arena.Arena.{Arena}
+use Rattle.sx_arena.specs.declared.places.Limit.{Limit}
+use Rattle.sx_arena.specs.declared.places.Limit.TheVariants.{TooDeep, TooBig}
+use Rattle.sx_arena.specs.Arena.{trees, tree_at, IsArena, AreBelow, Extends}
+
+-- the outputs, or else the inputs
+abbrev pub selected : {X : Type 0} → Bool → List Bool → List X → List X
+selected false mask xs = inputs mask xs
+selected true mask xs = outputs mask xs
+
+-- the arena goes on from the other, and has the terms at the numbers
+pub record AreHeld (old new : Arena) (is : List ℕ) (ts : List Tree) : Type 0 where
+  pub arena : IsArena new
+  pub extends : Extends (trees old) (trees new)
+  pub within : AreBelow (length (trees new)) is
+  pub are : map (tree_at (trees new)) is ≡ ts
+
+-- the limit that is passed, with the depth or the size, or the greatest number where it is more
+abbrev pub IsLimit : Option Cause → Option Limit → Type 0
+IsLimit c None = c ≡ None
+IsLimit c (Some (TooDeep n)) = (depth : ℕ) × (c ≡ Some (too_deep depth)) × (n ≡ min depth (2 ^ 64 - 1))
+IsLimit c (Some (TooBig n)) = (size : ℕ) × (c ≡ Some (too_big size)) × (n ≡ min size (2 ^ 64 - 1))

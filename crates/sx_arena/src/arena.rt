@@ -1,0 +1,131 @@
+//! Terms of a search: equal terms are stored once, and named by a number.
+
+ghost use Rattle.std.specs.Prelude.{◌≡◌, ℕ, ◌+◌, ◌-◌, ◌^◌, ◌<◌, ◌≤◌, [], IfOk, length, map, min};
+ghost use Rattle.sx_term.specs.Tree.{node, lexeme, hole, forest, greatest_depth, total_size};
+ghost use Rattle.sx_arena.specs.Arena.{trees, tree_at, cell_tree, IsArena, IsCell, AreBelow, IsRead, IsHeld};
+
+use indexmap::IndexSet;
+use std::alloc::Global;
+use sx_term::{LexKind, NoMemory, Text};
+
+/// A node with the numbers of its kids, a lexeme or a variable.
+#[derive(PartialEq, Eq, Hash, Drop)]
+pub enum Shape {
+    Node { label: u32, kids: Vec<usize> },
+    Lex { kind: LexKind, text: String },
+    Var(u32),
+}
+
+/// A term's shape, with its depth and its size, or the greatest number where it is more.
+#[derive(PartialEq, Eq, Hash, Drop)]
+pub struct Cell {
+    pub shape: Shape,
+    pub depth: u64,
+    pub size: u64,
+}
+
+/// The terms.
+#[derive(Drop)]
+pub struct Arena {
+    pub cells: IndexSet<Cell>,
+}
+
+impl Arena {
+    /// No terms.
+    pub fn new(alloc: Global) -> Arena
+        ensures arena { IsArena result }
+        ensures none { trees result ≡ [] }
+    {
+        Arena {
+            cells: IndexSet::new(alloc),
+        }
+    }
+
+    /// The number of the term with this cell.
+    fn put(&mut self, cell: Cell) -> Result<usize, NoMemory>
+        requires arena { IsArena self.old }
+        requires cell { IsCell (trees self.old) cell }
+        ensures { IfOk result (λ i. IsHeld self.old self.new i (cell_tree (trees self.old) cell)) }
+    {
+        let (index, _) = self.cells.insert_full(cell)?;
+        Ok(index)
+    }
+
+    /// The cell at this number.
+    pub fn cell(&self, index: usize) -> &Cell
+        requires arena { IsArena self.now }
+        requires within { index < length (trees self.now) }
+        ensures { IsRead (trees self.now) index result.now }
+    {
+        match self.cells.get_index(index) {
+            Some(cell) => cell,
+            None => unreachable!(),
+        }
+    }
+
+    /// The greatest depth of the terms.
+    fn depth_over(&self, kids: &[usize]) -> u64
+        requires arena { IsArena self.now }
+        requires kids { AreBelow (length (trees self.now)) kids.now }
+        ensures { result ≡ min (greatest_depth (forest (map (tree_at (trees self.now)) kids.now))) (2 ^ 64 - 1) }
+    {
+        let mut most: u64 = 0;
+        for kid in kids {
+            most = most.max(self.cell(*kid).depth);
+        }
+        most
+    }
+
+    /// The sizes of the terms together.
+    fn size_over(&self, kids: &[usize]) -> u64
+        requires arena { IsArena self.now }
+        requires kids { AreBelow (length (trees self.now)) kids.now }
+        ensures { result ≡ min (total_size (forest (map (tree_at (trees self.now)) kids.now))) (2 ^ 64 - 1) }
+    {
+        let mut total: u64 = 0;
+        for kid in kids {
+            total = total.saturating_add(self.cell(*kid).size);
+        }
+        total
+    }
+
+    /// The number of the node with these kids.
+    pub fn node(&mut self, label: u32, kids: Vec<usize>) -> Result<usize, NoMemory>
+        requires arena { IsArena self.old }
+        requires kids { AreBelow (length (trees self.old)) kids.items }
+        ensures { IfOk result (λ i. IsHeld self.old self.new i (node label (forest (map (tree_at (trees self.old)) kids.items)))) }
+    {
+        let depth = self.depth_over(&kids).saturating_add(1);
+        let size = self.size_over(&kids).saturating_add(1);
+        self.put(Cell {
+            shape: Shape::Node { label, kids },
+            depth,
+            size,
+        })
+    }
+
+    /// The number of the lexeme.
+    pub fn lexeme(&mut self, alloc: Global, kind: LexKind, text: &Text) -> Result<usize, NoMemory>
+        requires arena { IsArena self.old }
+        ensures { IfOk result (λ i. IsHeld self.old self.new i (lexeme kind text.now)) }
+    {
+        let text = String::from_str(alloc, text.as_str())?;
+        self.put(Cell {
+            shape: Shape::Lex { kind, text },
+            depth: 1,
+            size: 1,
+        })
+    }
+
+    /// The number of the variable.
+    pub fn variable(&mut self, variable: u32) -> Result<usize, NoMemory>
+        requires arena { IsArena self.old }
+        ensures { IfOk result (λ i. IsHeld self.old self.new i (hole variable)) }
+    {
+        self.put(Cell {
+            shape: Shape::Var(variable),
+            depth: 1,
+            size: 1,
+        })
+    }
+}

@@ -1,0 +1,63 @@
+//! Bindings of variables to terms of an arena, as chains that share what they have in common.
+
+ghost use Rattle.std.specs.Prelude.{◌≡◌, ℕ, ◌+◌, ◌≤◌, ◌<◌, List, [], ◌∷◌, ◌++◌, IfOk, OnOk, length};
+ghost use Rattle.sx_term.specs.Tree.{Tree};
+ghost use Rattle.sx_arena.specs.Binds.{envs, env_at, bind_step, IsBinds, IsFound, BindsGrow};
+
+use std::alloc::Global;
+use sx_term::NoMemory;
+
+/// A variable that is bound to a term, and the chain before it.
+#[derive(Clone, Copy)]
+pub struct Bind {
+    pub variable: u32,
+    pub term: usize,
+    pub before: usize,
+}
+
+/// Chains of bindings. The chain 0 binds nothing, and the chain n + 1 ends with the cell n.
+#[derive(Drop)]
+pub struct Binds {
+    pub cells: Vec<Bind>,
+}
+
+impl Binds {
+    /// No chain but the empty one.
+    pub fn new(alloc: Global) -> Binds
+        ensures { result.cells.items ≡ [] }
+    {
+        Binds {
+            cells: Vec::new(alloc),
+        }
+    }
+
+    /// The chain with one more binding.
+    pub fn push(&mut self, before: usize, variable: u32, term: usize) -> Result<usize, NoMemory>
+        ensures items { OnOk result (self.new.cells.items ≡ self.old.cells.items ++ record { variable = variable; term = term; before = before } ∷ []) }
+        ensures chain { IfOk result (λ e. e ≡ length self.old.cells.items + 1) }
+    {
+        self.cells.push(Bind {
+            variable,
+            term,
+            before,
+        })?;
+        Ok(self.cells.len())
+    }
+
+    /// The term that a chain binds the variable to.
+    pub fn find(&self, env: usize, variable: usize) -> Option<usize>
+        requires binds { (ts : List Tree) × IsBinds ts self.now }
+        requires env { env ≤ length self.now.cells.items }
+        ensures { (ts : List Tree) → IsBinds ts self.now → IsFound ts (env_at (envs ts self.now) env variable) result }
+    {
+        let mut here = env;
+        while here > 0 {
+            let bind = self.cells[here - 1];
+            if bind.variable as usize == variable {
+                return Some(bind.term);
+            }
+            here = bind.before;
+        }
+        None
+    }
+}

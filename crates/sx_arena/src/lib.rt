@@ -1,0 +1,29 @@
+//! Terms that share what they have in common: each is named by a number, and equal terms have one number.
+//!
+//! - `Arena` holds the terms, `Binds` holds bindings of variables to them.
+//! - `made` and `fit` are instances and matching, `make_places` and `fit_places` the same for the places of a judgement.
+//! - `apart` tells whether two terms are apart by the pairs of the hypotheses.
+//! - `enter` puts terms in, `export` takes them out.
+#![tactic(auto)]
+
+mod arena;
+mod binds;
+mod fact;
+mod input;
+mod laws;
+mod output;
+mod pairs;
+mod pattern;
+mod places;
+mod set;
+
+pub use arena::{Arena, Cell, Shape};
+pub use binds::{Bind, Binds};
+pub use fact::{Fact, copied, same_numbers};
+pub use input::{enter, enter_facts, enter_pairs, enter_places};
+pub use laws::match_is_exact;
+pub use output::{export, export_all, export_binds};
+pub use pairs::{Pair, apart, instances_apart};
+pub use pattern::{fit, made};
+pub use places::{Limit, fit_places, is_output, make_places, passed};
+pub use set::{roles, rule_at};

@@ -1,0 +1,83 @@
+//! Terms that are to be apart.
+
+ghost use Rattle.std.specs.Prelude.{◌≡◌, ℕ, ◌<◌, ◌≤◌, ◌&&◌, IfOk, nat_eq, [], length};
+ghost use Rattle.sx_term.specs.Tree.{depth_of};
+ghost use Rattle.sx_term.specs.Term.{tree};
+ghost use Rattle.sx_rules.specs.Instances.{instance};
+ghost use Rattle.sx_arena.specs.Matching.{filled};
+ghost use Rattle.sx_arena.specs.Limits.{are_apart};
+ghost use Rattle.sx_arena.specs.Binds.{envs, env_at, IsBinds};
+ghost use Rattle.sx_arena.specs.Arena.{trees, tree_at, IsArena};
+ghost use Rattle.sx_arena.specs.Pairs.{pairs_of, ArePairs, IsTold};
+
+use crate::arena::{Arena, Shape};
+use crate::binds::Binds;
+use crate::pattern::made;
+use std::alloc::Global;
+use sx_term::{NoMemory, Term};
+
+/// Two terms that are given to be apart.
+#[derive(Clone, Copy)]
+pub struct Pair {
+    pub first: usize,
+    pub second: usize,
+}
+
+/// Whether the pair is of these two, in this order.
+fn pairs_up(pair: &Pair, first: usize, second: usize) -> bool
+    ensures { result ≡ (nat_eq pair.now.first first && nat_eq pair.now.second second) }
+{
+    pair.first == first && pair.second == second
+}
+
+/// Whether the terms are a pair of the hypotheses, either way round, or two different lexemes.
+pub fn apart(arena: &Arena, pairs: &[Pair], first: usize, second: usize) -> bool
+    requires arena { IsArena arena.now }
+    requires pairs { ArePairs (length (trees arena.now)) pairs.now }
+    requires first { first < length (trees arena.now) }
+    requires second { second < length (trees arena.now) }
+    ensures { result ≡ are_apart (record { judgements = []; pairs = pairs_of (trees arena.now) pairs.now }) (tree_at (trees arena.now) first) (tree_at (trees arena.now) second) }
+{
+    for pair in pairs {
+        if pairs_up(pair, first, second) {
+            return true;
+        }
+        if pairs_up(pair, second, first) {
+            return true;
+        }
+    }
+    if first == second {
+        return false;
+    }
+    match &arena.cell(first).shape {
+        Shape::Lex { kind: _, text: _ } => match &arena.cell(second).shape {
+            Shape::Lex { kind: _, text: _ } => true,
+            _ => false,
+        },
+        _ => false,
+    }
+}
+
+/// Whether the instances of the two patterns are apart.
+pub fn instances_apart(
+    alloc: Global,
+    arena: &mut Arena,
+    binds: &Binds,
+    env: usize,
+    pairs: &[Pair],
+    first: &Term,
+    second: &Term,
+) -> Result<bool, NoMemory>
+    requires first { depth_of (tree first.now) ≤ 1000 }
+    requires second { depth_of (tree second.now) ≤ 1000 }
+    requires arena { IsArena arena.old }
+    requires binds { IsBinds (trees arena.old) binds.now }
+    requires env { env ≤ length binds.now.cells.items }
+    requires pairs { ArePairs (length (trees arena.old)) pairs.now }
+    ensures { IfOk result (λ b. IsTold arena.old arena.new b (are_apart (record { judgements = []; pairs = pairs_of (trees arena.old) pairs.now })
+        (instance (filled (env_at (envs (trees arena.old) binds.now) env)) (tree first.now)) (instance (filled (env_at (envs (trees arena.old) binds.now) env)) (tree second.now)))) }
+{
+    let left = made(alloc, arena, binds, env, first)?;
+    let right = made(alloc, arena, binds, env, second)?;
+    Ok(apart(arena, pairs, left, right))
+}

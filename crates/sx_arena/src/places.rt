@@ -1,0 +1,119 @@
+//! The places of a judgement: matching and making its inputs or its outputs, and the limits of terms.
+
+ghost use Rattle.std.specs.Prelude.{◌≡◌, ℕ, ◌≤◌, ◌<◌, false, IfOk, OnOk, length, map, get_or};
+ghost use Rattle.sx_term.specs.Term.{tree};
+ghost use Rattle.sx_rules.specs.Instances.{instance};
+ghost use Rattle.sx_arena.specs.Matching.{match_all, filled};
+ghost use Rattle.sx_rules.specs.Deep.{AreShallow};
+ghost use Rattle.sx_arena.specs.Limits.{limit_passed};
+ghost use Rattle.sx_arena.specs.Arena.{trees, tree_at, IsArena, AreBelow};
+ghost use Rattle.sx_arena.specs.Binds.{envs, env_at, IsBinds, BindsGrow, IsFit};
+ghost use Rattle.sx_arena.specs.Views.{mask_of};
+ghost use Rattle.sx_arena.specs.Places.{selected, AreHeld, IsLimit};
+
+use crate::arena::Arena;
+use crate::binds::Binds;
+use crate::pattern::{fit, made};
+use std::alloc::Global;
+use sx_rules::{Place, Role};
+use sx_term::{NoMemory, Term};
+
+/// The limit that a term passes, with its depth or its size.
+#[derive(Clone, Copy, PartialEq, Eq, Debug)]
+pub enum Limit {
+    TooDeep(u64),
+    TooBig(u64),
+}
+
+/// Whether the place is an output.
+pub fn is_output(roles: &[Place], place: usize) -> bool
+    ensures { result ≡ get_or (mask_of roles.now) place false }
+{
+    match roles.get(place) {
+        Some(it) => matches!(it.role, Role::Out),
+        None => false,
+    }
+}
+
+/// The chain under which the instances of the outputs, or else of the inputs, are the terms, or None where there is none.
+pub fn fit_places(
+    arena: &Arena,
+    binds: &mut Binds,
+    env: usize,
+    roles: &[Place],
+    outputs: bool,
+    places: &[Term],
+    terms: &[usize],
+) -> Result<Option<usize>, NoMemory>
+    requires shallow { AreShallow (map tree places.now) }
+    requires arena { IsArena arena.now }
+    requires binds { IsBinds (trees arena.now) binds.old }
+    requires env { env ≤ length binds.old.cells.items }
+    requires terms { AreBelow (length (trees arena.now)) terms.now }
+    ensures grows { OnOk result (BindsGrow (trees arena.now) binds.old binds.new) }
+    ensures fit { IfOk result (λ r. IsFit (trees arena.now) binds.new (match_all (selected outputs (mask_of roles.now) (map tree places.now)) (map (tree_at (trees arena.now)) terms.now) (env_at (envs (trees arena.now) binds.old) env)) r) }
+{
+    let mut last = env;
+    let mut taken = 0;
+    for i in 0..places.len() {
+        if is_output(roles, i) != outputs {
+            continue;
+        }
+        if taken >= terms.len() {
+            return Ok(None);
+        }
+        match fit(arena, binds, last, &places[i], terms[taken])? {
+            Some(next) => last = next,
+            None => return Ok(None),
+        }
+        taken += 1;
+    }
+    if taken < terms.len() {
+        return Ok(None);
+    }
+    Ok(Some(last))
+}
+
+/// The instances of the outputs, or else of the inputs.
+pub fn make_places(
+    alloc: Global,
+    arena: &mut Arena,
+    binds: &Binds,
+    env: usize,
+    roles: &[Place],
+    outputs: bool,
+    places: &[Term],
+) -> Result<Vec<usize>, NoMemory>
+    requires shallow { AreShallow (map tree places.now) }
+    requires arena { IsArena arena.old }
+    requires binds { IsBinds (trees arena.old) binds.now }
+    requires env { env ≤ length binds.now.cells.items }
+    ensures { IfOk result (λ r. AreHeld arena.old arena.new r.items (selected outputs (mask_of roles.now) (map (instance (filled (env_at (envs (trees arena.old) binds.now) env))) (map tree places.now)))) }
+{
+    let mut parts = Vec::new(alloc);
+    for i in 0..places.len() {
+        if is_output(roles, i) != outputs {
+            continue;
+        }
+        parts.push(made(alloc, arena, binds, env, &places[i])?)?;
+    }
+    Ok(parts)
+}
+
+/// The first limit that the terms pass.
+pub fn passed(arena: &Arena, terms: &[usize]) -> Option<Limit>
+    requires arena { IsArena arena.now }
+    requires terms { AreBelow (length (trees arena.now)) terms.now }
+    ensures { IsLimit (limit_passed (map (tree_at (trees arena.now)) terms.now)) result }
+{
+    for term in terms {
+        let cell = arena.cell(*term);
+        if cell.depth > 1000 {
+            return Some(Limit::TooDeep(cell.depth));
+        }
+        if cell.size > 1_000_000 {
+            return Some(Limit::TooBig(cell.size));
+        }
+    }
+    None
+}

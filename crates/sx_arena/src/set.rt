@@ -1,0 +1,27 @@
+//! What a search reads of a rule set.
+
+ghost use Rattle.std.specs.Prelude.{◌≡◌, ◌<◌, Some, length, slice_get};
+ghost use Rattle.sx_arena.specs.Views.{mask_of, modes_of, rules_of, rule_of};
+
+use sx_rules::{Place, Rule, RuleSet};
+
+/// The places of the form, none where there is no such form.
+pub fn roles(set: &RuleSet, form: u32) -> &[Place]
+    ensures { mask_of result.now ≡ modes_of set.now form }
+{
+    match set.forms().get(form as usize) {
+        Some(it) => it.places.as_slice(),
+        None => &[],
+    }
+}
+
+/// The rule with this number.
+pub fn rule_at(set: &RuleSet, number: u32) -> &Rule
+    requires { number < length (rules_of set.now) }
+    ensures { slice_get (rules_of set.now) number ≡ Some (rule_of result.now) }
+{
+    match set.rule(number) {
+        Some(rule) => rule,
+        None => unreachable!(),
+    }
+}

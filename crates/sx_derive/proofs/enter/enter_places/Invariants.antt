@@ -1,7 +1,0 @@
-use Rattle.sx_derive.specs.Views.{mask_of}
-use Rattle.sx_derive.specs.Arena.{trees}
-use Rattle.sx_derive.proofs.Entering.{Placed}
-use Rattle.sx_derive.proofs.enter.enter_places.Given as goal
-
-abbrev pub invariant-loop-i : goal.invariant-loop-i
-invariant-loop-i l = Placed (trees l.initial.arena) l.arena (mask_of l.roles) l.outputs l.parts.items l.places l.i

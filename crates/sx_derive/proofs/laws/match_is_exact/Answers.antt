@@ -1,5 +1,0 @@
-use Rattle.sx_derive.proofs.laws.match_is_exact.Goals as goal
-use Rattle.sx_derive.proofs.Exact.{match_is_exact}
-
-pub returns : goal.returns
-returns c = match_is_exact
