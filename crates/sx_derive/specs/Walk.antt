@@ -6,7 +6,8 @@ use Rattle.sx_rules.specs.Rules.{Judgement, Premise, holds, apart, Rule, Hypothe
 use Rattle.sx_rules.specs.Modes.{Modes, inputs_of, outputs_of, Goal, goal_of}
 use Rattle.sx_rules.specs.Derivations.{Proof, Proofs, by, given, no_more, ◌⊳◌}
 pub use Rattle.sx_rules.specs.First.{Answer}
-pub use Rattle.sx_arena.specs.Limits.{Cause, depth_spent, too_deep, too_big, limit_passed, are_apart, first_values}
+pub use Rattle.sx_arena.specs.Limits.{Cause, depth_spent, too_deep, too_big, term_limit, first_cause, are_apart, first_values}
+unfoldable pub use Rattle.sx_arena.specs.Limits.{limit_passed}
 
 -- a step of the search: a candidate is compared, something is found, a limit is passed
 pub data Event (A : Type 0) : Type 0 where

@@ -119,7 +119,7 @@ impl Term {
         let mut here = self;
         for step in &path.steps {
             match here {
-                Term::Node { label: _, kids } => match kids.get(*step as usize) {
+                Term::Node { label: _, kids } => match kids.get(*step) {
                     Some(kid) => here = kid,
                     None => return None,
                 },
