@@ -1,5 +1,5 @@
 -- How a read of the shelf goes into the step that reads a core file.
-use Rattle.std.proofs.Common.{◌≡◌, ℕ, ◌<◌, List, length, refl, subst, arith}
+use Rattle.std.proofs.Common.{◌≡◌, ℕ, ◌<◌, List, length, refl, subst, inl, inr, arith}
 use Rattle.std.specs.Prelude.{Result, Ok, Err, Option, Some, None, IfSome}
 use Rattle.sx_outside.specs.Files.{Files}
 use Rattle.sx_outside.specs.Shelf.{IsReading, IsOver}
@@ -7,11 +7,11 @@ use Rattle.sx_outside.specs.declared.answer.ReadAnswer.TheVariants as reads
 use Rattle.sx_core.specs.Problem.{Problem, problem}
 use Rattle.sx_core.specs.FirstForm.{StatesFirst}
 use Rattle.sx_core.specs.declared.problem.CoreProblem.{CoreProblem}
-use Rattle.sx_top.specs.Refusal.{refused, read_fault, absent}
+use Rattle.sx_top.specs.declared.stop.Stop.{Stop}
+use Rattle.sx_top.specs.Refusal.{read_fault, absent, not_read_yet}
 use Rattle.sx_top.specs.Holds.{Holds}
 use Rattle.sx_top.specs.ReadCore.{StatesCore, ReadsCore}
 use Rattle.sx_top.specs.Stop.{Gives}
-use Rattle.sx_top.specs.declared.refusal.Refusal.TheVariants as refusals
 use Rattle.sx_top.specs.declared.step_error.StepError.{StepError}
 use Rattle.sx_top.specs.declared.step_error.StepError.TheVariants as errors
 use Rattle.sx_top.proofs.StepsOn.{goes_next}
@@ -23,9 +23,9 @@ pub read_found : (content : Option Files) (files : Files) (limit : ℕ) (file by
 read_found content files limit file bytes seen result told reading same step =
     goes_next problem (Holds files file) (StatesCore file) bytes result (told_so content files (λ held. held file ≡ Some bytes) told reading.1) (subst (λ (l : List ℕ). Gives problem (StatesCore file l) result) same step)
 
-pub read_absent : (content : Option Files) (files : Files) (limit : ℕ) (file other bytes : List ℕ) → content ≡ Some files → IsReading content file limit reads.Absent bytes → other ≡ file → Gives problem (ReadsCore file files) (Err (errors.Refused (refusals.Absent other)))
-read_absent content files limit file other bytes told reading same =
-    record { given = Err (refused (absent other)); begins = (same, told_so content files (λ held. held file ≡ None) told reading.1); goes = refl }
+pub read_absent : (content : Option Files) (files : Files) (limit : ℕ) (file bytes : List ℕ) (stop : Stop) → content ≡ Some files → IsReading content file limit reads.Absent bytes → stop ≡ absent file → Gives problem (ReadsCore file files) (Err (errors.Stopped stop))
+read_absent content files limit file bytes stop told reading same =
+    record { given = Err stop; begins = inl (same, told_so content files (λ held. held file ≡ None) told reading.1); goes = refl }
 
 -- bytes past the limit
 record Over (limit : ℕ) (held : Option (List ℕ)) : Type 0 where
@@ -40,10 +40,10 @@ over limit (Some bytes) is = record { bytes = bytes; is = refl; long = is }
 too_long : (bytes : List ℕ) (p : Problem) → 262144 < length bytes → StatesFirst bytes p → ⊥
 too_long bytes p long states = let short = states.short in omega arith
 
-pub read_long : (content : Option Files) (files : Files) (file other bytes : List ℕ) → content ≡ Some files → IsReading content file 262144 reads.TooLong bytes → other ≡ file → Gives problem (ReadsCore file files) (Err (errors.Refused (refusals.NotYet other)))
-read_long content files file other bytes told reading same =
+pub read_long : (content : Option Files) (files : Files) (file bytes : List ℕ) (stop : Stop) → content ≡ Some files → IsReading content file 262144 reads.TooLong bytes → stop ≡ not_read_yet file → Gives problem (ReadsCore file files) (Err (errors.Stopped stop))
+read_long content files file bytes stop told reading same =
     let held = over 262144 (files file) (told_so content files (λ held. IsOver 262144 (held file)) told reading.1) in
     record { given = Ok held.bytes; begins = held.is; goes = (same, λ p states. too_long held.bytes p held.long states) }
 
-pub read_failed : (files : Files) (file other : List ℕ) → other ≡ file → Gives problem (ReadsCore file files) (Err (errors.ReadFault other))
-read_failed files file other same = record { given = Err (read_fault other); begins = same; goes = refl }
+pub read_failed : (files : Files) (file : List ℕ) (stop : Stop) → stop ≡ read_fault file → Gives problem (ReadsCore file files) (Err (errors.Stopped stop))
+read_failed files file stop same = record { given = Err stop; begins = inr same; goes = refl }

@@ -1,11 +1,13 @@
 mod Writes
 mod StepsOn
 mod CoreReads
+mod Utf8
 mod Simple
 mod Axioms
 mod Inputs
 mod Plans
 mod CorePromise
 mod Endings
+mod There
 mod Firsts
 mod OutcomeLaws

@@ -1,22 +1,22 @@
 -- The plan of `build --core` by its parts.
-use Rattle.std.proofs.Common.{◌≡◌, ℕ, ◌+◌, List, [], ◌∷◌, ◌++◌, map, length, refl, sym, ap, ◌∙◌, subst, inl, inr, codes, arith}
+use Rattle.std.proofs.Common.{◌≡◌, ℕ, ◌+◌, List, [], ◌∷◌, ◌++◌, map, length, refl, sym, ap, ◌∙◌, inl, inr, codes, arith}
 use Rattle.std.specs.Prelude.{Ok, Err, Some, slice_get, decimal}
 use Rattle.sx_outside.specs.Files.{Files, File}
 use Rattle.sx_rules.specs.Views.{NamedRule, modes_of}
 use Rattle.sx_rules.specs.Modes.{outputs}
 use Rattle.sx_core.specs.Problem.{Problem}
-use Rattle.sx_top.specs.Refusal.{Refusal, refused, no_rule}
+use Rattle.sx_top.specs.declared.stop.Stop.{Stop}
+use Rattle.sx_top.specs.Refusal.{no_rule}
 use Rattle.sx_top.specs.CoreTexts.{subject_text, term_lines, rule_name_or_none, goal_text}
-use Rattle.sx_top.specs.FindFirst.{Finds, HasNone, HasTries}
+use Rattle.sx_top.specs.FindFirst.{HasNone, HasTries}
 use Rattle.sx_top.specs.Plain.{IsSimple, IsFoundAt, rule_answer}
 use Rattle.sx_top.specs.ReadCore.{ReadsCore}
 use Rattle.sx_top.specs.Work.{Plan, file_of, plan_of}
-use Rattle.sx_top.specs.Stop.{Gives, RisesBy, refusal_of}
+use Rattle.sx_top.specs.Stop.{Gives, RisesBy}
 use Rattle.sx_top.specs.Ending.{RisesWithin}
 use Rattle.sx_top.specs.BuildCore.{BuildsGoal, FileTries, core_plan}
 use Rattle.sx_top.specs.declared.work.Output.{Output}
 use Rattle.sx_top.specs.declared.work.Work.{Work}
-use Rattle.sx_top.specs.declared.refusal.Refusal.{Refusal as RefusalOf}
 use Rattle.sx_top.specs.declared.step_error.StepError.TheVariants as errors
 use Rattle.sx_top.proofs.Axioms.{below_at}
 use Rattle.sx_top.proofs.StepsOn.{went}
@@ -44,9 +44,8 @@ plan_made name p r number files a b c lines base list interface at are is_a base
 pub plan_found : (name file : List ℕ) (p : Problem) (number : ℕ) (r : NamedRule) (work : Work) → IsFoundAt p number r → plan_of work ≡ core_plan name p (rule_answer p number r) → Gives plan_of (BuildsGoal name file p) (Ok work)
 plan_found name file p number r work found made = record { given = Ok (rule_answer p number r); begins = found.first; goes = ap Ok made }
 
-pub plan_none : (name file : List ℕ) (p : Problem) (refusal : RefusalOf) → HasNone p → refusal_of refusal ≡ no_rule file (goal_text p.forms p.goal) → Gives plan_of (BuildsGoal name file p) (Err (errors.Refused refusal))
-plan_none name file p refusal none is =
-    record { given = Err (refused (refusal_of refusal)); begins = subst (λ (r : Refusal). Finds file p (Err (refused r))) (sym is) (refl, refl, none); goes = refl }
+pub plan_none : (name file : List ℕ) (p : Problem) (stop : Stop) → HasNone p → stop ≡ no_rule file (goal_text p.forms p.goal) → Gives plan_of (BuildsGoal name file p) (Err (errors.Stopped stop))
+plan_none name file p stop none is = record { given = Err stop; begins = (is, none); goes = refl }
 
 pub tries_found : (p : Problem) (number : ℕ) (r : NamedRule) (before after : ℕ) → IsFoundAt p number r → after ≡ before + (number + 1) → RisesBy (HasTries p) before after
 tries_found p number r before after found rose = (number + 1, inl (number, (rule_answer p number r).1, found.first, refl), rose)

@@ -11,6 +11,7 @@ use Rattle.sx_core.specs.File.{SortRow, RuleRows}
 use Rattle.sx_core.specs.Stated.{AreReadable, AreRules}
 use Rattle.sx_core.specs.FirstForm.{StatesFirst}
 use Rattle.sx_top.specs.Plain.{AreTerms, HaveTerms, IsSimple}
+use Rattle.sx_top.proofs.Utf8.{core_utf8}
 
 -- a term with a core text can be written
 mutual
@@ -25,7 +26,7 @@ mutual
 
 readable_terms : (ts : List Tree) → AreReadable ts → AreTerms ts
 readable_terms [] are = tt
-readable_terms (t ∷ ts) are = (are.1, writable t are.0, readable_terms ts are.2)
+readable_terms (t ∷ ts) are = (are.1, writable t are.0, core_utf8 t are.0, readable_terms ts are.2)
 
 rules_terms : (rows : List SortRow) (forms : List FormData) (lines : List RuleRows) (rs : List NamedRule) → AreRules rows forms lines rs → HaveTerms rs
 rules_terms rows forms [] [] are = tt
@@ -51,5 +52,5 @@ conclusion_at (r ∷ rs) (suc number) rule at have = conclusion_at rs number rul
 -- a term among such terms
 pub term_at : (ts : List Term) (i : ℕ) (t : Term) → i < length ts → t ≡ get_or ts i t → AreTerms (map tree ts) → AreTerms (tree t ∷ [])
 term_at [] i t below is are = absurd (omega arith)
-term_at (u ∷ ts) zero t below is are = let same : u ≡ t = sym is in subst (λ (v : Term). AreTerms (tree v ∷ [])) same (are.0, are.1, tt)
-term_at (u ∷ ts) (suc i) t below is are = term_at ts i t (omega arith) is are.2
+term_at (u ∷ ts) zero t below is are = let same : u ≡ t = sym is in subst (λ (v : Term). AreTerms (tree v ∷ [])) same (are.0, are.1, are.2, tt)
+term_at (u ∷ ts) (suc i) t below is are = term_at ts i t (omega arith) is are.3

@@ -2,28 +2,26 @@
 use Rattle.std.proofs.Common.{ℕ, refl, inl, inr}
 use Rattle.std.specs.Prelude.{Result, Ok, Err, Option}
 use Rattle.sx_outside.specs.Files.{Files}
-use Rattle.sx_top.specs.Refusal.{Stop, refused, read_fault}
+use Rattle.sx_top.specs.declared.stop.Stop.{Stop}
 use Rattle.sx_top.specs.Steps.{Then, Goes}
-use Rattle.sx_top.specs.Stop.{Gives, OnlyReads, IsReadFault, RisesBy, Tried, refusal_of}
+use Rattle.sx_top.specs.Stop.{Gives, OnlyReads, IsNoFault, RisesBy, Tried}
 use Rattle.sx_top.specs.declared.step_error.StepError.{StepError}
 use Rattle.sx_top.specs.declared.step_error.StepError.TheVariants as errors
 
 -- where the first step stops, all of them do
 pub stops_first : {X Y A B : Type 0} (view : X → A) (seen : Y → B) (first : Result A Stop → Type 0) (next : A → Result B Stop → Type 0) (e : StepError) → Gives view first (Err e) → Gives seen (Then first next) (Err e)
 stops_first view seen first next errors.Memory here = tt
-stops_first view seen first next (errors.ReadFault file) here = record { given = Err (read_fault file); begins = here; goes = refl }
-stops_first view seen first next (errors.Refused refusal) here = record { given = Err (refused (refusal_of refusal)); begins = here; goes = refl }
+stops_first view seen first next (errors.Stopped stop) here = record { given = Err stop; begins = here; goes = refl }
 
 -- where the first step gives something, the next one goes on
 pub goes_next : {Y A B : Type 0} (seen : Y → B) (first : Result A Stop → Type 0) (next : A → Result B Stop → Type 0) (given : A) (result : Result Y StepError) → first (Ok given) → Gives seen (next given) result → Gives seen (Then first next) result
 goes_next seen first next given (Ok y) begins there = record { given = Ok given; begins = begins; goes = there }
 goes_next seen first next given (Err errors.Memory) begins there = tt
-goes_next seen first next given (Err (errors.ReadFault file)) begins there = record { given = Ok given; begins = begins; goes = there }
-goes_next seen first next given (Err (errors.Refused refusal)) begins there = record { given = Ok given; begins = begins; goes = there }
+goes_next seen first next given (Err (errors.Stopped stop)) begins there = record { given = Ok given; begins = begins; goes = there }
 
 -- a later step that reads nothing leaves it so
-pub reads_on : {X Y : Type 0} (old new : Option Files) (reads reads_after writes writes_after : ℕ) (result : Result X StepError) (later : Result Y StepError) → OnlyReads old new reads reads_after writes writes_after result → (IsReadFault later → ⊥) → OnlyReads old new reads reads_after writes writes_after later
-reads_on old new reads reads_after writes writes_after result later so none = record { content = so.content; reads = so.reads; writes = so.writes; cause = λ fault. absurd (none fault) }
+pub reads_on : {X Y : Type 0} (old new : Option Files) (reads reads_after writes writes_after : ℕ) (result : Result X StepError) (later : Result Y StepError) → OnlyReads old new reads reads_after writes writes_after result → IsNoFault later → OnlyReads old new reads reads_after writes writes_after later
+reads_on old new reads reads_after writes writes_after result later so none = record { content = so.content; reads = so.reads; writes = so.writes; cause = λ fault. absurd (none.0 fault); never = none.1 }
 
 -- where steps end without a stop, the first of them gave something, and the next one went on from it
 pub record Went {A B : Type 0} (first : Result A Stop → Type 0) (next : A → Result B Stop → Type 0) (result : B) : Type 0 where

@@ -1,9 +1,10 @@
 -- Writes one after another.
-use Rattle.std.proofs.Common.{◌≡◌, ℕ, zero, suc, ◌<◌, List, [], ◌∷◌, length, get_or, take, map, refl, sym, ap, subst, arith}
+use Rattle.std.proofs.Common.{◌≡◌, ℕ, zero, suc, ◌<◌, List, [], ◌∷◌, length, get_or, take, map, refl, sym, ap, ◌∙◌, subst, arith}
 use Rattle.std.specs.Prelude.{Option, Some, None, slice_get}
-use Rattle.sx_outside.specs.Files.{Files, put, after}
+use Rattle.sx_outside.specs.Files.{Files, File, put, after}
 use Rattle.sx_outside.specs.Told.{Told}
 use Rattle.sx_top.specs.Work.{file_of}
+use Rattle.sx_top.specs.Writing.{FailedAt}
 use Rattle.sx_top.specs.Ending.{BothTell}
 use Rattle.sx_top.specs.declared.work.Output.{Output}
 
@@ -56,3 +57,13 @@ both_kept_at Q T None c d q goes = tt
 -- the files stayed as they were, and the sink tells
 pub both_kept : (Q : List ℕ → List ℕ → Type 0) (T : Files → Files → List ℕ → List ℕ → Type 0) (a kept : Option Files) (c d : Option (List ℕ)) → kept ≡ a → Told Q c d → ((x : Files) (s t : List ℕ) → a ≡ Some x → Q s t → T x x s t) → BothTell T a kept c d
 both_kept Q T a kept c d same q goes = subst (λ (k : Option Files). BothTell T a k c d) (sym same) (both_kept_at Q T a c d q goes)
+
+-- the file whose write failed has the name of the output of that number
+pub failed_name : (outputs : List Output) (number : ℕ) (output : Output) (name : List ℕ) (old new : Files) → number < length outputs → output ≡ get_or outputs number output → FailedAt (map file_of outputs) number name old new → output.name ≡ name
+failed_name outputs number output name old new below is failed =
+    let same : Some (file_of output) ≡ Some failed.file = sym (output_at outputs number output below is) ∙ failed.is in
+    ap (λ (o : Option File). name_or_none o) same ∙ failed.name_is
+  where
+    name_or_none : Option File → List ℕ
+    name_or_none None = []
+    name_or_none (Some file) = file.name

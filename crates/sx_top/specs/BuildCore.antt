@@ -7,7 +7,7 @@ use Rattle.sx_rules.specs.First.{Answer}
 use Rattle.sx_core.specs.Problem.{Problem}
 use Rattle.sx_core.specs.FirstForm.{StatesFirst}
 use Rattle.sx_top.specs.CoreTexts.{subject_text, list_text, term_lines}
-use Rattle.sx_top.specs.Refusal.{Stop}
+use Rattle.sx_top.specs.declared.stop.Stop.{Stop}
 use Rattle.sx_top.specs.Steps.{Then}
 use Rattle.sx_top.specs.ReadCore.{ReadsCore}
 use Rattle.sx_top.specs.FindFirst.{Finds, IsFirstOf, HasTries}

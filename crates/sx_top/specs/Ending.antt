@@ -1,14 +1,15 @@
 -- How a run ends: what stands on the shelf and what the sink got, by the status.
-use Rattle.std.specs.Prelude.{◌≡◌, ◌⊎◌, ℕ, ◌+◌, ◌≤◌, List, ◌++◌, length, take, Ok, Err, Option, codes}
+use Rattle.std.specs.Prelude.{◌≡◌, ◌⊎◌, ℕ, ◌+◌, ◌≤◌, List, ◌++◌, length, take, Ok, Err, Option}
 use Rattle.sx_outside.specs.Files.{Files, after}
 use Rattle.sx_outside.specs.Told.{Told}
 use Rattle.sx_outside.specs.Sink.{AppendsBeginning}
 use Rattle.sx_top.specs.Work.{Plan}
 use Rattle.sx_top.specs.Writing.{FailedAt}
-use Rattle.sx_top.specs.Refusal.{Refusal, Stop, refused, line, line_of, status_of}
+use Rattle.sx_top.specs.declared.stop.Stop.{Stop}
+use Rattle.sx_top.specs.Refusal.{write_fault, line_of, status_of}
 use Rattle.sx_top.specs.Outcome.{Outcome, Promises, Walks}
-use Rattle.sx_top.specs.Words.{command_of}
-use Rattle.sx_top.specs.declared.command.Command.{Command}
+use Rattle.sx_top.specs.Commands.{Spelled}
+use Rattle.sx_words.specs.Commands.{Meant}
 use Rattle.sx_top.specs.declared.status.Status.{Status}
 use Rattle.sx_top.specs.declared.status.Status.TheVariants as statuses
 
@@ -41,7 +42,7 @@ pub record FileFails (plan : Plan) (old new : Files) (sent sent' : List ℕ) : T
   pub number : ℕ
   pub name : List ℕ
   pub failed : FailedAt plan.files number name old new
-  pub line : AppendsBeginning (line name (codes "write fault")) sent sent'
+  pub line : AppendsBeginning (line_of (write_fault name)) sent sent'
 
 -- the first files of the plan were written, so many, and the sink got a beginning of the lines
 pub record StopsAfter (plan : Plan) (number : ℕ) (old new : Files) (sent sent' : List ℕ) : Type 0 where
@@ -73,11 +74,11 @@ Ends words statuses.NoMemory old new sent sent' =
 -- where the run is done, the command that the words are keeps its promise
 abbrev pub KeepsPromise : List (List ℕ) → Status → Files → Files → List ℕ → List ℕ → Type 0
 KeepsPromise words status old new sent sent' =
-    status ≡ statuses.Done → (command : Command) → command_of words ≡ Ok command → Promises command old new sent sent'
+    status ≡ statuses.Done → (command : Meant) → Spelled words command → Promises command old new sent sent'
 
--- the words and files have no defect
+-- the words and files have no defect: nothing but a failed read stops their steps
 abbrev pub HasNoDefect : List (List ℕ) → Files → Type 0
-HasNoDefect words files = (refusal : Refusal) → Outcome words files (Err (refused refusal)) → ⊥
+HasNoDefect words files = (stop : Stop) → Outcome words files (Err stop) → status_of stop ≡ statuses.ReadFault
 
 -- done, or memory lacked
 abbrev pub IsDoneOrShort : Status → Type 0
@@ -85,7 +86,7 @@ IsDoneOrShort status = (status ≡ statuses.Done) ⊎ (status ≡ statuses.NoMem
 
 -- the walks of the command that the words are make so many tries
 abbrev pub HasWalks : List (List ℕ) → Files → ℕ → Type 0
-HasWalks words files tries = (command : Command) × (command_of words ≡ Ok command) × Walks command files tries
+HasWalks words files tries = (command : Meant) × Spelled words command × Walks command files tries
 
 -- the steps rose by no more than the tries of the walks: not at all where there are none, and by just as many where the run is done
 pub record IsCounted (words : List (List ℕ)) (files : Files) (status : Status) (before after : ℕ) : Type 0 where

@@ -7,7 +7,8 @@ use Rattle.sx_rules.specs.Derivations.{by, no_more}
 use Rattle.sx_rules.specs.First.{Answer, IsFirst, IsUnderivable}
 use Rattle.sx_core.specs.Problem.{Problem}
 use Rattle.sx_top.specs.CoreTexts.{goal_text}
-use Rattle.sx_top.specs.Refusal.{Stop, refused, read_fault, absent, bad_word, not_read_yet, no_rule}
+use Rattle.sx_top.specs.declared.stop.Stop.{Stop}
+use Rattle.sx_top.specs.Refusal.{no_rule}
 
 -- nothing is given
 abbrev pub no_hypotheses : Hypotheses
@@ -28,11 +29,7 @@ HasNone problem = IsUnderivable (modes_of problem.forms) (rules_of problem) no_h
 -- the first derivation, or the goal of the file has none
 abbrev pub Finds : List ℕ → Problem → Result Answer Stop → Type 0
 Finds file problem (Ok answer) = IsFirstOf problem answer
-Finds file problem (Err (refused (no_rule other goal))) = (other ≡ file) × (goal ≡ goal_text problem.forms problem.goal) × HasNone problem
-Finds file problem (Err (refused (absent other))) = ⊥
-Finds file problem (Err (refused (bad_word place))) = ⊥
-Finds file problem (Err (refused (not_read_yet other))) = ⊥
-Finds file problem (Err (read_fault other)) = ⊥
+Finds file problem (Err stop) = (stop ≡ no_rule file (goal_text problem.forms problem.goal)) × HasNone problem
 
 -- The walk of the goal compares it with so many rules: with those up to the rule of the first derivation, or with all.
 abbrev pub HasTries : Problem → ℕ → Type 0

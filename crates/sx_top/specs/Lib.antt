@@ -2,7 +2,7 @@ pub mod Status
 pub mod Refusal
 pub mod Steps
 pub mod Stop
-pub mod Words
+pub mod Commands
 pub mod Holds
 pub mod ReadCore
 pub mod CoreTexts

@@ -1,7 +1,8 @@
 -- What the search and the texts need of a core problem of the first form.
 use Rattle.std.specs.Prelude.{◌≡◌, ℕ, ◌≤◌, List, [], ◌∷◌, length, Some, slice_get}
 use Rattle.sx_term.specs.Tree.{Tree, depth_of}
-use Rattle.sx_term.specs.Core.{IsWritable}
+use Rattle.std.specs.Str.{IsUtf8}
+use Rattle.sx_term.specs.Core.{core, IsWritable}
 use Rattle.sx_rules.specs.Views.{NamedRule, modes_of}
 use Rattle.sx_rules.specs.Modes.{outputs_of}
 use Rattle.sx_rules.specs.Derivations.{by, no_more}
@@ -10,10 +11,10 @@ use Rattle.sx_core.specs.Problem.{Problem}
 use Rattle.sx_core.specs.FirstForm.{AreAxioms}
 use Rattle.sx_top.specs.FindFirst.{IsFirstOf}
 
--- each term has a depth of at most 1,000 and can be written
+-- each term has a depth of at most 1,000 and can be written, as UTF-8
 abbrev pub AreTerms : List Tree → Type 0
 AreTerms [] = Unit {0}
-AreTerms (t ∷ ts) = (depth_of t ≤ 1000) × IsWritable t × AreTerms ts
+AreTerms (t ∷ ts) = (depth_of t ≤ 1000) × IsWritable t × IsUtf8 (core t) × AreTerms ts
 
 -- so have the terms of each conclusion
 abbrev pub HaveTerms : List NamedRule → Type 0

@@ -3,18 +3,15 @@ use Rattle.std.specs.Prelude.{◌≡◌, ℕ, List, Result, Ok, Err}
 use Rattle.sx_outside.specs.Files.{Files}
 use Rattle.sx_core.specs.Problem.{Problem}
 use Rattle.sx_core.specs.FirstForm.{StatesFirst}
-use Rattle.sx_top.specs.Refusal.{Stop, refused, read_fault, absent, bad_word, not_read_yet, no_rule}
+use Rattle.sx_top.specs.declared.stop.Stop.{Stop}
+use Rattle.sx_top.specs.Refusal.{not_read_yet}
 use Rattle.sx_top.specs.Steps.{Then}
 use Rattle.sx_top.specs.Holds.{Holds}
 
 -- the problem that the bytes of the file state, or they are no core file of the first form
 abbrev pub StatesCore : List ℕ → List ℕ → Result Problem Stop → Type 0
 StatesCore file bytes (Ok problem) = StatesFirst bytes problem
-StatesCore file bytes (Err (refused (not_read_yet other))) = (other ≡ file) × ((problem : Problem) → StatesFirst bytes problem → ⊥)
-StatesCore file bytes (Err (refused (absent other))) = ⊥
-StatesCore file bytes (Err (refused (bad_word place))) = ⊥
-StatesCore file bytes (Err (refused (no_rule other goal))) = ⊥
-StatesCore file bytes (Err (read_fault other)) = ⊥
+StatesCore file bytes (Err stop) = (stop ≡ not_read_yet file) × ((problem : Problem) → StatesFirst bytes problem → ⊥)
 
 -- the bytes of the file, and then what they state
 abbrev pub ReadsCore : List ℕ → Files → Result Problem Stop → Type 0

@@ -1,44 +1,80 @@
 -- Why a command ends early, and what it then answers: its status and its line.
-use Rattle.std.specs.Prelude.{ℕ, List, [], ◌∷◌, ◌++◌, codes, decimal}
+use Rattle.std.specs.Prelude.{ℕ, List, codes}
+use Rattle.sx_words.specs.Lines.{line_text}
+use Rattle.sx_words.specs.RefusalText.{refusal_text}
+use Rattle.sx_words.specs.declared.place.Place.TheVariants.{Nowhere}
+use Rattle.sx_words.specs.declared.file_defect.FileDefect.{FileDefect}
+use Rattle.sx_words.specs.declared.file_defect.FileDefect.TheVariants as file_defect
+use Rattle.sx_words.specs.declared.goal_defect.GoalDefect.TheVariants as goal_defect
+use Rattle.sx_words.specs.declared.refusal.Defect.{Defect}
+use Rattle.sx_words.specs.declared.refusal.Defect.TheVariants as defect
+use Rattle.sx_top.specs.declared.stop.Stop.{Stop}
 use Rattle.sx_top.specs.declared.status.Status.{Status}
 use Rattle.sx_top.specs.declared.status.Status.TheVariants as statuses
 
--- a refusal, with the file that it is about
-pub data Refusal : Type 0 where
-  -- the place of the first word that does not fit
-  bad_word : ℕ → Refusal
-  absent : List ℕ → Refusal
-  not_read_yet : List ℕ → Refusal
-  -- no rule concludes a goal, which is given as it is printed
-  no_rule : List ℕ → List ℕ → Refusal
+-- ---- stops
 
--- a refusal, or a fault of reading a file
-pub data Stop : Type 0 where
-  refused : Refusal → Stop
-  read_fault : List ℕ → Stop
+-- a defect of a file, of which the line says no place
+abbrev pub about : List ℕ → Defect → Stop
+about file what = record { file = file; refusal = record { place = Nowhere; defect = what } }
 
--- a line on the sink about a file
-abbrev pub line : List ℕ → List ℕ → List ℕ
-line file text = codes "soundx: " ++ file ++ codes ": " ++ text ++ 10 ∷ []
+-- the first word that does not fit
+abbrev pub bad_word : ℕ → Stop
+bad_word place = about (codes "words") (defect.File (file_defect.Word place))
 
-abbrev pub refusal_status : Refusal → Status
-refusal_status (bad_word place) = statuses.Words
-refusal_status (absent file) = statuses.Refused
-refusal_status (not_read_yet file) = statuses.Refused
-refusal_status (no_rule file goal) = statuses.Refused
+-- there is no such file
+abbrev pub absent : List ℕ → Stop
+absent file = about file (defect.File file_defect.Absent)
 
-abbrev pub refusal_line : Refusal → List ℕ
-refusal_line (bad_word place) = line (codes "words") (codes "word " ++ decimal place)
-refusal_line (absent file) = line file (codes "absent")
-refusal_line (not_read_yet file) = line file (codes "not read yet")
-refusal_line (no_rule file goal) = line file (codes "no rule concludes " ++ goal)
+-- reading the file failed
+abbrev pub read_fault : List ℕ → Stop
+read_fault file = about file (defect.File file_defect.ReadFault)
+
+-- writing the file failed
+abbrev pub write_fault : List ℕ → Stop
+write_fault file = about file (defect.File file_defect.WriteFault)
+
+-- the file is no core file of the first form; this one goes when core files are read whole
+abbrev pub not_read_yet : List ℕ → Stop
+not_read_yet file = about file (defect.File (file_defect.Notation (codes "not read yet")))
+
+-- no rule concludes the goal, which is given as it is printed
+abbrev pub no_rule : List ℕ → List ℕ → Stop
+no_rule file goal = about file (defect.Goal (goal_defect.NoRule goal))
+
+-- ---- what a stop answers
+
+-- the status of a defect of the words or of a whole file
+abbrev pub file_status : FileDefect → Status
+file_status (file_defect.Word place) = statuses.Words
+file_status file_defect.ReadFault = statuses.ReadFault
+file_status file_defect.WriteFault = statuses.WriteFault
+file_status file_defect.Absent = statuses.Refused
+file_status file_defect.TooLong = statuses.Refused
+file_status (file_defect.NotUtf8 place) = statuses.Refused
+file_status (file_defect.Notation kind) = statuses.Refused
+file_status file_defect.Header = statuses.Refused
+file_status (file_defect.Version number) = statuses.Refused
+file_status file_defect.BadList = statuses.Refused
+
+-- the status of a defect
+abbrev pub defect_status : Defect → Status
+defect_status (defect.File what) = file_status what
+defect_status (defect.Budget what) = statuses.Spent
+defect_status (defect.Text what) = statuses.Refused
+defect_status (defect.Grammar what) = statuses.Refused
+defect_status (defect.Rule what) = statuses.Refused
+defect_status (defect.Extension what) = statuses.Refused
+defect_status (defect.Goal what) = statuses.Refused
+defect_status (defect.Print part what) = statuses.Refused
+defect_status (defect.Closure what) = statuses.Refused
+defect_status (defect.List what) = statuses.Refused
+defect_status (defect.Objected auditor node rule) = statuses.Refused
 
 -- the status of a stop
 abbrev pub status_of : Stop → Status
-status_of (refused refusal) = refusal_status refusal
-status_of (read_fault file) = statuses.ReadFault
+status_of stop = defect_status stop.refusal.defect
 
 -- its line
 abbrev pub line_of : Stop → List ℕ
-line_of (refused refusal) = refusal_line refusal
-line_of (read_fault file) = line file (codes "read fault")
+line_of stop = line_text stop.file (refusal_text stop.refusal)

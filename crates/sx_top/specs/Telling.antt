@@ -1,9 +1,8 @@
 -- What telling a line leads to.
-use Rattle.std.specs.Prelude.{◌≡◌, ◌⊎◌, ℕ, List, ◌++◌, codes}
+use Rattle.std.specs.Prelude.{◌≡◌, ◌⊎◌, ℕ, List, ◌++◌}
 use Rattle.sx_outside.specs.Faults.{Rose}
 use Rattle.sx_outside.specs.Sink.{AppendsBeginning}
-use Rattle.sx_top.specs.Refusal.{line, refusal_line, refusal_status}
-use Rattle.sx_top.specs.Stop.{refusal_of}
+use Rattle.sx_top.specs.Refusal.{status_of, line_of}
 use Rattle.sx_top.specs.declared.status.Status.{Status}
 use Rattle.sx_top.specs.declared.status.Status.TheVariants as statuses
 use Rattle.sx_top.specs.declared.step_error.StepError.{StepError}
@@ -17,8 +16,7 @@ Sends status text result sent sent' =
 -- the line of an error was sent, with its status; nothing is sent where memory lacked
 abbrev pub IsTold : StepError → Status → List ℕ → List ℕ → Type 0
 IsTold errors.Memory result sent sent' = (result ≡ statuses.NoMemory) × (sent' ≡ sent)
-IsTold (errors.ReadFault file) result sent sent' = Sends statuses.ReadFault (line file (codes "read fault")) result sent sent'
-IsTold (errors.Refused refusal) result sent sent' = Sends (refusal_status (refusal_of refusal)) (refusal_line (refusal_of refusal)) result sent sent'
+IsTold (errors.Stopped stop) result sent sent' = Sends (status_of stop) (line_of stop) result sent sent'
 
 -- the status stays, or the sink failed with a cause, or memory lacked
 abbrev pub IsStatusOf : Status → ℕ → ℕ → Status → Type 0
@@ -27,5 +25,4 @@ IsStatusOf status faults faults' result = (result ≡ status) ⊎ ((result ≡ s
 -- the status of an error
 abbrev pub error_status : StepError → Status
 error_status errors.Memory = statuses.NoMemory
-error_status (errors.ReadFault file) = statuses.ReadFault
-error_status (errors.Refused refusal) = refusal_status (refusal_of refusal)
+error_status (errors.Stopped stop) = status_of stop

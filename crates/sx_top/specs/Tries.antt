@@ -1,13 +1,13 @@
 -- What the steps of each command say of its tries.
-use Rattle.std.specs.Prelude.{ℕ, Result}
+use Rattle.std.specs.Prelude.{ℕ, true, Result}
 use Rattle.sx_outside.specs.Files.{Files}
 use Rattle.sx_top.specs.Stop.{Tried}
 use Rattle.sx_top.specs.BuildCore.{CoreTries}
-use Rattle.sx_top.specs.declared.command.Command.{Command}
-use Rattle.sx_top.specs.declared.command.Command.TheVariants.{BuildCore}
+use Rattle.sx_words.specs.Commands.{Meant, builds}
 use Rattle.sx_top.specs.declared.step_error.StepError.{StepError}
 use Rattle.sx_top.specs.declared.work.Work.{Work}
 
 -- the steps rose by the tries of the command's walks, or not at all where something stopped them
-abbrev pub TriesOf : Command → Files → Result Work StepError → ℕ → ℕ → Type 0
-TriesOf (BuildCore name) files result before after = Tried (CoreTries name files) result before after
+abbrev pub TriesOf : Meant → Files → Result Work StepError → ℕ → ℕ → Type 0
+TriesOf (builds true name tries nodes audits) files result before after = Tried (CoreTries name files) result before after
+TriesOf command files result before after = ⊥

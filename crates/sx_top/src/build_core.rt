@@ -11,15 +11,15 @@ ghost use Rattle.sx_top.specs.BuildCore.{core_plan, BuildsGoal, BuildsFrom, Buil
 ghost use Rattle.sx_top.specs.CoreTexts.{goal_text as text_of_goal};
 ghost use Rattle.sx_top.specs.Refusal.{no_rule};
 ghost use Rattle.sx_top.specs.Ending.{RisesWithin};
-ghost use Rattle.sx_top.specs.Stop.{refusal_of, Gives, OnlyReads, IsReadFault, RisesBy, Tried};
+ghost use Rattle.sx_top.specs.Stop.{Gives, OnlyReads, IsNoFault, RisesBy, Tried};
 ghost use Rattle.sx_top.specs.Work.{plan_of, file_of};
 
 use crate::forms::places_of;
-use crate::line::with_suffix;
+use crate::names::with_suffix;
 use crate::read_core::read_problem;
-use crate::refusal::Refusal;
 use crate::search::find_first;
 use crate::step_error::StepError;
+use crate::stop::{Stop, about};
 use crate::texts::{base_text, built_line, goal_text, interface_text, list_text};
 use crate::work::{Output, Work};
 use std::alloc::Global;
@@ -28,6 +28,7 @@ use sx_core::CoreProblem;
 use sx_outside::Shelf;
 use sx_rules::Rule;
 use sx_term::{NoMemory, Steps, Text};
+use sx_words::{Defect, GoalDefect};
 
 /// A file to write, under the name with a suffix.
 fn output(alloc: Global, name: &Text, suffix: &str, bytes: Vec<u8>) -> Result<Output, NoMemory>
@@ -80,13 +81,13 @@ fn make_work(
 }
 
 /// The refusal of a goal that no rule concludes.
-fn refuse(alloc: Global, file: &Text, problem: &CoreProblem) -> Result<Refusal, NoMemory>
+fn refuse(alloc: Global, file: &Text, problem: &CoreProblem) -> Result<Stop, NoMemory>
     requires { AreTerms (map tree problem.now.goal.inputs.items) }
-    ensures { IfOk result (λ refusal. refusal_of refusal ≡ no_rule file.now (text_of_goal (problem_data problem.now).forms (problem_data problem.now).goal)) }
+    ensures { IfOk result (λ stop. stop ≡ no_rule file.now (text_of_goal (problem_data problem.now).forms (problem_data problem.now).goal)) }
 {
     let file = file.copy(alloc)?;
     let goal = goal_text(alloc, problem.rules.forms(), &problem.goal)?;
-    Ok(Refusal::NoRule { file, goal })
+    Ok(about(file, Defect::Goal(GoalDefect::NoRule { goal })))
 }
 
 /// The steps from the problem that the file states.
@@ -99,7 +100,7 @@ fn plan_goal<L: Ledger>(
 ) -> Result<Work, StepError>
     requires { IsSimple (problem_data problem.now) }
     ensures step { Gives plan_of (BuildsGoal name.now file.now (problem_data problem.now)) result }
-    ensures no_fault { IsReadFault result → ⊥ }
+    ensures no_fault { IsNoFault result }
     ensures tries { RisesBy (HasTries (problem_data problem.now)) steps.old steps.new }
     ensures most { RisesWithin 4096 steps.old steps.new }
 {
@@ -109,7 +110,7 @@ fn plan_goal<L: Ledger>(
             Err(_) => Err(StepError::Memory),
         },
         None => match refuse(alloc, file, problem) {
-            Ok(refusal) => Err(StepError::Refused(refusal)),
+            Ok(stop) => Err(StepError::Stopped(stop)),
             Err(_) => Err(StepError::Memory),
         },
     }

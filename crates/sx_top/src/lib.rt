@@ -3,17 +3,17 @@
 
 mod build_core;
 mod call;
-mod command;
+mod commands;
 mod forms;
 mod laws;
-mod line;
+mod names;
 mod perform;
 mod plan;
 mod read_core;
-mod refusal;
 mod search;
 mod status;
 mod step_error;
+mod stop;
 mod tell;
 mod texts;
 mod work;

@@ -1,21 +1,22 @@
 //! Writing what was planned.
 
-ghost use Rattle.std.specs.Prelude.{◌≡◌, ◌≤◌, ◌⊎◌, map, length, codes};
+ghost use Rattle.std.specs.Prelude.{◌≡◌, ◌≤◌, ◌⊎◌, map, length};
 ghost use Rattle.sx_outside.specs.Sink.{AppendsBeginning};
 ghost use Rattle.sx_outside.specs.Told.{Told};
 ghost use Rattle.sx_outside.specs.Faults.{Rose};
-ghost use Rattle.sx_top.specs.Refusal.{line};
+ghost use Rattle.sx_top.specs.Refusal.{write_fault, line_of};
 ghost use Rattle.sx_top.specs.Ending.{BothTell};
 ghost use Rattle.sx_top.specs.Work.{file_of, plan_of};
 ghost use Rattle.sx_top.specs.Writing.{Wrote};
 ghost use Rattle.sx_top.specs.Performing.{Performs, IsFailed, IsBelow};
 
-use crate::line::make_line;
 use crate::status::Status;
+use crate::stop::refusal_line;
 use crate::work::{Output, Work};
 use std::alloc::Global;
 use sx_outside::{Shelf, Sink, WriteAnswer};
 use sx_term::Text;
+use sx_words::{Defect, FileDefect, Place, Refusal};
 
 /// How writing the files of a plan ended: by the number of the file that was not written.
 #[derive(Clone, Copy, PartialEq, Eq)]
@@ -54,10 +55,14 @@ fn send_some<K: Sink>(line: &[u8], out: &mut K)
 
 /// Sends what it can of the line of a failed write.
 fn send_fault<K: Sink>(alloc: Global, name: &Text, out: &mut K)
-    ensures sent { Told (AppendsBeginning (line name.now (codes "write fault"))) (K.content out.old) (K.content out.new) }
+    ensures sent { Told (AppendsBeginning (line_of (write_fault name.now))) (K.content out.old) (K.content out.new) }
     ensures faults { K.faults out.old ≤ K.faults out.new }
 {
-    match make_line(alloc, name.bytes(), b"write fault") {
+    let refusal = Refusal {
+        place: Place::Nowhere,
+        defect: Defect::File(FileDefect::WriteFault),
+    };
+    match refusal_line(alloc, name, &refusal) {
         Ok(line) => send_some(&line, out),
         Err(_) => {}
     }

@@ -1,6 +1,8 @@
 //! What the words come to.
 
 ghost use Rattle.sx_outside.specs.Told.{WhereTold};
+ghost use Rattle.sx_words.specs.View.{command_view};
+ghost use Rattle.sx_top.specs.Commands.{IsThere};
 ghost use Rattle.sx_top.specs.Outcome.{Outcome, Runs};
 ghost use Rattle.sx_top.specs.Ending.{HasWalks, RisesWithin};
 ghost use Rattle.sx_top.specs.Stop.{Gives, OnlyReads, Tried};
@@ -8,30 +10,39 @@ ghost use Rattle.sx_top.specs.Tries.{TriesOf};
 ghost use Rattle.sx_top.specs.Work.{plan_of};
 
 use crate::build_core::plan_build_core;
-use crate::command::{Command, read_command};
+use crate::commands::read_command;
 use crate::step_error::StepError;
 use crate::work::Work;
 use std::alloc::Global;
 use std::sync::ledger::Ledger;
 use sx_outside::Shelf;
 use sx_term::{Steps, Text};
+use sx_words::Command;
 
-/// The steps of a command.
+/// The steps of a command that there is by now.
 fn run_command<S: Shelf, L: Ledger>(
     alloc: Global,
-    command: Command,
+    command: &Command,
     shelf: &mut S,
     steps: &mut Steps<L>,
 ) -> Result<Work, StepError>
-    ensures step { WhereTold (S.content shelf.old) (λ files. Gives plan_of (Runs command files) result) }
+    requires { IsThere (command_view command.now) }
+    ensures step { WhereTold (S.content shelf.old) (λ files. Gives plan_of (Runs (command_view command.now) files) result) }
     ensures reads { OnlyReads (S.content shelf.old) (S.content shelf.new)
         (S.read_faults shelf.old) (S.read_faults shelf.new)
         (S.write_faults shelf.old) (S.write_faults shelf.new) result }
-    ensures tries { WhereTold (S.content shelf.old) (λ files. TriesOf command files result steps.old steps.new) }
+    ensures tries { WhereTold (S.content shelf.old) (λ files. TriesOf (command_view command.now) files result steps.old steps.new) }
     ensures most { RisesWithin 4096 steps.old steps.new }
 {
     match command {
-        Command::BuildCore { name } => plan_build_core(alloc, &name, shelf, steps),
+        Command::Build {
+            core: true,
+            name,
+            tries: _,
+            nodes: _,
+            audits: _,
+        } => plan_build_core(alloc, name, shelf, steps),
+        _ => unreachable!(),
     }
 }
 
@@ -50,7 +61,7 @@ pub fn plan<S: Shelf, L: Ledger>(
     ensures most { RisesWithin 4096 steps.old steps.new }
 {
     match read_command(alloc, words) {
-        Ok(command) => run_command(alloc, command, shelf, steps),
+        Ok(command) => run_command(alloc, &command, shelf, steps),
         Err(e) => Err(e),
     }
 }

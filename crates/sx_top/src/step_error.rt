@@ -1,8 +1,8 @@
 //! Why a step gives nothing.
 
-use crate::refusal::Refusal;
+use crate::stop::Stop;
 use std::alloc::{AllocError, AllocFailed};
-use sx_term::{NoMemory, Text};
+use sx_term::NoMemory;
 use thiserror::Error;
 
 /// Why a step gives nothing.
@@ -10,11 +10,9 @@ use thiserror::Error;
 pub enum StepError {
     #[error("out of memory")]
     Memory,
-    /// Reading the file failed.
-    #[error("read fault")]
-    ReadFault(Text),
-    #[error("refused")]
-    Refused(Refusal),
+    /// The command ends with a refusal, or with a fault of reading.
+    #[error("stopped")]
+    Stopped(Stop),
 }
 
 impl From<NoMemory> for StepError {

@@ -2,12 +2,8 @@
 
 ghost use Rattle.std.specs.Prelude.{◌≡◌, ◌≤◌};
 ghost use Rattle.sx_outside.specs.Told.{Told};
-ghost use Rattle.sx_top.specs.Refusal.{refusal_status};
-ghost use Rattle.sx_top.specs.Stop.{refusal_of};
 ghost use Rattle.sx_top.specs.Telling.{Sends, IsTold, IsStatusOf, error_status};
 
-use crate::line::{make_line, refusal_line};
-use crate::refusal::Refusal;
 use crate::status::Status;
 use crate::step_error::StepError;
 use std::alloc::Global;
@@ -26,17 +22,6 @@ fn send<K: Sink>(status: Status, line: &[u8], out: &mut K) -> Status
     }
 }
 
-fn status_of(refusal: &Refusal) -> Status
-    ensures { result ≡ refusal_status (refusal_of refusal.now) }
-{
-    match refusal {
-        Refusal::Words { place: _ } => Status::Words,
-        Refusal::Absent { file: _ } => Status::Refused,
-        Refusal::NotYet { file: _ } => Status::Refused,
-        Refusal::NoRule { file: _, goal: _ } => Status::Refused,
-    }
-}
-
 /// Tells why nothing was written.
 pub fn tell<K: Sink>(alloc: Global, error: &StepError, out: &mut K) -> Status
     ensures tells { Told (IsTold error.now result) (K.content out.old) (K.content out.new) }
@@ -45,12 +30,8 @@ pub fn tell<K: Sink>(alloc: Global, error: &StepError, out: &mut K) -> Status
 {
     match error {
         StepError::Memory => Status::NoMemory,
-        StepError::ReadFault(file) => match make_line(alloc, file.bytes(), b"read fault") {
-            Ok(line) => send(Status::ReadFault, &line, out),
-            Err(_) => Status::NoMemory,
-        },
-        StepError::Refused(refusal) => match refusal_line(alloc, refusal) {
-            Ok(line) => send(status_of(refusal), &line, out),
+        StepError::Stopped(stop) => match stop.line(alloc) {
+            Ok(line) => send(stop.status(), &line, out),
             Err(_) => Status::NoMemory,
         },
     }

@@ -105,24 +105,36 @@ fn a_goal_that_no_rule_concludes(rt: HostRuntime) -> Result<(), Fail> {
     Ok(())
 }
 
+/// Whether the words are no command, with this line.
+fn are_refused(alloc: Global, line: &str, told: &[u8]) -> Result<bool, Fail> {
+    let mut shelf = MemShelf::new(alloc);
+    let mut out = MemSink::new(alloc);
+    let code = run_words(alloc, line, &mut shelf, &mut out)?;
+    Ok(code == 2 && out.written() == told)
+}
+
 #[test]
 fn words_that_are_no_command(rt: HostRuntime) -> Result<(), Fail> {
     let alloc = rt.alloc();
-    for (line, told) in [
-        ("", "soundx: words: word 1\n"),
-        ("build", "soundx: words: word 2\n"),
-        ("build --core 1x", "soundx: words: word 3\n"),
-        ("build --core One extra", "soundx: words: word 4\n"),
-    ] {
-        let mut shelf = MemShelf::new(alloc);
-        let mut out = MemSink::new(alloc);
-        assert_eq!(rt;
-            run_words(alloc, line, &mut shelf, &mut out)?,
-            2,
-            "at {line}"
-        );
-        assert_eq!(rt; out.written(), told.as_bytes(), "at {line}");
-    }
+    assert!(rt; are_refused(alloc, "", b"soundx: words: word 1\n")?);
+    assert!(rt; are_refused(alloc, "build", b"soundx: words: word 2\n")?);
+    assert!(rt; are_refused(alloc, "build --core 1x", b"soundx: words: word 3\n")?);
+    assert!(rt; are_refused(alloc, "build --core One extra", b"soundx: words: word 4\n")?);
+    Ok(())
+}
+
+#[test]
+fn commands_that_are_not_there_yet(rt: HostRuntime) -> Result<(), Fail> {
+    let alloc = rt.alloc();
+    assert!(rt; are_refused(alloc, "verify One", b"soundx: words: word 1\n")?);
+    assert!(rt; are_refused(alloc, "build One", b"soundx: words: word 2\n")?);
+    assert!(rt;
+        are_refused(
+            alloc,
+            "build --core --tries=5 One",
+            b"soundx: words: word 3\n"
+        )?
+    );
     Ok(())
 }
 

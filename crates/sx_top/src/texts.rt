@@ -10,7 +10,7 @@ ghost use Rattle.sx_top.specs.Plain.{AreTerms};
 use crate::forms::{name_of, places_of};
 use std::alloc::Global;
 use sx_rules::{Form, Goal, Place, Role};
-use sx_term::{NoMemory, Term, Text, write_core};
+use sx_term::{NoMemory, Term, Text, TextError, write_core};
 
 fn is_out(role: Role) -> bool
     ensures { result ≡ role_is_out role }
@@ -61,13 +61,17 @@ fn write_places(
 }
 
 /// A goal as it is printed.
-pub fn goal_text(alloc: Global, all: &[Form], goal: &Goal) -> Result<Vec<u8>, NoMemory>
+pub fn goal_text(alloc: Global, all: &[Form], goal: &Goal) -> Result<Text, NoMemory>
     requires { AreTerms (map tree goal.now.inputs.items) }
-    ensures { IfOk result (λ bytes. bytes.items ≡ text_of_goal (forms all.now) (goal_data goal.now)) }
+    ensures { IfOk result (λ text. text ≡ text_of_goal (forms all.now) (goal_data goal.now)) }
 {
     let mut bytes = Vec::from_slice(alloc, name_of(all, goal.form))?;
     write_places(alloc, places_of(all, goal.form), &goal.inputs, &mut bytes)?;
-    Ok(bytes)
+    match Text::make(alloc, &bytes) {
+        Ok(text) => Ok(text),
+        Err(TextError::Memory) => Err(NoMemory::Memory),
+        Err(TextError::NotUtf8(_)) => unreachable!(),
+    }
 }
 
 /// Appends the core text of the term, on a line.

@@ -3,6 +3,8 @@ use Rattle.std.specs.Prelude.{◌≡◌, ℕ, ◌+◌, ◌≤◌, ◌==◌, ◌&
 use Rattle.std.specs.List.{AllByRecursion}
 use Rattle.std.specs.Str.{bytes_eq}
 use Rattle.sx_lines.specs.Words.{is_name}
+use Rattle.sx_words.specs.declared.stage.Stage.{Stage}
+use Rattle.sx_words.specs.declared.stage.Stage.TheVariants.{CoreGoals, CoreFiles, Whole}
 use Rattle.sx_words.specs.declared.verb.Verb.{Verb}
 use Rattle.sx_words.specs.declared.verb.Verb.TheVariants.{Build, Compile, Check, Verify}
 
@@ -64,17 +66,53 @@ IsGiven (tries n) = (1 ≤ n) × (n ≤ 1000000)
 IsGiven (nodes n) = (1 ≤ n) × (n ≤ 1000000)
 IsGiven (audit kind setting) = NoColon kind
 
+-- ---- what there is by now
+
+-- the command is there
+abbrev pub has_verb : Stage → Verb → Bool
+has_verb CoreGoals Build = true
+has_verb CoreGoals verb = false
+has_verb CoreFiles Build = true
+has_verb CoreFiles Verify = true
+has_verb CoreFiles verb = false
+has_verb Whole verb = true
+
+-- the option is there
+abbrev pub has_option : Stage → Given → Bool
+has_option CoreGoals core = true
+has_option CoreGoals option = false
+has_option CoreFiles core = true
+has_option CoreFiles (tries n) = true
+has_option CoreFiles option = false
+has_option Whole option = true
+
+-- modules are there: where they are not, a command is on a core file
+abbrev pub has_modules : Stage → Bool
+has_modules CoreGoals = false
+has_modules CoreFiles = false
+has_modules Whole = true
+
+-- `sample` is there
+abbrev pub has_sample : Stage → Bool
+has_sample CoreGoals = false
+has_sample CoreFiles = false
+has_sample Whole = true
+
 -- ---- which options a command takes
 
+-- the option goes with the command
+abbrev pub goes_with : Verb → Given → Bool
+goes_with Build option = true
+goes_with Compile core = false
+goes_with Compile option = true
+goes_with Check (tries n) = true
+goes_with Check option = false
+goes_with Verify core = true
+goes_with Verify option = false
+
 -- the command takes the option
-abbrev pub takes : Verb → Given → Bool
-takes Build option = true
-takes Compile core = false
-takes Compile option = true
-takes Check (tries n) = true
-takes Check option = false
-takes Verify core = true
-takes Verify option = false
+abbrev pub takes : Stage → Verb → Given → Bool
+takes stage verb option = has_option stage option && goes_with verb option
 
 -- an auditor of the kind is named
 abbrev pub has_kind : List AuditWord → List ℕ → Bool
@@ -112,10 +150,14 @@ with_options place s [] = s
 with_options place s (option ∷ options) = with_options (place + 1) (with_option place s option) options
 
 -- each option is one that the command takes, and may stand after what was said before it
-abbrev pub MayStand : Verb → ℕ → Settings → List Given → Type 0
-MayStand verb place s [] = Unit {0}
-MayStand verb place s (option ∷ options) =
-    (takes verb option ≡ true) × (is_new s option ≡ true) × IsGiven option × MayStand verb (place + 1) (with_option place s option) options
+abbrev pub MayStand : Stage → Verb → ℕ → Settings → List Given → Type 0
+MayStand stage verb place s [] = Unit {0}
+MayStand stage verb place s (option ∷ options) =
+    (takes stage verb option ≡ true) × (is_new s option ≡ true) × IsGiven option × MayStand stage verb (place + 1) (with_option place s option) options
+
+-- the name may come: `--core` stands, or modules are there
+abbrev pub may_end : Stage → Settings → Bool
+may_end stage s = has_modules stage || s.core
 
 -- what is not said of tries and nodes is 1,000,000
 abbrev pub or_most : Option ℕ → ℕ
@@ -131,42 +173,53 @@ meant Verify s name = verifies s.core name
 -- ---- which words spell a command
 
 -- the command, then options, then a name; the first option is word 2
-pub record SpellsNamed (words : List (List ℕ)) (command : Meant) : Type 0 where
+pub record SpellsNamed (stage : Stage) (words : List (List ℕ)) (command : Meant) : Type 0 where
   pub verb : Verb
   pub options : List Given
   pub name : List ℕ
   pub parts : words ≡ verb_word verb ∷ (map option_word options ++ name ∷ [])
-  pub stand : MayStand verb 2 nothing_said options
+  pub there : has_verb stage verb ≡ true
+  pub stand : MayStand stage verb 2 nothing_said options
+  pub ends : may_end stage (with_options 2 nothing_said options) ≡ true
   pub named : is_name false name ≡ true
   pub is : command ≡ meant verb (with_options 2 nothing_said options) name
 
 -- `sample` and a number from 1 to 300
-pub record SpellsSample (words : List (List ℕ)) (command : Meant) : Type 0 where
+pub record SpellsSample (stage : Stage) (words : List (List ℕ)) (command : Meant) : Type 0 where
   pub number : ℕ
   pub least : 1 ≤ number
   pub most : number ≤ 300
   pub parts : words ≡ codes "sample" ∷ decimal number ∷ []
+  pub there : has_sample stage ≡ true
   pub is : command ≡ samples number
+
+-- the words spell the command, which is there
+abbrev pub SpellsAt : Stage → List (List ℕ) → Meant → Type 0
+SpellsAt stage words command = SpellsNamed stage words command ⊎ SpellsSample stage words command
 
 -- the words spell the command
 abbrev pub Spells : List (List ℕ) → Meant → Type 0
-Spells words command = SpellsNamed words command ⊎ SpellsSample words command
+Spells words command = SpellsAt Whole words command
 
 -- ---- the first word that does not fit
 
 -- with the next word too, or at the end of the words where there is none, the words are those of no command
-abbrev pub NoneSpells : List (List ℕ) → List (List ℕ) → Type 0
-NoneSpells front [] = (command : Meant) → Spells front command → ⊥
-NoneSpells front (word ∷ rest) = (more : List (List ℕ)) (command : Meant) → Spells (front ++ word ∷ more) command → ⊥
+abbrev pub NoneSpells : Stage → List (List ℕ) → List (List ℕ) → Type 0
+NoneSpells stage front [] = (command : Meant) → SpellsAt stage front command → ⊥
+NoneSpells stage front (word ∷ rest) = (more : List (List ℕ)) (command : Meant) → SpellsAt stage (front ++ word ∷ more) command → ⊥
 
--- The word of this number is the first after which no command can follow, or the number is one more than that of the words
--- where one is missing: the words before it begin those of a command.
-pub record IsMisfit (words : List (List ℕ)) (number : ℕ) : Type 0 where
+-- The word of this number is the first after which no command can follow that is there, or the number is one more than that
+-- of the words where one is missing: the words before it begin those of a command.
+pub record IsMisfitAt (stage : Stage) (words : List (List ℕ)) (number : ℕ) : Type 0 where
   pub front : List (List ℕ)
   pub rest : List (List ℕ)
   pub parts : words ≡ front ++ rest
   pub place : number ≡ length front + 1
   pub more : List (List ℕ)
   pub command : Meant
-  pub good : Spells (front ++ more) command
-  pub bad : NoneSpells front rest
+  pub good : SpellsAt stage (front ++ more) command
+  pub bad : NoneSpells stage front rest
+
+-- the first word after which no command can follow
+abbrev pub IsMisfit : List (List ℕ) → ℕ → Type 0
+IsMisfit words number = IsMisfitAt Whole words number

@@ -11,7 +11,7 @@ use sx_term::{NoMemory, Text};
 #[derive(Debug, Drop)]
 pub enum FileDefect {
     /// Words that are no command: the first word that does not fit, from 1.
-    Word(u32),
+    Word(u64),
     /// There is no such file.
     Absent,
     /// The file has more bytes than it may have.
@@ -42,7 +42,7 @@ pub(crate) fn put_file(
 {
     match defect {
         FileDefect::Word(n) => {
-            let n = number(alloc, u64::from(*n))?;
+            let n = number(alloc, *n)?;
             put(&[b"word ", n.as_str().as_bytes()], into)
         }
         FileDefect::Absent => put(&[b"absent"], into),

@@ -10,6 +10,7 @@ ghost use Rattle.std.specs.Str.{IsUtf8};
 use crate::audit::Audit;
 use crate::command::Command;
 use crate::given::{Given, option_of};
+use crate::stage::Stage;
 use crate::verb::Verb;
 use indexmap::IndexSet;
 use std::alloc::Global;
@@ -53,9 +54,38 @@ impl Options {
     }
 }
 
-/// Whether the command takes the option.
-fn takes(verb: Verb, option: &Given<'_>) -> bool
-    ensures { result ≡ spec.takes verb (given_view option.now) }
+/// Whether the option is there.
+fn has_option(stage: Stage, option: &Given<'_>) -> bool
+    ensures { result ≡ spec.has_option stage (given_view option.now) }
+{
+    match stage {
+        Stage::CoreGoals => matches!(option, Given::Core),
+        Stage::CoreFiles => matches!(option, Given::Core | Given::Tries(_)),
+        Stage::Whole => true,
+    }
+}
+
+/// Whether modules are there: where they are not, a command is on a core file.
+fn has_modules(stage: Stage) -> bool
+    ensures { result ≡ spec.has_modules stage }
+{
+    match stage {
+        Stage::CoreGoals => false,
+        Stage::CoreFiles => false,
+        Stage::Whole => true,
+    }
+}
+
+/// Whether the name may come after what was said.
+pub(crate) fn may_end(stage: Stage, said: &Options) -> bool
+    ensures { result ≡ spec.may_end stage (settings_view said.now) }
+{
+    has_modules(stage) || said.core
+}
+
+/// Whether the option goes with the command.
+fn goes_with(verb: Verb, option: &Given<'_>) -> bool
+    ensures { result ≡ spec.goes_with verb (given_view option.now) }
 {
     match verb {
         Verb::Build => true,
@@ -63,6 +93,13 @@ fn takes(verb: Verb, option: &Given<'_>) -> bool
         Verb::Check => matches!(option, Given::Tries(_)),
         Verb::Verify => matches!(option, Given::Core),
     }
+}
+
+/// Whether the command takes the option.
+fn takes(stage: Stage, verb: Verb, option: &Given<'_>) -> bool
+    ensures { result ≡ spec.takes stage verb (given_view option.now) }
+{
+    has_option(stage, option) && goes_with(verb, option)
 }
 
 /// Whether the option may stand after what was said.
@@ -81,14 +118,19 @@ fn is_new(said: &Options, option: &Given<'_>) -> bool
 
 /// The option that the word spells, where it may stand there.
 #[tactic(auto, unfolding(crate::specs::Reading::next_option))]
-pub(crate) fn option_after<'a>(verb: Verb, said: &Options, word: &'a [u8]) -> Option<Given<'a>>
+pub(crate) fn option_after<'a>(
+    stage: Stage,
+    verb: Verb,
+    said: &Options,
+    word: &'a [u8],
+) -> Option<Given<'a>>
     requires { HasKinds said.now }
-    ensures value { option_map given_view result ≡ next_option verb (settings_view said.now) word.entry.now }
+    ensures value { option_map given_view result ≡ next_option stage verb (settings_view said.now) word.entry.now }
     ensures utf8 { IsUtf8 word.entry.now → IfSome result IsGivenUtf8 }
 {
     match option_of(word) {
         Some(option) => {
-            if takes(verb, &option) && is_new(said, &option) {
+            if takes(stage, verb, &option) && is_new(said, &option) {
                 return Some(option);
             }
             None
@@ -109,13 +151,23 @@ fn utf8_text(alloc: Global, bytes: &[u8]) -> Result<Text, NoMemory>
     }
 }
 
+/// The place, where it is below 2^32. Words that many do not stand in memory.
+fn small_place(place: u64) -> Result<u32, NoMemory>
+    ensures { IfOk result (λ small. small ≡ place) }
+{
+    if place > u32::MAX as u64 {
+        return Err(NoMemory::Memory);
+    }
+    Ok(place as u32)
+}
+
 /// Says what the option at this place among the words says.
 #[tactic(auto, unfolding(crate::specs::Commands::with_option))]
 pub(crate) fn say(
     alloc: Global,
     said: &mut Options,
     option: Given<'_>,
-    place: u32,
+    place: u64,
 ) -> Result<(), NoMemory>
     requires utf8 { IsGivenUtf8 option }
     requires kinds { HasKinds said.old }
@@ -130,10 +182,11 @@ pub(crate) fn say(
             said.kinds.insert(Vec::from_slice(alloc, kind)?)?;
             let kind = utf8_text(alloc, kind)?;
             let setting = utf8_text(alloc, setting)?;
+            let word = small_place(place)?;
             said.audits.push(Audit {
                 kind,
                 setting,
-                word: place,
+                word,
             })?;
         }
     }

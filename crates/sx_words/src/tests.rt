@@ -13,15 +13,12 @@ fn words(rt: &HostRuntime, line: &[u8]) -> Result<Vec<Text>, Fail> {
 }
 
 /// The place of the first word that does not fit, or 0.
-fn misfit(rt: &HostRuntime, line: &[u8]) -> Result<u32, Fail> {
+fn misfit(rt: &HostRuntime, line: &[u8]) -> Result<u64, Fail> {
     let words = words(rt, line)?;
-    if words.len() > 100 {
-        return Ok(u32::MAX);
-    }
     match read_words(rt.alloc(), words.as_slice()) {
         Ok(_) => Ok(0),
         Err(WordsError::Words(place)) => Ok(place),
-        Err(WordsError::Memory) => Ok(u32::MAX),
+        Err(WordsError::Memory) => Ok(u64::MAX),
     }
 }
 
@@ -75,10 +72,42 @@ fn words_of_a_sample(rt: HostRuntime) -> Result<(), Fail> {
     Ok(())
 }
 
+/// The same, at an earlier stage.
+fn misfit_at(rt: &HostRuntime, stage: Stage, line: &[u8]) -> Result<u64, Fail> {
+    let words = words(rt, line)?;
+    match read_words_at(rt.alloc(), stage, words.as_slice()) {
+        Ok(_) => Ok(0),
+        Err(WordsError::Words(place)) => Ok(place),
+        Err(WordsError::Memory) => Ok(u64::MAX),
+    }
+}
+
+#[test]
+fn words_of_goals(rt: HostRuntime) -> Result<(), Fail> {
+    let stage = Stage::CoreGoals;
+    assert_eq!(rt; misfit_at(&rt, stage, b"build --core One")?, 0);
+    assert_eq!(rt; misfit_at(&rt, stage, b"verify One")?, 1);
+    assert_eq!(rt; misfit_at(&rt, stage, b"sample 1")?, 1);
+    assert_eq!(rt; misfit_at(&rt, stage, b"build One")?, 2);
+    assert_eq!(rt; misfit_at(&rt, stage, b"build --core --tries=5 One")?, 3);
+    assert_eq!(rt; misfit_at(&rt, stage, b"build --core One Two")?, 4);
+    Ok(())
+}
+
+#[test]
+fn words_of_core_files(rt: HostRuntime) -> Result<(), Fail> {
+    let stage = Stage::CoreFiles;
+    assert_eq!(rt; misfit_at(&rt, stage, b"build --tries=5 --core One")?, 0);
+    assert_eq!(rt; misfit_at(&rt, stage, b"verify --core One")?, 0);
+    assert_eq!(rt; misfit_at(&rt, stage, b"verify One")?, 2);
+    assert_eq!(rt; misfit_at(&rt, stage, b"build --tries=5 One")?, 3);
+    assert_eq!(rt; misfit_at(&rt, stage, b"build --core --nodes=5 One")?, 3);
+    Ok(())
+}
+
 #[test]
 fn a_command(rt: HostRuntime) -> Result<(), Fail> {
     let words = words(&rt, b"build --audit=bogus:1:2 --nodes=7 Main")?;
-    assert!(rt; words.len() == 4);
     let command = read_words(rt.alloc(), words.as_slice())
         .ok()
         .ok_or("a command")?;

@@ -12,7 +12,7 @@ pub enum WordsError {
     Memory,
     /// The number of the first word that does not fit, from 1, or one more than the number of words where one is missing.
     #[error("word {0}")]
-    Words(u32),
+    Words(u64),
 }
 
 impl From<AllocError> for WordsError {

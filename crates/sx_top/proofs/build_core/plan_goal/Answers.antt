@@ -18,4 +18,4 @@ pub returns-in-Err-clause-most : goal.returns-in-Err-clause-most
 returns-in-Err-clause-most g c = most_found (problem c.args.problem.now) c.in-Some.ensures.0 (named c.in-Some.rule.now) _ _ c.requires c.in-Some.ensures.1 c.in-Some.ensures.2
 
 pub returns-in-Ok-refuse-clause-step : goal.returns-in-Ok-refuse-clause-step
-returns-in-Ok-refuse-clause-step g c = plan_none c.args.name.now c.args.file.now (problem c.args.problem.now) c.in-Ok-refuse.refusal c.in-None.ensures.0 c.in-Ok-refuse.ensures
+returns-in-Ok-refuse-clause-step g c = plan_none c.args.name.now c.args.file.now (problem c.args.problem.now) c.in-Ok-refuse.stop c.in-None.ensures.0 c.in-Ok-refuse.ensures

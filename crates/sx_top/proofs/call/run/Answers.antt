@@ -1,9 +1,10 @@
+use Rattle.std.proofs.Common.{inl, inr}
 use Rattle.sx_top.specs.Ending.{Ends, KeepsPromise}
 use Rattle.sx_top.specs.Work.{plan_of}
 use Rattle.sx_top.specs.Performing.{Performs}
 use Rattle.sx_top.specs.Telling.{IsTold}
 use Rattle.sx_top.proofs.Writes.{both_goes, both_kept}
-use Rattle.sx_top.proofs.Endings.{ends_performed, ends_told, promise_kept, no_promise, never_done, counted, counted_none}
+use Rattle.sx_top.proofs.Endings.{ends_performed, ends_told, promise_kept, no_promise, never_done, counted, counted_none, told_read, told_write, told_short}
 use Rattle.sx_top.proofs.call.run.Goals as goal
 
 pub returns-in-Ok-clause-ends : goal.returns-in-Ok-clause-ends
@@ -31,3 +32,13 @@ returns-in-Err-clause-promise g c =
 
 pub returns-in-Err-clause-steps : goal.returns-in-Err-clause-steps
 returns-in-Err-clause-steps g c = λ files told. counted_none _ files c.tell.result c.in-Err.error _ _ (never_done c.in-Err.error c.tell.result _ _ c.tell.ensures.cause) (c.in-Err.ensures.tries files told)
+
+pub returns-in-Err-clause-read_fault : goal.returns-in-Err-clause-read_fault
+returns-in-Err-clause-read_fault g c = λ is. c.in-Err.ensures.reads.cause (told_read c.in-Err.error c.tell.result _ _ c.tell.ensures.cause is)
+
+pub returns-in-Err-clause-write_fault : goal.returns-in-Err-clause-write_fault
+returns-in-Err-clause-write_fault g c = λ is. elim (told_write c.in-Err.error c.tell.result _ _ c.tell.ensures.cause is) [ inl stopped ↦ absurd (c.in-Err.ensures.reads.never stopped) | inr rose ↦ inr rose ]
+
+pub returns-in-Err-clause-complete : goal.returns-in-Err-clause-complete
+returns-in-Err-clause-complete g c = λ files told none no_read no_write no_sink.
+    told_short c.args.words.now files c.in-Err.error c.tell.result _ _ _ _ (c.in-Err.ensures.outcome files told) c.tell.ensures.cause none c.in-Err.ensures.reads.cause no_read no_sink

@@ -45,7 +45,7 @@ loop-number-preserved c =
             leaves = subst (λ (l : List Term). Leaves (modes c.args.places.now) (map tree c.args.terms.now) (c.loop-number.number + 1) (map tree l) (map tree c.args.inputs.now)) (sym is)
                 (leaves_same (modes c.args.places.now) (map tree c.args.terms.now) c.loop-number.number (tree c.index-terms-number.result) (tree w.first-item.result) (map tree c.loop-number.rest.now) (map tree (drop 1 c.loop-number.rest.now)) (map tree c.args.inputs.now)
                 at (sym c.is_output.ensures ∙ w.if-not-is_output.true) first (w.same.ensures.0 w.if-not-same.false) c.loop-number.invariant.leaves);
-            rest_terms = subst (λ (l : List Term). AreTerms (map tree l)) (sym is) ((subst AreTerms first c.loop-number.invariant.rest_terms).2);
+            rest_terms = subst (λ (l : List Term). AreTerms (map tree l)) (sym is) ((subst AreTerms first c.loop-number.invariant.rest_terms).3);
           }
       | else-not-is_output w ↦
           let is : c.if-not-is_output.rest.now ≡ c.loop-number.rest.now = ap (λ r. r.now) w.rest-is in

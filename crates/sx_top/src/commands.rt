@@ -1,0 +1,41 @@
+//! The words, and the commands that there are by now.
+
+ghost use Rattle.std.specs.Prelude.{◌≡◌, IfOk};
+ghost use Rattle.sx_words.specs.View.{command_view};
+ghost use Rattle.sx_top.specs.Commands.{by_now as stage_by_now, Commands};
+ghost use Rattle.sx_top.specs.Refusal as refusals;
+ghost use Rattle.sx_top.specs.Stop.{Gives, IsNoFault};
+
+use crate::names::text_of;
+use crate::step_error::StepError;
+use crate::stop::{Stop, about};
+use std::alloc::Global;
+use sx_term::{NoMemory, Text};
+use sx_words::{Command, Defect, FileDefect, Stage, WordsError, read_words_at};
+
+/// Which commands there are by now. The one place that says so.
+fn by_now() -> Stage
+    ensures { result ≡ stage_by_now }
+{
+    Stage::CoreGoals
+}
+
+/// The refusal of words that are no command.
+fn bad_word(alloc: Global, place: u64) -> Result<Stop, NoMemory>
+    ensures { IfOk result (λ stop. stop ≡ refusals.bad_word place) }
+{
+    let file = text_of(alloc, "words")?;
+    Ok(about(file, Defect::File(FileDefect::Word(place))))
+}
+
+/// The command that the words spell, of those that there are by now.
+pub fn read_command(alloc: Global, words: &[Text]) -> Result<Command, StepError>
+    ensures step { Gives command_view (Commands words.now) result }
+    ensures no_fault { IsNoFault result }
+{
+    match read_words_at(alloc, by_now(), words) {
+        Ok(command) => Ok(command),
+        Err(WordsError::Memory) => Err(StepError::Memory),
+        Err(WordsError::Words(place)) => Err(StepError::Stopped(bad_word(alloc, place)?)),
+    }
+}

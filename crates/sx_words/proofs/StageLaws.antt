@@ -1,0 +1,38 @@
+-- What words may spell at a stage.
+use Rattle.std.proofs.Common.{◌≡◌, ℕ, true, List, refl, sym, ap, ◌∙◌, inl, inr}
+use Rattle.sx_words.specs.declared.stage.Stage.TheVariants.{CoreGoals}
+use Rattle.sx_words.specs.declared.verb.Verb.{Verb}
+use Rattle.sx_words.specs.declared.verb.Verb.TheVariants.{Build, Compile, Check, Verify}
+use Rattle.sx_words.specs.Commands.{AuditWord, Settings, Meant, builds, has_verb, may_end, or_most, meant, SpellsNamed, SpellsSample, SpellsAt}
+
+-- the command builds the goal of a core file
+pub record BuildsGoal (command : Meant) : Type 0 where
+  pub name : List ℕ
+  pub tries : ℕ
+  pub nodes : ℕ
+  pub audits : List AuditWord
+  pub is : command ≡ builds true name tries nodes audits
+
+verb_builds : (verb : Verb) (s : Settings) (name : List ℕ) (command : Meant) → has_verb CoreGoals verb ≡ true → may_end CoreGoals s ≡ true → command ≡ meant verb s name → BuildsGoal command
+unfolding meant
+verb_builds Build s name command there ends is = record {
+  name = name;
+  tries = or_most s.tries;
+  nodes = or_most s.nodes;
+  audits = s.audits;
+  is = is ∙ ap (λ core. builds core name (or_most s.tries) (or_most s.nodes) s.audits) ends;
+}
+verb_builds Compile s name command there ends is = absurd cc
+verb_builds Check s name command there ends is = absurd cc
+verb_builds Verify s name command there ends is = absurd cc
+
+by_name : (words : List (List ℕ)) (command : Meant) → SpellsNamed CoreGoals words command → BuildsGoal command
+by_name words command h = verb_builds h.verb _ h.name command h.there h.ends h.is
+
+by_size : (words : List (List ℕ)) (command : Meant) → SpellsSample CoreGoals words command → BuildsGoal command
+by_size words command h = let none = h.there in absurd cc
+
+-- where goals of core files alone are built, each command is one of these
+pub core_goals : (words : List (List ℕ)) (command : Meant) → SpellsAt CoreGoals words command → BuildsGoal command
+core_goals words command (inl h) = by_name words command h
+core_goals words command (inr h) = by_size words command h
