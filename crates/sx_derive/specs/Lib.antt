@@ -16,3 +16,5 @@ pub mod Walked
 pub mod Problems
 pub mod Quiet
 pub mod Asking
+pub mod Ways
+pub mod Descents
