@@ -26,3 +26,4 @@ pub mod Descending
 pub mod Asked
 pub mod Waying
 pub mod Descended
+pub mod Led

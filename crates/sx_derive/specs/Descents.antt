@@ -13,7 +13,7 @@ use Rattle.sx_arena.specs.declared.pairs.Pair.{Pair}
 use Rattle.sx_derive.specs.Candidates.{goal_in}
 use Rattle.sx_derive.specs.Quiet.{IsQuiet}
 use Rattle.sx_derive.specs.Store.{store_trees, store_envs}
-use Rattle.sx_derive.specs.Stuck.{Reason as ReasonData, no_rule, unequal, mismatch, Blame, path_of, rule_match, PremisesStuck, IsStuck}
+use Rattle.sx_derive.specs.Stuck.{Reason as ReasonData, no_rule, unequal, mismatch, Blame, path_of, rule_match, PremisesStuck, RulesStuck, IsStuck}
 use Rattle.sx_derive.specs.Walk.{goal_events}
 use Rattle.sx_derive.specs.declared.descent.Descent.{Descent}
 use Rattle.sx_derive.specs.declared.descent.Descent.TheVariants.{Stuck, Below}
@@ -51,6 +51,10 @@ module _ (modes subjects : Modes) (rules : List Rule) (hyps : Hypotheses) (budge
   -- the premises of a rule from a number on lead to the blame
   abbrev pub PremisesLead : ℕ → Rule → Goal → List ℕ → ℕ → List Premise → Assignment → Blame → Type 0
   PremisesLead r rule goal path k ps env blame = PremisesStuck modes subjects rules hyps (IsStuck modes subjects rules hyps levels) r rule goal path k ps env blame
+
+  -- the rules lead to the blame
+  abbrev pub RulesLead : Goal → List ℕ → Blame → Type 0
+  RulesLead goal path blame = RulesStuck modes subjects rules hyps (IsStuck modes subjects rules hyps levels) 0 rules goal path blame
 
   -- the blame is one that is led to, or whatever the goal below leads to is, and no stop stands among its events
   abbrev pub IsDescent : Store → (Blame → Type 0) → Descent → Type 0

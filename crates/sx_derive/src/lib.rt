@@ -2,6 +2,7 @@
 #![tactic(auto)]
 
 mod ask;
+mod candidate_descent;
 mod candidates;
 mod chains;
 mod derived;
