@@ -187,10 +187,10 @@ module _ (modes subjects : Modes) (rules : List Rule) (hyps : Hypotheses) (moded
               q.0,
               a.1,
               subst (λ (got_terms : List Tree). Leads (record { goal = spot_goal new kid; path = kid.path.items; reason = mismatch (Some (number, k)) got_terms })) x.2
-              (subst (λ (way : List ℕ). Leads (record { goal = spot_goal new kid; path = way; reason = mismatch (Some (number, k)) x.0.1 })) (sym p.path_is)
-              (subst (λ (y : Goal). Leads (record { goal = y; path = path_of subjects spot.path.items rule j; reason = mismatch (Some (number, k)) x.0.1 })) (sym q.1)
-              (d.leads (record { goal = asked_goal modes mid env j; path = path_of subjects spot.path.items rule j; reason = mismatch (Some (number, k)) x.0.1 })
-              (descend_mismatch modes subjects rules hyps moded levels budget number rule (spot_goal old spot) spot.path.items k rest (env_at (store_envs mid) env) j x.0 first_is m)))),
+                  (subst (λ (way : List ℕ). Leads (record { goal = spot_goal new kid; path = way; reason = mismatch (Some (number, k)) x.0.1 })) (sym p.path_is)
+                  (subst (λ (y : Goal). Leads (record { goal = y; path = path_of subjects spot.path.items rule j; reason = mismatch (Some (number, k)) x.0.1 })) (sym q.1)
+                  (d.leads (record { goal = asked_goal modes mid env j; path = path_of subjects spot.path.items rule j; reason = mismatch (Some (number, k)) x.0.1 })
+                  (descend_mismatch modes subjects rules hyps moded levels budget number rule (spot_goal old spot) spot.path.items k rest (env_at (store_envs mid) env) j x.0 first_is m)))),
             )
 
         pub answered_matched : (next : ℕ) → IsAnswered modes mid new env j (first_given (asked_events modes rules pairs hyps.judgements mid env levels j)) (Matched next) → D new (k + 1) rest next

@@ -1,11 +1,10 @@
 -- The first candidate of a goal, and where it leads.
-use Rattle.std.proofs.Common.{◌≡◌, ◌≢◌, ℕ, zero, suc, ◌+◌, ◌<◌, ◌≤◌, Bool, true, false, List, [], ◌∷◌, ◌++◌, ◌⊎◌, inl, inr, map, drop, length, get_or, Option, Some, None, Vec, refl, sym, ap, ◌∙◌, arith, subst}
+use Rattle.std.proofs.Common.{◌≡◌, ◌≢◌, ℕ, zero, suc, ◌+◌, ◌<◌, ◌≤◌, Bool, true, false, List, [], ◌∷◌, ◌++◌, ◌⊎◌, inl, inr, map, drop, length, Option, Some, None, Vec, refl, sym, ap, ◌∙◌, arith, subst}
 use Rattle.std.specs.Prelude.{slice_get, nat_eq, Result, Ok, Err, IfOk, OnOk}
 use Rattle.std.specs.declared.alloc.Global.{Global}
 use Rattle.std.proofs.lemmas.Bool.{cases_lt}
-use Rattle.sx_term.specs.Tree.{Tree}
 use Rattle.sx_rules.specs.Rules.{Judgement, Rule, Hypotheses}
-use Rattle.sx_rules.specs.Modes.{Modes, inputs_of, outputs_of, Goal, goal_of}
+use Rattle.sx_rules.specs.Modes.{Modes, inputs_of, Goal, goal_of}
 use Rattle.sx_arena.specs.Arena.{trees, tree_at, AreBelow}
 use Rattle.sx_arena.specs.Binds.{env_at, BindsGrow, IsFit}
 use Rattle.sx_arena.specs.Facts.{IsFact, AreFacts}
@@ -15,11 +14,11 @@ use Rattle.sx_arena.specs.declared.pairs.Pair.{Pair}
 use Rattle.sx_arena.proofs.Arenas.{distinct, below_more, maps_same}
 use Rattle.sx_arena.proofs.Growing.{extends-length}
 use Rattle.sx_derive.specs.Candidates.{goal_in}
-use Rattle.sx_derive.specs.Descents.{AreHyps, spot_goal, reason_in, ReasonBelow, PremisesLead, RulesLead, IsDescent, IsFirstRule, HasInputs, IsFirstFact}
-use Rattle.sx_derive.specs.Quiet.{count, IsQuiet}
+use Rattle.sx_derive.specs.Descents.{AreHyps, spot_goal, PremisesLead, RulesLead, IsDescent, IsFirstRule, HasInputs, IsFirstFact}
+use Rattle.sx_derive.specs.Quiet.{IsQuiet}
 use Rattle.sx_derive.specs.Store.{IsStore, Grows, store_trees, store_envs}
 use Rattle.sx_derive.specs.Stuck.{no_rule, mismatch, Blame, rule_match, PremisesStuck, RulesStuck, GivensStuck, IsStuck}
-use Rattle.sx_derive.specs.Walk.{Event, try, Answer, when, when_matched, then_each, conclude, premise_events, after_match, rule_events, rules_events, given_events, goal_events}
+use Rattle.sx_derive.specs.Walk.{Event, try, Answer, when, when_matched, conclude, premise_events, after_match, rule_events, rules_events, given_events, goal_events}
 use Rattle.sx_derive.specs.declared.descent.Descent.{Descent}
 use Rattle.sx_derive.specs.declared.descent.Descent.TheVariants.{Stuck, Below}
 use Rattle.sx_derive.specs.declared.descent.Reason.TheVariants.{NoRule, Mismatch}
@@ -245,7 +244,7 @@ module _ (modes subjects : Modes) (rules : List Rule) (hyps : Hypotheses) (level
         below,
         subst (λ is. AreBelow (length (store_trees s)) is) (sym e) (w (Unit {0})).0,
         subst (λ (z : Blame). GivensStuck modes subjects rules hyps (RulesStuck modes subjects rules hyps (IsStuck modes subjects rules hyps levels) 0 rules (spot_goal s spot) spot.path.items z) hyps.judgements (spot_goal s spot) spot.path.items z) same_blame
-        (w (RulesStuck modes subjects rules hyps (IsStuck modes subjects rules hyps levels) 0 rules (spot_goal s spot) spot.path.items c)).1,
+            (w (RulesStuck modes subjects rules hyps (IsStuck modes subjects rules hyps levels) 0 rules (spot_goal s spot) spot.path.items c)).1,
       )
 
   pub stuck_at_rules : IsFirstFact spot.form spot.terms.items facts None → (blame : Blame) → RulesStuck modes subjects rules hyps (IsStuck modes subjects rules hyps levels) 0 rules (spot_goal s spot) spot.path.items blame →
@@ -268,7 +267,7 @@ module _ (modes subjects : Modes) (rules : List Rule) (hyps : Hypotheses) (budge
         s.0,
         tt,
         subst (λ (q : Goal). RulesLead modes subjects rules hyps budget levels (spot_goal old spot) spot.path.items (record { goal = q; path = spot.path.items; reason = no_rule })) (sym s.1)
-        (none_leads modes subjects rules hyps budget levels new (spot_goal old spot) spot.path.items 0 rules f),
+            (none_leads modes subjects rules hyps budget levels new (spot_goal old spot) spot.path.items 0 rules f),
       )
 
   -- the rule that was found
@@ -306,5 +305,5 @@ module _ (modes subjects : Modes) (rules : List Rule) (hyps : Hypotheses) (budge
           (PremisesLead modes subjects rules hyps budget levels number rule (spot_goal new spot) spot.path.items 0 rule.premises (env_at (store_envs new) env))
           (RulesLead modes subjects rules hyps budget levels (spot_goal old spot) spot.path.items)
           (λ blame h. led.leads blame (subst (λ (r : Rule). PremisesLead modes subjects rules hyps budget levels number r (spot_goal old spot) spot.path.items 0 r.premises (env_at (store_envs new) env) blame) (sym same_rule)
-              (subst (λ (q : Goal). PremisesLead modes subjects rules hyps budget levels number rule q spot.path.items 0 rule.premises (env_at (store_envs new) env) blame) s.1 h)))
+          (subst (λ (q : Goal). PremisesLead modes subjects rules hyps budget levels number rule q spot.path.items 0 rule.premises (env_at (store_envs new) env) blame) s.1 h)))
           d x

@@ -27,3 +27,5 @@ pub mod Asked
 pub mod Waying
 pub mod Descended
 pub mod Led
+pub mod Sunk
+pub mod Told

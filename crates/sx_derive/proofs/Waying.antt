@@ -8,7 +8,6 @@ use Rattle.sx_term.specs.Term.{tree}
 use Rattle.sx_term.proofs.Kids.{trees, tree-at_node, trees-drop, trees-drop_all}
 use Rattle.sx_rules.specs.Modes.{outputs}
 use Rattle.sx_rules.specs.Deep.{AreShallow}
-use Rattle.sx_arena.specs.Places.{selected}
 use Rattle.sx_arena.proofs.Placed.{selected_more, selected_less, selected_none, maps_drop}
 use Rattle.sx_derive.specs.Stuck.{place_in, place_in_kids, first_place}
 use Rattle.sx_derive.specs.Ways.{IsWay}

@@ -1,6 +1,5 @@
 -- Where a goal without an answer leads: it is stuck, or a premise's goal leads on.
 use Rattle.std.specs.Prelude.{◌≡◌, ℕ, suc, ◌≤◌, List, [], ◌∷◌, ◌⊎◌, Option, Some, None, map, length}
-use Rattle.sx_term.specs.Tree.{Tree}
 use Rattle.sx_rules.specs.Rules.{Judgement, Premise, Rule, Hypotheses}
 use Rattle.sx_rules.specs.Modes.{Modes, Goal}
 use Rattle.sx_arena.specs.Arena.{tree_at, AreBelow}

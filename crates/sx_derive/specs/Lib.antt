@@ -18,3 +18,5 @@ pub mod Quiet
 pub mod Asking
 pub mod Ways
 pub mod Descents
+pub mod Blames
+pub mod Deriving

@@ -34,4 +34,3 @@ returns-in-None-clause-descent c =
     ok_weaker _ _ (λ d h hyps are. descent_weaker m su rs hyps c.args.budget c.args.levels c.descend_rules.new.store
     (RulesLead m su rs hyps c.args.budget c.args.levels (spot_goal s c.args.spot) c.args.spot.path.items) (IsStuck m su rs hyps (suc c.args.levels) (spot_goal s c.args.spot) c.args.spot.path.items)
     (λ blame r. stuck_at_rules m su rs hyps c.args.levels s c.args.facts.now c.args.pairs.now c.args.spot c.requires.store are c.requires.terms f blame r) d (h hyps are)) c.descend_rules.result c.descend_rules.ensures.descent
-

@@ -1,5 +1,4 @@
-use Rattle.std.proofs.Common.{subst, Some, None}
-use Rattle.sx_rules.specs.Rules.{Hypotheses}
+use Rattle.std.proofs.Common.{subst}
 use Rattle.sx_arena.specs.Views.{rules_of, modes_of, rule_of}
 use Rattle.sx_arena.proofs.Patterns.{ok_weaker}
 use Rattle.sx_derive.specs.Candidates.{goal_in}
@@ -92,4 +91,3 @@ returns-in-Some-clause-descent c =
     let f0 = subst (λ is. IsFirstRule m t (goal_in s c.args.spot.form is) 0 rs c.in_ok-first_rule.field-0) c.deref.ensures.value c.in_ok-first_rule.ensures.first in
     let f = subst (λ o. IsFirstRule m t (spot_goal s c.args.spot) 0 rs o) c.in-Some.is f0 in
     ok_weaker _ _ (λ d h hyps are. sought_leads m su rs hyps c.args.budget c.args.levels s t c.args.facts.now c.args.pairs.now c.args.spot are c.requires.terms g c.in-Some.number c.in-Some.env f (rule_of c.rule_at.result.now) c.rule_at.ensures c.descend_premises.new.store d (h hyps (hyps_stay m rs s t c.args.facts.now c.args.pairs.now hyps g are))) c.descend_premises.result c.descend_premises.ensures.descent
-

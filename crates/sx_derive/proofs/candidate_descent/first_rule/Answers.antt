@@ -1,4 +1,4 @@
-use Rattle.std.proofs.Common.{◌<◌, ◌≤◌, Some, None, length, subst, arith}
+use Rattle.std.proofs.Common.{subst, arith}
 use Rattle.std.proofs.lemmas.List.{length-map}
 use Rattle.sx_rules.specs.Views.{named}
 use Rattle.sx_arena.specs.Binds.{IsFit}
@@ -7,7 +7,7 @@ use Rattle.sx_arena.proofs.Ruled.{rule_found, rule_missing}
 use Rattle.sx_derive.specs.Candidates.{goal_in}
 use Rattle.sx_derive.specs.Store.{store_trees}
 use Rattle.sx_derive.specs.Stuck.{rule_match}
-use Rattle.sx_derive.proofs.Led.{leading_first, leading_below, rule_fits, rule_differs, rules_end, rule_within, not_within}
+use Rattle.sx_derive.proofs.Led.{leading_below, rule_fits, rule_differs, rules_end, rule_within, not_within}
 use Rattle.sx_derive.proofs.Resumed.{shallow_at}
 use Rattle.sx_derive.proofs.candidate_descent.first_rule.Goals as goal
 
@@ -74,4 +74,3 @@ returns-clause-first c =
     let rs = rules_of c.args.rules.now in
     let s = c.args.store.now in
     rules_end m rs c.args.form c.args.terms.now s c.requires.terms c.loop-rule.store c.loop-rule.store c.loop-rule.number c.loop-rule.invariant (not_within _ _ (rule_missing c.args.rules.now.rules.items c.loop-rule.number c.in_default.ensures))
-

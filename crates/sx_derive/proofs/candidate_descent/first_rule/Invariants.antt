@@ -1,4 +1,4 @@
-use Rattle.std.proofs.Common.{ℕ, ◌-◌, Option, drop, length}
+use Rattle.std.proofs.Common.{◌-◌, length}
 use Rattle.sx_arena.specs.Views.{rules_of, modes_of}
 use Rattle.sx_derive.specs.Candidates.{goal_in}
 use Rattle.sx_derive.proofs.Led.{Leading}

@@ -1,11 +1,10 @@
-use Rattle.std.proofs.Common.{map, [], None, true, Some, refl, sym, ap, subst, length, ◌+◌, ◌<◌, ◌≤◌, arith}
+use Rattle.std.proofs.Common.{map, [], None, true, refl, sym, subst, length, ◌+◌, ◌<◌, arith}
 use Rattle.sx_term.specs.Term.{tree}
 use Rattle.sx_rules.specs.Instances.{instance}
-use Rattle.sx_rules.specs.Rules.{Hypotheses}
 use Rattle.sx_arena.specs.Binds.{env_at}
 use Rattle.sx_arena.specs.Matching.{filled}
 use Rattle.sx_arena.specs.Places.{selected}
-use Rattle.sx_arena.specs.Views.{rule_of, rules_of, modes_of, premise_of, judgement_of}
+use Rattle.sx_arena.specs.Views.{rule_of, rules_of, modes_of, judgement_of}
 use Rattle.sx_arena.proofs.Placed.{held_as}
 use Rattle.sx_derive.specs.Asking.{asked_events, IsAnswered}
 use Rattle.sx_derive.specs.Descents.{spot_goal, PremisesLead, IsDescent}
@@ -15,7 +14,6 @@ use Rattle.sx_derive.specs.declared.descent.Descent.{Descent}
 use Rattle.sx_derive.specs.declared.descent.Descent.TheVariants.{Stuck, Below}
 use Rattle.sx_derive.specs.declared.descent.Reason.TheVariants.{Mismatch}
 use Rattle.sx_derive.specs.Ways.{subjects_of}
-use Rattle.sx_derive.specs.declared.store.Store.{Store}
 use Rattle.sx_derive.proofs.Premised.{IsShallowPremise, shallow_premise_at, drop_premise, drop_premises_end}
 use Rattle.sx_derive.proofs.Descended.{hyps_stay, for_hyps, descending_as, descending_at, apart_grown, apart_fails, apart_holds, ask_facts, ask_quiet, answered_below, answered_differs, answered_matched, end_grown, end_stuck}
 use Rattle.sx_derive.proofs.premise_descent.descend_premises.Goals as goal
@@ -152,8 +150,8 @@ loop-k-preserved c =
     let d = c.loop-k.invariant.1 in
     let l : c.loop-k.k < length c.args.rule.now.premises.items = (let a = c.loop-k-test.true in let b = c.len-k-end.ensures in let e = c.args.rule.now.premises.ok in omega arith) in
     elim c.match-index.branch [
-      in-Apart+in_ok-instances_apart-in-Apart+else-not-branch w ↦ (x, descending_at m su rs x c.facts.ensures.moded c.args.budget c.args.levels c.args.number r s c.args.facts.now c.args.pairs.now c.args.first c.args.spot c.requires.terms _ _ (c.loop-k.k + 1) _ _ _ w.store-is w.env-is (apart_holds m su rs x c.facts.ensures.moded c.args.budget c.args.levels c.args.number r s c.args.facts.now c.args.pairs.now c.args.first c.args.spot c.requires.terms c.loop-k.store (record { arena = w.instances_apart.new.arena; binds = c.loop-k.store.binds; kids = c.loop-k.store.kids; frames = c.loop-k.store.frames }) c.loop-k.k c.loop-k.env _ _ _ (descending_as m su rs x c.facts.ensures.moded c.args.budget c.args.levels c.args.number r s c.args.facts.now c.args.pairs.now c.args.first c.args.spot c.requires.terms c.loop-k.store c.loop-k.k c.loop-k.env _ _ (drop_premise _ c.loop-k.k _ _ l c.index.ensures w.in-Apart.is) d) _ w.in_ok-instances_apart-in-Apart.ensures refl refl refl w.if-not-branch.false))
-    | in-Holds+in_ok-next-in-Holds+in-Matched w ↦ (x, descending_at m su rs x c.facts.ensures.moded c.args.budget c.args.levels c.args.number r s c.args.facts.now c.args.pairs.now c.args.first c.args.spot c.requires.terms _ _ (c.loop-k.k + 1) _ _ _ w.store-is w.env-is (answered_matched m su rs x c.facts.ensures.moded c.args.budget c.args.levels c.args.number r s c.args.facts.now c.args.pairs.now c.args.first c.args.spot c.requires.terms c.loop-k.store w.ask.new.store c.loop-k.k c.loop-k.env _ (judgement_of w.in-Holds.judgement) (descending_as m su rs x c.facts.ensures.moded c.args.budget c.args.levels c.args.number r s c.args.facts.now c.args.pairs.now c.args.first c.args.spot c.requires.terms c.loop-k.store c.loop-k.k c.loop-k.env _ _ (drop_premise _ c.loop-k.k _ _ l c.index.ensures w.in-Holds.is) d) w.in_ok-next-in-Holds.ensures.grows w.in-Matched.next (subst (λ a. IsAnswered m c.loop-k.store w.ask.new.store c.loop-k.env (judgement_of w.in-Holds.judgement) (first_given (asked_events m rs c.args.pairs.now x.judgements c.loop-k.store c.loop-k.env c.args.levels (judgement_of w.in-Holds.judgement))) a) w.in-Matched.is (w.in_ok-next-in-Holds.ensures.answered x.judgements (hyps_stay m rs s c.loop-k.store c.args.facts.now c.args.pairs.now x d.grows d.are).facts_are))))
+      | in-Apart+in_ok-instances_apart-in-Apart+else-not-branch w ↦ (x, descending_at m su rs x c.facts.ensures.moded c.args.budget c.args.levels c.args.number r s c.args.facts.now c.args.pairs.now c.args.first c.args.spot c.requires.terms _ _ (c.loop-k.k + 1) _ _ _ w.store-is w.env-is (apart_holds m su rs x c.facts.ensures.moded c.args.budget c.args.levels c.args.number r s c.args.facts.now c.args.pairs.now c.args.first c.args.spot c.requires.terms c.loop-k.store (record { arena = w.instances_apart.new.arena; binds = c.loop-k.store.binds; kids = c.loop-k.store.kids; frames = c.loop-k.store.frames }) c.loop-k.k c.loop-k.env _ _ _ (descending_as m su rs x c.facts.ensures.moded c.args.budget c.args.levels c.args.number r s c.args.facts.now c.args.pairs.now c.args.first c.args.spot c.requires.terms c.loop-k.store c.loop-k.k c.loop-k.env _ _ (drop_premise _ c.loop-k.k _ _ l c.index.ensures w.in-Apart.is) d) _ w.in_ok-instances_apart-in-Apart.ensures refl refl refl w.if-not-branch.false))
+      | in-Holds+in_ok-next-in-Holds+in-Matched w ↦ (x, descending_at m su rs x c.facts.ensures.moded c.args.budget c.args.levels c.args.number r s c.args.facts.now c.args.pairs.now c.args.first c.args.spot c.requires.terms _ _ (c.loop-k.k + 1) _ _ _ w.store-is w.env-is (answered_matched m su rs x c.facts.ensures.moded c.args.budget c.args.levels c.args.number r s c.args.facts.now c.args.pairs.now c.args.first c.args.spot c.requires.terms c.loop-k.store w.ask.new.store c.loop-k.k c.loop-k.env _ (judgement_of w.in-Holds.judgement) (descending_as m su rs x c.facts.ensures.moded c.args.budget c.args.levels c.args.number r s c.args.facts.now c.args.pairs.now c.args.first c.args.spot c.requires.terms c.loop-k.store c.loop-k.k c.loop-k.env _ _ (drop_premise _ c.loop-k.k _ _ l c.index.ensures w.in-Holds.is) d) w.in_ok-next-in-Holds.ensures.grows w.in-Matched.next (subst (λ a. IsAnswered m c.loop-k.store w.ask.new.store c.loop-k.env (judgement_of w.in-Holds.judgement) (first_given (asked_events m rs c.args.pairs.now x.judgements c.loop-k.store c.loop-k.env c.args.levels (judgement_of w.in-Holds.judgement))) a) w.in-Matched.is (w.in_ok-next-in-Holds.ensures.answered x.judgements (hyps_stay m rs s c.loop-k.store c.args.facts.now c.args.pairs.now x d.grows d.are).facts_are))))
     ]
 
 pub returns-clause-grows : goal.returns-clause-grows
@@ -185,4 +183,3 @@ returns-clause-descent c =
     λ hyps are. for_hyps m s c.args.facts.now c.args.pairs.now x hyps d.are are
     (λ hs. IsDescent m su rs hs c.args.budget c.args.levels (record { arena = c.make_places.new.arena; binds = c.loop-k.store.binds; kids = c.loop-k.store.kids; frames = c.loop-k.store.frames }) (PremisesLead m su rs hs c.args.budget c.args.levels c.args.number r (spot_goal s c.args.spot) c.args.spot.path.items 0 r.premises (env_at (store_envs s) c.args.first)) (Stuck c.args.spot (Mismatch None c.in_ok-got.got)))
     (end_stuck m su rs x c.facts.ensures.moded c.args.budget c.args.levels c.args.number r s c.args.facts.now c.args.pairs.now c.args.first c.args.spot c.requires.terms c.loop-k.store (record { arena = c.make_places.new.arena; binds = c.loop-k.store.binds; kids = c.loop-k.store.kids; frames = c.loop-k.store.frames }) c.loop-k.k c.loop-k.env [] d' c.in_ok-got.got held refl refl refl)
-

@@ -1,4 +1,4 @@
-use Rattle.std.proofs.Common.{◌<◌, ◌≤◌, length, sym}
+use Rattle.std.proofs.Common.{sym}
 use Rattle.sx_arena.proofs.Placed.{get_at}
 use Rattle.sx_derive.specs.Ways.{subject_mask}
 use Rattle.sx_derive.proofs.Waying.{subject_found, subject_later, subject_none}
