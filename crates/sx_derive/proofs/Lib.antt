@@ -24,3 +24,8 @@ pub mod Quiet
 pub mod FirstFound
 pub mod Descending
 pub mod Asked
+pub mod Waying
+pub mod Descended
+pub mod Led
+pub mod Sunk
+pub mod Told

@@ -85,7 +85,7 @@ quiet_when : {A : Type 0} (n : ℕ) (b : Bool) (es : List (Event A)) → b ≡ t
 quiet_when n true es e q = q
 quiet_when n false es e q = cc
 
-quiet_matched : {A : Type 0} (n : ℕ) (m : Option Assignment) (f : Assignment → List (Event A)) (env : Assignment) → m ≡ Some env → IsQuiet n (when_matched m f) → IsQuiet n (f env)
+pub quiet_matched : {A : Type 0} (n : ℕ) (m : Option Assignment) (f : Assignment → List (Event A)) (env : Assignment) → m ≡ Some env → IsQuiet n (when_matched m f) → IsQuiet n (f env)
 quiet_matched n None f env e q = cc
 quiet_matched {A} n (Some more) f env e q = let same_env : more ≡ env = cc in subst (λ (x : Assignment). IsQuiet n (f x)) same_env q
 

@@ -2,7 +2,6 @@
 use Rattle.std.proofs.Common.{◌≡◌, ℕ, ◌+◌, ◌≤◌, List, [], ◌∷◌, ◌++◌, map, length, Option, Some, None, Vec, vec_len, refl, sym, ap, ◌∙◌, arith, subst}
 use Rattle.std.specs.declared.alloc.Global.{Global}
 use Rattle.std.proofs.lemmas.List.{length_push}
-use Rattle.sx_term.specs.Tree.{Tree}
 use Rattle.sx_arena.specs.Matching.{filled}
 use Rattle.sx_rules.specs.Rules.{Judgement, holds, Rule, Hypotheses, judgement_instance}
 use Rattle.sx_rules.specs.Modes.{Modes, inputs_of, outputs_of, goal_of}

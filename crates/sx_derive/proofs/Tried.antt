@@ -114,7 +114,7 @@ module _ (modes : Modes) (rules : List Rule) (pairs : List Pair) (s t : Store) (
           }
 
 -- numbers are the same just where the terms are
-terms_same : (ts : List Tree) → Distinct ts → (is ks : List ℕ) → AreBelow (length ts) is → AreBelow (length ts) ks → map (tree_at ts) is ≡ map (tree_at ts) ks → is ≡ ks
+pub terms_same : (ts : List Tree) → Distinct ts → (is ks : List ℕ) → AreBelow (length ts) is → AreBelow (length ts) ks → map (tree_at ts) is ≡ map (tree_at ts) ks → is ≡ ks
 terms_same ts d [] [] a b e = refl
 terms_same ts d [] (k ∷ ks) a b e = cc
 terms_same ts d (i ∷ is) [] a b e = cc

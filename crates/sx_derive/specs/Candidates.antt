@@ -1,14 +1,12 @@
 -- Hypotheses by their numbers, and what comes of a candidate.
-use Rattle.std.specs.Prelude.{◌≡◌, ℕ, List, [], ◌∷◌, map, length}
-use Rattle.sx_term.specs.Tree.{Tree}
+use Rattle.std.specs.Prelude.{ℕ, List, map}
 use Rattle.sx_rules.specs.Rules.{Judgement, Rule, Hypotheses}
-use Rattle.sx_rules.specs.Modes.{Modes, Goal, inputs_of, outputs_of}
+use Rattle.sx_rules.specs.Modes.{Modes, Goal}
 use Rattle.sx_derive.specs.Machine.{Result, answers}
-use Rattle.sx_arena.specs.declared.fact.Fact.{Fact}
 use Rattle.sx_arena.specs.declared.pairs.Pair.{Pair}
 use Rattle.sx_derive.specs.declared.step.Step.{Step}
 use Rattle.sx_derive.specs.declared.store.Store.{Store}
-use Rattle.sx_arena.specs.Arena.{tree_at, AreBelow}
+use Rattle.sx_arena.specs.Arena.{tree_at}
 use Rattle.sx_derive.specs.Handing.{hyps_in}
 use Rattle.sx_derive.specs.Store.{Grows, store_trees}
 use Rattle.sx_derive.specs.Step.{IsStep}

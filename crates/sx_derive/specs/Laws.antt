@@ -1,12 +1,11 @@
 -- What is proved of the walk, of the machine and of the stuck goal.
-use Rattle.std.specs.Prelude.{◌≤◌, ◌-◌, ◌≡◌, ◌↔◌, ℕ, suc, List, [], ◌∷◌, ◌++◌, ◌⊎◌, Option, Some, None}
+use Rattle.std.specs.Prelude.{◌≤◌, ◌-◌, ◌≡◌, ℕ, suc, List, [], ◌∷◌, ◌++◌, ◌⊎◌, Option, Some}
 use Rattle.sx_term.specs.Tree.{Tree}
 use Rattle.sx_rules.specs.Rules.{Judgement, Rule, Hypotheses}
 use Rattle.sx_rules.specs.Modes.{Modes, Goal, goal_of, outputs_of, AllModed}
 use Rattle.sx_rules.specs.Derivations.{height_of, AreShallow, HasShallowBinds, ShallowJudgements, Proof, Derives}
 use Rattle.sx_rules.specs.Orders.{order_of, IsBefore}
 use Rattle.sx_rules.specs.First.{Answer, DerivesGoal, AreWanted, IsFirst}
-use Rattle.sx_arena.specs.Matching.{Assignment, match, IsMatch}
 use Rattle.sx_derive.specs.Walk.{Event, try, give, goal_events, events}
 use Rattle.sx_derive.specs.Search.{EachGiven, IsReached, IsGivenBeforeStop, HasStop, found, exhausted, walk}
 use Rattle.sx_derive.specs.Stuck.{Blame, IsStuck}

@@ -16,3 +16,7 @@ pub mod Walked
 pub mod Problems
 pub mod Quiet
 pub mod Asking
+pub mod Ways
+pub mod Descents
+pub mod Blames
+pub mod Deriving

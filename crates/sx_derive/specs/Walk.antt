@@ -1,7 +1,7 @@
-use Rattle.std.specs.Prelude.{ℕ, zero, suc, ◌-◌, ◌&&◌, ◌||◌, Bool, true, false, List, [], ◌∷◌, ◌++◌, length, Option, Some, None, nat_eq, nat_lt}
-use Rattle.sx_term.specs.Tree.{Tree, lexeme, depth_of, size_of}
+use Rattle.std.specs.Prelude.{ℕ, zero, suc, ◌-◌, ◌&&◌, Bool, true, false, List, [], ◌∷◌, ◌++◌, length, Option, Some, None, nat_eq}
+use Rattle.sx_term.specs.Tree.{Tree}
 use Rattle.sx_rules.specs.Instances.{instance}
-use Rattle.sx_arena.specs.Matching.{same, same_all, Assignment, unbound, match_all, filled}
+use Rattle.sx_arena.specs.Matching.{same_all, Assignment, unbound, match_all, filled}
 use Rattle.sx_rules.specs.Rules.{Judgement, Premise, holds, apart, Rule, Hypotheses, judgement_instance}
 use Rattle.sx_rules.specs.Modes.{Modes, inputs_of, outputs_of, Goal, goal_of}
 use Rattle.sx_rules.specs.Derivations.{Proof, Proofs, by, given, no_more, ◌⊳◌}

@@ -2,21 +2,33 @@
 #![tactic(auto)]
 
 mod ask;
+mod blame;
+mod candidate_descent;
 mod candidates;
 mod chains;
+mod derivation;
+mod derive_error;
 mod derived;
+mod descent;
 mod export_proof;
 mod first;
 mod handing;
 mod laws;
+mod premise_descent;
 mod premise_loop;
 mod problem;
 mod step;
 mod store;
+mod stuck_goal;
+mod subject_way;
 mod tasks;
 mod turns;
 mod walk;
 
+pub use blame::{Blame, Cause};
+pub use derivation::derive;
+pub use derive_error::DeriveError;
+pub use derived::Derived;
 pub use laws::{
     answers_are_bounded, each_derivation_is_given, events_are_complete, events_are_in_order,
     events_are_sound, exhausted_has_no_stop, exhausted_means_none, found_is_first,

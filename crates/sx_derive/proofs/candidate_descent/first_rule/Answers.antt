@@ -1,0 +1,76 @@
+use Rattle.std.proofs.Common.{subst, arith}
+use Rattle.std.proofs.lemmas.List.{length-map}
+use Rattle.sx_rules.specs.Views.{named}
+use Rattle.sx_arena.specs.Binds.{IsFit}
+use Rattle.sx_arena.specs.Views.{rules_of, modes_of, rule_of}
+use Rattle.sx_arena.proofs.Ruled.{rule_found, rule_missing}
+use Rattle.sx_derive.specs.Candidates.{goal_in}
+use Rattle.sx_derive.specs.Store.{store_trees}
+use Rattle.sx_derive.specs.Stuck.{rule_match}
+use Rattle.sx_derive.proofs.Led.{leading_below, rule_fits, rule_differs, rules_end, rule_within, not_within}
+use Rattle.sx_derive.proofs.Resumed.{shallow_at}
+use Rattle.sx_derive.proofs.candidate_descent.first_rule.Goals as goal
+
+pub rule_fit-requires-clause-shallow : goal.rule_fit-requires-clause-shallow
+rule_fit-requires-clause-shallow c =
+    let m = modes_of c.args.rules.now in
+    let rs = rules_of c.args.rules.now in
+    let s = c.args.store.now in
+    let r = rule_of c.in-Some.rule.now in
+    let e = rule_found c.args.rules.now.rules.items c.loop-rule.number c.in-Some.rule.now c.in-Some.ensures in
+    shallow_at rs c.loop-rule.number r c.facts.ensures.shallow e
+
+pub rule_fit-requires-clause-terms : goal.rule_fit-requires-clause-terms
+rule_fit-requires-clause-terms c =
+    let m = modes_of c.args.rules.now in
+    let rs = rules_of c.args.rules.now in
+    let s = c.args.store.now in
+    leading_below m rs c.args.form c.args.terms.now s c.requires.terms c.loop-rule.store c.loop-rule.store c.loop-rule.number c.loop-rule.invariant
+
+pub returns-in-Some-2-clause-first : goal.returns-in-Some-2-clause-first
+returns-in-Some-2-clause-first c =
+    let m = modes_of c.args.rules.now in
+    let rs = rules_of c.args.rules.now in
+    let s = c.args.store.now in
+    let r = rule_of c.in-Some.rule.now in
+    let e = rule_found c.args.rules.now.rules.items c.loop-rule.number c.in-Some.rule.now c.in-Some.ensures in
+    rule_fits m rs c.args.form c.args.terms.now s c.requires.terms c.loop-rule.store c.rule_fit.new.store c.loop-rule.number c.loop-rule.invariant r e c.in_ok-env.ensures.grows c.in-Some-2.env (subst (λ x. IsFit (store_trees c.rule_fit.new.store) c.rule_fit.new.store.binds (rule_match m r (goal_in c.loop-rule.store c.args.form c.args.terms.now)) x) c.in-Some-2.is c.in_ok-env.ensures.fit)
+
+pub overflow_add-number : goal.overflow_add-number
+overflow_add-number c =
+    let m = modes_of c.args.rules.now in
+    let rs = rules_of c.args.rules.now in
+    let s = c.args.store.now in
+    let r = rule_of c.in-Some.rule.now in
+    let e = rule_found c.args.rules.now.rules.items c.loop-rule.number c.in-Some.rule.now c.in-Some.ensures in
+    let w = rule_within rs c.loop-rule.number r e in
+    let g = c.facts.ensures.good.0 in
+    let n = length-map c.args.rules.now.rules.items rule_of in
+    let k = length-map c.args.rules.now.rules.items named in
+    omega arith
+
+pub loop-rule-smaller : goal.loop-rule-smaller
+loop-rule-smaller c =
+    let m = modes_of c.args.rules.now in
+    let rs = rules_of c.args.rules.now in
+    let s = c.args.store.now in
+    let r = rule_of c.in-Some.rule.now in
+    let e = rule_found c.args.rules.now.rules.items c.loop-rule.number c.in-Some.rule.now c.in-Some.ensures in
+    let w = rule_within rs c.loop-rule.number r e in
+    omega arith
+
+pub loop-rule-preserved : goal.loop-rule-preserved
+loop-rule-preserved c =
+    let m = modes_of c.args.rules.now in
+    let rs = rules_of c.args.rules.now in
+    let s = c.args.store.now in
+    let r = rule_of c.in-Some.rule.now in
+    let e = rule_found c.args.rules.now.rules.items c.loop-rule.number c.in-Some.rule.now c.in-Some.ensures in
+    rule_differs m rs c.args.form c.args.terms.now s c.requires.terms c.loop-rule.store c.rule_fit.new.store c.loop-rule.number c.loop-rule.invariant r e c.in_ok-env.ensures.grows (subst (λ x. IsFit (store_trees c.rule_fit.new.store) c.rule_fit.new.store.binds (rule_match m r (goal_in c.loop-rule.store c.args.form c.args.terms.now)) x) c.in-None.is c.in_ok-env.ensures.fit)
+
+pub returns-clause-first : goal.returns-clause-first
+returns-clause-first c =
+    let m = modes_of c.args.rules.now in
+    let rs = rules_of c.args.rules.now in
+    let s = c.args.store.now in
+    rules_end m rs c.args.form c.args.terms.now s c.requires.terms c.loop-rule.store c.loop-rule.store c.loop-rule.number c.loop-rule.invariant (not_within _ _ (rule_missing c.args.rules.now.rules.items c.loop-rule.number c.in_default.ensures))

@@ -1,0 +1,27 @@
+-- Ways to variables, and the subjects of judgements.
+use Rattle.std.specs.Prelude.{◌≡◌, ℕ, Bool, true, false, List, [], ◌∷◌, ◌++◌, Option, Some, None, map}
+use Rattle.sx_term.specs.declared.term.Term.{Term}
+use Rattle.sx_term.specs.Tree.{Tree}
+use Rattle.sx_term.specs.Term.{tree}
+use Rattle.sx_rules.specs.declared.rule.Place.{Place}
+use Rattle.sx_rules.specs.declared.rule_set.RuleSet.{RuleSet}
+use Rattle.sx_rules.specs.Modes.{Modes}
+use Rattle.sx_rules.specs.Views.{is_sub, forms, subjects_in}
+
+-- which of the places are subjects
+abbrev pub subject_mask : List Place → List Bool
+subject_mask places = map (λ p. is_sub p.role) places
+
+-- for each form of the set, which of its places are subjects
+abbrev pub subjects_of : RuleSet → Modes
+subjects_of set = subjects_in (forms set.forms.items)
+
+-- the path is longer by the way, where there is one, and is else as before
+abbrev pub IsWay : List ℕ → List ℕ → Option (List ℕ) → Bool → Type 0
+IsWay old new None found = (found ≡ false) × (new ≡ old)
+IsWay old new (Some way) found = (found ≡ true) × (new ≡ old ++ way)
+
+-- the first of the terms, where there is one
+abbrev pub IsFirstTerm : List Tree → Option Term → Type 0
+IsFirstTerm ts None = ts ≡ []
+IsFirstTerm ts (Some t) = (rest : List Tree) × (ts ≡ tree t ∷ rest)

@@ -1,0 +1,176 @@
+//! The first candidate of a goal, and where it leads.
+
+ghost use Rattle.std.specs.Prelude.{◌≡◌, ℕ, suc, ◌^◌, ◌≤◌, ◌<◌, ◌↔◌, IsTrue, IfOk, length};
+ghost use Rattle.std.specs.Option.{option_map};
+ghost use Rattle.sx_term.specs.Term.{tree};
+ghost use Rattle.sx_rules.specs.Deep.{RuleIsShallow};
+ghost use Rattle.sx_rules.specs.Rules.{Hypotheses};
+ghost use Rattle.sx_arena.specs.Arena.{AreBelow};
+ghost use Rattle.sx_arena.specs.Binds.{IsFit};
+ghost use Rattle.sx_arena.specs.Views.{rules_of, modes_of, rule_of};
+ghost use Rattle.sx_derive.specs.Candidates.{goal_in};
+ghost use Rattle.sx_derive.specs.Descents.{AreHyps, spot_goal, RulesLead, IsDescent, IsFirstRule, HasInputs, IsFirstFact};
+ghost use Rattle.sx_derive.specs.Quiet.{IsQuiet};
+ghost use Rattle.sx_derive.specs.Store.{IsStore, Grows, store_trees};
+ghost use Rattle.sx_derive.specs.Stuck.{rule_match, IsStuck};
+ghost use Rattle.sx_derive.specs.Walk.{goal_events, rules_events};
+ghost use Rattle.sx_derive.specs.Ways.{subjects_of};
+
+use crate::descent::{Descent, Reason, Spot};
+use crate::premise_descent::descend_premises;
+use crate::store::Store;
+use std::alloc::Global;
+use sx_arena::{Fact, Pair, copied, fit_places, roles, rule_at, same_numbers};
+use sx_rules::{Rule, RuleSet};
+use sx_term::NoMemory;
+
+/// Whether the fact is of the form and has the inputs.
+fn has_inputs(fact: &Fact, form: u32, terms: &[usize]) -> bool
+    ensures { IsTrue result ↔ HasInputs form terms.now fact.now }
+{
+    if fact.form != form {
+        return false;
+    }
+    same_numbers(&fact.inputs, terms)
+}
+
+/// The first fact of the form with the inputs.
+fn first_fact<'a>(facts: &'a [Fact], form: u32, terms: &[usize]) -> Option<&'a Fact>
+    ensures { IsFirstFact form terms.entry.now facts.entry.now (option_map (λ f. f.now) result) }
+{
+    for i in 0..facts.len() {
+        let fact = &facts[i];
+        if has_inputs(fact, form, terms) {
+            return Some(fact);
+        }
+    }
+    None
+}
+
+/// The chain under which the rule's inputs are the terms, where the rule is of the form.
+fn rule_fit(
+    rules: &RuleSet,
+    rule: &Rule,
+    store: &mut Store,
+    form: u32,
+    terms: &[usize],
+) -> Result<Option<usize>, NoMemory>
+    requires shallow { RuleIsShallow (rule_of rule.now) }
+    requires store { IsStore (modes_of rules.now) (rules_of rules.now) store.old }
+    requires terms { AreBelow (length (store_trees store.old)) terms.now }
+    ensures grows { IfOk result (λ _. Grows (modes_of rules.now) (rules_of rules.now) store.old store.new) }
+    ensures fit { IfOk result (λ x. IsFit (store_trees store.new) store.new.binds (rule_match (modes_of rules.now) (rule_of rule.now) (goal_in store.old form terms.now)) x) }
+{
+    if rule.conclusion.form != form {
+        return Ok(None);
+    }
+    fit_places(
+        &store.arena,
+        &mut store.binds,
+        0,
+        roles(rules, rule.conclusion.form),
+        false,
+        &rule.conclusion.places,
+        terms,
+    )
+}
+
+/// The first rule of the form whose inputs match the terms, and the chain that states the match.
+fn first_rule(
+    rules: &RuleSet,
+    store: &mut Store,
+    form: u32,
+    terms: &[usize],
+) -> Result<Option<(u32, usize)>, NoMemory>
+    requires store { IsStore (modes_of rules.now) (rules_of rules.now) store.old }
+    requires terms { AreBelow (length (store_trees store.old)) terms.now }
+    ensures grows { IfOk result (λ _. Grows (modes_of rules.now) (rules_of rules.now) store.old store.new) }
+    ensures first { IfOk result (λ x. IsFirstRule (modes_of rules.now) store.new (goal_in store.old form terms.now) 0 (rules_of rules.now) x) }
+{
+    rules.facts();
+    let mut number: u32 = 0;
+    while let Some(rule) = rules.rule(number) {
+        match rule_fit(rules, rule, store, form, terms)? {
+            Some(env) => return Ok(Some((number, env))),
+            None => number += 1,
+        }
+    }
+    Ok(None)
+}
+
+/// Where the rules lead from a goal without an answer that is no hypothesis.
+fn descend_rules(
+    alloc: Global,
+    rules: &RuleSet,
+    facts: &[Fact],
+    pairs: &[Pair],
+    store: &mut Store,
+    spot: Spot,
+    levels: usize,
+    budget: u64,
+) -> Result<Descent, NoMemory>
+    requires few { length facts.now < 2 ^ 32 }
+    requires store { IsStore (modes_of rules.now) (rules_of rules.now) store.old }
+    requires terms { AreBelow (length (store_trees store.old)) spot.terms.items }
+    requires quiet { (hyps : Hypotheses) × AreHyps (modes_of rules.now) store.old facts.now pairs.now hyps
+        × IsQuiet budget (rules_events (modes_of rules.now) hyps (goal_events (modes_of rules.now) (rules_of rules.now) hyps levels) 0 (rules_of rules.now) (spot_goal store.old spot)) }
+    ensures grows { IfOk result (λ _. Grows (modes_of rules.now) (rules_of rules.now) store.old store.new) }
+    ensures descent { IfOk result (λ d. (hyps : Hypotheses) → AreHyps (modes_of rules.now) store.old facts.now pairs.now hyps →
+        IsDescent (modes_of rules.now) (subjects_of rules.now) (rules_of rules.now) hyps budget levels store.new
+        (RulesLead (modes_of rules.now) (subjects_of rules.now) (rules_of rules.now) hyps budget levels (spot_goal store.old spot) spot.path.items) d) }
+{
+    rules.facts();
+    match first_rule(rules, store, spot.form, &spot.terms)? {
+        None => Ok(Descent::Stuck {
+            spot,
+            reason: Reason::NoRule,
+        }),
+        Some((number, env)) => descend_premises(
+            alloc,
+            rules,
+            facts,
+            pairs,
+            store,
+            rule_at(rules, number),
+            number,
+            env,
+            spot,
+            levels,
+            budget,
+        ),
+    }
+}
+
+/// Where a goal without an answer leads.
+pub(crate) fn descend(
+    alloc: Global,
+    rules: &RuleSet,
+    facts: &[Fact],
+    pairs: &[Pair],
+    store: &mut Store,
+    spot: Spot,
+    levels: usize,
+    budget: u64,
+) -> Result<Descent, NoMemory>
+    requires few { length facts.now < 2 ^ 32 }
+    requires store { IsStore (modes_of rules.now) (rules_of rules.now) store.old }
+    requires terms { AreBelow (length (store_trees store.old)) spot.terms.items }
+    requires quiet { (hyps : Hypotheses) × AreHyps (modes_of rules.now) store.old facts.now pairs.now hyps
+        × IsQuiet budget (goal_events (modes_of rules.now) (rules_of rules.now) hyps (suc levels) (spot_goal store.old spot)) }
+    ensures grows { IfOk result (λ _. Grows (modes_of rules.now) (rules_of rules.now) store.old store.new) }
+    ensures descent { IfOk result (λ d. (hyps : Hypotheses) → AreHyps (modes_of rules.now) store.old facts.now pairs.now hyps →
+        IsDescent (modes_of rules.now) (subjects_of rules.now) (rules_of rules.now) hyps budget levels store.new
+        (IsStuck (modes_of rules.now) (subjects_of rules.now) (rules_of rules.now) hyps (suc levels) (spot_goal store.old spot) spot.path.items) d) }
+{
+    rules.facts();
+    match first_fact(facts, spot.form, &spot.terms) {
+        Some(fact) => {
+            let got = copied(alloc, &fact.outputs)?;
+            Ok(Descent::Stuck {
+                spot,
+                reason: Reason::Mismatch { by: None, got },
+            })
+        }
+        None => descend_rules(alloc, rules, facts, pairs, store, spot, levels, budget),
+    }
+}

@@ -1,0 +1,125 @@
+//! The stuck goal of a goal without an answer.
+
+ghost use Rattle.std.specs.Prelude.{◌≡◌, ℕ, ◌^◌, ◌≤◌, ◌<◌, [], IfOk, length, None};
+ghost use Rattle.sx_rules.specs.Deep.{AreShallow};
+ghost use Rattle.sx_rules.specs.Derivations.{ShallowJudgements};
+ghost use Rattle.sx_rules.specs.Rules.{Hypotheses};
+ghost use Rattle.sx_rules.specs.Views.{goal as goal_of, hypotheses};
+ghost use Rattle.sx_arena.specs.Arena.{IsArena, AreBelow};
+ghost use Rattle.sx_arena.specs.Entered.{ArePairsShallow};
+ghost use Rattle.sx_arena.specs.Views.{rules_of, modes_of};
+ghost use Rattle.sx_derive.specs.Blames.{blame_of, cause_of};
+ghost use Rattle.sx_derive.specs.Descents.{AreHyps, spot_goal, reason_in, ReasonBelow, blame_in};
+ghost use Rattle.sx_derive.specs.Quiet.{IsQuiet};
+ghost use Rattle.sx_derive.specs.Store.{IsStore, store_trees};
+ghost use Rattle.sx_derive.specs.Stuck.{IsStuck};
+ghost use Rattle.sx_derive.specs.Walk.{goal_events, events};
+ghost use Rattle.sx_derive.specs.Ways.{subjects_of};
+
+use crate::blame::{Blame, Cause};
+use crate::candidate_descent::descend;
+use crate::descent::{Descent, Reason, Spot};
+use crate::problem::{Problem, enter_problem};
+use crate::store::Store;
+use std::alloc::Global;
+use sx_arena::{Fact, Pair, export_all};
+use sx_rules::{Goal, Hyps, RuleSet};
+use sx_term::{NoMemory, Path};
+
+/// The cause with these numbers.
+fn export_cause(alloc: Global, store: &Store, reason: Reason) -> Result<Cause, NoMemory>
+    requires arena { IsArena store.now.arena }
+    requires reason { ReasonBelow (length (store_trees store.now)) reason }
+    ensures { IfOk result (λ c. cause_of c ≡ reason_in store.now reason) }
+{
+    match reason {
+        Reason::NoRule => Ok(Cause::NoRule),
+        Reason::Equal { rule, premise } => Ok(Cause::Equal { rule, premise }),
+        Reason::Mismatch { by, got } => Ok(Cause::Mismatch {
+            by,
+            got: export_all(alloc, &store.arena, &got)?,
+        }),
+    }
+}
+
+/// The stuck goal with these numbers.
+fn export_blame(alloc: Global, store: &Store, spot: Spot, reason: Reason) -> Result<Blame, NoMemory>
+    requires arena { IsArena store.now.arena }
+    requires terms { AreBelow (length (store_trees store.now)) spot.terms.items }
+    requires reason { ReasonBelow (length (store_trees store.now)) reason }
+    ensures { IfOk result (λ b. blame_of b ≡ blame_in store.now spot reason) }
+{
+    let inputs = export_all(alloc, &store.arena, &spot.terms)?;
+    let cause = export_cause(alloc, store, reason)?;
+    Ok(Blame {
+        goal: Goal {
+            form: spot.form,
+            inputs,
+        },
+        path: Path { steps: spot.path },
+        cause,
+    })
+}
+
+/// The stuck goal that a goal by its numbers leads to.
+fn stuck_from(
+    alloc: Global,
+    rules: &RuleSet,
+    facts: &[Fact],
+    pairs: &[Pair],
+    store: &mut Store,
+    spot: Spot,
+    levels: usize,
+    budget: u64,
+) -> Result<Blame, NoMemory>
+    requires few { length facts.now < 2 ^ 32 }
+    requires store { IsStore (modes_of rules.now) (rules_of rules.now) store.old }
+    requires terms { AreBelow (length (store_trees store.old)) spot.terms.items }
+    requires quiet { (hyps : Hypotheses) × AreHyps (modes_of rules.now) store.old facts.now pairs.now hyps
+        × IsQuiet budget (goal_events (modes_of rules.now) (rules_of rules.now) hyps levels (spot_goal store.old spot)) }
+    ensures { IfOk result (λ b. (hyps : Hypotheses) → AreHyps (modes_of rules.now) store.old facts.now pairs.now hyps →
+        IsStuck (modes_of rules.now) (subjects_of rules.now) (rules_of rules.now) hyps levels (spot_goal store.old spot) spot.path.items (blame_of b)) }
+{
+    let mut here = spot;
+    let mut left = levels;
+    while left > 0 {
+        left -= 1;
+        match descend(alloc, rules, facts, pairs, store, here, left, budget)? {
+            Descent::Stuck { spot, reason } => return export_blame(alloc, store, spot, reason),
+            Descent::Below(next) => here = next,
+        }
+    }
+    unreachable!()
+}
+
+/// The stuck goal of a goal without an answer, which is found by first answers and without counting a try.
+pub(crate) fn stuck_goal(
+    alloc: Global,
+    rules: &RuleSet,
+    given: &Hyps,
+    goal: &Goal,
+    budget: u64,
+) -> Result<Blame, NoMemory>
+    requires few { length given.now.holds.items < 2 ^ 32 }
+    requires holds { ShallowJudgements (hypotheses given.now).judgements }
+    requires apart { ArePairsShallow (hypotheses given.now).pairs }
+    requires goal { AreShallow (goal_of goal.now).terms }
+    requires quiet { IsQuiet budget (events (modes_of rules.now) (rules_of rules.now) (hypotheses given.now) (goal_of goal.now) 1) }
+    ensures { IfOk result (λ b. IsStuck (modes_of rules.now) (subjects_of rules.now) (rules_of rules.now) (hypotheses given.now) 3000 (goal_of goal.now) [] (blame_of b)) }
+{
+    let problem = enter_problem(alloc, rules, given, goal, None)?;
+    let Problem {
+        store,
+        facts,
+        pairs,
+        terms,
+        wanted: _,
+    } = problem;
+    let mut store = store;
+    let spot = Spot {
+        form: goal.form,
+        terms,
+        path: Vec::new(alloc),
+    };
+    stuck_from(alloc, rules, &facts, &pairs, &mut store, spot, 3000, budget)
+}
