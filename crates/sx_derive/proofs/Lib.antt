@@ -24,3 +24,5 @@ pub mod Quiet
 pub mod FirstFound
 pub mod Descending
 pub mod Asked
+pub mod Resuming
+pub mod Standing

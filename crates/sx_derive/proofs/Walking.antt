@@ -3,7 +3,6 @@ use Rattle.std.proofs.Common.{◌≡◌, ℕ, suc, ◌+◌, ◌-◌, ◌<◌, �
 use Rattle.std.specs.Prelude.{Vec, Result, Ok, Err}
 use Rattle.std.specs.declared.alloc.Global.{Global}
 use Rattle.sx_term.specs.declared.no_memory.NoMemory.{NoMemory}
-use Rattle.sx_term.specs.Tree.{Tree}
 use Rattle.sx_rules.specs.Rules.{Judgement, Rule}
 use Rattle.sx_rules.specs.Modes.{Modes}
 use Rattle.sx_derive.specs.Walk.{Event, try, Answer}
@@ -15,7 +14,7 @@ use Rattle.sx_derive.specs.declared.tasks.Task.{Task as TaskOf}
 use Rattle.sx_derive.specs.declared.tasks.Ending.{Ending as EndingOf}
 use Rattle.sx_derive.specs.declared.tasks.Ending.TheVariants.{Spent, Exhausted}
 use Rattle.sx_arena.specs.Arena.{AreBelow, Extends}
-use Rattle.sx_derive.specs.Candidates.{goal_in, IsFact, AreFacts}
+use Rattle.sx_derive.specs.Candidates.{goal_in, AreFacts}
 use Rattle.sx_derive.specs.Handing.{hyps_in}
 use Rattle.sx_derive.specs.Store.{IsStore, Grows, store_trees}
 use Rattle.sx_derive.specs.Tasks.{events_left, TasksFit, wanted_in, WantedBelow, IsEnding, IsOutcome}
@@ -23,7 +22,6 @@ use Rattle.sx_derive.specs.Turns.{IsPopped, IsTurn}
 use Rattle.sx_derive.specs.Walked.{events_in, IsWalked}
 use Rattle.sx_arena.proofs.Facts.{facts_stay}
 use Rattle.sx_arena.proofs.Arenas.{maps_same, below_more}
-use Rattle.sx_arena.proofs.Growing.{extends-length}
 use Rattle.sx_derive.proofs.Stored.{grows_same, grows_then}
 use Rattle.sx_derive.proofs.Tasked.{task_starts, facts_length}
 use Rattle.sx_derive.proofs.Turned.{events_try}

@@ -16,3 +16,4 @@ pub mod Walked
 pub mod Problems
 pub mod Quiet
 pub mod Asking
+pub mod Resumable

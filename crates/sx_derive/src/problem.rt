@@ -54,7 +54,7 @@ fn enter_wanted(
 }
 
 /// The problem in a new store.
-fn enter_problem(
+pub(crate) fn enter_problem(
     alloc: Global,
     rules: &RuleSet,
     given: &Hyps,
