@@ -90,6 +90,7 @@ impl Search {
         requires stands { CanGoOn (modes_of rules.now) (rules_of rules.now) (hypotheses given.now) self.old }
         ensures next { (es : List (Event Answer)) → Stands (modes_of rules.now) (rules_of rules.now) (hypotheses given.now) self.old es →
             IsNextOf (modes_of rules.now) (rules_of rules.now) (hypotheses given.now) budget steps.old steps.new es self.new result }
+        ensures goes_on { CanGoOn (modes_of rules.now) (rules_of rules.now) (hypotheses given.now) self.new }
         ensures failed { HasFailed self.old → HasFailed self.new × (result ≡ Err Memory) × (steps.new ≡ steps.old) }
     {
         match self.state {
