@@ -29,3 +29,5 @@ pub mod Descended
 pub mod Led
 pub mod Sunk
 pub mod Told
+pub mod Resuming
+pub mod Standing

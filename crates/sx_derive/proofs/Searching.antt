@@ -44,7 +44,7 @@ problem_is modes rules hyps terms wanted s a b c p h f q t w eb ek ef =
     }
 
 module _ (modes : Modes) (rules : List Rule) (hyps : Hypotheses) (form : ℕ) (terms : List Tree) (wanted : Option (List Tree)) (p : Problem) (h : IsProblem modes rules hyps terms wanted p) where
-  problem_events : events_in modes rules p.pairs.items hyps.judgements p.store 2999 form p.terms.items ≡ events modes rules hyps (record { form = form; terms = terms }) 1
+  pub problem_events : events_in modes rules p.pairs.items hyps.judgements p.store 2999 form p.terms.items ≡ events modes rules hyps (record { form = form; terms = terms }) 1
   unfolding events
   problem_events = λ i. goal_events modes rules (record { judgements = hyps.judgements; pairs = h.pairs_are i }) 3000 (record { form = form; terms = h.terms_are i })
 

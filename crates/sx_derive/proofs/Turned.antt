@@ -5,7 +5,7 @@ use Rattle.std.proofs.lemmas.Bool.{cases_lt}
 use Rattle.std.specs.declared.alloc.Global.{Global}
 use Rattle.sx_rules.specs.Rules.{Judgement, Rule, Hypotheses}
 use Rattle.sx_rules.specs.Modes.{Modes}
-use Rattle.sx_derive.specs.Walk.{depth_spent, Event, try, Answer}
+use Rattle.sx_derive.specs.Walk.{depth_spent, Event, try, give, stop, Answer}
 use Rattle.sx_derive.specs.Search.{walk, are_wanted, found_when, tries_of, tries_unless}
 use Rattle.sx_derive.specs.Machine.{Task, hypotheses_from, Result, nothing, stops, answers, goes_on, tasks_events, result_events}
 use Rattle.sx_derive.specs.declared.chains.Head.{Head}
@@ -142,6 +142,7 @@ module _ (modes : Modes) (rules : List Rule) (pairs : List Pair) (js : List Judg
       record {
         grows = x.grows;
         fits = left_fits;
+        meets = λ v. (_, q, sym left_is);
         outcome = λ left. (
           ap (walk (wanted_in old wanted) (suc left)) q ∙ ap (walk (wanted_in old wanted) left) (sym left_is),
           ap (tries_of (wanted_in old wanted) (suc left)) q ∙ ap (λ es. suc (tries_of (wanted_in old wanted) left es)) (sym left_is),
@@ -155,6 +156,7 @@ module _ (modes : Modes) (rules : List Rule) (pairs : List Pair) (js : List Judg
       record {
         grows = x.grows;
         fits = left_fits;
+        meets = λ v. (_, q, (r.0, r.1, ap (λ es. stop r.0 ∷ es) (sym left_is)));
         outcome = λ left. (
           (r.0, r.1, ap (walk (wanted_in old wanted) (suc left)) q),
           ap (tries_of (wanted_in old wanted) (suc left)) q,
@@ -168,6 +170,7 @@ module _ (modes : Modes) (rules : List Rule) (pairs : List Pair) (js : List Judg
       record {
         grows = x.grows;
         fits = left_fits;
+        meets = λ v. (_, q, ap (λ es. stop depth_spent ∷ es) (sym left_is));
         outcome = λ left. (ap (walk (wanted_in old wanted) (suc left)) q, ap (tries_of (wanted_in old wanted) (suc left)) q);
       }
 
@@ -189,6 +192,7 @@ module _ (modes : Modes) (rules : List Rule) (pairs : List Pair) (js : List Judg
       record {
         grows = x.grows;
         fits = k;
+        meets = λ v. (_, q, sym s);
         outcome = λ left. (
           ap (walk (wanted_in old wanted) (suc left)) q ∙ ap (walk (wanted_in old wanted) left) (sym s),
           ap (tries_of (wanted_in old wanted) (suc left)) q ∙ ap (λ es. suc (tries_of (wanted_in old wanted) left es)) (sym s),
@@ -208,6 +212,7 @@ module _ (modes : Modes) (rules : List Rule) (pairs : List Pair) (js : List Judg
         record {
           grows = x.grows;
           fits = left_fits;
+          meets = λ v. (_, q, (told.0, told.1, ap (λ es. give (answer_in new head outs.items) ∷ es) (sym left_is)));
           outcome = λ left. (
             (told.0, told.1, ap (walk (wanted_in old wanted) (suc left)) q ∙ ap (λ b. found_when b (answer_in new head outs.items) (walk (wanted_in old wanted) left (tasks_events modes rules hyps left_stack))) w),
             ap (tries_of (wanted_in old wanted) (suc left)) q ∙ ap (λ b. suc (tries_unless b (tries_of (wanted_in old wanted) left (tasks_events modes rules hyps left_stack)))) w,
@@ -220,6 +225,7 @@ module _ (modes : Modes) (rules : List Rule) (pairs : List Pair) (js : List Judg
         record {
           grows = x.grows;
           fits = left_fits;
+          meets = λ v. absurd (let e : true ≡ false = ap (λ u. are_wanted (wanted_in old u) (map (tree_at (store_trees new)) outs.items)) (sym v) ∙ w in cc);
           outcome = λ left. (
             ap (walk (wanted_in old wanted) (suc left)) q ∙ ap (λ b. found_when b (answer_in new head outs.items) (walk (wanted_in old wanted) left (tasks_events modes rules hyps left_stack))) w ∙ ap (walk (wanted_in old wanted) left) (sym left_is),
             ap (tries_of (wanted_in old wanted) (suc left)) q ∙ ap (λ b. suc (tries_unless b (tries_of (wanted_in old wanted) left (tasks_events modes rules hyps left_stack)))) w

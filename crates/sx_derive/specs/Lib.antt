@@ -20,3 +20,4 @@ pub mod Ways
 pub mod Descents
 pub mod Blames
 pub mod Deriving
+pub mod Resumable

@@ -12,11 +12,16 @@ mod derived;
 mod descent;
 mod export_proof;
 mod first;
+mod found;
 mod handing;
 mod laws;
 mod premise_descent;
 mod premise_loop;
 mod problem;
+mod reach;
+mod search;
+mod search_error;
+mod state;
 mod step;
 mod store;
 mod stuck_goal;
@@ -29,8 +34,11 @@ pub use blame::{Blame, Cause};
 pub use derivation::derive;
 pub use derive_error::DeriveError;
 pub use derived::Derived;
+pub use found::Found;
 pub use laws::{
     answers_are_bounded, each_derivation_is_given, events_are_complete, events_are_in_order,
     events_are_sound, exhausted_has_no_stop, exhausted_means_none, found_is_first,
     machine_makes_events, sample_is_found, stuck_goal_exists, stuck_goal_is_unique, walk_decides,
 };
+pub use search::Search;
+pub use search_error::SearchError;

@@ -1,0 +1,14 @@
+use Rattle.std.proofs.Common.{◌≡◌, ◌+◌, List, length}
+use Rattle.sx_rules.specs.Rules.{Judgement}
+use Rattle.sx_arena.specs.declared.pairs.Pair.{Pair}
+use Rattle.sx_derive.specs.declared.store.Store.{Store}
+use Rattle.sx_derive.specs.Resumable.{IsSettled}
+use Rattle.sx_arena.specs.Views.{rules_of, modes_of}
+use Rattle.sx_derive.proofs.reach.settle.Given as goal
+
+abbrev pub invariant-loop-tasks : goal.invariant-loop-tasks
+invariant-loop-tasks l = (pairs : List Pair) (js : List Judgement) (s : Store) → length js ≡ length l.facts →
+    IsSettled (modes_of l.rules) (rules_of l.rules) pairs js s (length l.facts + length (rules_of l.rules)) l.initial.tasks.items l.tasks.items
+
+abbrev pub decreases-loop-tasks : goal.decreases-loop-tasks
+decreases-loop-tasks l = length l.tasks.items

@@ -1,0 +1,93 @@
+//! The way of a search to what it comes to next.
+
+ghost use Rattle.std.specs.Prelude.{◌≡◌, ℕ, ◌+◌, ◌^◌, ◌≤◌, ◌<◌, ◌∷◌, ◌++◌, [], List, MatchBool, length};
+ghost use Rattle.sx_rules.specs.Rules.{Judgement};
+ghost use Rattle.sx_arena.specs.Pairs.{ArePairs};
+ghost use Rattle.sx_arena.specs.Views.{rules_of, modes_of};
+ghost use Rattle.sx_arena.specs.declared.pairs.Pair.{Pair as PairOf};
+ghost use Rattle.sx_derive.specs.Candidates.{AreFacts};
+ghost use Rattle.sx_derive.specs.Resumable.{IsReached, IsSettled};
+ghost use Rattle.sx_derive.specs.Store.{IsStore, store_trees};
+ghost use Rattle.sx_derive.specs.Tasks.{events_left, TasksFit};
+ghost use Rattle.sx_derive.specs.declared.store.Store.{Store as StoreOf};
+ghost use Rattle.sx_derive.specs.declared.tasks.Task.{Task as TaskOf};
+
+use crate::store::Store;
+use crate::tasks::{Ending, Task, is_candidate};
+use crate::turns::turn;
+use std::alloc::Global;
+use std::sync::ledger::Ledger;
+use sx_arena::{Fact, Pair};
+use sx_rules::RuleSet;
+use sx_term::{NoMemory, Steps};
+
+/// What a search comes to, and how many tries lead there.
+#[derive(Drop)]
+pub(crate) struct Reached {
+    pub(crate) ending: Ending,
+    pub(crate) tries: u64,
+}
+
+/// Whether a task has a candidate left; the tasks after the last such are dropped.
+fn settle(rules: &RuleSet, facts: &[Fact], tasks: &mut Vec<Task>) -> bool
+    ensures settled { (pairs : List PairOf) (js : List Judgement) (s : StoreOf) → length js ≡ length facts.now →
+        IsSettled (modes_of rules.now) (rules_of rules.now) pairs js s (length facts.now + length (rules_of rules.now)) tasks.old.items tasks.new.items }
+    ensures last { MatchBool result
+        ((front : List TaskOf) × (t : TaskOf) × (tasks.new.items ≡ front ++ t ∷ []) × (t.next < length facts.now + length (rules_of rules.now)))
+        (tasks.new.items ≡ []) }
+{
+    while tasks.len() > 0 {
+        if is_candidate(rules, facts, tasks[tasks.len() - 1].next) {
+            return true;
+        }
+        tasks.pop();
+    }
+    false
+}
+
+/// The next answer or stop of the tasks, or where the tries or the events end before it. Each try is counted.
+pub(crate) fn reach<L: Ledger>(
+    alloc: Global,
+    rules: &RuleSet,
+    facts: &[Fact],
+    pairs: &[Pair],
+    store: &mut Store,
+    tasks: &mut Vec<Task>,
+    budget: u64,
+    steps: &mut Steps<L>,
+) -> Result<Reached, NoMemory>
+    requires few { length facts.now < 2 ^ 32 }
+    requires facts { (js : List Judgement) × AreFacts (modes_of rules.now) (store_trees store.old) js facts.now }
+    requires store { IsStore (modes_of rules.now) (rules_of rules.now) store.old }
+    requires pairs { ArePairs (length (store_trees store.old)) pairs.now }
+    requires tasks { TasksFit (modes_of rules.now) (rules_of rules.now) store.old (length facts.now + length (rules_of rules.now)) tasks.old.items }
+    ensures { (js : List Judgement) → AreFacts (modes_of rules.now) (store_trees store.old) js facts.now →
+        IsReached (modes_of rules.now) (rules_of rules.now) pairs.now js (length facts.now + length (rules_of rules.now)) store.old store.new tasks.new.items budget steps.old steps.new
+        (events_left (modes_of rules.now) (rules_of rules.now) pairs.now js store.old tasks.old.items) result }
+{
+    let mut tries: u64 = 0;
+    while settle(rules, facts, tasks) {
+        if tries == budget {
+            return Ok(Reached {
+                ending: Ending::Spent,
+                tries,
+            });
+        }
+        match tasks.pop() {
+            None => unreachable!(),
+            Some(task) => {
+                tries += 1;
+                steps.tick();
+                match turn(alloc, rules, facts, pairs, store, &None, task, tasks) {
+                    Err(e) => return Err(e),
+                    Ok(None) => {}
+                    Ok(Some(ending)) => return Ok(Reached { ending, tries }),
+                }
+            }
+        }
+    }
+    Ok(Reached {
+        ending: Ending::Exhausted,
+        tries,
+    })
+}
