@@ -51,7 +51,7 @@ none_reached (try ∷ es) q e h = none_reached es q e h
 none_reached (stop c ∷ es) q e h = tt
 none_reached (give a ∷ es) q e h = cc
 
-first_least : (P : Answer → Type 0) (es : List (Event Answer)) (a : Answer) → first_given es ≡ Some a → EachGiven P es → P a
+pub first_least : (P : Answer → Type 0) (es : List (Event Answer)) (a : Answer) → first_given es ≡ Some a → EachGiven P es → P a
 first_least P [] a e s = cc
 first_least P (try ∷ es) a e s = first_least P es a e s
 first_least P (stop c ∷ es) a e s = cc

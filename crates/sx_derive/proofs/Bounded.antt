@@ -30,7 +30,7 @@ shallow_value s [] v h k = absurd h
 shallow_value s (t ∷ ts) v (inl h) k = let d = depth-instance s t v h in omega (arith, d, k.0)
 shallow_value s (t ∷ ts) v (inr h) k = shallow_value s ts v h k.1
 
-shallow_outputs : (bs : List Bool) (ts : List Tree) → AreShallow ts → AreShallow (outputs bs ts)
+pub shallow_outputs : (bs : List Bool) (ts : List Tree) → AreShallow ts → AreShallow (outputs bs ts)
 shallow_outputs [] ts h = tt
 shallow_outputs (b ∷ bs) [] h = tt
 shallow_outputs (true ∷ bs) (t ∷ ts) h = (h.0, shallow_outputs bs ts h.1)
@@ -42,7 +42,7 @@ term_shallow true c t r e = cc
 term_shallow false true t r e = cc
 term_shallow false false t r e = (refl, e)
 
-limit_shallow : (ts : List Tree) → limit_passed ts ≡ None → AreShallow ts
+pub limit_shallow : (ts : List Tree) → limit_passed ts ≡ None → AreShallow ts
 unfolding limit_passed
 limit_shallow [] e = tt
 limit_shallow (t ∷ ts) e =
@@ -88,7 +88,7 @@ given_unless : {A : Type 0} (P : A → Type 0) (c : Option Cause) (es : List (Ev
 given_unless P None es h = h refl
 given_unless P (Some c) es h = tt
 
-abbrev IsBoundedAnswer : ℕ → Answer → Type 0
+abbrev pub IsBoundedAnswer : ℕ → Answer → Type 0
 IsBoundedAnswer levels a = (height_of a.0 ≤ levels) × HasShallowBinds a.0 × AreShallow a.1
 
 abbrev IsBoundedEnd : ℕ → Assignment × Proofs → Type 0
@@ -138,7 +138,7 @@ module _ (modes : Modes) (rules : List Rule) (hyps : Hypotheses) (hyps_shallow :
       (λ e. ((omega arith, tt, shallow_outputs (modes j.form) j.places h.0), tt)))
       (givens_bounded levels (suc n) js goal h.1)
 
-  events_bounded : (levels : ℕ) (goal : Goal) → AreShallow goal.terms → EachGiven (IsBoundedAnswer levels) (goal_events modes rules hyps levels goal)
+  pub events_bounded : (levels : ℕ) (goal : Goal) → AreShallow goal.terms → EachGiven (IsBoundedAnswer levels) (goal_events modes rules hyps levels goal)
   unfolding goal_events
   events_bounded zero goal h = tt
   events_bounded (suc levels) goal h =

@@ -31,3 +31,5 @@ pub mod Sunk
 pub mod Told
 pub mod Resuming
 pub mod Standing
+pub mod BlameTexts
+pub mod BlameDepths

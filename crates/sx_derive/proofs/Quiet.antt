@@ -81,7 +81,7 @@ quiet_first n f es a e q = record {
   few = (let l = q.few in let k = count-first f es a e in omega arith);
 }
 
-quiet_when : {A : Type 0} (n : ℕ) (b : Bool) (es : List (Event A)) → b ≡ true → IsQuiet n (when b es) → IsQuiet n es
+pub quiet_when : {A : Type 0} (n : ℕ) (b : Bool) (es : List (Event A)) → b ≡ true → IsQuiet n (when b es) → IsQuiet n es
 quiet_when n true es e q = q
 quiet_when n false es e q = cc
 

@@ -9,6 +9,8 @@ use Rattle.sx_rules.specs.First.{Answer, DerivesGoal, AreWanted, IsFirst}
 use Rattle.sx_derive.specs.Walk.{Event, try, give, goal_events, events}
 use Rattle.sx_derive.specs.Search.{EachGiven, IsReached, IsGivenBeforeStop, HasStop, found, exhausted, walk}
 use Rattle.sx_derive.specs.Stuck.{Blame, IsStuck}
+use Rattle.sx_derive.specs.BlameTerms.{BlameHasTexts, BlameIsShallow}
+use Rattle.sx_rules.specs.Writable.{HaveTexts, JudgementsHaveTexts, RulesHaveTexts}
 use Rattle.sx_derive.specs.Machine.{Frame, Task, hypotheses_from, rules_from, tasks_events, result_events, given_result, rule_result}
 
 -- whatever is given among the events of a goal derives the goal with the outputs given
@@ -104,3 +106,16 @@ AnswersAreBounded =
     (modes : Modes) (rules : List Rule) (hyps : Hypotheses) → ShallowJudgements hyps.judgements →
     (goal : Goal) (depth : ℕ) → AreShallow goal.terms →
     EachGiven (λ a. (height_of a.0 ≤ 3001 - depth) × HasShallowBinds a.0 × AreShallow a.1) (events modes rules hyps goal depth)
+
+-- where the terms of rules, hypotheses and a goal have core texts, so have those of its stuck goal
+abbrev pub StuckGoalHasTexts : Type 0
+StuckGoalHasTexts =
+    (modes subjects : Modes) (rules : List Rule) (hyps : Hypotheses) → AllModed modes rules → RulesHaveTexts rules → JudgementsHaveTexts hyps.judgements →
+    (levels : ℕ) (goal : Goal) (path : List ℕ) (blame : Blame) → HaveTexts goal.terms → IsStuck modes subjects rules hyps levels goal path blame → BlameHasTexts blame
+
+-- where the terms of hypotheses and a goal are no deeper than 1,000 and no stop stands among its events, those of its stuck goal are no deeper
+abbrev pub StuckGoalIsShallow : Type 0
+StuckGoalIsShallow =
+    (modes subjects : Modes) (rules : List Rule) (hyps : Hypotheses) → AllModed modes rules → ShallowJudgements hyps.judgements →
+    (depth : ℕ) (goal : Goal) (path : List ℕ) (blame : Blame) → AreShallow goal.terms → (HasStop (events modes rules hyps goal depth) → ⊥) →
+    IsStuck modes subjects rules hyps (3001 - depth) goal path blame → BlameIsShallow blame

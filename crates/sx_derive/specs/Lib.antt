@@ -2,6 +2,7 @@ pub mod Walk
 pub mod Search
 pub mod Machine
 pub mod Stuck
+pub mod BlameTerms
 pub mod Samples
 pub mod Laws
 pub mod Chains

@@ -16,3 +16,4 @@ pub mod NameLaws
 pub mod Facts
 pub mod ListLaws
 pub mod TallyLaws
+pub mod Texts

@@ -11,6 +11,7 @@ use Rattle.sx_rules.specs.Orders.{Entry, order_of}
 use Rattle.sx_rules.specs.First.{Answer, DerivesGoal}
 use Rattle.sx_rules.specs.Discipline.{IsDisciplined, PlainHaveNoTyped, FormsFit}
 use Rattle.sx_rules.specs.Typed.{IsTypedInSubjects, TypedAreSubjects}
+use Rattle.sx_rules.specs.Writable.{HaveTexts, JudgementsHaveTexts, RulesHaveTexts}
 
 -- a derivation from hypotheses stays one when terms are put for the variables
 abbrev pub SubstitutionKeepsDerivations : Type 0
@@ -51,3 +52,9 @@ DisciplineSuffices =
     (modes subjects : Modes) (shapes : List Shape) (forms : FormSorts) → PlainHaveNoTyped shapes → FormsFit modes subjects forms →
     (rule : Rule) → RuleIsSorted shapes forms rule → IsModed modes rule → IsDisciplined subjects rule →
     IsTypedInSubjects subjects rule × TypedAreSubjects subjects rule
+
+-- where the terms of rules, hypotheses and a goal have core texts, so have the outputs of each derivation of the goal
+abbrev pub OutputsHaveTexts : Type 0
+OutputsHaveTexts =
+    (modes : Modes) (rules : List Rule) (hyps : Hypotheses) → AllModed modes rules → RulesHaveTexts rules → JudgementsHaveTexts hyps.judgements →
+    (goal : Goal) (answer : Answer) → HaveTexts goal.terms → DerivesGoal modes rules hyps goal answer → HaveTexts answer.1

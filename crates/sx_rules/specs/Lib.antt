@@ -18,6 +18,7 @@ pub mod First
 pub mod Sets
 pub mod ProofView
 pub mod Typed
+pub mod Writable
 pub mod DerivationLaws
 pub mod EntryView
 pub mod RuleNames

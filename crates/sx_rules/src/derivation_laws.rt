@@ -1,6 +1,6 @@
 //! What holds of derivations by any rules.
 
-ghost use Rattle.sx_rules.specs.DerivationLaws.{DerivationsAreSorted, OrderIsUnique, SubstitutionKeepsDerivations, GraftsAreDerivations, DisciplineSuffices};
+ghost use Rattle.sx_rules.specs.DerivationLaws.{DerivationsAreSorted, OrderIsUnique, SubstitutionKeepsDerivations, GraftsAreDerivations, DisciplineSuffices, OutputsHaveTexts};
 
 /// Where rules, hypotheses and the goal are well sorted, each derivation of the goal is well sorted.
 pub fn derivations_are_sorted()
@@ -25,4 +25,9 @@ pub fn grafts_are_derivations()
 /// In a well sorted, moded and disciplined rule variables of typed sorts stand in subjects alone, and each is the subject of a premise.
 pub fn discipline_suffices()
     ensures { DisciplineSuffices }
+{}
+
+/// Where the terms of rules, hypotheses and a goal have core texts, so have the outputs of each derivation of the goal.
+pub fn outputs_have_texts()
+    ensures { OutputsHaveTexts }
 {}

@@ -27,7 +27,7 @@ mod tests;
 
 pub use derivation_laws::{
     derivations_are_sorted, discipline_suffices, grafts_are_derivations, order_is_unique,
-    substitution_keeps_derivations,
+    outputs_have_texts, substitution_keeps_derivations,
 };
 pub use entry::Entry;
 pub use error::RuleError;
