@@ -17,3 +17,4 @@ pub mod NameLaws
 pub mod TableLaws
 pub mod Finding
 pub mod GrammarLaws
+pub mod NumberLaws

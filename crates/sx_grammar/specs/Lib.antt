@@ -16,3 +16,4 @@ pub mod Numbering
 pub mod Distinct
 pub mod Tables
 pub mod Told
+pub mod Known

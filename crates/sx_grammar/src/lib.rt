@@ -1,6 +1,7 @@
 //! Grammars: what they are made of, what it is to read tokens by them, and what stands in print.
 #![tactic(auto)]
 
+mod checks;
 mod cycle;
 mod distinct;
 mod empty_sorts;
@@ -14,6 +15,7 @@ mod labels_below;
 mod laws;
 mod names;
 mod numbered;
+mod numbering;
 mod production;
 mod shaping;
 mod sort_line;
