@@ -1,7 +1,6 @@
 -- The distinct texts of a list, one text after another.
-use Rattle.std.proofs.Common.{◌≡◌, ℕ, zero, suc, ◌+◌, ◌≤◌, List, [], ◌∷◌, ◌++◌, length, take, Bool, true, false, not, cond, ◌⊎◌, inl, inr, ⊎_elim, Some, sym, refl, ap, ◌∙◌, subst, arith, Contains, length-append}
+use Rattle.std.proofs.Common.{◌≡◌, ℕ, zero, suc, ◌+◌, ◌≤◌, List, [], ◌∷◌, ◌++◌, length, take, Bool, true, false, not, cond, ◌⊎◌, inl, inr, ⊎_elim, Some, sym, refl, ap, ◌∙◌, subst, arith, Contains}
 use Rattle.std.specs.Prelude.{filter, slice_get, Option, None, is_some, MatchOption}
-use Rattle.std.proofs.lemmas.List.Elements.{Contains-push, Contains-append_left, Contains-push_cases}
 use Rattle.sx_grammar.proofs.FirstLaws.{take_seam, contains_at}
 use Rattle.std.specs.Str.{bytes_eq}
 use Rattle.std.proofs.lemmas.Bool.{false≢true}
@@ -85,7 +84,7 @@ distinct_old (y ∷ xs) x has = ⊎_elim
     (λ there. ap (λ t. y ∷ filter (λ z. not (bytes_eq y z)) t) (distinct_old xs x there))
     (head_or_tail y xs x has)
 
-distinct_has : (xs : List Text) (x : Text) → Contains xs x → ¬ (¬ (Contains (distinct xs) x))
+pub distinct_has : (xs : List Text) (x : Text) → Contains xs x → ¬ (¬ (Contains (distinct xs) x))
 distinct_has [] x has new = absurd (omega (arith, has.1))
 distinct_has (y ∷ xs) x has new = ⊎_elim
     (λ same. new (subst (Contains (distinct (y ∷ xs))) same (at_head y (filter (λ z. not (bytes_eq y z)) (distinct xs)))))
@@ -98,7 +97,7 @@ distinct_from [] x has = has
 distinct_from (y ∷ xs) x has = ⊎_elim
     (λ same. subst (Contains (y ∷ xs)) same (at_head y xs))
     (λ there. let place = contains_place (filter (λ z. not (bytes_eq y z)) (distinct xs)) x there in
-        in_tail y xs x (distinct_from xs x (filter_at (λ z. not (bytes_eq y z)) (distinct xs) place.0 x place.1).0))
+    in_tail y xs x (distinct_from xs x (filter_at (λ z. not (bytes_eq y z)) (distinct xs) place.0 x place.1).0))
     (head_or_tail y (filter (λ z. not (bytes_eq y z)) (distinct xs)) x has)
 
 -- a new text goes last

@@ -1,13 +1,11 @@
 -- The first of a list with a property.
-use Rattle.std.proofs.Common.{◌≡◌, ℕ, zero, suc, ◌+◌, ◌<◌, ◌≤◌, List, [], ◌∷◌, ◌++◌, length, take, drop, get_or, Bool, true, false, not, cond, ◌⊎◌, inl, inr, ⊎_elim, Some, sym, refl, ap, ◌∙◌, subst, arith, Contains, add-one, length-take-le}
+use Rattle.std.proofs.Common.{◌≡◌, ℕ, zero, suc, ◌+◌, ◌<◌, ◌≤◌, List, [], ◌∷◌, ◌++◌, length, take, drop, get_or, true, false, not, ◌⊎◌, inl, inr, ⊎_elim, Some, sym, refl, ap, ◌∙◌, subst, arith, Contains, add-one}
 use Rattle.std.specs.Borrow.{Bor}
 use Rattle.std.specs.Prelude.{slice_get, None, Option, option_map, is_some, is_none, MatchOption}
 use Rattle.std.proofs.lemmas.Option.{slice_get-map, slice_get_read, slice_get_within, get_or_from_slice_get}
-use Rattle.std.specs.Str.{bytes_eq}
 use Rattle.std.proofs.lemmas.Bool.{false≢true}
 use Rattle.std.proofs.lemmas.List.{take_all, length-map}
 use Rattle.std.proofs.lemmas.List.Elements.{Contains-push_cases}
-use Rattle.std.proofs.lemmas.Slice.Eq.{bytes_eq-Decides}
 use Rattle.sx_term.specs.Cutting.{AreDistinct}
 use Rattle.sx_grammar.specs.Grammar.{Text}
 use Rattle.sx_grammar.specs.Parts.{texts}

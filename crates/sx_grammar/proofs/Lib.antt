@@ -18,3 +18,6 @@ pub mod TableLaws
 pub mod Finding
 pub mod GrammarLaws
 pub mod NumberLaws
+pub mod MixedLaws
+pub mod LevelLaws
+pub mod MakeLaws

@@ -1,5 +1,5 @@
 -- Numbered symbols, productions and brackets, one after another.
-use Rattle.std.proofs.Common.{◌≡◌, ℕ, zero, suc, ◌+◌, ◌<◌, List, [], ◌∷◌, ◌++◌, length, map, take, get_or, Some, sym, refl, ap, ◌∙◌, subst, Contains, ⊎_elim}
+use Rattle.std.proofs.Common.{◌≡◌, ℕ, zero, ◌+◌, ◌<◌, List, [], ◌∷◌, ◌++◌, length, map, take, get_or, Some, sym, ap, ◌∙◌, subst, Contains, ⊎_elim}
 use Rattle.std.specs.Prelude.{slice_get, Option}
 use Rattle.std.proofs.lemmas.List.{map-append}
 use Rattle.sx_grammar.specs.declared.numbered.NumberedSymbol.{NumberedSymbol}

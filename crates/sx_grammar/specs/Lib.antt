@@ -17,3 +17,4 @@ pub mod Distinct
 pub mod Tables
 pub mod Told
 pub mod Known
+pub mod Levels

@@ -13,10 +13,7 @@ use std::alloc::Global;
 use sx_term::Text;
 
 /// The brackets and literals in order, or BadLiteral.
-pub(crate) fn good_literals(
-    alloc: Global,
-    from: &GrammarParts,
-) -> Result<Vec<&Text>, GrammarError>
+pub(crate) fn good_literals(alloc: Global, from: &GrammarParts) -> Result<Vec<&Text>, GrammarError>
     ensures good { OnOk result (HasLiterals (parts from.now)) }
     ensures texts { IfOk result (λ v. texts v.items ≡ literals (parts from.now)) }
     ensures refused { IfErr result (IsRefused (parts from.now)) }

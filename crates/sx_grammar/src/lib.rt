@@ -3,6 +3,7 @@
 
 mod checks;
 mod cycle;
+mod cyclic;
 mod distinct;
 mod empty_sorts;
 mod firsts;
@@ -13,6 +14,9 @@ mod head;
 mod item;
 mod labels_below;
 mod laws;
+mod levels;
+mod make;
+mod mixing;
 mod names;
 mod numbered;
 mod numbering;
@@ -22,6 +26,7 @@ mod sort_line;
 mod standing;
 mod steps;
 mod symbol;
+mod tables;
 mod telling;
 
 pub use grammar::Grammar;
