@@ -9,6 +9,7 @@ ghost use Rattle.sx_grammar.specs.Grammar.{pair_of, HasLevels};
 ghost use Rattle.sx_grammar.specs.Parts.{parts, names, numbered};
 ghost use Rattle.sx_grammar.specs.Print.{BracketsWhereAsked};
 ghost use Rattle.sx_grammar.specs.Cyclic.{IsNotCyclic};
+ghost use Rattle.sx_grammar.specs.Cycles.{HaveSortsBelow, HavePartsBelow};
 ghost use Rattle.sx_grammar.specs.Made.{IsGrammar};
 ghost use Rattle.sx_grammar.specs.Tables.{literals_of, AreNumbered, HaveLiteralsBelow, IsNumberedPair, IsWithinLimits};
 ghost use Rattle.sx_grammar.specs.Told.{IsSortOf, IsLevelOf, shapes_of, HasLabelsBelow};
@@ -36,10 +37,12 @@ impl Grammar {
         &self.parts
     }
 
-    /// The productions with the numbers of their literals and sorts.
+    /// The productions with the numbers of their literals and sorts, which are those of literals and sorts of the grammar.
     pub fn productions(&self) -> &[NumberedProduction]
         ensures same { AreNumbered self.now.parts result.now }
         ensures below { HaveLiteralsBelow (length (literals_of self.now.parts)) result.now }
+        ensures sorts { HaveSortsBelow (length self.now.parts.sorts) result.now }
+        ensures parts { HavePartsBelow (length self.now.parts.sorts) result.now }
     {
         &self.productions
     }
