@@ -14,3 +14,7 @@ pub mod Numbered
 pub mod Cycles
 pub mod Numbering
 pub mod Distinct
+pub mod Tables
+pub mod Told
+pub mod Known
+pub mod Levels

@@ -1,29 +1,43 @@
 //! Grammars: what they are made of, what it is to read tokens by them, and what stands in print.
 #![tactic(auto)]
 
+mod checks;
 mod cycle;
+mod cyclic;
 mod distinct;
 mod empty_sorts;
 mod firsts;
+mod grammar;
 mod grammar_error;
 mod grammar_parts;
 mod head;
 mod item;
+mod labels_below;
 mod laws;
+mod levels;
+mod make;
+mod mixing;
+mod names;
 mod numbered;
+mod numbering;
 mod production;
+mod shaping;
 mod sort_line;
 mod standing;
 mod steps;
 mod symbol;
+mod tables;
+mod telling;
 
+pub use grammar::Grammar;
 pub use grammar_error::GrammarError;
 pub use grammar_parts::GrammarParts;
 pub use head::Head;
 pub use item::Item;
 pub use laws::{
-    answers_are_one, depth_is_bounded, inner_spans_are_found, items_are_read, kids_come_before,
-    prints_are_read, ranked_is_not_cyclic, spans_are_found, spans_are_read, tallies_are_counted,
+    answers_are_one, depth_is_bounded, grammars_have_brackets, inner_spans_are_found,
+    items_are_read, kids_come_before, prints_are_read, ranked_is_not_cyclic, spans_are_found,
+    spans_are_read, tallies_are_counted,
 };
 pub use numbered::{NumberedProduction, NumberedSymbol};
 pub use production::Production;
