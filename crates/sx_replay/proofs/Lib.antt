@@ -10,3 +10,4 @@ pub mod Followed
 pub mod Answered
 pub mod Started
 pub mod Alone
+pub mod Beginnings
