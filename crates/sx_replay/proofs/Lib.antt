@@ -1,0 +1,13 @@
+pub mod Passed
+pub mod Noting
+pub mod Completed
+pub mod Sounded
+pub mod Readers
+pub mod Premised
+pub mod Handed
+pub mod Tried
+pub mod Followed
+pub mod Answered
+pub mod Started
+pub mod Alone
+pub mod Beginnings

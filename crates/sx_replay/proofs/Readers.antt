@@ -1,0 +1,153 @@
+-- A reader grows by terms, bindings and rules that wait.
+use Rattle.std.proofs.Common.{◌≡◌, ℕ, zero, suc, ◌+◌, ◌≤◌, List, [], ◌∷◌, ◌++◌, drop, length, get_or, Some, refl, sym, ap, ◌∙◌, arith, subst}
+use Rattle.std.specs.Prelude.{slice_get}
+use Rattle.std.proofs.lemmas.Option.{get_or_from_slice_get}
+use Rattle.sx_rules.specs.Rules.{Judgement, holds, Rule}
+use Rattle.sx_rules.specs.Modes.{Modes, outputs_of}
+use Rattle.sx_rules.specs.Deep.{RuleIsShallow, RulesAreShallow}
+use Rattle.sx_arena.specs.Matching.{Assignment}
+use Rattle.sx_arena.specs.declared.arena.Arena.{Arena}
+use Rattle.sx_arena.specs.declared.binds.Binds.{Binds}
+use Rattle.sx_arena.specs.Grown.{Extends}
+use Rattle.sx_arena.specs.Arena.{trees, IsArena}
+use Rattle.sx_arena.specs.Binds.{envs, env_at, bind_step, IsBinds, BindsGrow}
+use Rattle.sx_arena.proofs.Growing.{extends-same, extends-is, extends-then, extends-length, grown-length}
+use Rattle.sx_arena.proofs.BindChains.{env_stays, envs_stay}
+use Rattle.sx_replay.specs.declared.reader.Waiting.{Waiting}
+use Rattle.sx_replay.specs.declared.reader.Reader.{Reader}
+use Rattle.sx_replay.specs.Machine.{Frame}
+use Rattle.sx_replay.specs.Reader.{reader_trees, reader_envs, patterns_of, no_rule, frame_of, stack_on, stack, WaitsAt, AreWaiting, IsReader, Grows}
+
+-- the number of chains
+pub envs_length : (r : Reader) → length (reader_envs r) ≡ length r.binds.cells.items
+envs_length r = grown-length (bind_step (reader_trees r)) r.binds.cells.items
+
+pub waits_later : (rules : List Rule) (m n : ℕ) → m ≤ n → (c : Waiting) → WaitsAt rules m c → WaitsAt rules n c
+waits_later rules m n l c w = let e = w.env in record { rule = w.rule; judgement = w.judgement; found = w.found; premise = w.premise; env = (omega arith) }
+
+pub waiting_later : (rules : List Rule) (m n : ℕ) → m ≤ n → (cs : List Waiting) → AreWaiting rules m cs → AreWaiting rules n cs
+waiting_later rules m n l [] h = tt
+waiting_later rules m n l (c ∷ cs) h = (waits_later rules m n l c h.0, waiting_later rules m n l cs h.1)
+
+pub waiting_one : (rules : List Rule) (n : ℕ) (cs : List Waiting) (c : Waiting) → AreWaiting rules n cs → WaitsAt rules n c → AreWaiting rules n (cs ++ c ∷ [])
+waiting_one rules n [] c h w = (w, tt)
+waiting_one rules n (x ∷ cs) c h w = (h.0, waiting_one rules n cs c h.1 w)
+
+pub waiting_front : (rules : List Rule) (n : ℕ) (cs : List Waiting) (c : Waiting) → AreWaiting rules n (cs ++ c ∷ []) → AreWaiting rules n cs × WaitsAt rules n c
+waiting_front rules n [] c h = (tt, h.0)
+waiting_front rules n (x ∷ cs) c h = let r = waiting_front rules n cs c h.1 in ((h.0, r.0), r.1)
+
+-- the stack with one rule more
+pub stack_one : (modes : Modes) (rules : List Rule) (es : List Assignment) (fs : List Frame) (cs : List Waiting) (c : Waiting) → stack_on modes rules es fs (cs ++ c ∷ []) ≡ frame_of modes rules es c ∷ stack_on modes rules es fs cs
+stack_one modes rules es fs [] c = refl
+stack_one modes rules es fs (x ∷ cs) c = stack_one modes rules es (frame_of modes rules es x ∷ fs) cs c
+
+pub stack_length : (modes : Modes) (rules : List Rule) (es : List Assignment) (fs : List Frame) (cs : List Waiting) → length (stack_on modes rules es fs cs) ≡ length fs + length cs
+stack_length modes rules es fs [] = omega arith
+stack_length modes rules es fs (c ∷ cs) = let r = stack_length modes rules es (frame_of modes rules es c ∷ fs) cs in omega arith
+
+-- more terms and bindings change no frame
+pub frame_stays : (modes : Modes) (rules : List Rule) (es ds : List Assignment) (c : Waiting) → Extends es ds → c.env ≤ length es → frame_of modes rules ds c ≡ frame_of modes rules es c
+frame_stays modes rules es ds c x l =
+    let rule = get_or rules c.rule no_rule in
+    let e = env_stays es ds x c.env l in
+    λ i. record { rule = rule; rest = drop (c.premise + 1) rule.premises; patterns = patterns_of modes (slice_get rule.premises c.premise); env = e i }
+
+pub stack_stays : (modes : Modes) (rules : List Rule) (es ds : List Assignment) (n : ℕ) → Extends es ds → n ≤ length es → (fs : List Frame) (cs : List Waiting) → AreWaiting rules n cs → stack_on modes rules ds fs cs ≡ stack_on modes rules es fs cs
+stack_stays modes rules es ds n x l fs [] h = refl
+stack_stays modes rules es ds n x l fs (c ∷ cs) h =
+    let w = h.0.env in
+    stack_stays modes rules es ds n x l (frame_of modes rules ds c ∷ fs) cs h.1
+    ∙ ap (λ (f : Frame). stack_on modes rules es (f ∷ fs) cs) (frame_stays modes rules es ds c x (omega arith))
+
+-- the frame that a waiting rule stands for
+pub frame_is : (modes : Modes) (rules : List Rule) (es : List Assignment) (j : Judgement) (c : Waiting) (rule : Rule) (env : Assignment) → slice_get rules c.rule ≡ Some rule → slice_get rule.premises c.premise ≡ Some (holds j) → env_at es c.env ≡ env →
+    frame_of modes rules es c ≡ record { rule = rule; rest = drop (c.premise + 1) rule.premises; patterns = outputs_of modes j; env = env }
+frame_is modes rules es j c rule env f g x =
+    let r = get_or_from_slice_get rules c.rule rule no_rule f in
+    let p = ap (patterns_of modes) g in
+    (λ i. record { rule = r i; rest = drop (c.premise + 1) (r i).premises; patterns = patterns_of modes (slice_get (r i).premises c.premise); env = x i })
+    ∙ (λ i. record { rule = rule; rest = drop (c.premise + 1) rule.premises; patterns = p i; env = env })
+
+pub grows_same : (rules : List Rule) (r : Reader) → IsReader rules r → Grows rules r r
+grows_same rules r h = record { reader = h; trees = extends-same (reader_trees r); envs = extends-same (reader_envs r) }
+
+pub grows_then : (rules : List Rule) (a b c : Reader) → Grows rules a b → Grows rules b c → Grows rules a c
+grows_then rules a b c p q = record {
+  reader = q.reader;
+  trees = extends-then (reader_trees a) (reader_trees b) (reader_trees c) p.trees q.trees;
+  envs = extends-then (reader_envs a) (reader_envs b) (reader_envs c) p.envs q.envs;
+}
+
+-- bindings that were there
+pub env_later : (rules : List Rule) (s t : Reader) → Grows rules s t → (env : ℕ) → env ≤ length s.binds.cells.items → (env ≤ length t.binds.cells.items) × (env_at (reader_envs t) env ≡ env_at (reader_envs s) env)
+env_later rules s t g env l =
+    let a = envs_length s in
+    let b = envs_length t in
+    let x = extends-length (reader_envs s) (reader_envs t) g.envs in
+    ((omega arith), env_stays (reader_envs s) (reader_envs t) g.envs env (omega arith))
+
+pub binds_more : (rules : List Rule) (s t : Reader) → Grows rules s t → length s.binds.cells.items ≤ length t.binds.cells.items
+binds_more rules s t g =
+    let a = envs_length s in
+    let b = envs_length t in
+    let x = extends-length (reader_envs s) (reader_envs t) g.envs in
+    omega arith
+
+-- rules that waited, with more terms and bindings
+pub stack_later : (modes : Modes) (rules : List Rule) (s t : Reader) → IsReader rules s → Extends (reader_envs s) (reader_envs t) → t.waiting.items ≡ s.waiting.items → stack modes rules t ≡ stack modes rules s
+stack_later modes rules s t h x e =
+    let a = envs_length s in
+    ap (stack_on modes rules (reader_envs t) []) e ∙ stack_stays modes rules (reader_envs s) (reader_envs t) (length s.binds.cells.items) x (omega arith) [] s.waiting.items h.waiting
+
+-- more terms
+pub grows_terms : (rules : List Rule) (s t : Reader) → IsReader rules s → IsArena t.arena → Extends (reader_trees s) (reader_trees t) → t.binds ≡ s.binds → t.waiting.items ≡ s.waiting.items → Grows rules s t
+grows_terms rules s t h a x b w =
+    let st = envs_stay (reader_trees s) (reader_trees t) x s.binds h.binds in
+    let n : length t.binds.cells.items ≡ length s.binds.cells.items = ap (λ (y : Binds). length y.cells.items) b in
+    record {
+      reader = record {
+        arena = a;
+        binds = subst (λ (y : Binds). IsBinds (reader_trees t) y) (sym b) st.1;
+        waiting = subst (λ (cs : List Waiting). AreWaiting rules (length t.binds.cells.items) cs) (sym w) (waiting_later rules (length s.binds.cells.items) (length t.binds.cells.items) (omega arith) s.waiting.items h.waiting);
+      };
+      trees = x;
+      envs = extends-is (reader_envs s) (reader_envs t) (ap (envs (reader_trees t)) b ∙ st.0);
+    }
+
+-- more bindings
+pub grows_binds : (rules : List Rule) (s t : Reader) → IsReader rules s → BindsGrow (trees s.arena) s.binds t.binds → t.arena ≡ s.arena → t.waiting.items ≡ s.waiting.items → Grows rules s t
+grows_binds rules s t h g a w =
+    let m = envs_length s in
+    let n = grown-length (bind_step (reader_trees s)) t.binds.cells.items in
+    let x = extends-length (reader_envs s) (envs (reader_trees s) t.binds) g.extends in
+    record {
+      reader = record {
+        arena = subst (λ (y : Arena). IsArena y) (sym a) h.arena;
+        binds = subst (λ (y : Arena). IsBinds (trees y) t.binds) (sym a) g.binds;
+        waiting = subst (λ (cs : List Waiting). AreWaiting rules (length t.binds.cells.items) cs) (sym w) (waiting_later rules (length s.binds.cells.items) (length t.binds.cells.items) (omega arith) s.waiting.items h.waiting);
+      };
+      trees = extends-is (reader_trees s) (reader_trees t) (ap trees a);
+      envs = subst (λ (y : Arena). Extends (reader_envs s) (envs (trees y) t.binds)) (sym a) g.extends;
+    }
+
+-- one rule more that waits
+pub grows_waiting : (rules : List Rule) (s t : Reader) (c : Waiting) → IsReader rules s → WaitsAt rules (length s.binds.cells.items) c → t.arena ≡ s.arena → t.binds ≡ s.binds → t.waiting.items ≡ s.waiting.items ++ c ∷ [] → Grows rules s t
+grows_waiting rules s t c h w a b e =
+    let n : length t.binds.cells.items ≡ length s.binds.cells.items = ap (λ (y : Binds). length y.cells.items) b in
+    record {
+      reader = record {
+        arena = subst (λ (y : Arena). IsArena y) (sym a) h.arena;
+        binds = subst (λ (y : Arena). IsBinds (trees y) t.binds) (sym a) (subst (λ (y : Binds). IsBinds (reader_trees s) y) (sym b) h.binds);
+        waiting = subst (λ (cs : List Waiting). AreWaiting rules (length t.binds.cells.items) cs) (sym e)
+            (waiting_later rules (length s.binds.cells.items) (length t.binds.cells.items) (omega arith) (s.waiting.items ++ c ∷ []) (waiting_one rules (length s.binds.cells.items) s.waiting.items c h.waiting w));
+      };
+      trees = extends-is (reader_trees s) (reader_trees t) (ap trees a);
+      envs = extends-is (reader_envs s) (reader_envs t) (λ i. envs (trees (a i)) (b i));
+    }
+
+-- each rule of shallow rules is shallow
+pub shallow_rule : (rules : List Rule) (r : ℕ) (rule : Rule) → RulesAreShallow rules → slice_get rules r ≡ Some rule → RuleIsShallow rule
+shallow_rule [] r rule h e = cc
+shallow_rule (x ∷ rules) zero rule h e = let q : x ≡ rule = cc in subst RuleIsShallow q h.0
+shallow_rule (x ∷ rules) (suc r) rule h e = shallow_rule rules r rule h.1 e

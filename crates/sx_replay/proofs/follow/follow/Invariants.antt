@@ -1,0 +1,6 @@
+use Rattle.sx_arena.specs.Views.{rules_of, modes_of}
+use Rattle.sx_replay.proofs.Followed.{Following}
+use Rattle.sx_replay.proofs.follow.follow.Given as goal
+
+abbrev pub invariant-loop-i : goal.invariant-loop-i
+invariant-loop-i l = Following (modes_of l.rules) (rules_of l.rules) l.facts l.pairs l.initial.reader l.initial.form l.initial.terms.items l.list l.reader l.i l.form l.terms.items

@@ -1,0 +1,10 @@
+use Rattle.std.proofs.Common.{length}
+use Rattle.sx_arena.specs.Views.{rules_of, modes_of}
+use Rattle.sx_replay.proofs.Handed.{Handing}
+use Rattle.sx_replay.proofs.handing.hand_on.Given as goal
+
+abbrev pub invariant-loop-waiting : goal.invariant-loop-waiting
+invariant-loop-waiting l = Handing (modes_of l.rules) (rules_of l.rules) l.pairs l.initial.reader l.reader l.initial.outputs.items l.outputs.items
+
+abbrev pub decreases-loop-waiting : goal.decreases-loop-waiting
+decreases-loop-waiting l = length l.reader.waiting.items

@@ -1,0 +1,59 @@
+use Rattle.std.proofs.Common.{◌<◌, List, map, sym, ◌∙◌, subst, length, arith}
+use Rattle.sx_term.specs.Term.{tree}
+use Rattle.sx_rules.specs.Modes.{outputs}
+use Rattle.sx_rules.specs.Deep.{AreShallow}
+use Rattle.sx_arena.specs.Matching.{match_all}
+use Rattle.sx_arena.specs.Arena.{tree_at}
+use Rattle.sx_arena.specs.Binds.{env_at}
+use Rattle.sx_arena.specs.Views.{rules_of, modes_of, rule_of, judgement_of}
+use Rattle.sx_arena.proofs.Patterns.{ok_weaker}
+use Rattle.sx_replay.specs.Reader.{reader_trees, reader_envs}
+use Rattle.sx_replay.proofs.Readers.{shallow_rule}
+use Rattle.sx_replay.proofs.Premised.{IsShallowPremise, shallow_premise_at}
+use Rattle.sx_replay.proofs.Handed.{waits_at, holds_at, bound_grows, resumed_none, resumed_more}
+use Rattle.sx_replay.proofs.handing.resume.Goals as goal
+
+pub fit_places-requires-clause-shallow : goal.fit_places-requires-clause-shallow
+fit_places-requires-clause-shallow c =
+    let x = waits_at _ _ _ c.requires.waits _ c.rule_at-rule.ensures in
+    let l = holds_at c.rule_at-rule.result.now.premises.items c.args.waiting.premise _ _ _ x.1 c.index.ensures c.in-Holds.is in
+    let r = shallow_rule _ _ _ c.requires.shallow c.rule_at-rule.ensures in
+    subst (λ (xs : List _). AreShallow (map tree xs)) (sym c.deref.ensures.value) (subst IsShallowPremise c.in-Holds.is (shallow_premise_at _ r.1 c.args.waiting.premise _ l.0 c.index.ensures))
+
+pub overflow_add-waiting : goal.overflow_add-waiting
+overflow_add-waiting c =
+    let x = waits_at _ _ _ c.requires.waits _ c.rule_at-rule.ensures in
+    let l : c.args.waiting.premise < length c.rule_at-rule.result.now.premises.items = (holds_at c.rule_at-rule.result.now.premises.items c.args.waiting.premise _ _ _ x.1 c.index.ensures c.in-Holds.is).0 in
+    let k = c.rule_at-rule.result.now.premises.ok in
+    omega arith
+
+pub premises-requires-clause-shallow : goal.premises-requires-clause-shallow
+premises-requires-clause-shallow c = shallow_rule _ _ _ c.requires.shallow c.rule_at-rule.ensures
+
+pub premises-requires-clause-reader : goal.premises-requires-clause-reader
+premises-requires-clause-reader c =
+    let x = waits_at _ _ _ c.requires.waits _ c.rule_at-rule.ensures in
+    let l = holds_at c.rule_at-rule.result.now.premises.items c.args.waiting.premise _ _ _ x.1 c.index.ensures c.in-Holds.is in
+    (bound_grows (modes_of c.args.rules.now) (rules_of c.args.rules.now) c.args.pairs.now c.args.reader.now c.args.waiting (rule_of c.rule_at-rule.result.now) (judgement_of c.in-Holds.judgement) c.args.outputs.now
+    c.requires.reader c.rule_at-rule.ensures l.1 c.fit_places.new.binds c.in_ok-fit-in-Holds.ensures.grows).reader
+
+pub returns-in-None : goal.returns-in-None
+returns-in-None c =
+    let x = waits_at _ _ _ c.requires.waits _ c.rule_at-rule.ensures in
+    let l = holds_at c.rule_at-rule.result.now.premises.items c.args.waiting.premise _ _ _ x.1 c.index.ensures c.in-Holds.is in
+    let s = c.args.reader.now in
+    resumed_none (modes_of c.args.rules.now) (rules_of c.args.rules.now) c.args.pairs.now s c.args.waiting (rule_of c.rule_at-rule.result.now) (judgement_of c.in-Holds.judgement) c.args.outputs.now
+    c.requires.reader c.rule_at-rule.ensures l.1 c.fit_places.new.binds c.in_ok-fit-in-Holds.ensures.grows
+    ((λ i. match_all (outputs (sym c.roles.ensures i) (map tree (sym c.deref.ensures.value i))) (map (tree_at (reader_trees s)) c.args.outputs.now) (env_at (reader_envs s) c.args.waiting.env))
+    ∙ (rw c.in-None.is at c.in_ok-fit-in-Holds.ensures.fit))
+
+pub returns-in-Some : goal.returns-in-Some
+returns-in-Some c =
+    let x = waits_at _ _ _ c.requires.waits _ c.rule_at-rule.ensures in
+    let l = holds_at c.rule_at-rule.result.now.premises.items c.args.waiting.premise _ _ _ x.1 c.index.ensures c.in-Holds.is in
+    let s = c.args.reader.now in
+    let f = rw c.in-Some.is at c.in_ok-fit-in-Holds.ensures.fit in
+    ok_weaker _ _ (λ step p. resumed_more (modes_of c.args.rules.now) (rules_of c.args.rules.now) c.args.pairs.now s c.args.waiting (rule_of c.rule_at-rule.result.now) (judgement_of c.in-Holds.judgement) c.args.outputs.now
+    c.requires.reader c.rule_at-rule.ensures l.1 c.fit_places.new.binds c.in_ok-fit-in-Holds.ensures.grows c.premises.new.reader c.in-Some.env step
+    ((λ i. match_all (outputs (sym c.roles.ensures i) (map tree (sym c.deref.ensures.value i))) (map (tree_at (reader_trees s)) c.args.outputs.now) (env_at (reader_envs s) c.args.waiting.env)) ∙ f.1) p)
+    c.premises.result c.premises.ensures

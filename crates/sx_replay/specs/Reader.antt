@@ -1,0 +1,123 @@
+-- What the checker keeps, as plain data, and how it grows.
+use Rattle.std.specs.Prelude.{◌≡◌, ℕ, ◌+◌, ◌≤◌, Bool, List, [], ◌∷◌, map, drop, length, get_or, slice_get, Option, Some, None}
+use Rattle.sx_term.specs.Tree.{Tree}
+use Rattle.sx_rules.specs.Instances.{instance}
+use Rattle.sx_rules.specs.Rules.{Judgement, Premise, holds, apart, Rule, Hypotheses}
+use Rattle.sx_rules.specs.Modes.{Modes, outputs_of, Goal}
+use Rattle.sx_arena.specs.Matching.{Assignment, filled}
+use Rattle.sx_arena.specs.declared.pairs.Pair.{Pair}
+use Rattle.sx_arena.specs.Grown.{Extends}
+use Rattle.sx_arena.specs.Arena.{trees, tree_at, IsArena, AreBelow}
+use Rattle.sx_arena.specs.Binds.{envs, env_at, IsBinds}
+use Rattle.sx_arena.specs.Places.{selected, AreHeld}
+use Rattle.sx_arena.specs.Pairs.{pairs_of}
+use Rattle.sx_replay.specs.declared.reader.Waiting.{Waiting}
+use Rattle.sx_replay.specs.declared.reader.Reader.{Reader}
+use Rattle.sx_replay.specs.declared.noted.Noted.{Noted}
+use Rattle.sx_replay.specs.declared.step.Step.{Step}
+use Rattle.sx_replay.specs.declared.step.Step.TheVariants.{Clash, Done, Asks}
+use Rattle.sx_replay.specs.Limits.{note}
+use Rattle.sx_replay.specs.Machine.{Frame, Move, clash, ends, asks, premises_move, hand_on}
+
+-- the terms and the assignments by their numbers
+abbrev pub reader_trees : Reader → List Tree
+reader_trees r = trees r.arena
+
+abbrev pub reader_envs : Reader → List Assignment
+reader_envs r = envs (trees r.arena) r.binds
+
+-- the frame that a waiting rule stands for
+abbrev pub patterns_of : Modes → Option Premise → List Tree
+patterns_of modes None = []
+patterns_of modes (Some (holds j)) = outputs_of modes j
+patterns_of modes (Some (apart t u)) = []
+
+abbrev pub no_rule : Rule
+no_rule = record { sorts = []; premises = []; conclusion = record { form = 0; places = [] } }
+
+abbrev pub frame_at_rule : Modes → List Assignment → Rule → Waiting → Frame
+frame_at_rule modes es rule c = record {
+  rule = rule;
+  rest = drop (c.premise + 1) rule.premises;
+  patterns = patterns_of modes (slice_get rule.premises c.premise);
+  env = env_at es c.env;
+}
+
+abbrev pub frame_of : Modes → List Rule → List Assignment → Waiting → Frame
+frame_of modes rules es c = frame_at_rule modes es (get_or rules c.rule no_rule) c
+
+-- the frames of the waiting rules, the last rule's first
+abbrev pub stack_on : Modes → List Rule → List Assignment → List Frame → List Waiting → List Frame
+stack_on modes rules es fs [] = fs
+stack_on modes rules es fs (c ∷ cs) = stack_on modes rules es (frame_of modes rules es c ∷ fs) cs
+
+abbrev pub stack : Modes → List Rule → Reader → List Frame
+stack modes rules r = stack_on modes rules (reader_envs r) [] r.waiting.items
+
+-- the rule is there, and waits at a judgement premise, with bindings that are there
+pub record WaitsAt (rules : List Rule) (n : ℕ) (c : Waiting) : Type 0 where
+  pub rule : Rule
+  pub judgement : Judgement
+  pub found : slice_get rules c.rule ≡ Some rule
+  pub premise : slice_get rule.premises c.premise ≡ Some (holds judgement)
+  pub env : c.env ≤ n
+
+abbrev pub AreWaiting : List Rule → ℕ → List Waiting → Type 0
+AreWaiting rules n [] = Unit {0}
+AreWaiting rules n (c ∷ cs) = WaitsAt rules n c × AreWaiting rules n cs
+
+pub record IsReader (rules : List Rule) (r : Reader) : Type 0 where
+  pub arena : IsArena r.arena
+  pub binds : IsBinds (trees r.arena) r.binds
+  pub waiting : AreWaiting rules (length r.binds.cells.items) r.waiting.items
+
+-- what was named before stands for the same
+pub record Grows (rules : List Rule) (old new : Reader) : Type 0 where
+  pub reader : IsReader rules new
+  pub trees : Extends (reader_trees old) (reader_trees new)
+  pub envs : Extends (reader_envs old) (reader_envs new)
+
+-- the outputs of a judgement, or else its inputs, under bindings
+abbrev pub places_made : Modes → Bool → Assignment → Judgement → List Tree
+places_made modes outputs env j = selected outputs (modes j.form) (map (instance (filled env)) j.places)
+
+-- the terms are made and noted, and nothing else changes
+pub record IsMade (old new : Reader) (ts : List Tree) (is : List ℕ) : Type 0 where
+  pub held : AreHeld old.arena new.arena is ts
+  pub binds : new.binds ≡ old.binds
+  pub waiting : new.waiting ≡ old.waiting
+  pub noted : new.noted ≡ note old.noted ts
+
+-- the hypotheses, with the pairs by their numbers
+abbrev pub hyps_in : List Pair → Reader → List Judgement → Hypotheses
+hyps_in pairs r js = record { judgements = js; pairs = pairs_of (reader_trees r) pairs }
+
+-- a goal by its numbers
+abbrev pub goal_in : Reader → ℕ → List ℕ → Goal
+goal_in r form terms = record { form = form; terms = map (tree_at (reader_trees r)) terms }
+
+-- the step stands for the move, where next says what becomes of outputs; with outputs the rules that wait are those before
+abbrev pub IsStep : Modes → List Rule → List Waiting → Reader → (List Tree → Noted → Move) → Step → Move → Type 0
+IsStep modes rules cs r next Clash m = m ≡ clash
+IsStep modes rules cs r next (Done outs) m =
+    AreBelow (length (reader_trees r)) outs.items × (r.waiting.items ≡ cs) × (m ≡ next (map (tree_at (reader_trees r)) outs.items) r.noted)
+IsStep modes rules cs r next (Asks form terms) m =
+    AreBelow (length (reader_trees r)) terms.items × (m ≡ asks (goal_in r form terms.items) (stack modes rules r) r.noted)
+
+-- what comes of the premises
+pub record IsPremises (modes : Modes) (rules : List Rule) (pairs : List Pair) (old new : Reader) (rule : Rule) (env : ℕ) (ps : List Premise) (step : Step) : Type 0 where
+  pub grows : Grows rules old new
+  pub is : (js : List Judgement) (next : List Tree → Noted → Move) →
+      IsStep modes rules old.waiting.items new next step (premises_move modes (hyps_in pairs old js) next (stack modes rules old) rule ps (env_at (reader_envs old) env) old.noted)
+
+-- what comes of the outputs at a rule that waits for them
+pub record IsResumed (modes : Modes) (rules : List Rule) (pairs : List Pair) (old new : Reader) (c : Waiting) (outs : List ℕ) (step : Step) : Type 0 where
+  pub grows : Grows rules old new
+  pub is : (js : List Judgement) →
+      IsStep modes rules old.waiting.items new (hand_on modes (hyps_in pairs old js) (stack modes rules old)) step
+      (hand_on modes (hyps_in pairs old js) (frame_of modes rules (reader_envs old) c ∷ stack modes rules old) (map (tree_at (reader_trees old)) outs) old.noted)
+
+-- what comes of a candidate, or of outputs handed on, is the machine's move
+pub record IsMoved (modes : Modes) (rules : List Rule) (pairs : List Pair) (old new : Reader) (move : Hypotheses → Move) (step : Step) : Type 0 where
+  pub grows : Grows rules old new
+  pub is : (js : List Judgement) → IsStep modes rules [] new ends step (move (hyps_in pairs old js))

@@ -1,0 +1,17 @@
+//! The independent checker: it replays a derivation from its list of entries, without a search.
+#![tactic(auto)]
+
+mod entry;
+mod follow;
+mod handing;
+mod laws;
+mod noted;
+mod premise_loop;
+mod reader;
+mod replay_error;
+mod replaying;
+mod step;
+
+pub use laws::{beginnings_are_within, fronts_are_alone};
+pub use replay_error::ReplayError;
+pub use replaying::replay;

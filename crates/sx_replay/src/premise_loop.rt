@@ -1,0 +1,64 @@
+//! The premises of a rule.
+
+ghost use Rattle.std.specs.Prelude.{◌≡◌, ℕ, ◌≤◌, Some, IfOk, length, map, drop, slice_get};
+ghost use Rattle.sx_rules.specs.Deep.{RuleIsShallow};
+ghost use Rattle.sx_arena.specs.Pairs.{ArePairs};
+ghost use Rattle.sx_arena.specs.Views.{rule_of, rules_of, modes_of, premise_of};
+ghost use Rattle.sx_replay.specs.Reader.{IsReader, IsPremises, reader_trees};
+
+use crate::reader::{Reader, Waiting, make};
+use crate::step::Step;
+use std::alloc::Global;
+use sx_arena::{Pair, instances_apart};
+use sx_rules::{Premise, Rule, RuleSet};
+use sx_term::NoMemory;
+
+/// What comes of the premises from a number on.
+pub fn premises(
+    alloc: Global,
+    rules: &RuleSet,
+    rule: &Rule,
+    number: u32,
+    from: usize,
+    pairs: &[Pair],
+    reader: &mut Reader,
+    env: usize,
+) -> Result<Step, NoMemory>
+    requires found { slice_get (rules_of rules.now) number ≡ Some (rule_of rule.now) }
+    requires shallow { RuleIsShallow (rule_of rule.now) }
+    requires reader { IsReader (rules_of rules.now) reader.old }
+    requires pairs { ArePairs (length (reader_trees reader.old)) pairs.now }
+    requires env { env ≤ length reader.old.binds.cells.items }
+    ensures { IfOk result (λ step. IsPremises (modes_of rules.now) (rules_of rules.now) pairs.now reader.old reader.new (rule_of rule.now) env (drop from (map premise_of rule.now.premises.items)) step) }
+{
+    for k in from..rule.premises.len() {
+        match &rule.premises[k] {
+            Premise::Apart(first, second) => {
+                if !instances_apart(
+                    alloc,
+                    &mut reader.arena,
+                    &reader.binds,
+                    env,
+                    pairs,
+                    first,
+                    second,
+                )? {
+                    return Ok(Step::Clash);
+                }
+            }
+            Premise::Holds(judgement) => {
+                let terms = make(alloc, rules, judgement, false, reader, env)?;
+                reader.waiting.push(Waiting {
+                    rule: number,
+                    premise: k,
+                    env,
+                })?;
+                return Ok(Step::Asks {
+                    form: judgement.form,
+                    terms,
+                });
+            }
+        }
+    }
+    Ok(Step::Done(make(alloc, rules, &rule.conclusion, true, reader, env)?))
+}
