@@ -26,3 +26,4 @@ pub mod Descending
 pub mod Asked
 pub mod Resuming
 pub mod Standing
+pub mod Stopped
