@@ -33,3 +33,4 @@ pub mod Resuming
 pub mod Standing
 pub mod BlameTexts
 pub mod BlameDepths
+pub mod Stopped

@@ -121,3 +121,14 @@ IsReached modes rules pairs js candidates old new tasks budget first last es (Er
 pub record IsSettled (modes : Modes) (rules : List Rule) (pairs : List Pair) (js : List Judgement) (s : Store) (candidates : ℕ) (old new : List TaskOf) : Type 0 where
   pub same : events_left modes rules pairs js s old ≡ events_left modes rules pairs js s new
   pub fits : TasksFit modes rules s candidates old → TasksFit modes rules s candidates new
+
+-- where the next event is a stop, or none is left, a call answers so and makes no try
+pub record StopsStay (modes : Modes) (rules : List Rule) (hyps : Hypotheses) (budget first last : ℕ) (new : Search) (result : Result Found SearchError) : Type 0 where
+  pub depth : (rest : List (Event Answer)) → IsNextOf modes rules hyps budget first last (stop depth_spent ∷ rest) new result → (result ≡ Err (SpentDepth 3000)) × (last ≡ first)
+  pub deep : (n : ℕ) (rest : List (Event Answer)) → IsNextOf modes rules hyps budget first last (stop (too_deep n) ∷ rest) new result → (result ≡ Err (TooDeep (min n (2 ^ 64 - 1)))) × (last ≡ first)
+  pub big : (n : ℕ) (rest : List (Event Answer)) → IsNextOf modes rules hyps budget first last (stop (too_big n) ∷ rest) new result → (result ≡ Err (TooBig (min n (2 ^ 64 - 1)))) × (last ≡ first)
+  pub ended : IsNextOf modes rules hyps budget first last [] new result → (result ≡ Ok Ended) × (last ≡ first)
+
+abbrev pub SearchesStayStopped : Type 0
+SearchesStayStopped =
+    (modes : Modes) (rules : List Rule) (hyps : Hypotheses) (budget first last : ℕ) (new : Search) (result : Result Found SearchError) → StopsStay modes rules hyps budget first last new result

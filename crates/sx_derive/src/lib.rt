@@ -21,6 +21,7 @@ mod problem;
 mod reach;
 mod search;
 mod search_error;
+mod search_laws;
 mod state;
 mod step;
 mod store;
@@ -43,3 +44,4 @@ pub use laws::{
 };
 pub use search::Search;
 pub use search_error::SearchError;
+pub use search_laws::searches_stay_stopped;
