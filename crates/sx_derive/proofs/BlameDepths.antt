@@ -70,7 +70,7 @@ module _ (modes : Modes) (r : ℕ) (rule : Rule) where
   concludes_within (give x ∷ es) n = go (limit_passed (outputs_of modes (judgement_instance (filled x.0) rule.conclusion))) refl n (λ m. concludes_within es m)
     where
       answer : Answer
-      answer = by r (first_values (length rule.sorts) (filled x.0)) x.1, outputs_of modes (judgement_instance (filled x.0) rule.conclusion)
+      answer = (by r (first_values (length rule.sorts) (filled x.0)) x.1, outputs_of modes (judgement_instance (filled x.0) rule.conclusion))
 
       go : (c : Option Cause) → limit_passed (outputs_of modes (judgement_instance (filled x.0) rule.conclusion)) ≡ c →
           (HasStop (unless_passed c (give answer ∷ []) ++ then_each (conclude modes r rule) es) → ⊥) →
