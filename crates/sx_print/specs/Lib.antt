@@ -1,0 +1,4 @@
+pub mod Tokens
+pub mod Printed
+pub mod Rows
+pub mod Cut
