@@ -2,7 +2,6 @@
 use Rattle.std.proofs.Common.{◌≡◌, ℕ, ◌+◌, ◌≤◌, ◌<◌, List, [], ◌∷◌, ◌++◌, length, map, Bool, Some, sym, refl, ap, ◌∙◌, subst, arith, get_or, zero, suc, lit<}
 use Rattle.std.specs.List.{AllByRecursion, join_with_byte}
 use Rattle.std.specs.Str.{IsUtf8}
-use Rattle.std.proofs.lemmas.List.{append-nil}
 use Rattle.std.proofs.lemmas.Str.{IsUtf8-from_ascii, IsUtf8-nil, IsUtf8-append}
 use Rattle.sx_term.specs.declared.lex_kind.LexKind.{LexKind}
 use Rattle.sx_term.specs.declared.lex_kind.LexKind.TheVariants.{Id, Num, Str}
@@ -74,12 +73,12 @@ pub cut_into : (p : Parts) (ts : List Token) → AreGood p ts → HaveUtf8 ts �
 cut_into p ts good utf8 =
     let found = marked p ts good utf8 in
     let ms = found.0 in
-    let same : spaced ms ++ [] ≡ text_of ts = append-nil (spaced ms) ∙ ap (join_with_byte 32) found.1.texts in
+    let same : spaced ms ≡ text_of ts = ap (join_with_byte 32) found.1.texts in
     record {
       pieces = placed 0 ms;
       show = λ stem_of. found.1.show stem_of 0;
-      cut = λ metas. subst (λ x. Cuts (literals_of p) metas (length x) x (placed 0 ms) []) same
-          (spaced_cut (literals_of p) metas (length (spaced ms ++ [])) 0 ms [] (found.1.stand metas) tt (omega arith));
-      outcome = λ metas few. subst (λ x. IsOutcome (literals_of p) metas x (tokens (placed 0 ms))) same
-          (spaced_outcome (literals_of p) metas ms [] (found.1.stand metas) found.1.utf8 tt (omega (arith, few, found.1.many)));
+      cut = λ metas blanks are. subst (λ x. Cuts (literals_of p) metas (length (x ++ blanks)) (x ++ blanks) (placed 0 ms) []) same
+          (spaced_cut (literals_of p) metas (length (spaced ms ++ blanks)) 0 ms blanks (found.1.stand metas) are (omega arith));
+      outcome = λ metas blanks are few. subst (λ x. IsOutcome (literals_of p) metas (x ++ blanks) (tokens (placed 0 ms))) same
+          (spaced_outcome (literals_of p) metas ms blanks (found.1.stand metas) found.1.utf8 are (omega (arith, few, found.1.many)));
     }

@@ -5,3 +5,4 @@ pub mod Literals
 pub mod Good
 pub mod Cutting
 pub mod Fitting
+pub mod Sorting
