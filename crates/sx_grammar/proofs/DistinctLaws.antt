@@ -1,14 +1,13 @@
 -- The distinct texts of a list, one text after another.
-use Rattle.std.proofs.Common.{◌≡◌, ℕ, zero, suc, ◌+◌, ◌≤◌, List, [], ◌∷◌, ◌++◌, length, take, Bool, true, false, not, cond, ◌⊎◌, inl, inr, ⊎_elim, Some, sym, refl, ap, ◌∙◌, subst, arith, Contains, length-append}
-use Rattle.std.specs.Prelude.{filter, slice_get, Option, None, is_some}
-use Rattle.std.proofs.lemmas.List.Elements.{Contains-push, Contains-append_left, Contains-push_cases}
-use Rattle.sx_grammar.proofs.FirstLaws.{take_seam, contains_at, found_more, none_after}
+use Rattle.std.proofs.Common.{◌≡◌, ℕ, zero, suc, ◌+◌, ◌≤◌, List, [], ◌∷◌, ◌++◌, length, take, Bool, true, false, not, cond, ◌⊎◌, inl, inr, ⊎_elim, Some, sym, refl, ap, ◌∙◌, subst, arith, Contains}
+use Rattle.std.specs.Prelude.{filter, slice_get, Option, None, is_some, MatchOption}
+use Rattle.sx_grammar.proofs.FirstLaws.{take_seam, contains_at}
 use Rattle.std.specs.Str.{bytes_eq}
 use Rattle.std.proofs.lemmas.Bool.{false≢true}
 use Rattle.std.proofs.lemmas.Slice.Eq.{bytes_eq-Decides}
 use Rattle.sx_grammar.specs.Grammar.{Text}
 use Rattle.sx_grammar.specs.Distinct.{distinct}
-use Rattle.sx_grammar.specs.Numbering.{IsNumbering}
+use Rattle.sx_grammar.proofs.Finding.{contains_place, filter_at}
 use Rattle.std.proofs.lemmas.List.{take_all}
 
 head_or_tail : (x : Text) (xs : List Text) (y : Text) → Contains (x ∷ xs) y → (x ≡ y) ⊎ Contains xs y
@@ -63,6 +62,14 @@ apart y x other = by_test (bytes_eq y x) refl
     by_test true e = absurd (other ((bytes_eq-Decides y x).0 e))
     by_test false e = refl
 
+filter_has : (p : Text → Bool) (xs : List Text) (x : Text) → Contains xs x → p x ≡ true → Contains (filter p xs) x
+filter_has p [] x has is = absurd (omega (arith, has.1))
+filter_has p (y ∷ xs) x has is = at_first (p y) refl (λ there. filter_has p xs x there is)
+  where
+    at_first : (b : Bool) → p y ≡ b → (Contains xs x → Contains (filter p xs) x) → Contains (filter p (y ∷ xs)) x
+    at_first true t rest = rw t (⊎_elim (λ same. subst (Contains (y ∷ filter p xs)) same (at_head y (filter p xs))) (λ there. in_tail y (filter p xs) x (rest there)) (head_or_tail y xs x has))
+    at_first false t rest = rw t (⊎_elim (λ same. absurd (false≢true (sym t ∙ ap p same ∙ is))) rest (head_or_tail y xs x has))
+
 pub distinct_new : (xs : List Text) (x : Text) → ¬ (Contains xs x) → distinct (xs ++ x ∷ []) ≡ distinct xs ++ x ∷ []
 distinct_new [] x new = refl
 distinct_new (y ∷ xs) x new =
@@ -77,58 +84,35 @@ distinct_old (y ∷ xs) x has = ⊎_elim
     (λ there. ap (λ t. y ∷ filter (λ z. not (bytes_eq y z)) t) (distinct_old xs x there))
     (head_or_tail y xs x has)
 
--- what the first n texts have put into the list and the map
-pub record DistinctBefore (xs : List Text) (n : ℕ) (out : List Text) (get : Text → Option ℕ) : Type 0 where
-  pub same : out ≡ distinct (take n xs)
-  pub short : length out ≤ n
-  pub found : (t : Text) (i : ℕ) → get t ≡ Some i → slice_get out i ≡ Some t
-  pub none : (t : Text) → get t ≡ None → ¬ (Contains out t)
-  pub has : (t : Text) → Contains (take n xs) t → Contains out t
-  pub only : (t : Text) → Contains out t → Contains (take n xs) t
+pub distinct_has : (xs : List Text) (x : Text) → Contains xs x → ¬ (¬ (Contains (distinct xs) x))
+distinct_has [] x has new = absurd (omega (arith, has.1))
+distinct_has (y ∷ xs) x has new = ⊎_elim
+    (λ same. new (subst (Contains (distinct (y ∷ xs))) same (at_head y (filter (λ z. not (bytes_eq y z)) (distinct xs)))))
+    (λ there. distinct_has xs x there (λ old. new (in_tail y (filter (λ z. not (bytes_eq y z)) (distinct xs)) x (filter_has (λ z. not (bytes_eq y z)) (distinct xs) x old
+    (apart y x (λ same. new (subst (Contains (distinct (y ∷ xs))) same (at_head y (filter (λ z. not (bytes_eq y z)) (distinct xs))))))))))
+    (head_or_tail y xs x has)
 
-pub distinct_none : (xs : List Text) (get : Text → Option ℕ) → ((t : Text) → get t ≡ None) → DistinctBefore xs 0 [] get
-distinct_none xs get empty = record {
-  same = refl;
-  short = omega arith;
-  found = λ t i e. let clash : None ≡ Some i = sym (empty t) ∙ e in cc;
-  none = λ t e has. omega (arith, has.1);
-  has = λ t has. has;
-  only = λ t has. has;
-}
+pub distinct_from : (xs : List Text) (x : Text) → Contains (distinct xs) x → Contains xs x
+distinct_from [] x has = has
+distinct_from (y ∷ xs) x has = ⊎_elim
+    (λ same. subst (Contains (y ∷ xs)) same (at_head y xs))
+    (λ there. let place = contains_place (filter (λ z. not (bytes_eq y z)) (distinct xs)) x there in
+    in_tail y xs x (distinct_from xs x (filter_at (λ z. not (bytes_eq y z)) (distinct xs) place.0 x place.1).0))
+    (head_or_tail y (filter (λ z. not (bytes_eq y z)) (distinct xs)) x has)
 
-pub distinct_more : (xs : List Text) (n : ℕ) (x : Text) (out later : List Text) (get new : Text → Option ℕ) (got : Option ℕ) (known : Bool) → DistinctBefore xs n out get → slice_get xs n ≡ Some x
-    → got ≡ get x → known ≡ is_some got → known ≡ false → later ≡ out ++ x ∷ [] → ((t : Text) → new t ≡ cond (bytes_eq x t) (Some (length out)) (get t)) → DistinctBefore xs (n + 1) later new
-distinct_more xs n x out later get new (Some i) known before at e k unknown f updates = absurd (false≢true (sym unknown ∙ k))
-distinct_more xs n x out later get new None known before at e k unknown f updates =
-    let there : take (n + 1) xs ≡ take n xs ++ x ∷ [] = take_seam xs n x at in
-    let fresh : ¬ (Contains out x) = before.none x (sym e) in
-    let made : DistinctBefore xs (n + 1) (out ++ x ∷ []) new = record {
-      same = ap (λ l. l ++ x ∷ []) before.same ∙ sym (distinct_new (take n xs) x (λ has. fresh (before.has x has))) ∙ ap distinct (sym there);
-      short = omega (arith, before.short, length-append out (x ∷ []));
-      found = λ t i g. found_more out x t (get t) i (bytes_eq x t) (bytes_eq-Decides x t).0 (before.found t) (sym (updates t) ∙ g);
-      none = λ t g. none_after out x t (get t) (length out) (bytes_eq x t) (bytes_eq-Decides x t).1 (before.none t) (sym (updates t) ∙ g);
-      has = λ t has. ⊎_elim (λ was. Contains-append_left out (x ∷ []) t (before.has t was)) (λ same. subst (Contains (out ++ x ∷ [])) same (Contains-push out x)) (Contains-push_cases (take n xs) x t (subst (λ l. Contains l t) there has));
-      only = λ t has. subst (λ l. Contains l t) (sym there) (⊎_elim (λ was. Contains-append_left (take n xs) (x ∷ []) t (before.only t was)) (λ same. subst (Contains (take n xs ++ x ∷ [])) same (Contains-push (take n xs) x)) (Contains-push_cases out x t has));
-    } in
-    subst (λ l. DistinctBefore xs (n + 1) l new) (sym f) made
+-- a new text goes last
+pub distinct_more : (xs : List Text) (n : ℕ) (x : Text) (known : List Text) (found : Option ℕ) → known ≡ distinct (take n xs) → slice_get xs n ≡ Some x
+    → MatchOption found (¬ (Contains known x)) (λ i. slice_get known i ≡ Some x) → is_some found ≡ false → known ++ x ∷ [] ≡ distinct (take (n + 1) xs)
+distinct_more xs n x known (Some i) same at exact none = absurd (false≢true (sym none))
+distinct_more xs n x known None same at exact none =
+    ap (λ l. l ++ x ∷ []) same ∙ sym (distinct_new (take n xs) x (λ has. distinct_has (take n xs) x has (subst (λ l. ¬ (Contains l x)) same exact))) ∙ ap distinct (sym (take_seam xs n x at))
 
-pub distinct_kept : (xs : List Text) (n : ℕ) (x : Text) (out : List Text) (get : Text → Option ℕ) (got : Option ℕ) (known : Bool) → DistinctBefore xs n out get → slice_get xs n ≡ Some x
-    → got ≡ get x → known ≡ is_some got → known ≡ true → DistinctBefore xs (n + 1) out get
-distinct_kept xs n x out get None known before at e k is = absurd (false≢true (sym k ∙ is))
-distinct_kept xs n x out get (Some i) known before at e k is =
-    let there : take (n + 1) xs ≡ take n xs ++ x ∷ [] = take_seam xs n x at in
-    let old : Contains out x = contains_at out i x (before.found x i (sym e)) in
-    record {
-      same = before.same ∙ sym (distinct_old (take n xs) x (before.only x old)) ∙ ap distinct (sym there);
-      short = omega (arith, before.short);
-      found = before.found;
-      none = before.none;
-      has = λ t has. ⊎_elim (λ was. before.has t was) (λ same. subst (Contains out) same old) (Contains-push_cases (take n xs) x t (subst (λ l. Contains l t) there has));
-      only = λ t has. subst (λ l. Contains l t) (sym there) (Contains-append_left (take n xs) (x ∷ []) t (before.only t has));
-    }
+-- an old one is left out
+pub distinct_kept : (xs : List Text) (n : ℕ) (x : Text) (known : List Text) (found : Option ℕ) → known ≡ distinct (take n xs) → slice_get xs n ≡ Some x
+    → MatchOption found (¬ (Contains known x)) (λ i. slice_get known i ≡ Some x) → is_some found ≡ true → known ≡ distinct (take (n + 1) xs)
+distinct_kept xs n x known None same at exact some = absurd (false≢true some)
+distinct_kept xs n x known (Some i) same at exact some =
+    same ∙ sym (distinct_old (take n xs) x (distinct_from (take n xs) x (subst (λ l. Contains l x) same (contains_at known i x exact)))) ∙ ap distinct (sym (take_seam xs n x at))
 
-pub distinct_all : (xs : List Text) (n : ℕ) (out : List Text) (get : Text → Option ℕ) → length xs ≤ n → DistinctBefore xs n out get → out ≡ distinct xs
-distinct_all xs n out get whole before = before.same ∙ ap distinct (take_all n xs whole)
-
-pub numbers_all : (xs : List Text) (n : ℕ) (out : List Text) (get : Text → Option ℕ) → DistinctBefore xs n out get → IsNumbering out get
-numbers_all xs n out get before = record { found = before.found; none = before.none }
+pub distinct_all : (xs : List Text) (n : ℕ) (out : List Text) → length xs ≤ n → out ≡ distinct (take n xs) → out ≡ distinct xs
+distinct_all xs n out whole same = same ∙ ap distinct (take_all n xs whole)

@@ -14,7 +14,7 @@ use Rattle.sx_grammar.specs.Print.{BracketsWhereAsked}
 use Rattle.sx_grammar.specs.Tables.{HasGoodLevels}
 
 -- a numbered part comes from a part of the sort with that number
-part_from : (ns : List Text) (s : Symbol) (sort least : ℕ) → numbered_symbol ns s ≡ part sort least → (name : Text) × (s ≡ Part name least) × (number_of ns name ≡ sort)
+pub part_from : (ns : List Text) (s : Symbol) (sort least : ℕ) → numbered_symbol ns s ≡ part sort least → (name : Text) × (s ≡ Part name least) × (number_of ns name ≡ sort)
 part_from ns (Lit text) sort least e = cc
 part_from ns (Lex kind) sort least e = cc
 part_from ns (Part name l) sort least e =
@@ -31,11 +31,11 @@ levels_asked p good label r place sort least at here =
     good.asked line.0 named.0 least (at_contains p.productions label line.0 line.1) (at_contains line.0.symbols place (Part named.0 least) (symbol.1 ∙ ap Some named.1))
 
 -- a sort that a production names is at its number among the names
-own_place : (p : Parts) → HasNone (IsUnknown (names p)) (sorts_named p) → (r : Line) → Contains p.productions r → slice_get (names p) (number_of (names p) r.sort) ≡ Some r.sort
+pub own_place : (p : Parts) → HasNone (IsUnknown (names p)) (sorts_named p) → (r : Line) → Contains p.productions r → slice_get (names p) (number_of (names p) r.sort) ≡ Some r.sort
 own_place p known r has = named_at (names p) r.sort
     (λ new. known r.sort (in_flat_map (λ q. q.sort ∷ flat_map symbol_sorts q.symbols) p.productions r r.sort has (is_head r.sort (flat_map symbol_sorts r.symbols))) (inl new))
 
-part_place : (p : Parts) → HasNone (IsUnknown (names p)) (sorts_named p) → (r : Line) (name : Text) (least : ℕ) → Contains p.productions r → Contains r.symbols (Part name least)
+pub part_place : (p : Parts) → HasNone (IsUnknown (names p)) (sorts_named p) → (r : Line) (name : Text) (least : ℕ) → Contains p.productions r → Contains r.symbols (Part name least)
     → slice_get (names p) (number_of (names p) name) ≡ Some name
 part_place p known r name least has part_has = named_at (names p) name
     (λ new. known name (in_flat_map (λ q. q.sort ∷ flat_map symbol_sorts q.symbols) p.productions r name has

@@ -17,3 +17,7 @@ pub mod NameLaws
 pub mod TableLaws
 pub mod Finding
 pub mod GrammarLaws
+pub mod NumberLaws
+pub mod MixedLaws
+pub mod LevelLaws
+pub mod MakeLaws

@@ -38,7 +38,7 @@ unmarked_seam : (marks : List Bool) (before after : List NumberedSymbol) (x : Nu
 unmarked_seam marks [] after x = omega (arith, unmarked_cons marks x after, unmarked_cons marks x [])
 unmarked_seam marks (y ∷ before) after x = let h = unmarked_seam marks before after x in omega (arith, h, unmarked_cons marks y before, unmarked_cons marks y (before ++ x ∷ after))
 
-is_part : (texts : List Text) (x : NumberedSymbol) (sort least : ℕ) → symbol texts x ≡ part sort least → x ≡ Part sort least
+pub is_part : (texts : List Text) (x : NumberedSymbol) (sort least : ℕ) → symbol texts x ≡ part sort least → x ≡ Part sort least
 is_part texts (Lit number) sort least e = cc
 is_part texts (Lex kind) sort least e = cc
 is_part texts (Part s l) sort least e = let a : s ≡ sort = cc in let b : l ≡ least = cc in (λ i. Part (a i) (b i))

@@ -1,13 +1,13 @@
 -- Names in a set of texts.
-use Rattle.std.proofs.Common.{◌≡◌, ℕ, zero, suc, map, get_or, Bool, true, false, ◌||◌, List, [], ◌∷◌, ◌++◌, ◌⊎◌, inl, inr, ⊎_elim, Option, Some, None, MatchOption, if◌then◌else◌, refl, sym, ap, ◌∙◌, subst, true≢false, is_some, Contains, arith}
+use Rattle.std.proofs.Common.{◌≡◌, ℕ, zero, suc, map, get_or, Bool, true, false, ◌||◌, List, [], ◌∷◌, ◌++◌, ◌⊎◌, inl, inr, ⊎_elim, Option, Some, None, MatchOption, if◌then◌else◌, refl, sym, ap, ◌∙◌, subst, true≢false, is_some, Contains, arith, cond, not, ◌+◌, nat_lt}
 use Rattle.std.specs.Prelude.{slice_get, option_map}
 use Rattle.std.specs.Global.{Vec}
-use Rattle.std.specs.List.{list_any, position}
+use Rattle.std.specs.List.{list_any, position, position_or_len}
 use Rattle.std.specs.Str.{bytes_eq}
 use Rattle.std.proofs.lemmas.Slice.Eq.{bytes_eq-Decides}
 use Rattle.std.proofs.lemmas.Option.{slice_get-map, slice_get-get_or}
 use Rattle.std.proofs.lemmas.List.Quantifiers.{position-Some}
-use Rattle.std.proofs.lemmas.List.{map-append}
+use Rattle.std.proofs.lemmas.List.{map-append, length-map}
 use Rattle.indexmap.specs.IndexSet.{insert_key}
 use Rattle.sx_grammar.specs.Grammar.{Text}
 
@@ -70,6 +70,24 @@ pub number_is : (keys : Keys) (name text : Text) (r : Option ℕ) → text ≡ n
 number_is keys name text None same at found = λ h.
     true≢false (sym (found_there keys name h) ∙ ap (λ x. list_any (finds x) keys) (sym same) ∙ sym found)
 number_is keys name text (Some n) same at found = place_found keys name n (ap (λ x. position (finds x) keys) (sym same) ∙ sym at)
+
+flipped : (a b : Text) → bytes_eq a b ≡ bytes_eq b a
+flipped a b = both (bytes_eq a b) refl (bytes_eq b a) refl
+  where
+    both : (p : Bool) → bytes_eq a b ≡ p → (q : Bool) → bytes_eq b a ≡ q → p ≡ q
+    both true e true f = refl
+    both true e false f = absurd (true≢false (sym ((bytes_eq-Decides b a).1 (sym ((bytes_eq-Decides a b).0 e))) ∙ f))
+    both false e true f = absurd (true≢false (sym ((bytes_eq-Decides a b).1 (sym ((bytes_eq-Decides b a).0 f))) ∙ e))
+    both false e false f = refl
+
+same_prefix : (keys : Keys) (name : Text) → position_or_len (finds name) keys ≡ position_or_len (λ other. bytes_eq other name) (texts_of keys)
+same_prefix [] name = refl
+same_prefix (k ∷ keys) name = ap (λ n. cond (not (bytes_eq name k.items)) (1 + n) 0) (same_prefix keys name)
+    ∙ ap (λ b. cond (not b) (1 + position_or_len (λ other. bytes_eq other name) (texts_of keys)) 0) (flipped name k.items)
+
+-- the number of a name is the place where it first stands
+pub number_first : (keys : Keys) (name : Text) (r : Option ℕ) → r ≡ position (finds name) keys → r ≡ position (λ other. bytes_eq other name) (texts_of keys)
+number_first keys name r at = at ∙ (λ i. let k = same_prefix keys name i in cond (nat_lt k (sym (length-map keys (λ x. x.items)) i)) (Some k) None)
 
 -- a name that is not there goes last
 pub pushed_is : (keys after : Keys) (k : Vec ℕ) (name : Text) → k.items ≡ name → ¬ (Contains (texts_of keys) name) →

@@ -16,3 +16,5 @@ pub mod Numbering
 pub mod Distinct
 pub mod Tables
 pub mod Told
+pub mod Known
+pub mod Levels

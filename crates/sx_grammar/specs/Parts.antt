@@ -68,8 +68,11 @@ numbered_symbol names (Part sort least) = plain.part (number_of names sort) leas
 abbrev pub numbered_line : List plain.Text → Line → plain.Production
 numbered_line names r = record { sort = number_of names r.sort; level = r.level; symbols = map (numbered_symbol names) r.symbols }
 
+abbrev pub numbered_pair : Option (plain.Text × plain.Text) → Option plain.Brackets
+numbered_pair brackets = option_map (λ pair. record { opening = pair.0; closing = pair.1 }) brackets
+
 abbrev pub numbered_sort : SortLine → plain.SortLine
-numbered_sort s = record { typed = s.typed; brackets = option_map (λ pair. record { opening = pair.0; closing = pair.1 }) s.brackets }
+numbered_sort s = record { typed = s.typed; brackets = numbered_pair s.brackets }
 
 -- the grammar of the parts: a sort is the number of its line, a label the number of its production
 abbrev pub numbered : Parts → plain.Grammar

@@ -1,6 +1,7 @@
 -- A made grammar as plain data, and its tables.
-use Rattle.std.specs.Prelude.{◌≡◌, ℕ, ◌≤◌, ◌<◌, ◌^◌, Option, Some, None, List, [], ◌∷◌, map, length, slice_get, Contains}
+use Rattle.std.specs.Prelude.{◌≡◌, ℕ, ◌≤◌, ◌<◌, ◌^◌, Option, Some, None, List, [], ◌∷◌, map, length, slice_get, Contains, Result, Ok, Err}
 use Rattle.sx_grammar.specs.declared.symbol.Symbol.TheVariants.{Part}
+use Rattle.sx_grammar.specs.declared.grammar_error.GrammarError.{GrammarError}
 use Rattle.sx_grammar.specs.declared.sort_line.SortLine.{SortLine}
 use Rattle.sx_grammar.specs.declared.numbered.NumberedSymbol.TheVariants.{Lit}
 use Rattle.sx_grammar.specs.declared.numbered.NumberedProduction.{NumberedProduction}
@@ -9,7 +10,7 @@ use Rattle.sx_grammar.specs.Parts.{Line, Parts, names, literals, numbered, numbe
 use Rattle.sx_grammar.specs.Numbered.{production}
 use Rattle.sx_grammar.specs.Distinct.{distinct}
 use Rattle.sx_grammar.specs.Print.{BracketsWhereAsked}
-use Rattle.sx_grammar.specs.Made.{IsGrammar}
+use Rattle.sx_grammar.specs.Made.{IsGrammar, IsRefused}
 
 -- a grammar as plain data: what it is made of, and how many of its productions, the first ones, are base
 pub record GrammarData : Type 0 where
@@ -63,6 +64,11 @@ pub record IsTabled (p : Parts) (base : ℕ) (texts : List Text) (productions : 
   pub has_brackets : AreNumberedPairs texts p.sorts brackets
   pub has_sorts : sorts ≡ names p
   pub has_known : known ≡ texts
+
+-- the grammar is of these parts, all of its productions are base, and the parts are those of a grammar; or why they are not
+abbrev pub IsMade : Parts → Result GrammarData GrammarError → Type 0
+IsMade p (Ok g) = (g ≡ record { parts = p; base = length p.productions }) × IsGrammar p
+IsMade p (Err e) = IsRefused p e
 
 -- each sort of a grammar has the brackets that its parts ask for
 abbrev pub GrammarsHaveBrackets : Type 0

@@ -1,32 +1,25 @@
 //! The distinct literals of a grammar.
 
-ghost use Rattle.std.specs.Prelude.{◌≡◌, ◌<◌, ◌^◌, length, IfOk};
-ghost use Rattle.std.specs.Str.{bytes_eq};
-ghost use Rattle.std.specs.HashMap.{get_by};
+ghost use Rattle.std.specs.Prelude.{◌≡◌, IfOk};
 ghost use Rattle.sx_grammar.specs.Parts.{texts};
-ghost use Rattle.sx_grammar.specs.Numbering.{IsNumbering};
 ghost use Rattle.sx_grammar.specs.Distinct.{distinct};
 
+use crate::names::Names;
 use std::alloc::Global;
-use std::collections::HashMap;
 use sx_term::{NoMemory, Text};
 
-/// Each text once, where it first stands, with its place among these.
-pub(crate) fn distinct<'a>(
-    alloc: Global,
-    list: &[&'a Text],
-) -> Result<(Vec<Text>, HashMap<&'a str, u32>), NoMemory>
-    requires { length list.now < 2 ^ 32 }
+/// Each text once, where it first stands, and the same as names.
+pub(crate) fn distinct(alloc: Global, list: &[&Text]) -> Result<(Vec<Text>, Names), NoMemory>
     ensures texts { IfOk result (λ r. r.0.items ≡ distinct (texts list.now)) }
-    ensures numbers { IfOk result (λ r. IsNumbering r.0.items (λ t. get_by (λ k. bytes_eq t k.now) r.1)) }
+    ensures names { IfOk result (λ r. r.1 ≡ distinct (texts list.now)) }
 {
     let mut out = Vec::new(alloc);
-    let mut numbers = HashMap::new(alloc);
+    let mut names = Names::new(alloc);
     for text in list {
-        if !numbers.contains_key(text.as_str()) {
-            numbers.insert(text.as_str(), out.len() as u32)?;
+        if names.number(text.bytes()).is_none() {
+            names.push(alloc, text.bytes())?;
             out.push(text.copy(alloc)?)?;
         }
     }
-    Ok((out, numbers))
+    Ok((out, names))
 }

@@ -1,15 +1,13 @@
 //! The first text of a list that breaks a rule.
 
-ghost use Rattle.std.specs.Prelude.{◌≡◌, ◌↔◌, ◌<◌, ◌^◌, ℕ, List, length, IsTrue, MatchOption, IfOk};
-ghost use Rattle.std.specs.Str.{bytes_eq};
-ghost use Rattle.std.specs.HashMap.{get_by};
+ghost use Rattle.std.specs.Prelude.{◌↔◌, IsTrue, MatchOption, IfOk};
 ghost use Rattle.sx_grammar.specs.Parts.{texts};
-ghost use Rattle.sx_grammar.specs.Numbering.{IsNumbering, IsNumberedAs};
+ghost use Rattle.sx_grammar.specs.Numbering.{IsNumberedAs};
 ghost use Rattle.sx_grammar.specs.Made.{IsFirst, HasNone, IsBadLiteral, IsLexical, IsUnknown};
 
-use std::alloc::{AllocError, Global};
-use std::collections::HashMap;
-use sx_term::{LiteralShape, Text, literal_shape};
+use crate::names::Names;
+use std::alloc::Global;
+use sx_term::{LiteralShape, NoMemory, Text, literal_shape};
 
 /// Whether the text is neither a word nor symbol characters without `//`.
 fn is_bad_literal(text: &Text) -> bool
@@ -30,24 +28,24 @@ pub(crate) fn first_bad<'a>(literals: &[&'a Text]) -> Option<&'a Text>
     None
 }
 
-/// The places of distinct texts, or the first text that stands in the list before.
+/// The distinct texts of a list as names, or the first text that stands in the list before.
 pub(crate) enum Numbering<'a> {
-    Distinct(HashMap<&'a str, u32>),
+    Distinct(Names),
     Again(&'a Text),
 }
 
-/// The place of each text.
-pub(crate) fn number<'a>(alloc: Global, list: &[&'a Text]) -> Result<Numbering<'a>, AllocError>
-    requires { length list.now < 2 ^ 32 }
+/// The texts as names.
+pub(crate) fn number<'a>(alloc: Global, list: &[&'a Text]) -> Result<Numbering<'a>, NoMemory>
     ensures { IfOk result (λ r. IsNumberedAs (texts list.now) r) }
 {
-    let mut numbers = HashMap::new(alloc);
-    for (i, text) in list.iter().enumerate() {
-        if numbers.insert(text.as_str(), i as u32)?.is_some() {
+    let mut names = Names::new(alloc);
+    for text in list {
+        if names.number(text.bytes()).is_some() {
             return Ok(Numbering::Again(*text));
         }
+        names.push(alloc, text.bytes())?;
     }
-    Ok(Numbering::Distinct(numbers))
+    Ok(Numbering::Distinct(names))
 }
 
 /// Whether the name is that of a lexical sort.
@@ -58,20 +56,19 @@ fn is_lexical(name: &Text) -> bool
     name == "id" || name == "num" || name == "str"
 }
 
-/// Whether the name is not that of a sort line, or is that of a lexical sort.
-fn is_unknown(numbers: &HashMap<&str, u32>, name: &Text) -> bool
-    ensures { (names : List (List ℕ)) → IsNumbering names (λ t. get_by (λ k. bytes_eq t k.now) numbers.now) → IsTrue result ↔ IsUnknown names name.now }
+/// Whether the name is none of the names, or is that of a lexical sort.
+fn is_unknown(names: &Names, name: &Text) -> bool
+    ensures { IsTrue result ↔ IsUnknown names.now name.now }
 {
-    is_lexical(name) || !numbers.contains_key(name.as_str())
+    is_lexical(name) || names.number(name.bytes()).is_none()
 }
 
-/// The first name that is not that of a sort line, or is that of a lexical sort.
-pub(crate) fn first_unknown<'a>(numbers: &HashMap<&str, u32>, list: &[&'a Text]) -> Option<&'a Text>
-    ensures { (names : List (List ℕ)) → IsNumbering names (λ t. get_by (λ k. bytes_eq t k.now) numbers.now)
-        → MatchOption result (HasNone (IsUnknown names) (texts list.now)) (λ t. IsFirst (IsUnknown names) (texts list.now) t.now) }
+/// The first name that is none of the names, or is that of a lexical sort.
+pub(crate) fn first_unknown<'a>(names: &Names, list: &[&'a Text]) -> Option<&'a Text>
+    ensures { MatchOption result (HasNone (IsUnknown names.now) (texts list.now)) (λ t. IsFirst (IsUnknown names.now) (texts list.now) t.now) }
 {
     for name in list {
-        if is_unknown(numbers, name) {
+        if is_unknown(names, name) {
             return Some(*name);
         }
     }

@@ -1,7 +1,9 @@
 //! Grammars: what they are made of, what it is to read tokens by them, and what stands in print.
 #![tactic(auto)]
 
+mod checks;
 mod cycle;
+mod cyclic;
 mod distinct;
 mod empty_sorts;
 mod firsts;
@@ -12,14 +14,19 @@ mod head;
 mod item;
 mod labels_below;
 mod laws;
+mod levels;
+mod make;
+mod mixing;
 mod names;
 mod numbered;
+mod numbering;
 mod production;
 mod shaping;
 mod sort_line;
 mod standing;
 mod steps;
 mod symbol;
+mod tables;
 mod telling;
 
 pub use grammar::Grammar;

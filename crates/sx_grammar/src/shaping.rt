@@ -10,7 +10,7 @@ use std::alloc::Global;
 use sx_term::{Con, NoMemory, Sort};
 
 /// Whether the sort with this number is typed.
-fn is_typed(sorts: &[SortLine], number: u32) -> bool
+pub(crate) fn is_typed(sorts: &[SortLine], number: u32) -> bool
     ensures { result ≡ is_typed (slice_get sorts.now number) }
 {
     let i = number as usize;

@@ -1,18 +1,10 @@
-use Rattle.std.proofs.Common.{rules, ◌++◌, ◌∷◌, ◌+◌, cond, Some, [], sym, ap, ◌∙◌, subst, arith}
-use Rattle.std.specs.Str.{bytes_eq}
-use Rattle.std.specs.HashMap.{get_by}
-use Rattle.std.proofs.lemmas.Map.Text.{hash_map_updates_str}
+use Rattle.std.proofs.Common.{sym, ap, ◌∙◌, ◌++◌, ◌∷◌, [], subst, Some, Contains, not}
+use Rattle.std.specs.Prelude.{MatchOption, slice_get, ◌≡◌}
 use Rattle.sx_grammar.specs.Parts.{texts}
-use Rattle.sx_grammar.proofs.FirstLaws.{text_at, texts_length}
-use Rattle.sx_grammar.proofs.DistinctLaws.{DistinctBefore, distinct_none, distinct_more, distinct_kept, distinct_all, numbers_all}
+use Rattle.sx_grammar.proofs.FirstLaws.{text_at}
+use Rattle.sx_grammar.proofs.DistinctLaws.{distinct_more, distinct_kept}
 use Rattle.sx_grammar.proofs.distinct.distinct.Goals as goal
-use Rattle.sx_grammar.proofs.distinct.distinct.Goals.{then-not-contains_key+in_ok-insert+in_ok-copy+in_ok-push, else-not-contains_key}
-
-pub loop-text-init : goal.loop-text-init
-loop-text-init c = subst (λ out. DistinctBefore (texts c.args.list.now) 0 out (λ t. get_by (λ k. bytes_eq t k.now) c.new-numbers.result)) (sym c.new-out.ensures.items) (distinct_none _ (λ t. get_by (λ k. bytes_eq t k.now) c.new-numbers.result) (λ t. let h = c.new-numbers.ensures.empty in search rules))
-
-pub overflow_cast-len : goal.overflow_cast-len
-overflow_cast-len c = omega (arith, c.len.ensures, c.loop-text.out.ok.0, c.loop-text.invariant.short, c.loop-text-test.true, c.requires)
+use Rattle.sx_grammar.proofs.distinct.distinct.Goals.{then-is_none+in_ok-push+in_ok-copy+in_ok-push-2, else-is_none}
 
 pub loop-text-preserved : goal.loop-text-preserved
 loop-text-preserved c =
@@ -20,23 +12,20 @@ loop-text-preserved c =
     let n = c.loop-text.text-index in
     let x = c.text-item.result.now in
     let at = text_at c.args.list.now n c.text-item.result c.loop-text-test.true c.text-item.is in
-    let key = ap (λ t. get_by (λ k. bytes_eq t k.now) c.loop-text.numbers) c.as_str.ensures in
-    elim c.if-not-contains_key.branch [
-      | then-not-contains_key+in_ok-insert+in_ok-copy+in_ok-push w ↦
-          subst (λ m. DistinctBefore xs (n + 1) c.if-not-contains_key.out.items (λ t. get_by (λ k. bytes_eq t k.now) m)) (sym w.numbers-is)
-          (subst (λ v. DistinctBefore xs (n + 1) v.items (λ t. get_by (λ k. bytes_eq t k.now) w.insert.new.self)) (sym w.out-is)
-          (distinct_more xs n x c.loop-text.out.items w.push.new.self.items _ _ _ c.contains_key.result c.loop-text.invariant at key c.contains_key.ensures w.if-not-contains_key.true
-          (w.in_ok-push.ensures.items ∙ ap (λ v. c.loop-text.out.items ++ v ∷ []) w.in_ok-copy.ensures)
-          (λ t. hash_map_updates_str w.as_str-then-not-contains_key.result.now c.loop-text.numbers w.insert.new.self _ w.in_ok-insert.ensures.updates t
-          ∙ (λ i. cond (bytes_eq (w.as_str-then-not-contains_key.ensures i) t) (Some ((w.len.ensures ∙ c.loop-text.out.ok.0) i)) (get_by (λ k. bytes_eq t k.now) c.loop-text.numbers)))))
-      | else-not-contains_key w ↦
-          subst (λ m. DistinctBefore xs (n + 1) c.if-not-contains_key.out.items (λ t. get_by (λ k. bytes_eq t k.now) m)) (sym w.numbers-is)
-          (subst (λ v. DistinctBefore xs (n + 1) v.items (λ t. get_by (λ k. bytes_eq t k.now) c.loop-text.numbers)) (sym w.out-is)
-          (distinct_kept xs n x c.loop-text.out.items _ _ c.contains_key.result c.loop-text.invariant at key c.contains_key.ensures w.if-not-contains_key.false))
+    let names = c.loop-text.names in
+    let exact = subst (λ t. MatchOption c.number.result (¬ (Contains names t)) (λ i. slice_get names i ≡ Some t)) c.bytes.ensures.value c.number.ensures.exact in
+    elim c.if-is_none.branch [
+      | then-is_none+in_ok-push+in_ok-copy+in_ok-push-2 w ↦
+          let more = distinct_more xs n x names c.number.result c.loop-text.invariant.has_names at exact (c.is_none.ensures ∙ ap not w.if-is_none.true) in
+          record {
+            has_texts = ap (λ v. v.items) w.out-is ∙ w.in_ok-push-2.ensures.items ∙ ap (λ t. c.loop-text.out.items ++ t ∷ []) w.in_ok-copy.ensures
+                ∙ ap (λ l. l ++ x ∷ []) (c.loop-text.invariant.has_texts ∙ sym c.loop-text.invariant.has_names) ∙ more;
+            has_names = w.names-is ∙ w.in_ok-push.ensures ∙ ap (λ t. names ++ t ∷ []) w.bytes-then-is_none.ensures.value ∙ more;
+          }
+      | else-is_none w ↦
+          let kept = distinct_kept xs n x names c.number.result c.loop-text.invariant.has_names at exact (c.is_none.ensures ∙ ap not w.if-is_none.false) in
+          record {
+            has_texts = ap (λ v. v.items) w.out-is ∙ c.loop-text.invariant.has_texts ∙ sym c.loop-text.invariant.has_names ∙ kept;
+            has_names = w.names-is ∙ kept;
+          }
     ]
-
-pub returns-clause-texts : goal.returns-clause-texts
-returns-clause-texts c = distinct_all (texts c.args.list.now) c.loop-text.text-index _ _ (omega (arith, texts_length c.args.list.now, c.loop-text-test.false)) c.loop-text.invariant
-
-pub returns-clause-numbers : goal.returns-clause-numbers
-returns-clause-numbers c = numbers_all (texts c.args.list.now) c.loop-text.text-index _ _ c.loop-text.invariant

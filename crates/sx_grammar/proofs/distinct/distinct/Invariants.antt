@@ -1,8 +1,10 @@
-use Rattle.std.specs.Str.{bytes_eq}
-use Rattle.std.specs.HashMap.{get_by}
+use Rattle.std.proofs.Common.{◌≡◌, take}
 use Rattle.sx_grammar.specs.Parts.{texts}
-use Rattle.sx_grammar.proofs.DistinctLaws.{DistinctBefore}
+use Rattle.sx_grammar.specs.Distinct.{distinct}
 use Rattle.sx_grammar.proofs.distinct.distinct.Given as goal
 
 abbrev pub invariant-loop-text : goal.invariant-loop-text
-invariant-loop-text l = DistinctBefore (texts l.list) l.text-index l.out.items (λ t. get_by (λ k. bytes_eq t k.now) l.numbers)
+invariant-loop-text l = record {
+  has_texts : l.out.items ≡ distinct (take l.text-index (texts l.list));
+  has_names : l.names ≡ distinct (take l.text-index (texts l.list));
+}

@@ -6,15 +6,14 @@ use Rattle.sx_grammar.proofs.FirstLaws.{text_at, texts_length, none_more, none_a
 use Rattle.sx_grammar.proofs.firsts.first_unknown.Goals as goal
 
 pub loop-name-preserved : goal.loop-name-preserved
-loop-name-preserved c = λ names is.
+loop-name-preserved c =
     let at = text_at c.args.list.now c.loop-name.name-index c.name-item.result c.loop-name-test.true c.name-item.is in
-    none_more (IsUnknown names) (texts c.args.list.now) c.loop-name.name-index c.name-item.result.now at (c.loop-name.invariant names is) (λ bad. false≢true (sym c.if-is_unknown.false ∙ (c.is_unknown.ensures names is).1 bad))
+    none_more (IsUnknown c.args.names.now) (texts c.args.list.now) c.loop-name.name-index c.name-item.result.now at c.loop-name.invariant (λ bad. false≢true (sym c.if-is_unknown.false ∙ c.is_unknown.ensures.1 bad))
 
 pub returns-then-is_unknown : goal.returns-then-is_unknown
-returns-then-is_unknown c = λ names is.
+returns-then-is_unknown c =
     let at = text_at c.args.list.now c.loop-name.name-index c.name-item.result c.loop-name-test.true c.name-item.is in
-    first_here (IsUnknown names) (texts c.args.list.now) c.loop-name.name-index c.name-item.result.now at (c.loop-name.invariant names is) ((c.is_unknown.ensures names is).0 c.if-is_unknown.true)
+    first_here (IsUnknown c.args.names.now) (texts c.args.list.now) c.loop-name.name-index c.name-item.result.now at c.loop-name.invariant (c.is_unknown.ensures.0 c.if-is_unknown.true)
 
 pub returns : goal.returns
-returns c = λ names is.
-    none_all (IsUnknown names) (texts c.args.list.now) c.loop-name.name-index (omega (arith, texts_length c.args.list.now, c.loop-name-test.false)) (c.loop-name.invariant names is)
+returns c = none_all (IsUnknown c.args.names.now) (texts c.args.list.now) c.loop-name.name-index (omega (arith, texts_length c.args.list.now, c.loop-name-test.false)) c.loop-name.invariant

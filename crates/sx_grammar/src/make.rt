@@ -1,0 +1,100 @@
+//! Making a grammar.
+
+ghost use Rattle.std.specs.Prelude.{◌≡◌, ◌≤◌, ℕ, length, OnOk, IfOk, IfErr};
+ghost use Rattle.sx_grammar.specs.Parts.{parts, literals, names, texts};
+ghost use Rattle.sx_grammar.specs.Tables.{literals_of, AreNumbered, HaveLiteralsBelow, IsWithinLimits, IsTabled, IsMade};
+ghost use Rattle.sx_grammar.specs.Made.{HasLabels, IsGrammar, IsRefused};
+
+use crate::checks::{good_labels, good_literals, good_sorts, known_sorts};
+use crate::cyclic::not_cyclic;
+use crate::distinct::distinct;
+use crate::grammar::Grammar;
+use crate::grammar_error::GrammarError;
+use crate::grammar_parts::GrammarParts;
+use crate::levels::has_brackets;
+use crate::mixing::keeps_sorts;
+use crate::names::Names;
+use crate::numbered::NumberedProduction;
+use crate::numbering::{number_brackets, number_productions};
+use crate::tables::Tables;
+use std::alloc::Global;
+use sx_term::Text;
+
+/// The brackets and literals in order, and the names of the sorts; or what is wrong with literals, sorts or labels.
+fn names_of(alloc: Global, from: &GrammarParts) -> Result<(Vec<&Text>, Names), GrammarError>
+    ensures good { OnOk result (HasLabels (parts from.now)) }
+    ensures texts { IfOk result (λ r. texts r.0.items ≡ literals (parts from.now)) }
+    ensures names { IfOk result (λ r. r.1 ≡ names (parts from.now)) }
+    ensures refused { IfErr result (IsRefused (parts from.now)) }
+{
+    let texts = good_literals(alloc, from)?;
+    let sorts = good_sorts(alloc, from)?;
+    known_sorts(alloc, from, &sorts)?;
+    good_labels(alloc, from)?;
+    Ok((texts, sorts))
+}
+
+/// The productions with numbers; or a plain production with a typed part, a sort without brackets or a cyclic sort.
+fn productions_of(
+    alloc: Global,
+    from: &GrammarParts,
+    sorts: &Names,
+    literals: &Names,
+) -> Result<Vec<NumberedProduction>, GrammarError>
+    requires labels { HasLabels (parts from.now) }
+    requires sorts { sorts.now ≡ names (parts from.now) }
+    requires literals { literals.now ≡ literals_of (parts from.now) }
+    requires limits { IsWithinLimits (parts from.now) }
+    ensures good { OnOk result (IsGrammar (parts from.now)) }
+    ensures same { IfOk result (λ v. AreNumbered (parts from.now) v.items) }
+    ensures below { IfOk result (λ v. HaveLiteralsBelow (length literals.now) v.items) }
+    ensures refused { IfErr result (IsRefused (parts from.now)) }
+{
+    let productions = number_productions(alloc, sorts, literals, &from.productions)?;
+    keeps_sorts(alloc, from, &productions)?;
+    has_brackets(alloc, from, &productions)?;
+    not_cyclic(alloc, from, &productions)?;
+    Ok(productions)
+}
+
+/// The tables of the parts, or why these are no grammar.
+fn tables(alloc: Global, from: &GrammarParts) -> Result<Tables, GrammarError>
+    requires { IsWithinLimits (parts from.now) }
+    ensures tables { IfOk result (λ t. (base : ℕ) → base ≤ length (parts from.now).productions
+        → IsTabled (parts from.now) base t.literals.items t.productions.items t.brackets.items t.sort_names t.literal_names) }
+    ensures refused { IfErr result (IsRefused (parts from.now)) }
+{
+    let (texts, sort_names) = names_of(alloc, from)?;
+    let (literals, literal_names) = distinct(alloc, &texts)?;
+    let productions = productions_of(alloc, from, &sort_names, &literal_names)?;
+    let brackets = number_brackets(alloc, &literal_names, &from.sorts)?;
+    Ok(Tables {
+        literals,
+        productions,
+        brackets,
+        sort_names,
+        literal_names,
+    })
+}
+
+impl Grammar {
+    /// The grammar of the parts, all of whose productions are base, or the first refusal that holds of the parts.
+    pub fn make(alloc: Global, from: GrammarParts) -> Result<Grammar, GrammarError>
+        requires { IsWithinLimits (parts from) }
+        ensures { IsMade (parts from) result }
+    {
+        let base = from.productions.len();
+        match tables(alloc, &from) {
+            Ok(made) => Ok(Grammar {
+                parts: from,
+                base,
+                literals: made.literals,
+                productions: made.productions,
+                brackets: made.brackets,
+                sort_names: made.sort_names,
+                literal_names: made.literal_names,
+            }),
+            Err(e) => Err(e),
+        }
+    }
+}
