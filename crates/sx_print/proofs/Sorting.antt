@@ -1,18 +1,20 @@
 -- Terms that are well sorted by the shapes of a grammar fit it.
-use Rattle.std.proofs.Common.{◌≡◌, ℕ, List, [], ◌∷◌, map, Bool, true, false, cond, Some, sym, refl, ap, ◌∙◌, subst}
+use Rattle.std.proofs.Common.{◌≡◌, ℕ, List, [], ◌∷◌, map, Bool, true, false, cond, Some, sym, refl, ap, ◌∙◌, subst, length, inl, arith}
 use Rattle.std.specs.Prelude.{slice_get, option_map, flat_map}
 use Rattle.std.proofs.lemmas.Option.{slice_get-map}
+use Rattle.std.proofs.lemmas.List.{length-map}
 use Rattle.sx_term.specs.declared.sort.Sort.{Sort}
 use Rattle.sx_term.specs.declared.sort.Sort.TheVariants.{Lex, Plain, Typed}
 use Rattle.sx_term.specs.Tree.{Tree, Trees, node, lexeme, hole, none, ◌▹◌}
 use Rattle.sx_term.specs.Sorts.{HasSort, KidsHaveSorts}
 use Rattle.sx_grammar.specs.declared.sort_line.SortLine.{SortLine}
-use Rattle.sx_grammar.specs.Grammar.{Symbol, literal, lexical, part, Stem, of_sort}
+use Rattle.sx_grammar.specs.Grammar.{Symbol, literal, lexical, part, Grammar, Stem, of_kind, of_sort}
 use Rattle.sx_grammar.specs.Parts.{Parts, numbered}
 use Rattle.sx_grammar.specs.Told.{is_typed, sort_with, kid_sorts, shape_of, shapes_of}
 use Rattle.sx_grammar.specs.Print.{Fits, node_fits, lexeme_fits, hole_fits, AllFit, none_fit, past_literal_fit, lexical_fit, part_fit}
 use Rattle.sx_grammar.proofs.Finding.{mapped_at}
-use Rattle.sx_print.specs.Sorted.{place_of, SortedTermsFit}
+use Rattle.sx_print.specs.Printed.{IsAskedFor, IsPrintable}
+use Rattle.sx_print.specs.Sorted.{place_of, SortedTermsFit, SortedTermsArePrintable}
 
 place_with : (sorts : List SortLine) (number : ℕ) → place_of (sort_with sorts number) ≡ of_sort number
 place_with sorts number = by_test (is_typed (slice_get sorts number))
@@ -61,3 +63,16 @@ module _ (p : Parts) (vars : List Sort) where
 
 pub sorted_terms : SortedTermsFit
 sorted_terms p vars t sort has = sorted_fits p vars t sort has
+
+asked_at_zero : (g : Grammar) (place : Stem) → IsAskedFor g place 0
+asked_at_zero g (of_kind kind) = tt
+asked_at_zero g (of_sort sort) = inl refl
+
+pub printable_terms : SortedTermsArePrintable
+printable_terms p vars variables t sort has named = record {
+  stems = map place_of vars;
+  place = place_of sort;
+  fits = sorted_fits p vars t sort has;
+  named = omega (arith, named, length-map vars place_of);
+  asked = asked_at_zero (numbered p) (place_of sort);
+}
