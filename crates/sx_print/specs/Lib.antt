@@ -1,0 +1,5 @@
+pub mod Tokens
+pub mod Printed
+pub mod Rows
+pub mod Cut
+pub mod Sorted
