@@ -13,3 +13,7 @@ pub mod Linking
 pub mod Searching
 pub mod FirstLaws
 pub mod DistinctLaws
+pub mod NameLaws
+pub mod TableLaws
+pub mod Finding
+pub mod GrammarLaws

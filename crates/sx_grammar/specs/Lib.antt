@@ -14,3 +14,5 @@ pub mod Numbered
 pub mod Cycles
 pub mod Numbering
 pub mod Distinct
+pub mod Tables
+pub mod Told

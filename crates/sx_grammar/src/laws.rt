@@ -4,6 +4,7 @@ ghost use Rattle.sx_grammar.specs.Laws.{InnerSpansAreFound, ItemsAreRead, SpansA
 ghost use Rattle.sx_grammar.specs.Order.{KidsComeBefore, RankedIsNotCyclic};
 ghost use Rattle.sx_grammar.specs.TallyLaws.{TalliesAreCounted};
 ghost use Rattle.sx_grammar.specs.ReadOne.{AnswersAgree};
+ghost use Rattle.sx_grammar.specs.Tables.{GrammarsHaveBrackets};
 
 /// An item that holds has readings of the symbols before its dot.
 pub fn items_are_read()
@@ -55,4 +56,9 @@ pub fn answers_are_one()
 /// complete.
 pub fn inner_spans_are_found()
     ensures { InnerSpansAreFound }
+{}
+
+/// Each sort of a grammar has the brackets that its parts ask for.
+pub fn grammars_have_brackets()
+    ensures { GrammarsHaveBrackets }
 {}

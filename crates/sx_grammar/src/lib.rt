@@ -5,25 +5,32 @@ mod cycle;
 mod distinct;
 mod empty_sorts;
 mod firsts;
+mod grammar;
 mod grammar_error;
 mod grammar_parts;
 mod head;
 mod item;
+mod labels_below;
 mod laws;
+mod names;
 mod numbered;
 mod production;
+mod shaping;
 mod sort_line;
 mod standing;
 mod steps;
 mod symbol;
+mod telling;
 
+pub use grammar::Grammar;
 pub use grammar_error::GrammarError;
 pub use grammar_parts::GrammarParts;
 pub use head::Head;
 pub use item::Item;
 pub use laws::{
-    answers_are_one, depth_is_bounded, inner_spans_are_found, items_are_read, kids_come_before,
-    prints_are_read, ranked_is_not_cyclic, spans_are_found, spans_are_read, tallies_are_counted,
+    answers_are_one, depth_is_bounded, grammars_have_brackets, inner_spans_are_found,
+    items_are_read, kids_come_before, prints_are_read, ranked_is_not_cyclic, spans_are_found,
+    spans_are_read, tallies_are_counted,
 };
 pub use numbered::{NumberedProduction, NumberedSymbol};
 pub use production::Production;
