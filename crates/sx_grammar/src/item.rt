@@ -6,7 +6,7 @@ use crate::head::Head;
 #[derive(Clone, Copy, PartialEq, Eq, Hash, Debug)]
 pub struct Item {
     pub head: Head,
-    pub dot: u32,
+    pub dot: usize,
     pub origin: u32,
     pub end: u32,
 }
