@@ -3,6 +3,6 @@
 /// What a span or an item is of: the production with this label, or the bracket pair of this sort.
 #[derive(Clone, Copy, PartialEq, Eq, Hash, Debug)]
 pub enum Head {
-    Labelled(usize),
-    Bracketed(usize),
+    Labelled(u32),
+    Bracketed(u32),
 }

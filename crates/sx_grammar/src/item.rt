@@ -7,6 +7,6 @@ use crate::head::Head;
 pub struct Item {
     pub head: Head,
     pub dot: usize,
-    pub origin: usize,
-    pub end: usize,
+    pub origin: u32,
+    pub end: u32,
 }

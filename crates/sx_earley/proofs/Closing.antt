@@ -1,0 +1,192 @@
+use Rattle.std.proofs.Common.{◌≡◌, ℕ, zero, suc, ◌+◌, ◌≤◌, List, [], ◌∷◌, ◌++◌, ◌⊎◌, inl, inr, ⊎_elim, sym, subst, refl, ap, ◌∙◌, length, take, drop, take-append-drop, get_or, Contains, Option, Some, None, arith, add-one}
+use Rattle.std.specs.List.{slice_get}
+use Rattle.std.proofs.lemmas.Option.{same_Some, none-some, some_pair_parts, slice_get-get_or}
+use Rattle.std.proofs.lemmas.Bool.{cases_lt}
+use Rattle.sx_earley.proofs.Joining.{no_item}
+use Rattle.std.proofs.lemmas.List.Elements.{Contains-push_cases, Contains-append_left, Contains-append_right, Contains-push}
+use Rattle.sx_grammar.specs.Grammar.{Symbol, literal, lexical, part, Production, Grammar, Token, production_of}
+use Rattle.sx_grammar.specs.declared.head.Head.{Head}
+use Rattle.sx_grammar.specs.Items as items
+use Rattle.sx_grammar.specs.Items.{ReadsToken, Makes, NextIs, AtEnd, started, predicted, scanned, completed}
+use Rattle.sx_grammar.specs.declared.item.Item.{Item}
+use Rattle.sx_earley.specs.Growth.{Extends, Only}
+use Rattle.sx_earley.specs.Chart.{Foresees, Follows, by_prediction, by_scanning, by_filling, by_waiting, AllFollow, Joins, ReadsNext, next_symbol, symbol_after, as_part, IsOfSort, EndsAt, IsPredicted, moved, beginning, Treated}
+use Rattle.sx_grammar.specs.ReadOne.{Holds}
+use Rattle.sx_earley.proofs.Growth.{still_there}
+use Rattle.sx_earley.proofs.Predicting.{there_is}
+
+-- the symbol whose part this is
+part_is : (o : Option Symbol) (sort least : ℕ) → as_part o ≡ Some (sort, least) → o ≡ Some (part sort least)
+part_is None sort least e = absurd (none-some (sort, least) e)
+part_is (Some (literal text)) sort least e = absurd (none-some (sort, least) e)
+part_is (Some (lexical kind)) sort least e = absurd (none-some (sort, least) e)
+part_is (Some (part s m)) sort least e =
+    let p = some_pair_parts s sort m least e in ap (λ x. Some (part x m)) p.0 ∙ ap (λ y. Some (part sort y)) p.1
+
+symbol_there : (o : Option Production) (dot : ℕ) (symbol : Symbol) → symbol_after o dot ≡ Some symbol → (p : Production) × (o ≡ Some p) × (slice_get p.symbols dot ≡ Some symbol)
+symbol_there None dot symbol e = absurd (none-some symbol e)
+symbol_there (Some p) dot symbol e = (p, refl, e)
+
+module _ (g : Grammar) where
+  next_is : (head : Head) (dot : ℕ) (symbol : Symbol) → next_symbol g head dot ≡ Some symbol → NextIs g head dot symbol
+  next_is head dot symbol e = symbol_there (production_of g head) dot symbol e
+
+  is_next : (head : Head) (dot : ℕ) (symbol : Symbol) → NextIs g head dot symbol → next_symbol g head dot ≡ Some symbol
+  is_next head dot symbol n = ap (λ o. symbol_after o dot) n.1 ∙ n.2
+
+  makes_is : (head : Head) (sort least : ℕ) → IsOfSort (production_of g head) sort least → Makes g head sort least
+  makes_is head sort least h = let p = there_is (production_of g head) sort least h in record { production = p.0; is = p.1; same_sort = p.2; reaches = p.3 }
+
+  is_of_sort : (head : Head) (sort least : ℕ) → Makes g head sort least → IsOfSort (production_of g head) sort least
+  is_of_sort head sort least m = subst (λ o. IsOfSort o sort least) (sym m.is) (m.same_sort, m.reaches)
+
+  pub ends_there : (o : Option Production) (dot : ℕ) → EndsAt o dot → (p : Production) × (o ≡ Some p) × (length p.symbols ≡ dot)
+  ends_there None dot h = absurd h
+  ends_there (Some p) dot h = (p, refl, h)
+
+  pub ends_is : (head : Head) (dot : ℕ) → AtEnd g head dot → EndsAt (production_of g head) dot
+  ends_is head dot a = subst (λ o. EndsAt o dot) (sym a.1) a.2
+
+  reads_there : (tokens : List Token) (o : Option Symbol) (place : ℕ) → ReadsNext tokens o place → (symbol : Symbol) × (o ≡ Some symbol) × ReadsToken tokens symbol place
+  reads_there tokens None place h = absurd h
+  reads_there tokens (Some symbol) place h = (symbol, refl, h)
+
+module _ (g : Grammar) (tokens : List Token) (start : ℕ) where
+  start_holds : (i : Item) → IsPredicted g start 0 0 i → Holds g tokens start i
+  start_holds i p = rw (p.1, p.2, p.3) (started (makes_is g i.head start 0 p.0))
+
+  prediction_holds : (item i : Item) → Holds g tokens start item → Foresees g item i → Holds g tokens start i
+  prediction_holds item i h f =
+      let next = next_is g item.head item.dot (part f.sort f.least) (part_is (next_symbol g item.head item.dot) f.sort f.least f.waits) in
+      rw (f.fits.1, f.fits.2, f.fits.3) (predicted h next (makes_is g i.head f.sort f.least f.fits.0))
+
+  scan_holds : (item : Item) → Holds g tokens start item → ReadsNext tokens (next_symbol g item.head item.dot) item.end → Holds g tokens start (moved item (item.end + 1))
+  scan_holds item h r =
+      let s = reads_there g tokens (next_symbol g item.head item.dot) item.end r in
+      simp add-one (scanned h (next_is g item.head item.dot s.0 s.1) s.2)
+
+  join_holds : (before filling : Item) → Holds g tokens start before → Holds g tokens start filling → Joins g before filling → Holds g tokens start (moved before filling.end)
+  join_holds before filling h k j =
+      let next = next_is g before.head before.dot (part j.sort j.least) (part_is (next_symbol g before.head before.dot) j.sort j.least j.waits) in
+      let inside : items.Item g tokens start filling.head filling.dot before.end filling.end = subst (λ o. items.Item g tokens start filling.head filling.dot o filling.end) (sym j.meets) k in
+      simp add-one (completed h next inside (makes_is g filling.head j.sort j.least j.fits) (ends_there g (production_of g filling.head) filling.dot j.complete))
+
+  only_one : (x y : Item) → Contains (y ∷ []) x → x ≡ y
+  only_one x y there = ⊎_elim (λ none. absurd (nothing x none)) (λ e. sym e) (Contains-push_cases [] y x there)
+    where
+      nothing : (x : Item) → Contains [] x → ⊥
+      nothing x h = let low = h.1 in omega arith
+
+  -- what follows from items that hold holds
+  pub follows_hold : (befores fillings : List Item) (item : Item) → Holds g tokens start item → ((x : Item) → Contains befores x → Holds g tokens start x) →
+      ((x : Item) → Contains fillings x → Holds g tokens start x) → (i : Item) → Follows g tokens befores fillings item i → Holds g tokens start i
+  follows_hold befores fillings item h all every i (by_prediction f) = prediction_holds item i h f
+  follows_hold befores fillings item h all every i (by_scanning r e) = subst (Holds g tokens start) (sym e) (scan_holds item h r)
+  follows_hold befores fillings item h all every i (by_filling j) =
+      subst (Holds g tokens start) (sym j.5) (join_holds j.0 j.1 (all j.0 j.2) (subst (Holds g tokens start) (sym (only_one j.1 item j.3)) h) j.4)
+  follows_hold befores fillings item h all every i (by_waiting j) =
+      subst (Holds g tokens start) (sym j.5) (join_holds j.0 j.1 (subst (Holds g tokens start) (sym (only_one j.0 item j.2)) h) (every j.1 j.3) j.4)
+
+  -- one more item has been treated
+  pub treated_more : (done : List Item) (item : Item) (keys more befores fillings : List Item) → Extends keys more → Treated g tokens done keys →
+      AllFollow g tokens befores fillings item more → ((x : Item) → Contains (done ++ item ∷ []) x → Joins g x item → Contains befores x) →
+      ((x : Item) → Contains (done ++ item ∷ []) x → Joins g item x → Contains fillings x) → Treated g tokens (done ++ item ∷ []) more
+  treated_more done item keys more befores fillings grown t f has_before has_filling = record {
+    predictions = λ x there sort least head waits fits. by_prediction_of x (Contains-push_cases done item x there) sort least head waits fits;
+    scanned = λ x there reads. by_scan_of x (Contains-push_cases done item x there) reads;
+    joined = λ before filling there there' joins. by_join_of before filling there there' (Contains-push_cases done item before there) (Contains-push_cases done item filling there') joins;
+  }
+    where
+      by_prediction_of : (x : Item) → Contains done x ⊎ (item ≡ x) → (sort least : ℕ) (head : Head) → as_part (next_symbol g x.head x.dot) ≡ Some (sort, least) →
+          IsOfSort (production_of g head) sort least → Contains more (beginning head x.end)
+      by_prediction_of x (inl old) sort least head waits fits = still_there keys more (beginning head x.end) grown (t.predictions x old sort least head waits fits)
+      by_prediction_of x (inr e) sort least head waits fits =
+          subst (λ y. Contains more (beginning head y.end)) e (f.predictions sort least head (subst (λ y. as_part (next_symbol g y.head y.dot) ≡ Some (sort, least)) (sym e) waits) fits)
+
+      by_scan_of : (x : Item) → Contains done x ⊎ (item ≡ x) → ReadsNext tokens (next_symbol g x.head x.dot) x.end → Contains more (moved x (x.end + 1))
+      by_scan_of x (inl old) reads = still_there keys more (moved x (x.end + 1)) grown (t.scanned x old reads)
+      by_scan_of x (inr e) reads =
+          subst (λ y. Contains more (moved y (y.end + 1))) e (f.scanned (subst (λ y. ReadsNext tokens (next_symbol g y.head y.dot) y.end) (sym e) reads))
+
+      by_join_of : (before filling : Item) → Contains (done ++ item ∷ []) before → Contains (done ++ item ∷ []) filling → Contains done before ⊎ (item ≡ before) → Contains done filling ⊎ (item ≡ filling) → Joins g before filling → Contains more (moved before filling.end)
+      by_join_of before filling a b (inl old) (inl old') joins = still_there keys more (moved before filling.end) grown (t.joined before filling old old' joins)
+      by_join_of before filling a b (inr e) c joins =
+          let now = subst (λ y. Joins g y filling) (sym e) joins in
+          subst (λ y. Contains more (moved y filling.end)) e (f.filling filling (has_filling filling b now) now)
+      by_join_of before filling a b (inl old) (inr e) joins =
+          let now = subst (λ y. Joins g before y) (sym e) joins in
+          subst (λ y. Contains more (moved before y.end)) e (f.filled before (has_before before a now) now)
+
+  -- a set that begins with the start's productions and is closed has every item that holds
+  pub closed_has : (keys : List Item) → ((head : Head) → IsOfSort (production_of g head) start 0 → Contains keys (beginning head 0)) → Treated g tokens keys keys →
+      {head : Head} {dot origin end : ℕ} → items.Item g tokens start head dot origin end → Contains keys (record { head = head; dot = dot; origin = origin; end = end })
+  closed_has keys starts t (started {head = head} makes) = starts head (is_of_sort g head start 0 makes)
+  closed_has keys starts t (predicted {head = head} {other = other} {dot = dot} {origin = origin} {end = end} {sort = sort} {least = least} item next makes) =
+      t.predictions (record { head = head; dot = dot; origin = origin; end = end }) (closed_has keys starts t item) sort least other
+      (ap as_part (is_next g head dot (part sort least) next)) (is_of_sort g other sort least makes)
+  closed_has keys starts t (scanned {head = head} {dot = dot} {origin = origin} {end = end} {symbol = symbol} item next reads) =
+      simp add-one at (t.scanned (record { head = head; dot = dot; origin = origin; end = end }) (closed_has keys starts t item)
+      (subst (λ o. ReadsNext tokens o end) (sym (is_next g head dot symbol next)) reads))
+  closed_has keys starts t (completed {head = head} {other = other} {dot = dot} {full = full} {origin = origin} {middle = middle} {end = end} {sort = sort} {least = least} item next inner makes full_is) =
+      simp add-one at (t.joined (record { head = head; dot = dot; origin = origin; end = middle }) (record { head = other; dot = full; origin = middle; end = end })
+      (closed_has keys starts t item) (closed_has keys starts t inner)
+      (record {
+        sort = sort;
+        least = least;
+        waits = ap as_part (is_next g head dot (part sort least) next);
+        fits = is_of_sort g other sort least makes;
+        complete = ends_is g other full full_is;
+        meets = refl;
+      }))
+
+  -- nothing has been treated yet
+  pub treated_none : (done keys : List Item) → done ≡ [] → Treated g tokens done keys
+  treated_none done keys none = record {
+    predictions = λ x there. absurd (empty x there);
+    scanned = λ x there. absurd (empty x there);
+    joined = λ x y there. absurd (empty x there);
+  }
+    where
+      empty : (x : Item) → Contains done x → ⊥
+      empty x there = let h : Contains [] x = subst (λ l. Contains l x) none there in let low = h.1 in omega arith
+
+  pub starts_hold : (old keys : List Item) → old ≡ [] → Only old keys (IsPredicted g start 0 0) → (i : Item) → Contains keys i → Holds g tokens start i
+  starts_hold old keys none only i there = ⊎_elim (λ was. absurd (empty was)) (λ p. start_holds i p) (only i there)
+    where
+      empty : Contains old i → ⊥
+      empty was = let h : Contains [] i = subst (λ l. Contains l i) none was in let low = h.1 in omega arith
+
+  pub more_hold : (old keys befores fillings : List Item) (item : Item) → ((i : Item) → Contains old i → Holds g tokens start i) → Holds g tokens start item →
+      ((x : Item) → Contains befores x → Holds g tokens start x) → ((x : Item) → Contains fillings x → Holds g tokens start x) →
+      Only old keys (Follows g tokens befores fillings item) → (i : Item) → Contains keys i → Holds g tokens start i
+  more_hold old keys befores fillings item sound h all every only i there = ⊎_elim (λ was. sound i was) (λ f. follows_hold befores fillings item h all every i f) (only i there)
+
+-- the element at a place is in the list
+pub there_at : (xs : List Item) (n : ℕ) (x : Item) → slice_get xs n ≡ Some x → Contains xs x
+there_at [] n x e = absurd (none-some x e)
+there_at (y ∷ xs) zero x e = subst (Contains (y ∷ xs)) (same_Some y x e) (Contains-append_left (y ∷ []) xs y (Contains-push [] y))
+there_at (y ∷ xs) (suc n) x e = Contains-append_right (y ∷ []) xs x (there_at xs n x e)
+
+-- one more element of the front, also of a list that has grown
+pub front_on : (xs more : List Item) (n : ℕ) (x : Item) → slice_get xs n ≡ Some x → take n xs ++ x ∷ [] ≡ take (suc n) (xs ++ more)
+front_on [] more n x e = absurd (none-some x e)
+front_on (y ∷ xs) more zero x e = ap (λ v. v ∷ []) (sym (same_Some y x e))
+front_on (y ∷ xs) more (suc n) x e = ap (λ v. y ∷ v) (front_on xs more n x e)
+
+pub front_more : (keys new : List Item) (n : ℕ) (x : Item) → Extends keys new → slice_get keys n ≡ Some x → take n keys ++ x ∷ [] ≡ take (n + 1) new
+front_more keys new n x grown e = rw (add-one, grown.1) (front_on keys grown.0 n x e)
+
+-- each element of a front is in the list
+pub front_in : (n : ℕ) (xs : List Item) (x : Item) → Contains (take n xs) x → Contains xs x
+front_in n xs x there = subst (λ l. Contains l x) (take-append-drop n xs) (Contains-append_left (take n xs) (drop n xs) x there)
+
+-- where there is no element, the list has ended
+pub ended : (xs : List Item) (n : ℕ) → None ≡ slice_get xs n → length xs ≤ n
+ended xs n e = ⊎_elim (λ low. absurd (none-some (get_or xs n no_item) (e ∙ slice_get-get_or xs n no_item low))) (λ long. long) (cases_lt n (length xs))
+
+pub nothing_in : (l : List Item) (x : Item) → l ≡ [] → Contains l x → ⊥
+nothing_in l x none there = let h : Contains [] x = subst (λ m. Contains m x) none there in let low = h.1 in omega arith
+
+pub empty_front : (keys : List Item) → take 0 keys ≡ []
+empty_front [] = refl
+empty_front (x ∷ xs) = refl

@@ -1,0 +1,166 @@
+-- The spans of complete items.
+use Rattle.std.proofs.Common.{◌≡◌, ◌∙◌, ◌↔◌, ℕ, zero, suc, ◌+◌, ◌≤◌, max, List, [], ◌∷◌, ◌++◌, ◌⊎◌, inl, inr, ⊎_elim, sym, subst, ap, refl, take, Contains, Option, Some, None, arith}
+use Rattle.std.specs.List.{slice_get}
+use Rattle.std.proofs.lemmas.Option.{same_Some, none-some}
+use Rattle.std.proofs.lemmas.List.Elements.{Contains-push, Contains-push_cases, Contains-append_left}
+use Rattle.std.proofs.lemmas.Bool.{cases_lt}
+use Rattle.sx_grammar.specs.Grammar.{Production, Grammar, Token, production_of}
+use Rattle.sx_grammar.specs.Tally.{Among, EachOnce}
+use Rattle.sx_grammar.specs.declared.head.Head.{Head}
+use Rattle.sx_grammar.specs.declared.head.Head.TheVariants.{Labelled, Bracketed}
+use Rattle.sx_grammar.specs.declared.item.Item.{Item}
+use Rattle.sx_grammar.specs.Items as items
+use Rattle.sx_grammar.specs.ReadOne.{Holds, IsGreatestEnd}
+use Rattle.sx_earley.specs.declared.span.Span.{Span}
+use Rattle.sx_earley.specs.declared.span.SpanOf.{SpanOf}
+use Rattle.sx_earley.specs.declared.span.SpanOf.TheVariants.{Node, Bracket}
+use Rattle.sx_earley.specs.Chart.{EndsAt}
+use Rattle.sx_earley.specs.Completed.{head_of, of_head, span_of, IsChart, AreSpans, Adds, IsReach}
+use Rattle.sx_earley.proofs.Growth.{extends_self}
+use Rattle.sx_earley.proofs.Closing.{front_more, there_at, ends_there, ends_is, nothing_in}
+
+-- what holds of a front, and of the next element, holds of the front with that element
+pub one_on : (xs : List Item) (n : ℕ) (y : Item) (P : Item → Type 0) → slice_get xs n ≡ Some y → ((x : Item) → Contains (take n xs) x → P x) → P y →
+    (x : Item) → Contains (take (n + 1) xs) x → P x
+one_on xs n y P at before here x there =
+    ⊎_elim (λ old. before x old) (λ e. subst P e here)
+    (Contains-push_cases (take n xs) y x (subst (λ l. Contains l x) (sym (front_more xs xs n y (extends_self xs) at)) there))
+
+head_again : (h : Head) → head_of (of_head h) ≡ h
+head_again (Labelled label) = refl
+head_again (Bracketed sort) = refl
+
+of_again : (o : SpanOf) → of_head (head_of o) ≡ o
+of_again (Node label) = refl
+of_again (Bracket sort) = refl
+
+same_ends : (o : Option Production) (a b : ℕ) → EndsAt o a → EndsAt o b → a ≡ b
+same_ends None a b h k = absurd h
+same_ends (Some p) a b h k = sym h ∙ k
+
+-- a complete item is the only one with its span
+same_item : (g : Grammar) (i j : Item) → EndsAt (production_of g i.head) i.dot → EndsAt (production_of g j.head) j.dot → span_of i ≡ span_of j → i ≡ j
+same_item g i j h k e =
+    let heads : i.head ≡ j.head = sym (head_again i.head) ∙ ap (λ s. head_of s.of) e ∙ head_again j.head in
+    let dots : i.dot ≡ j.dot = same_ends (production_of g j.head) i.dot j.dot (subst (λ x. EndsAt (production_of g x) i.dot) heads h) k in
+    λ t. record { head = heads t; dot = dots t; origin = (e t).from; end = (e t).to }
+
+among_at : (xs : List Item) (n : ℕ) (y : Item) → slice_get xs n ≡ Some y → Among y xs
+among_at [] n y e = absurd (none-some y e)
+among_at (x ∷ xs) zero y e = inl (sym (same_Some x y e))
+among_at (x ∷ xs) (suc n) y e = inr (among_at xs n y e)
+
+first_or_later : (x : Item) (xs : List Item) (y : Item) → Contains (x ∷ xs) y → (x ≡ y) ⊎ Contains xs y
+first_or_later x xs y (zero, low, e) = inl e
+first_or_later x xs y (suc k, low, e) = inr (k, omega (arith, low), e)
+
+-- an item of distinct ones does not stand before itself
+fresh : (xs : List Item) (n : ℕ) (y : Item) → EachOnce xs → slice_get xs n ≡ Some y → Contains (take n xs) y → ⊥
+fresh [] n y once at there = absurd (none-some y at)
+fresh (x ∷ xs) zero y once at there = nothing_in [] y refl there
+fresh (x ∷ xs) (suc n) y once at there = ⊎_elim
+    (λ e. once.0 (subst (λ z. Among z xs) (sym e) (among_at xs n y at)))
+    (λ later. fresh xs n y once.1 at later)
+    (first_or_later x (take n xs) y there)
+
+module _ {X : Type 0} where
+  among_push : (y x : X) (xs : List X) → Among y (xs ++ x ∷ []) → Among y xs ⊎ (y ≡ x)
+  among_push y x [] (inl e) = inr e
+  among_push y x [] (inr h) = absurd h
+  among_push y x (z ∷ zs) (inl e) = inl (inl e)
+  among_push y x (z ∷ zs) (inr h) = ⊎_elim (λ was. inl (inr was)) (λ e. inr e) (among_push y x zs h)
+
+  once_push : (xs : List X) (x : X) → EachOnce xs → (Among x xs → ⊥) → EachOnce (xs ++ x ∷ [])
+  once_push [] x once new = ((λ h. h), tt)
+  once_push (y ∷ ys) x once new = (
+    (λ h. ⊎_elim once.0 (λ e. new (inl (sym e))) (among_push y x ys h)),
+    once_push ys x once.1 (λ h. new (inr h)),
+  )
+
+  among_there : (x : X) (xs : List X) → Among x xs → Contains xs x
+  among_there x [] h = absurd h
+  among_there x (y ∷ ys) (inl e) = (0, omega arith, sym e)
+  among_there x (y ∷ ys) (inr h) = let k = among_there x ys h in (suc k.0, omega (arith, k.1), k.2)
+
+pub no_spans : (g : Grammar) (keys : List Item) (spans : List Span) → keys ≡ [] → spans ≡ [] → AreSpans g keys spans
+no_spans g keys spans no_keys none = record {
+  only = λ s there. absurd (gone s there);
+  every = λ i there ends. absurd (nothing_in keys i no_keys there);
+  once = subst EachOnce (sym none) tt;
+}
+  where
+    gone : (s : Span) → Contains spans s → ⊥
+    gone s there = let h : Contains [] s = subst (λ l. Contains l s) none there in let low = h.1 in omega arith
+
+-- one more item
+pub spans_on : (g : Grammar) (keys : List Item) (n : ℕ) (item : Item) (old new : List Span) → EachOnce keys → slice_get keys n ≡ Some item →
+    AreSpans g (take n keys) old → Adds g item old new → AreSpans g (take (n + 1) keys) new
+spans_on g keys n item old new distinct at spans adds = by adds
+  where
+    front : take n keys ++ item ∷ [] ≡ take (n + 1) keys
+    front = front_more keys keys n item (extends_self keys) at
+
+    grown : (i : Item) → Contains (take n keys) i → Contains (take (n + 1) keys) i
+    grown i there = subst (λ l. Contains l i) front (Contains-append_left (take n keys) (item ∷ []) i there)
+
+    here : Contains (take (n + 1) keys) item
+    here = subst (λ l. Contains l item) front (Contains-push (take n keys) item)
+
+    old_only : (s : Span) → Contains old s → (i : Item) × Contains (take (n + 1) keys) i × EndsAt (production_of g i.head) i.dot × (s ≡ span_of i)
+    old_only s there = let o = spans.only s there in (o.0, grown o.0 o.1, o.2, o.3)
+
+    not_there : EndsAt (production_of g item.head) item.dot → Among (span_of item) old → ⊥
+    not_there ends among =
+        let o = spans.only (span_of item) (among_there (span_of item) old among) in
+        let same : o.0 ≡ item = sym (same_item g item o.0 ends o.2 o.3) in
+        fresh keys n item distinct at (subst (Contains (take n keys)) same o.1)
+
+    by : Adds g item old new → AreSpans g (take (n + 1) keys) new
+    by (inl (ends, e)) = subst (AreSpans g (take (n + 1) keys)) (sym e) (record {
+      only = λ s there. ⊎_elim (λ was. old_only s was) (λ is. (item, here, ends, sym is)) (Contains-push_cases old (span_of item) s there);
+      every = one_on keys n item (λ i. EndsAt (production_of g i.head) i.dot → Contains (old ++ span_of item ∷ []) (span_of i)) at
+          (λ i there k. Contains-append_left old (span_of item ∷ []) (span_of i) (spans.every i there k)) (λ k. Contains-push old (span_of item));
+      once = once_push old (span_of item) spans.once (not_there ends);
+    })
+    by (inr (not, e)) = subst (AreSpans g (take (n + 1) keys)) (sym e) (record {
+      only = old_only;
+      every = one_on keys n item (λ i. EndsAt (production_of g i.head) i.dot → Contains old (span_of i)) at (λ i there k. spans.every i there k) (λ k. absurd (not k));
+      once = spans.once;
+    })
+
+-- the greater of two ends is an end
+pub max_end : (keys : List Item) (item : Item) (most : ℕ) → Contains keys item → ((i : Item) × Contains keys i × (i.end ≡ most)) ⊎ (most ≡ 0) →
+    ((i : Item) × Contains keys i × (i.end ≡ max most item.end)) ⊎ (max most item.end ≡ 0)
+max_end keys item most there some = ⊎_elim (λ less. inl (item, there, omega arith)) (λ less. greater less some) (cases_lt most item.end)
+  where
+    greater : item.end ≤ most → ((i : Item) × Contains keys i × (i.end ≡ most)) ⊎ (most ≡ 0) → ((i : Item) × Contains keys i × (i.end ≡ max most item.end)) ⊎ (max most item.end ≡ 0)
+    greater less (inl s) = inl (s.0, s.1, omega (arith, s.2))
+    greater less (inr s) = inr (omega arith)
+
+-- the spans of the complete items are those that the items complete
+pub chart_is : (g : Grammar) (tokens : List Token) (start : ℕ) (keys : List Item) (spans : List Span) →
+    ((i : Item) → Contains keys i ↔ Holds g tokens start i) → AreSpans g keys spans → IsChart g tokens start spans
+chart_is g tokens start keys spans all are = λ s. (
+  (λ there.
+      let o = are.only s there in
+      let held : items.Span g tokens start o.0.head o.0.origin o.0.end = (o.0.dot, ends_there g (production_of g o.0.head) o.0.dot o.2, (all o.0).0 o.1) in
+      subst (λ x. items.Span g tokens start (head_of x.of) x.from x.to) (sym o.3) (subst (λ h. items.Span g tokens start h o.0.origin o.0.end) (sym (head_again o.0.head)) held)),
+  (λ span.
+      let i : Item = record { head = head_of s.of; dot = span.0; origin = s.from; end = s.to } in
+      let there = are.every i ((all i).1 span.2) (ends_is g (head_of s.of) span.0 span.1) in
+      subst (Contains spans) (λ t. record { of = of_again s.of t; from = s.from; to = s.to }) there),
+)
+
+-- the reach of the items is their greatest end
+pub reach_is : (g : Grammar) (tokens : List Token) (start : ℕ) (keys : List Item) (end : ℕ) →
+    ((i : Item) → Contains keys i ↔ Holds g tokens start i) → IsReach keys end → IsGreatestEnd g tokens start end
+reach_is g tokens start keys end all h = record {
+  some = ⊎_elim (λ s. inl (s.0, (all s.0).0 s.1, s.2)) (λ at_0. by_items keys all h.0 at_0) h.1;
+  bound = λ i holds. h.0 i ((all i).1 holds);
+}
+  where
+    by_items : (keys : List Item) → ((i : Item) → Contains keys i ↔ Holds g tokens start i) → ((i : Item) → Contains keys i → i.end ≤ end) → end ≡ 0 →
+        ((i : Item) × Holds g tokens start i × (i.end ≡ end)) ⊎ (((i : Item) → Holds g tokens start i → ⊥) × (end ≡ 0))
+    by_items [] all bound at_0 = inr ((λ i holds. let there : Contains [] i = (all i).1 holds in let low = there.1 in omega arith), at_0)
+    by_items (x ∷ xs) all bound at_0 =
+        let there = there_at (x ∷ xs) 0 x refl in let low = bound x there in inl (x, (all x).0 there, omega arith)

@@ -1,0 +1,20 @@
+use Rattle.std.proofs.Common.{◌≡◌, sym}
+use Rattle.sx_earley.specs.Shown.{plain, tokens_of}
+use Rattle.sx_earley.specs.Growth.{Extends, Only}
+use Rattle.sx_earley.specs.Chart.{Joins, moved}
+use Rattle.sx_earley.proofs.Growth.{only_more}
+use Rattle.sx_earley.proofs.growing.join.Goals as goal
+
+pub returns-then-makes-clause-only : goal.returns-then-makes-clause-only
+returns-then-makes-clause-only c =
+    let joins : Joins (plain c.args.grammar.now) c.args.before c.args.filling = record {
+      sort = c.in-Some.sort;
+      least = c.in-Some.least;
+      waits = sym c.in-Some.ensures.is;
+      fits = c.makes.ensures.0 c.if-makes.true;
+      complete = c.ends_at.ensures.0 c.if-ends_at.true;
+      meets = c.if-before-filling.true;
+    } in
+    only_more c.args.found.now.keys c.add.new.found.keys (λ i. i ≡ moved c.args.before c.args.filling.end)
+    (λ i. Joins (plain c.args.grammar.now) c.args.before c.args.filling × (i ≡ moved c.args.before c.args.filling.end))
+    (λ i e. (joins, e)) c.add.ensures.only

@@ -1,0 +1,7 @@
+pub mod Table
+pub mod Shown
+pub mod Growth
+pub mod Chart
+pub mod Tokens
+pub mod Completed
+pub mod Showing

@@ -1,0 +1,55 @@
+-- What tokens show to a grammar, and which symbols read them.
+use Rattle.std.specs.Prelude.{◌≡◌, ℕ, ◌<◌, List, [], ◌∷◌, Option, Some, None, map, length, slice_get, slice_index_or}
+use Rattle.sx_grammar.specs.Grammar.{Text, Grammar, Token, is_literal, is_lexeme, is_variable, of_kind, of_sort}
+use Rattle.sx_grammar.specs.Parts.{numbered}
+use Rattle.sx_grammar.specs.Tables.{GrammarData, literals_of}
+use Rattle.sx_grammar.specs.declared.numbered.NumberedSymbol.{NumberedSymbol}
+use Rattle.sx_grammar.specs.declared.numbered.NumberedSymbol.TheVariants as symbols
+use Rattle.sx_earley.specs.declared.shown.Shown.{Shown}
+use Rattle.sx_earley.specs.declared.shown.Shown.TheVariants.{Lit, Lex, Kind, Sort}
+
+-- the grammar as plain data, with numbers for names
+abbrev pub plain : GrammarData → Grammar
+plain d = numbered d.parts
+
+-- its literals
+abbrev pub texts : GrammarData → List Text
+texts d = literals_of d.parts
+
+-- the token that is shown; only a literal's text is read
+abbrev pub token_of : List Text → Shown → Token
+token_of literals (Lit n) = record { mark = is_literal; text = slice_index_or literals n [] }
+token_of literals (Lex kind) = record { mark = is_lexeme kind; text = [] }
+token_of literals (Kind kind) = record { mark = is_variable (of_kind kind); text = [] }
+token_of literals (Sort sort) = record { mark = is_variable (of_sort sort); text = [] }
+
+-- the tokens that are shown
+abbrev pub tokens_of : GrammarData → List Shown → List Token
+tokens_of d shown = map (token_of (texts d)) shown
+
+-- the symbol reads what is shown
+abbrev pub Takes : NumberedSymbol → Shown → Type 0
+Takes (symbols.Lit a) (Lit b) = a ≡ b
+Takes (symbols.Lex a) (Lex b) = a ≡ b
+Takes (symbols.Lex a) (Kind b) = a ≡ b
+Takes (symbols.Part sort least) (Sort b) = sort ≡ b
+Takes _ _ = ⊥
+
+-- the number of a literal is below the bound
+abbrev pub IsBelow : ℕ → NumberedSymbol → Type 0
+IsBelow bound (symbols.Lit n) = n < bound
+IsBelow bound (symbols.Lex kind) = Unit {0}
+IsBelow bound (symbols.Part sort least) = Unit {0}
+
+-- so it is of all symbols
+abbrev pub AllBelow : ℕ → List NumberedSymbol → Type 0
+AllBelow bound xs = (k n : ℕ) → slice_get xs k ≡ Some (symbols.Lit n) → n < bound
+
+-- so it is of all that is shown
+abbrev pub AreBelow : ℕ → List Shown → Type 0
+AreBelow bound shown = (k n : ℕ) → slice_get shown k ≡ Some (Lit n) → n < bound
+
+-- the symbol of a bracket pair, with the numbers of its literals, at a place
+abbrev pub pair_symbol : Option (ℕ × ℕ) → ℕ → ℕ → Option NumberedSymbol
+pair_symbol None sort dot = None
+pair_symbol (Some pair) sort dot = slice_get (symbols.Lit pair.0 ∷ symbols.Part sort 0 ∷ symbols.Lit pair.1 ∷ []) dot

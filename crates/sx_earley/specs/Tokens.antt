@@ -1,0 +1,67 @@
+-- The tokens of a text with metavariables, as a grammar reads them.
+use Rattle.std.specs.Prelude.{◌≡◌, ℕ, Bool, true, if◌then◌else◌, List, [], ◌∷◌, Option, Some, None, map, drop, slice_get, is_some}
+use Rattle.std.specs.Char.{is_ascii_digit}
+use Rattle.std.specs.Str.{bytes_eq}
+use Rattle.std.specs.List.{AllByRecursion}
+use Rattle.sx_term.specs.declared.lex_kind.LexKind.TheVariants.{Id}
+use Rattle.sx_term.specs.declared.sort.Sort.{Sort}
+use Rattle.sx_term.specs.declared.sort.Sort.TheVariants as sorts
+use Rattle.sx_term.specs.declared.mark.Mark.{Mark}
+use Rattle.sx_term.specs.declared.mark.Mark.TheVariants.{Lit, Lex, Meta}
+use Rattle.sx_token.specs.declared.token.Token.{Token}
+use Rattle.sx_grammar.specs.Grammar as plain
+use Rattle.sx_grammar.specs.Grammar.{Text, Stem, of_kind, of_sort, is_literal, is_lexeme, is_variable}
+
+-- the first byte stays, unless it is a digit and nothing comes after it
+abbrev pub kept : ℕ → Text → Text
+kept c [] = if is_ascii_digit c then [] else c ∷ []
+kept c (d ∷ ds) = c ∷ d ∷ ds
+
+-- without the ASCII digits at its end
+abbrev pub without_digits : Text → Text
+without_digits [] = []
+without_digits (c ∷ cs) = kept c (without_digits cs)
+
+-- the stem of a metavariable: its word, which comes after `~`, without the digits at its end
+abbrev pub stem_of : Text → Text
+stem_of text = without_digits (drop 1 text)
+
+-- stems with their sorts
+abbrev pub Stems : Type 0
+Stems = List (Text × Sort)
+
+-- the sort of the stem, where it first stands
+abbrev pub sort_of : Stems → Text → Option Sort
+sort_of [] stem = None
+sort_of (s ∷ more) stem = if bytes_eq s.0 stem then Some s.1 else sort_of more stem
+
+-- what a metavariable of the sort stands for
+abbrev pub as_stem : Sort → Stem
+as_stem (sorts.Lex kind) = of_kind kind
+as_stem (sorts.Plain n) = of_sort n
+as_stem (sorts.Typed n) = of_sort n
+
+-- the same where a sort was found; the conditions exclude that none was
+abbrev pub found_stem : Option Sort → Stem
+found_stem None = of_kind Id
+found_stem (Some sort) = as_stem sort
+
+-- a token with this mark and text, as a grammar reads it
+abbrev pub shown : Stems → Mark → Text → plain.Token
+shown stems (Lit n) text = record { mark = is_literal; text = text }
+shown stems (Lex kind) text = record { mark = is_lexeme kind; text = text }
+shown stems Meta text = record { mark = is_variable (found_stem (sort_of stems (stem_of text))); text = text }
+
+-- the tokens, as a grammar reads them
+abbrev pub plain_tokens : Stems → List Token → List plain.Token
+plain_tokens stems ts = map (λ t. shown stems t.mark t.text) ts
+
+-- a literal has its own text, and a metavariable has a stem
+abbrev pub IsKnown : List Text → Stems → Mark → Text → Type 0
+IsKnown literals stems (Lit n) text = slice_get literals n ≡ Some text
+IsKnown literals stems (Lex kind) text = Unit {0}
+IsKnown literals stems Meta text = is_some (sort_of stems (stem_of text)) ≡ true
+
+-- so it is of all tokens
+abbrev pub AreKnown : List Text → Stems → List Token → Type 0
+AreKnown literals stems ts = AllByRecursion (λ t. IsKnown literals stems t.mark t.text) ts

@@ -1,0 +1,9 @@
+//! What is asked for.
+
+/// A sort that is asked for at a place, at a least level.
+#[derive(Clone, Copy, PartialEq, Eq, Hash, Debug)]
+pub(crate) struct Ask {
+    pub sort: u32,
+    pub least: u8,
+    pub place: u32,
+}

@@ -1,0 +1,76 @@
+//! The call.
+
+ghost use Rattle.std.specs.Prelude.{◌≡◌, ◌≤◌, IfOk, Err, length};
+ghost use Rattle.sx_grammar.specs.Tally.{EachOnce};
+ghost use Rattle.sx_grammar.specs.ReadOne.{MoreHold, IsGreatestEnd};
+ghost use Rattle.sx_earley.specs.Shown.{plain, texts, tokens_of, AreBelow};
+ghost use Rattle.sx_earley.specs.Tokens.{plain_tokens, AreKnown};
+ghost use Rattle.sx_earley.specs.Completed.{IsSort, number_of, IsChart};
+
+use crate::all_items::all_items;
+use crate::chart_error::ChartError;
+use crate::completed::Chart;
+use crate::metas::Metas;
+use crate::shown::Shown;
+use crate::spanned::{complete_spans, reach};
+use crate::stems::show_all;
+use std::alloc::Global;
+use sx_grammar::Grammar;
+use sx_term::Sort;
+use sx_token::Token;
+
+/// The number of a plain or typed sort.
+fn number_of(sort: Sort) -> u32
+    ensures { result ≡ number_of sort }
+{
+    match sort {
+        Sort::Lex(_) => 0,
+        Sort::Plain(number) => number,
+        Sort::Typed(number) => number,
+    }
+}
+
+/// The chart of what is shown, for the start sort with this number.
+fn chart_of(
+    alloc: Global,
+    grammar: &Grammar,
+    start: u32,
+    shown: &[Shown],
+) -> Result<Chart, ChartError>
+    requires short { length shown.now ≤ 10000 }
+    requires below { AreBelow (length (texts grammar.now)) shown.now }
+    ensures spans { IfOk result (λ c. IsChart (plain grammar.now) (tokens_of grammar.now shown.now) start c.spans) }
+    ensures once { IfOk result (λ c. EachOnce c.spans) }
+    ensures reach { IfOk result (λ c. IsGreatestEnd (plain grammar.now) (tokens_of grammar.now shown.now) start c.reach) }
+    ensures few { IfOk result (λ _. MoreHold (plain grammar.now) (tokens_of grammar.now shown.now) start 2000000 → ⊥) }
+    ensures hard { result ≡ Err ChartError.TooHard → MoreHold (plain grammar.now) (tokens_of grammar.now shown.now) start 2000000 }
+{
+    let found = all_items(alloc, grammar, start, shown)?;
+    let reach = reach(&found);
+    let spans = complete_spans(alloc, grammar, &found)?;
+    Ok(Chart { spans, reach })
+}
+
+/// The chart of the tokens for the start sort: the spans that the items complete, and the greatest end of any item.
+/// TooHard comes exactly where more than 2,000,000 items hold.
+pub fn chart(
+    alloc: Global,
+    grammar: &Grammar,
+    start: Sort,
+    metas: &Metas,
+    tokens: &[Token],
+) -> Result<Chart, ChartError>
+    requires short { length tokens.now ≤ 10000 }
+    requires start { IsSort grammar.now.parts start }
+
+    // A literal's number is its place among the grammar's literals, and each metavariable has a stem.
+    requires known { AreKnown (texts grammar.now) metas.now.stems.items tokens.now }
+    ensures spans { IfOk result (λ c. IsChart (plain grammar.now) (plain_tokens metas.now.stems.items tokens.now) (number_of start) c.spans) }
+    ensures once { IfOk result (λ c. EachOnce c.spans) }
+    ensures reach { IfOk result (λ c. IsGreatestEnd (plain grammar.now) (plain_tokens metas.now.stems.items tokens.now) (number_of start) c.reach) }
+    ensures few { IfOk result (λ _. MoreHold (plain grammar.now) (plain_tokens metas.now.stems.items tokens.now) (number_of start) 2000000 → ⊥) }
+    ensures hard { result ≡ Err ChartError.TooHard → MoreHold (plain grammar.now) (plain_tokens metas.now.stems.items tokens.now) (number_of start) 2000000 }
+{
+    let shown = show_all(alloc, metas, tokens)?;
+    chart_of(alloc, grammar, number_of(start), &shown)
+}

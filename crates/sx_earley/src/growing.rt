@@ -1,0 +1,291 @@
+//! What follows from one item.
+
+ghost use Rattle.std.specs.Prelude.{◌≡◌, ◌+◌, ◌≤◌, ◌<◌, ℕ, OnOk, Contains, [], ◌∷◌, Some, Err, length};
+ghost use Rattle.sx_grammar.specs.Grammar.{production_of};
+ghost use Rattle.sx_earley.specs.Growth.{Extends, Only};
+ghost use Rattle.sx_earley.specs.Shown.{plain, texts, tokens_of, AreBelow};
+ghost use Rattle.sx_earley.specs.Table.{row_at};
+ghost use Rattle.sx_earley.specs.Chart.{HasOpenings, HasAllOpenings, AllAsked, Foresees, Follows, AllFollow, Joins, IsJoined, moved, IsPredicted, beginning, next_symbol, as_part, ReadsNext, IsOfSort};
+
+use crate::ask::Ask;
+use crate::chart_error::ChartError;
+use crate::shown::Shown;
+use crate::slot::Slot;
+use crate::symbols::{ends_at, makes, next_part, reads_next};
+use crate::table::Table;
+use indexmap::IndexSet;
+use sx_grammar::{Grammar, Head, Item};
+
+/// How many items may hold.
+const MOST_ITEMS: usize = 2_000_000;
+
+/// Adds the item, if it is not there.
+fn add(found: &mut IndexSet<Item>, item: Item) -> Result<(), ChartError>
+    ensures added { OnOk result (Contains found.new.keys item) }
+    ensures extends { Extends found.old.keys found.new.keys }
+    ensures only { Only found.old.keys found.new.keys (λ i. i ≡ item) }
+    ensures few { OnOk result (length found.new.keys ≤ 2000000) }
+    ensures hard { result ≡ Err ChartError.TooHard → 2000000 < length found.new.keys }
+{
+    match found.insert(item) {
+        Ok(_) => {
+            if found.len() > MOST_ITEMS {
+                Err(ChartError::TooHard)
+            } else {
+                Ok(())
+            }
+        }
+        Err(_) => Err(ChartError::Memory),
+    }
+}
+
+/// Predicts the head's production at the place, if it is of the sort and at least of the level.
+fn predict_head(
+    grammar: &Grammar,
+    found: &mut IndexSet<Item>,
+    head: Head,
+    ask: Ask,
+) -> Result<(), ChartError>
+    requires { length found.old.keys ≤ 2000000 }
+    ensures extends { Extends found.old.keys found.new.keys }
+    ensures only { Only found.old.keys found.new.keys (IsPredicted (plain grammar.now) ask.sort ask.least ask.place) }
+    ensures every { OnOk result (IsOfSort (production_of (plain grammar.now) head) ask.sort ask.least → Contains found.new.keys (beginning head ask.place)) }
+    ensures few { OnOk result (length found.new.keys ≤ 2000000) }
+    ensures hard { result ≡ Err ChartError.TooHard → 2000000 < length found.new.keys }
+{
+    if makes(grammar, head, ask.sort, ask.least) {
+        add(
+            found,
+            Item {
+                head,
+                dot: 0,
+                origin: ask.place,
+                end: ask.place,
+            },
+        )
+    } else {
+        Ok(())
+    }
+}
+
+/// Predicts each production that is asked for, where the openings are those of its sort.
+fn predict(
+    grammar: &Grammar,
+    openings: &[Item],
+    found: &mut IndexSet<Item>,
+    ask: Ask,
+) -> Result<(), ChartError>
+    requires few { length found.old.keys ≤ 2000000 }
+    requires openings { HasOpenings (plain grammar.now) ask.sort openings.now }
+    ensures extends { Extends found.old.keys found.new.keys }
+    ensures only { Only found.old.keys found.new.keys (IsPredicted (plain grammar.now) ask.sort ask.least ask.place) }
+    ensures every { OnOk result ((head : Head) → IsOfSort (production_of (plain grammar.now) head) ask.sort ask.least → Contains found.new.keys (beginning head ask.place)) }
+    ensures few { OnOk result (length found.new.keys ≤ 2000000) }
+    ensures hard { result ≡ Err ChartError.TooHard → 2000000 < length found.new.keys }
+{
+    for opening in openings {
+        predict_head(grammar, found, opening.head, ask)?;
+    }
+    Ok(())
+}
+
+/// Predicts what is asked for, if it was not asked for before.
+pub(crate) fn predict_once(
+    grammar: &Grammar,
+    openings: &Table,
+    found: &mut IndexSet<Item>,
+    asked: &mut IndexSet<Ask>,
+    ask: Ask,
+) -> Result<(), ChartError>
+    requires few { length found.old.keys ≤ 2000000 }
+    requires openings { HasAllOpenings (plain grammar.now) openings.now }
+    requires asked { AllAsked (plain grammar.now) asked.old.keys found.old.keys }
+    ensures extends { Extends found.old.keys found.new.keys }
+    ensures only { Only found.old.keys found.new.keys (IsPredicted (plain grammar.now) ask.sort ask.least ask.place) }
+    ensures every { OnOk result ((head : Head) → IsOfSort (production_of (plain grammar.now) head) ask.sort ask.least → Contains found.new.keys (beginning head ask.place)) }
+    ensures few { OnOk result (length found.new.keys ≤ 2000000) }
+    ensures hard { result ≡ Err ChartError.TooHard → 2000000 < length found.new.keys }
+    ensures asked { OnOk result (AllAsked (plain grammar.now) asked.new.keys found.new.keys) }
+{
+    if asked.contains(&ask) {
+        return Ok(());
+    }
+    let row = openings.row(Slot {
+        place: 0,
+        sort: ask.sort,
+    });
+    predict(grammar, row, found, ask)?;
+    asked.insert(ask)?;
+    Ok(())
+}
+
+/// Predicts for the part after the dot.
+fn predict_next(
+    grammar: &Grammar,
+    openings: &Table,
+    found: &mut IndexSet<Item>,
+    asked: &mut IndexSet<Ask>,
+    item: Item,
+) -> Result<(), ChartError>
+    requires few { length found.old.keys ≤ 2000000 }
+    requires openings { HasAllOpenings (plain grammar.now) openings.now }
+    requires asked { AllAsked (plain grammar.now) asked.old.keys found.old.keys }
+    ensures extends { Extends found.old.keys found.new.keys }
+    ensures only { Only found.old.keys found.new.keys (Foresees (plain grammar.now) item) }
+    ensures every { OnOk result ((sort least : ℕ) (head : Head) → as_part (next_symbol (plain grammar.now) item.head item.dot) ≡ Some (sort, least) → IsOfSort (production_of (plain grammar.now) head) sort least → Contains found.new.keys (beginning head item.end)) }
+    ensures few { OnOk result (length found.new.keys ≤ 2000000) }
+    ensures hard { result ≡ Err ChartError.TooHard → 2000000 < length found.new.keys }
+    ensures asked { OnOk result (AllAsked (plain grammar.now) asked.new.keys found.new.keys) }
+{
+    match next_part(grammar, item.head, item.dot) {
+        None => Ok(()),
+        Some((sort, least)) => predict_once(
+            grammar,
+            openings,
+            found,
+            asked,
+            Ask {
+                sort,
+                least,
+                place: item.end,
+            },
+        ),
+    }
+}
+
+/// Moves the dot of the first item over the second, if it waits for it.
+fn join(
+    grammar: &Grammar,
+    found: &mut IndexSet<Item>,
+    before: Item,
+    filling: Item,
+) -> Result<(), ChartError>
+    requires { length found.old.keys ≤ 2000000 }
+    ensures extends { Extends found.old.keys found.new.keys }
+    ensures only { Only found.old.keys found.new.keys (λ i. Joins (plain grammar.now) before filling × (i ≡ moved before filling.end)) }
+    ensures every { OnOk result (Joins (plain grammar.now) before filling → Contains found.new.keys (moved before filling.end)) }
+    ensures few { OnOk result (length found.new.keys ≤ 2000000) }
+    ensures hard { result ≡ Err ChartError.TooHard → 2000000 < length found.new.keys }
+{
+    match next_part(grammar, before.head, before.dot) {
+        None => Ok(()),
+        Some((sort, least)) => {
+            if before.end == filling.origin
+                && ends_at(grammar, filling.head, filling.dot)
+                && makes(grammar, filling.head, sort, least)
+            {
+                add(
+                    found,
+                    Item {
+                        head: before.head,
+                        dot: before.dot + 1,
+                        origin: before.origin,
+                        end: filling.end,
+                    },
+                )
+            } else {
+                Ok(())
+            }
+        }
+    }
+}
+
+/// Moves the dot of each of the first items over the second, if it waits for it.
+fn join_each(
+    grammar: &Grammar,
+    found: &mut IndexSet<Item>,
+    befores: &[Item],
+    filling: Item,
+) -> Result<(), ChartError>
+    requires { length found.old.keys ≤ 2000000 }
+    ensures extends { Extends found.old.keys found.new.keys }
+    ensures only { Only found.old.keys found.new.keys (IsJoined (plain grammar.now) befores.now (filling ∷ [])) }
+    ensures every { OnOk result ((before : Item) → Contains befores.now before → Joins (plain grammar.now) before filling → Contains found.new.keys (moved before filling.end)) }
+    ensures few { OnOk result (length found.new.keys ≤ 2000000) }
+    ensures hard { result ≡ Err ChartError.TooHard → 2000000 < length found.new.keys }
+{
+    for before in befores {
+        join(grammar, found, *before, filling)?;
+    }
+    Ok(())
+}
+
+/// Moves the dot of the first item over each of the second, if it waits for it.
+fn join_over(
+    grammar: &Grammar,
+    found: &mut IndexSet<Item>,
+    before: Item,
+    fillings: &[Item],
+) -> Result<(), ChartError>
+    requires { length found.old.keys ≤ 2000000 }
+    ensures extends { Extends found.old.keys found.new.keys }
+    ensures only { Only found.old.keys found.new.keys (IsJoined (plain grammar.now) (before ∷ []) fillings.now) }
+    ensures every { OnOk result ((filling : Item) → Contains fillings.now filling → Joins (plain grammar.now) before filling → Contains found.new.keys (moved before filling.end)) }
+    ensures few { OnOk result (length found.new.keys ≤ 2000000) }
+    ensures hard { result ≡ Err ChartError.TooHard → 2000000 < length found.new.keys }
+{
+    for filling in fillings {
+        join(grammar, found, before, *filling)?;
+    }
+    Ok(())
+}
+
+/// Moves the dot of the item over the next token, if its symbol reads it.
+fn scan(
+    grammar: &Grammar,
+    shown: &[Shown],
+    found: &mut IndexSet<Item>,
+    item: Item,
+) -> Result<(), ChartError>
+    requires few { length found.old.keys ≤ 2000000 }
+    requires short { length shown.now ≤ 10000 }
+    requires below { AreBelow (length (texts grammar.now)) shown.now }
+    ensures extends { Extends found.old.keys found.new.keys }
+    ensures only { Only found.old.keys found.new.keys (λ i. ReadsNext (tokens_of grammar.now shown.now) (next_symbol (plain grammar.now) item.head item.dot) item.end × (i ≡ moved item (item.end + 1))) }
+    ensures every { OnOk result (ReadsNext (tokens_of grammar.now shown.now) (next_symbol (plain grammar.now) item.head item.dot) item.end → Contains found.new.keys (moved item (item.end + 1))) }
+    ensures few { OnOk result (length found.new.keys ≤ 2000000) }
+    ensures hard { result ≡ Err ChartError.TooHard → 2000000 < length found.new.keys }
+{
+    if reads_next(grammar, item.head, item.dot, shown, item.end) {
+        add(
+            found,
+            Item {
+                head: item.head,
+                dot: item.dot + 1,
+                origin: item.origin,
+                end: item.end + 1,
+            },
+        )
+    } else {
+        Ok(())
+    }
+}
+
+/// Adds all that follows from the item, where the first items may wait for it and it may wait for the second.
+pub(crate) fn treat(
+    grammar: &Grammar,
+    openings: &Table,
+    shown: &[Shown],
+    found: &mut IndexSet<Item>,
+    asked: &mut IndexSet<Ask>,
+    befores: &[Item],
+    fillings: &[Item],
+    item: Item,
+) -> Result<(), ChartError>
+    requires few { length found.old.keys ≤ 2000000 }
+    requires short { length shown.now ≤ 10000 }
+    requires below { AreBelow (length (texts grammar.now)) shown.now }
+    requires openings { HasAllOpenings (plain grammar.now) openings.now }
+    requires asked { AllAsked (plain grammar.now) asked.old.keys found.old.keys }
+    ensures extends { Extends found.old.keys found.new.keys }
+    ensures only { Only found.old.keys found.new.keys (Follows (plain grammar.now) (tokens_of grammar.now shown.now) befores.now fillings.now item) }
+    ensures every { OnOk result (AllFollow (plain grammar.now) (tokens_of grammar.now shown.now) befores.now fillings.now item found.new.keys) }
+    ensures few { OnOk result (length found.new.keys ≤ 2000000) }
+    ensures hard { result ≡ Err ChartError.TooHard → 2000000 < length found.new.keys }
+    ensures asked { OnOk result (AllAsked (plain grammar.now) asked.new.keys found.new.keys) }
+{
+    predict_next(grammar, openings, found, asked, item)?;
+    scan(grammar, shown, found, item)?;
+    join_each(grammar, found, befores, item)?;
+    join_over(grammar, found, item, fillings)
+}

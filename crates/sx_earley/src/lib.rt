@@ -1,0 +1,25 @@
+//! The chart of Earley items: which parts of a token list a grammar reads.
+#![tactic(auto)]
+
+mod all_items;
+mod ask;
+mod chart_error;
+mod charting;
+mod completed;
+mod filed;
+mod growing;
+mod metas;
+mod openings;
+mod shown;
+mod slot;
+mod span;
+mod spanned;
+mod stems;
+mod symbols;
+mod table;
+
+pub use chart_error::ChartError;
+pub use charting::chart;
+pub use completed::Chart;
+pub use metas::Metas;
+pub use span::{Span, SpanOf};

@@ -1,0 +1,8 @@
+//! Slots of tables.
+
+/// A place among the tokens, and the number of a sort.
+#[derive(Clone, Copy, PartialEq, Eq, Hash, Debug)]
+pub(crate) struct Slot {
+    pub place: u32,
+    pub sort: u32,
+}

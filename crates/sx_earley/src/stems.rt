@@ -1,0 +1,109 @@
+//! What the tokens of a text show.
+
+ghost use Rattle.std.specs.Prelude.{◌≡◌, ℕ, List, IfOk, map};
+ghost use Rattle.std.specs.HashMap.{get_by};
+ghost use Rattle.std.specs.Str.{bytes_eq};
+ghost use Rattle.sx_term.specs.declared.sort.Sort.{Sort};
+ghost use Rattle.sx_earley.specs.Tokens.{without_digits, stem_of, sort_of};
+ghost use Rattle.sx_earley.specs.Showing.{IsStems, show, shown_stem};
+
+use crate::metas::Metas;
+use crate::shown::Shown;
+use std::alloc::{AllocError, Global};
+use std::collections::HashMap;
+use sx_term::{LexKind, Mark, Sort};
+use sx_token::Token;
+
+/// The sort of each stem.
+#[derive(Drop)]
+struct Stems<'a> {
+    sorts: HashMap<&'a [u8], Sort>,
+}
+
+/// The stems by their bytes, from the last to the first, so that of equal stems the first counts.
+fn stem_table<'a>(alloc: Global, metas: &'a Metas) -> Result<Stems<'a>, AllocError>
+    ensures { IfOk result (λ s. IsStems metas.entry.now.stems.items s) }
+{
+    let mut sorts = HashMap::new(alloc);
+    let mut left = metas.stems.len();
+    while left > 0 {
+        left -= 1;
+        let stem = &metas.stems[left];
+        sorts.insert(stem.0.bytes(), stem.1)?;
+    }
+    Ok(Stems { sorts })
+}
+
+/// The bytes without the ASCII digits at their end.
+fn without_digits(bytes: &[u8]) -> &[u8]
+    ensures { result.now ≡ without_digits bytes.now }
+{
+    let mut rest = bytes;
+    while let Some((last, front)) = rest.split_last() {
+        if last.is_ascii_digit() {
+            rest = front;
+        } else {
+            return rest;
+        }
+    }
+    rest
+}
+
+/// The stem of the metavariable.
+fn stem_of(text: &[u8]) -> &[u8]
+    ensures { result.now ≡ stem_of text.now }
+{
+    match text.split_first() {
+        None => text,
+        Some((_, word)) => without_digits(word),
+    }
+}
+
+/// What a metavariable shows whose stem has this sort.
+fn shown_stem(sort: Option<Sort>) -> Shown
+    ensures { result ≡ shown_stem sort }
+{
+    match sort {
+        None => Shown::Kind(LexKind::Id),
+        Some(Sort::Lex(kind)) => Shown::Kind(kind),
+        Some(Sort::Plain(number)) => Shown::Sort(number),
+        Some(Sort::Typed(number)) => Shown::Sort(number),
+    }
+}
+
+impl<'a> Stems<'a> {
+    /// The sort of the stem.
+    fn sort_of(&self, stem: &[u8]) -> Option<Sort>
+        ensures { (stems : List (List ℕ × Sort)) → IsStems stems self.now → result ≡ sort_of stems stem.now }
+    {
+        self.sorts.get(stem).copied()
+    }
+
+    /// What the token shows.
+    fn show(&self, token: &Token) -> Shown
+        ensures { (stems : List (List ℕ × Sort)) → IsStems stems self.now → result ≡ show stems token.now.mark token.now.text }
+    {
+        match token.mark {
+            Mark::Lit(number) => Shown::Lit(number),
+            Mark::Lex(kind) => Shown::Lex(kind),
+            Mark::Meta => shown_stem(self.sort_of(stem_of(token.text.bytes()))),
+        }
+    }
+}
+
+/// What the tokens show.
+pub(crate) fn show_all(
+    alloc: Global,
+    metas: &Metas,
+    tokens: &[Token],
+) -> Result<Vec<Shown>, AllocError>
+    ensures { IfOk result (λ v. v.items ≡ map (λ t. show metas.now.stems.items t.mark t.text) tokens.now) }
+{
+    let stems = stem_table(alloc, metas)?;
+    let mut shown = Vec::new(alloc);
+    for i in 0..tokens.len() {
+        let token = &tokens[i];
+        shown.push(stems.show(token))?;
+    }
+    Ok(shown)
+}

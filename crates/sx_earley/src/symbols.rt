@@ -1,0 +1,139 @@
+//! The symbols of heads.
+
+ghost use Rattle.std.specs.Prelude.{◌≡◌, ◌↔◌, ◌<◌, ◌≤◌, ◌^◌, IsTrue, IfSome, length, slice_get, option_map, is_some};
+ghost use Rattle.sx_grammar.specs.Numbered.{symbol, production};
+ghost use Rattle.sx_grammar.specs.Grammar.{production_of};
+ghost use Rattle.sx_earley.specs.Shown.{plain, texts, tokens_of, pair_symbol, IsBelow, AllBelow, AreBelow};
+ghost use Rattle.sx_earley.specs.Chart.{symbol_after, next_symbol, as_part, ReadsNext, EndsAt, IsOfSort, sort_made};
+
+use crate::shown::{Shown, reads};
+use sx_grammar::{Grammar, Head, NumberedProduction, NumberedSymbol};
+
+/// The production with this label.
+fn production_at(grammar: &Grammar, label: u32) -> Option<&NumberedProduction>
+    ensures is { option_map (λ p. production (texts grammar.now) p.now) result ≡ slice_get (plain grammar.now).productions label }
+    ensures below { IfSome result (λ p. AllBelow (length (texts grammar.now)) p.now.symbols.items) }
+{
+    grammar.productions().get(label as usize)
+}
+
+/// The symbol at this place of the production with this label.
+fn symbol_at(grammar: &Grammar, label: u32, dot: usize) -> Option<NumberedSymbol>
+    ensures is { option_map (symbol (texts grammar.now)) result ≡ symbol_after (slice_get (plain grammar.now).productions label) dot }
+    ensures below { IfSome result (IsBelow (length (texts grammar.now))) }
+    ensures small { IfSome result (λ _. dot < 2 ^ 63) }
+{
+    let production = production_at(grammar, label)?;
+    production.symbols.get(dot).copied()
+}
+
+/// The symbol at this place of the bracket pair of the sort.
+fn bracket_symbol(pair: Option<(u32, u32)>, sort: u32, dot: usize) -> Option<NumberedSymbol>
+    ensures is { result ≡ pair_symbol pair sort dot }
+    ensures small { IfSome result (λ _. dot < 2 ^ 63) }
+{
+    let (opening, closing) = pair?;
+    match dot {
+        0 => Some(NumberedSymbol::Lit(opening)),
+        1 => Some(NumberedSymbol::Part { sort, least: 0 }),
+        2 => Some(NumberedSymbol::Lit(closing)),
+        _ => None,
+    }
+}
+
+/// The symbol after the dot, or None at the end and where the head makes nothing.
+pub(crate) fn symbol_of(grammar: &Grammar, head: Head, dot: usize) -> Option<NumberedSymbol>
+    ensures is { option_map (symbol (texts grammar.now)) result ≡ next_symbol (plain grammar.now) head dot }
+    ensures below { IfSome result (IsBelow (length (texts grammar.now))) }
+    ensures small { IfSome result (λ _. dot < 2 ^ 63) }
+{
+    match head {
+        Head::Labelled(label) => symbol_at(grammar, label, dot),
+        Head::Bracketed(sort) => bracket_symbol(grammar.brackets(sort), sort, dot),
+    }
+}
+
+/// The sort and the least level of the part after the dot, or None where no part stands there.
+pub(crate) fn next_part(grammar: &Grammar, head: Head, dot: usize) -> Option<(u32, u8)>
+    ensures is { result ≡ as_part (next_symbol (plain grammar.now) head dot) }
+    ensures below { IfSome result (λ _. dot < 2 ^ 63) }
+{
+    match symbol_of(grammar, head, dot) {
+        Some(NumberedSymbol::Part { sort, least }) => Some((sort, least)),
+        _ => None,
+    }
+}
+
+/// Whether the symbol after the dot reads by itself what is shown at the place.
+pub(crate) fn reads_next(
+    grammar: &Grammar,
+    head: Head,
+    dot: usize,
+    shown: &[Shown],
+    place: u32,
+) -> bool
+    requires { AreBelow (length (texts grammar.now)) shown.now }
+    ensures is { IsTrue result ↔ ReadsNext (tokens_of grammar.now shown.now) (next_symbol (plain grammar.now) head dot) place }
+    ensures below { IsTrue result → dot < 2 ^ 63 }
+{
+    match symbol_of(grammar, head, dot) {
+        None => false,
+        Some(expected) => reads(grammar, expected, shown, place),
+    }
+}
+
+/// Whether there is a pair and the dot stands after its three symbols.
+fn pair_ends(pair: Option<(u32, u32)>, dot: usize) -> bool
+    ensures { IsTrue result ↔ (IsTrue (is_some pair) × (dot ≡ 3)) }
+{
+    pair.is_some() && dot == 3
+}
+
+/// Whether the dot stands at the end.
+pub(crate) fn ends_at(grammar: &Grammar, head: Head, dot: usize) -> bool
+    ensures { IsTrue result ↔ EndsAt (production_of (plain grammar.now) head) dot }
+{
+    match head {
+        Head::Labelled(label) => match production_at(grammar, label) {
+            None => false,
+            Some(production) => production.symbols.len() == dot,
+        },
+        Head::Bracketed(sort) => pair_ends(grammar.brackets(sort), dot),
+    }
+}
+
+/// The sort that the head makes, or None where it makes nothing.
+pub(crate) fn sort_of(grammar: &Grammar, head: Head) -> Option<u32>
+    ensures { result ≡ sort_made (production_of (plain grammar.now) head) }
+{
+    match head {
+        Head::Labelled(label) => match production_at(grammar, label) {
+            None => None,
+            Some(production) => Some(production.sort),
+        },
+        Head::Bracketed(sort) => match grammar.brackets(sort) {
+            None => None,
+            Some(_) => Some(sort),
+        },
+    }
+}
+
+/// Whether there is a pair, and a level of 100 of its sort is what is asked for.
+fn pair_makes(pair: Option<(u32, u32)>, own: u32, sort: u32, least: u8) -> bool
+    ensures { IsTrue result ↔ (IsTrue (is_some pair) × (own ≡ sort) × (least ≤ 100)) }
+{
+    pair.is_some() && own == sort && least <= 100
+}
+
+/// Whether the head makes the sort at least the level.
+pub(crate) fn makes(grammar: &Grammar, head: Head, sort: u32, least: u8) -> bool
+    ensures { IsTrue result ↔ IsOfSort (production_of (plain grammar.now) head) sort least }
+{
+    match head {
+        Head::Labelled(label) => match production_at(grammar, label) {
+            None => false,
+            Some(production) => production.sort == sort && production.level >= least,
+        },
+        Head::Bracketed(own) => pair_makes(grammar.brackets(own), own, sort, least),
+    }
+}
