@@ -8,8 +8,8 @@ use Rattle.sx_rules.specs.Modes.{goal_of}
 use Rattle.sx_rules.specs.Views.{NamedRule, modes_of}
 use Rattle.sx_rules.specs.Derivations.{Proof, by, given, no_more, Derives, DeriveEach}
 use Rattle.sx_rules.specs.Orders.{Entry, of_rule, order_of, order_of_all, IsAtMost}
-use Rattle.sx_core.specs.Problem.{Problem}
-use Rattle.sx_core.specs.FirstForm.{IsGround, AreGround, EachGround, AreAxioms}
+use Rattle.sx_first.specs.Problem.{Problem}
+use Rattle.sx_first.specs.FirstForm.{IsGround, AreGround, EachGround, AreAxioms}
 use Rattle.sx_top.specs.FindFirst.{no_hypotheses, rules_of, HasNone}
 use Rattle.sx_top.specs.Plain.{IsSimple, IsFoundAt}
 

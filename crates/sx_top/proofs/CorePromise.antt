@@ -5,7 +5,7 @@ use Rattle.sx_outside.specs.Files.{Files, after, put}
 use Rattle.sx_outside.specs.FilesLaws.{put-same, put-other}
 use Rattle.sx_rules.specs.Orders.{order_of}
 use Rattle.sx_rules.specs.First.{Answer}
-use Rattle.sx_core.specs.Problem.{Problem}
+use Rattle.sx_first.specs.Problem.{Problem}
 use Rattle.sx_top.specs.CoreTexts.{subject_text, list_text, term_lines}
 use Rattle.sx_top.specs.Holds.{Holds}
 use Rattle.sx_top.specs.ReadCore.{StatesCore}

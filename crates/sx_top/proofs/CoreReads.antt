@@ -4,9 +4,9 @@ use Rattle.std.specs.Prelude.{Result, Ok, Err, Option, Some, None, IfSome}
 use Rattle.sx_outside.specs.Files.{Files}
 use Rattle.sx_outside.specs.Shelf.{IsReading, IsOver}
 use Rattle.sx_outside.specs.declared.answer.ReadAnswer.TheVariants as reads
-use Rattle.sx_core.specs.Problem.{Problem, problem}
-use Rattle.sx_core.specs.FirstForm.{StatesFirst}
-use Rattle.sx_core.specs.declared.problem.CoreProblem.{CoreProblem}
+use Rattle.sx_first.specs.Problem.{Problem, problem}
+use Rattle.sx_first.specs.FirstForm.{StatesFirst}
+use Rattle.sx_first.specs.declared.problem.CoreProblem.{CoreProblem}
 use Rattle.sx_top.specs.declared.stop.Stop.{Stop}
 use Rattle.sx_top.specs.Refusal.{read_fault, absent, not_read_yet}
 use Rattle.sx_top.specs.Holds.{Holds}

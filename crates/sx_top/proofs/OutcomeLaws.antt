@@ -4,9 +4,9 @@ use Rattle.std.specs.Prelude.{Result, Ok, Err, Some, None, codes}
 use Rattle.sx_outside.specs.Files.{Files}
 use Rattle.sx_rules.specs.Views.{modes_of}
 use Rattle.sx_rules.specs.First.{Answer}
-use Rattle.sx_core.specs.Problem.{Problem}
-use Rattle.sx_core.specs.FirstForm.{StatesFirst}
-use Rattle.sx_core.proofs.OneProblem.{one_problem}
+use Rattle.sx_first.specs.Problem.{Problem}
+use Rattle.sx_first.specs.FirstForm.{StatesFirst}
+use Rattle.sx_first.proofs.OneProblem.{one_problem}
 use Rattle.sx_top.specs.CoreTexts.{goal_text}
 use Rattle.sx_top.specs.declared.stop.Stop.{Stop}
 use Rattle.sx_top.specs.Refusal.{absent, bad_word, not_read_yet, no_rule, status_of}

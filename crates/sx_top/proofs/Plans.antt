@@ -4,7 +4,7 @@ use Rattle.std.specs.Prelude.{Ok, Err, Some, slice_get, decimal}
 use Rattle.sx_outside.specs.Files.{Files, File}
 use Rattle.sx_rules.specs.Views.{NamedRule, modes_of}
 use Rattle.sx_rules.specs.Modes.{outputs}
-use Rattle.sx_core.specs.Problem.{Problem}
+use Rattle.sx_first.specs.Problem.{Problem}
 use Rattle.sx_top.specs.declared.stop.Stop.{Stop}
 use Rattle.sx_top.specs.Refusal.{no_rule}
 use Rattle.sx_top.specs.CoreTexts.{subject_text, term_lines, rule_name_or_none, goal_text}

@@ -6,10 +6,10 @@ use Rattle.sx_term.specs.Term.{tree}
 use Rattle.sx_term.specs.Core.{HasCore, HaveCore, IsWritable, AreWritable}
 use Rattle.sx_term.specs.declared.term.Term.{Term}
 use Rattle.sx_rules.specs.Views.{FormData, NamedRule}
-use Rattle.sx_core.specs.Problem.{Problem}
-use Rattle.sx_core.specs.File.{SortRow, RuleRows}
-use Rattle.sx_core.specs.Stated.{AreReadable, AreRules}
-use Rattle.sx_core.specs.FirstForm.{StatesFirst}
+use Rattle.sx_first.specs.Problem.{Problem}
+use Rattle.sx_first.specs.File.{SortRow, RuleRows}
+use Rattle.sx_first.specs.Stated.{AreReadable, AreRules}
+use Rattle.sx_first.specs.FirstForm.{StatesFirst}
 use Rattle.sx_top.specs.Plain.{AreTerms, HaveTerms, IsSimple}
 use Rattle.sx_top.proofs.Utf8.{core_utf8}
 

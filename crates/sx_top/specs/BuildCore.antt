@@ -4,8 +4,8 @@ use Rattle.sx_outside.specs.Files.{Files}
 use Rattle.sx_rules.specs.Derivations.{nodes_of}
 use Rattle.sx_rules.specs.Orders.{order_of}
 use Rattle.sx_rules.specs.First.{Answer}
-use Rattle.sx_core.specs.Problem.{Problem}
-use Rattle.sx_core.specs.FirstForm.{StatesFirst}
+use Rattle.sx_first.specs.Problem.{Problem}
+use Rattle.sx_first.specs.FirstForm.{StatesFirst}
 use Rattle.sx_top.specs.CoreTexts.{subject_text, list_text, term_lines}
 use Rattle.sx_top.specs.declared.stop.Stop.{Stop}
 use Rattle.sx_top.specs.Steps.{Then}

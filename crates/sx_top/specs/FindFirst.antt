@@ -5,7 +5,7 @@ use Rattle.sx_rules.specs.Rules.{Rule, Hypotheses}
 use Rattle.sx_rules.specs.Views.{modes_of}
 use Rattle.sx_rules.specs.Derivations.{by, no_more}
 use Rattle.sx_rules.specs.First.{Answer, IsFirst, IsUnderivable}
-use Rattle.sx_core.specs.Problem.{Problem}
+use Rattle.sx_first.specs.Problem.{Problem}
 use Rattle.sx_top.specs.CoreTexts.{goal_text}
 use Rattle.sx_top.specs.declared.stop.Stop.{Stop}
 use Rattle.sx_top.specs.Refusal.{no_rule}

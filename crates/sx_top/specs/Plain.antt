@@ -7,8 +7,8 @@ use Rattle.sx_rules.specs.Views.{NamedRule, modes_of}
 use Rattle.sx_rules.specs.Modes.{outputs_of}
 use Rattle.sx_rules.specs.Derivations.{by, no_more}
 use Rattle.sx_rules.specs.First.{Answer}
-use Rattle.sx_core.specs.Problem.{Problem}
-use Rattle.sx_core.specs.FirstForm.{AreAxioms}
+use Rattle.sx_first.specs.Problem.{Problem}
+use Rattle.sx_first.specs.FirstForm.{AreAxioms}
 use Rattle.sx_top.specs.FindFirst.{IsFirstOf}
 
 -- each term has a depth of at most 1,000 and can be written, as UTF-8

@@ -1,8 +1,8 @@
 -- The step that reads a core file: what its bytes state.
 use Rattle.std.specs.Prelude.{◌≡◌, ℕ, List, Result, Ok, Err}
 use Rattle.sx_outside.specs.Files.{Files}
-use Rattle.sx_core.specs.Problem.{Problem}
-use Rattle.sx_core.specs.FirstForm.{StatesFirst}
+use Rattle.sx_first.specs.Problem.{Problem}
+use Rattle.sx_first.specs.FirstForm.{StatesFirst}
 use Rattle.sx_top.specs.declared.stop.Stop.{Stop}
 use Rattle.sx_top.specs.Refusal.{not_read_yet}
 use Rattle.sx_top.specs.Steps.{Then}

@@ -3,7 +3,7 @@
 ghost use Rattle.std.specs.Prelude.{◌≡◌, ◌++◌, ℕ, IfOk, Some, slice_get, [], ◌∷◌, map};
 ghost use Rattle.sx_outside.specs.Told.{WhereTold};
 ghost use Rattle.sx_term.specs.Term.{tree};
-ghost use Rattle.sx_core.specs.Problem.{problem as problem_data};
+ghost use Rattle.sx_first.specs.Problem.{problem as problem_data};
 ghost use Rattle.sx_rules.specs.Views.{named};
 ghost use Rattle.sx_top.specs.Plain.{AreTerms, IsSimple, rule_answer};
 ghost use Rattle.sx_top.specs.FindFirst.{HasTries};
@@ -24,7 +24,7 @@ use crate::texts::{base_text, built_line, goal_text, interface_text, list_text};
 use crate::work::{Output, Work};
 use std::alloc::Global;
 use std::sync::ledger::Ledger;
-use sx_core::CoreProblem;
+use sx_first::CoreProblem;
 use sx_outside::Shelf;
 use sx_rules::Rule;
 use sx_term::{NoMemory, Steps, Text};

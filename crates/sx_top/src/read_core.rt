@@ -2,7 +2,7 @@
 
 ghost use Rattle.std.specs.Prelude.{◌≡◌, IfOk};
 ghost use Rattle.sx_outside.specs.Told.{WhereTold};
-ghost use Rattle.sx_core.specs.Problem.{problem};
+ghost use Rattle.sx_first.specs.Problem.{problem};
 ghost use Rattle.sx_top.specs.ReadCore.{StatesCore, ReadsCore};
 ghost use Rattle.sx_top.specs.Plain.{IsSimple};
 ghost use Rattle.sx_top.specs.Refusal as refusals;
@@ -12,7 +12,7 @@ use crate::names::text_of;
 use crate::step_error::StepError;
 use crate::stop::{Stop, about};
 use std::alloc::Global;
-use sx_core::{CoreFileError, CoreProblem, read_core_file};
+use sx_first::{CoreFileError, CoreProblem, read_core_file};
 use sx_outside::{ReadAnswer, Shelf};
 use sx_term::{NoMemory, Text};
 use sx_words::{Defect, FileDefect};

@@ -4,14 +4,14 @@ ghost use Rattle.std.specs.Prelude.{◌≡◌, ℕ, ◌+◌, ◌≤◌, MatchOpt
 ghost use Rattle.sx_term.specs.Term.{tree};
 ghost use Rattle.sx_rules.specs.Modes.{inputs as inputs_among, goal_of};
 ghost use Rattle.sx_rules.specs.Views.{is_out, places_at, forms, named, judgement, goal as goal_data, modes_of};
-ghost use Rattle.sx_core.specs.Problem.{problem as problem_data};
+ghost use Rattle.sx_first.specs.Problem.{problem as problem_data};
 ghost use Rattle.sx_top.specs.FindFirst.{HasNone};
 ghost use Rattle.sx_top.specs.Plain.{AreTerms, IsSimple, IsFoundAt};
 
 use crate::forms::places_of;
 use crate::texts::is_output;
 use std::sync::ledger::Ledger;
-use sx_core::CoreProblem;
+use sx_first::CoreProblem;
 use sx_rules::{Form, Goal, Judgement, Place, Rule};
 use sx_term::{Steps, Term};
 

@@ -4,7 +4,7 @@ use Rattle.sx_term.specs.declared.term.Term.{Term}
 use Rattle.sx_rules.specs.declared.rule.Place.{Place}
 use Rattle.sx_rules.specs.Modes.{outputs}
 use Rattle.sx_rules.specs.Views.{FormData, is_out, named, places_at, goal as goal_data}
-use Rattle.sx_core.specs.Problem.{problem}
+use Rattle.sx_first.specs.Problem.{problem}
 use Rattle.sx_top.specs.CoreTexts.{subject_text, term_lines}
 use Rattle.sx_top.proofs.Plans.{plan_made}
 use Rattle.sx_top.proofs.build_core.make_work.Goals as goal

@@ -1,4 +1,4 @@
-use Rattle.sx_core.specs.Problem.{problem}
+use Rattle.sx_first.specs.Problem.{problem}
 use Rattle.sx_top.specs.Work.{plan_of}
 use Rattle.sx_top.specs.ReadCore.{ReadsCore}
 use Rattle.sx_top.specs.BuildCore.{BuildsGoal, FileTries}

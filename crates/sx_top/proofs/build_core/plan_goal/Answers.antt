@@ -1,5 +1,5 @@
 use Rattle.sx_rules.specs.Views.{named}
-use Rattle.sx_core.specs.Problem.{problem}
+use Rattle.sx_first.specs.Problem.{problem}
 use Rattle.sx_top.proofs.Simple.{conclusion_at}
 use Rattle.sx_top.proofs.Plans.{plan_found, plan_none, most_found}
 use Rattle.sx_top.proofs.build_core.plan_goal.Goals as goal

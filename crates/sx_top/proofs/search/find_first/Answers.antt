@@ -3,7 +3,7 @@ use Rattle.std.specs.Prelude.{Some, slice_get}
 use Rattle.std.proofs.lemmas.Bool.{false≢true}
 use Rattle.sx_rules.specs.Modes.{goal_of}
 use Rattle.sx_rules.specs.Views.{FormData, NamedRule, modes_of, named, judgement}
-use Rattle.sx_core.specs.Problem.{problem}
+use Rattle.sx_first.specs.Problem.{problem}
 use Rattle.sx_top.proofs.Simple.{conclusion_at}
 use Rattle.sx_top.proofs.Axioms.{found_first, found_none, past_at, below_at, same_at}
 use Rattle.sx_top.proofs.search.find_first.Goals as goal

@@ -1,5 +1,5 @@
 use Rattle.std.proofs.Common.{◌≡◌, ◌+◌, ◌≤◌, length}
-use Rattle.sx_core.specs.Problem.{problem}
+use Rattle.sx_first.specs.Problem.{problem}
 use Rattle.sx_top.proofs.Axioms.{NoneBelow}
 use Rattle.sx_top.proofs.search.find_first.Given as goal
 
