@@ -17,6 +17,8 @@ use Rattle.sx_words.specs.declared.closure_defect.ClosureDefect.TheVariants as c
 use Rattle.sx_words.specs.declared.refusal.Defect.{Defect}
 use Rattle.sx_words.specs.declared.refusal.Defect.TheVariants as defect
 use Rattle.sx_derive.specs.Stuck.{Blame, Reason, no_rule, unequal, mismatch}
+use Rattle.sx_rules.specs.Views.{FormData, NamedRule}
+use Rattle.sx_rules.specs.Modes.{Goal}
 use Rattle.sx_core.specs.Problem.{Problem}
 use Rattle.sx_top.specs.declared.stop.Stop.{Stop}
 use Rattle.sx_top.specs.Refusal.{about}
@@ -75,17 +77,19 @@ tries_spent file budget = about file (defect.Budget (budget_defect.Tries budget)
 abbrev pub depth_spent : List ℕ → Stop
 depth_spent file = about file (defect.Budget budget_defect.Depth)
 
--- why the goal of a problem has no derivation, by the stuck goal; premises are counted from 1, and outputs got are shown
-abbrev pub stuck_defect : Problem → Blame → Reason → GoalDefect
-stuck_defect problem blame no_rule = goal_defect.NoRule (goal_text problem.forms blame.goal None)
-stuck_defect problem blame (unequal rule premise) =
-    goal_defect.Equal (goal_text problem.forms blame.goal None) (premise + 1) (rule_name problem.rules rule)
-stuck_defect problem blame (mismatch (Some by) got) =
-    goal_defect.Mismatch (goal_text problem.forms blame.goal (Some got)) (by.1 + 1) (rule_name problem.rules by.0)
-stuck_defect problem blame (mismatch None got) = goal_defect.NotStated (goal_text problem.forms blame.goal (Some got))
+-- why a goal has no derivation, by the stuck goal and the reason; premises are counted from 1, and outputs got are shown
+abbrev pub stuck_defect : List FormData → List NamedRule → Goal → Reason → GoalDefect
+stuck_defect forms rules goal no_rule = goal_defect.NoRule (goal_text forms goal None)
+stuck_defect forms rules goal (unequal rule premise) = goal_defect.Equal (goal_text forms goal None) (premise + 1) (rule_name rules rule)
+stuck_defect forms rules goal (mismatch (Some by) got) = goal_defect.Mismatch (goal_text forms goal (Some got)) (by.1 + 1) (rule_name rules by.0)
+stuck_defect forms rules goal (mismatch None got) = goal_defect.NotStated (goal_text forms goal (Some got))
 
+abbrev pub stuck : List ℕ → List FormData → List NamedRule → Goal → Reason → Stop
+stuck file forms rules goal reason = about file (defect.Goal (stuck_defect forms rules goal reason))
+
+-- the goal of the problem has no derivation
 abbrev pub underivable : List ℕ → Problem → Blame → Stop
-underivable file problem blame = about file (defect.Goal (stuck_defect problem blame blame.reason))
+underivable file problem blame = stuck file problem.forms problem.rules blame.goal blame.reason
 
 -- ---- written files
 

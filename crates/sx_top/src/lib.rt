@@ -6,6 +6,7 @@ mod call;
 mod commands;
 mod core_stops;
 mod forms;
+mod goal_stops;
 mod goal_texts;
 mod held;
 mod laws;

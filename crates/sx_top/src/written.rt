@@ -24,10 +24,7 @@ fn equal(alloc: Global, file: &Text, text: &[u8], bytes: &[u8]) -> Result<(), St
 {
     if bytes != text {
         let file = file.copy(alloc)?;
-        return Err(StepError::Stopped(about(
-            file,
-            Defect::Closure(ClosureDefect::CoreDiffers),
-        )));
+        return Err(StepError::Stopped(about(file, Defect::Closure(ClosureDefect::CoreDiffers))));
     }
     Ok(())
 }
