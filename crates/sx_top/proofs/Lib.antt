@@ -12,3 +12,4 @@ mod There
 mod WholePromises
 mod Firsts
 mod OutcomeLaws
+mod WholeOnes
