@@ -29,7 +29,7 @@ der_int : codes ".der" ≢ codes ".int"
 der_int same = let letters : ◌≡◌ {A = ℕ} 100 105 = ap (λ (l : List ℕ). get_or l 1 0) same in absurd (omega arith)
 
 -- what stands after three writes under three names
-written : (name : List ℕ) (base list interface : List ℕ) (old : Files) → (let new : Files = put (put (put old (name ++ codes ".base") base) (name ++ codes ".der") list) (name ++ codes ".int") interface in (new (name ++ codes ".base") ≡ Some base) × (new (name ++ codes ".der") ≡ Some list) × (new (name ++ codes ".int") ≡ Some interface) × ((other : List ℕ) → other ≢ name ++ codes ".base" → other ≢ name ++ codes ".der" → other ≢ name ++ codes ".int" → new other ≡ old other))
+pub written : (name : List ℕ) (base list interface : List ℕ) (old : Files) → (let new : Files = put (put (put old (name ++ codes ".base") base) (name ++ codes ".der") list) (name ++ codes ".int") interface in (new (name ++ codes ".base") ≡ Some base) × (new (name ++ codes ".der") ≡ Some list) × (new (name ++ codes ".int") ≡ Some interface) × ((other : List ℕ) → other ≢ name ++ codes ".base" → other ≢ name ++ codes ".der" → other ≢ name ++ codes ".int" → new other ≡ old other))
 written name base list interface old = (
   put-other _ _ _ _ (λ same. base_int (same_end name _ _ same)) ∙ put-other _ _ _ _ (λ same. base_der (same_end name _ _ same)) ∙ put-same _ _ _,
   put-other _ _ _ _ (λ same. der_int (same_end name _ _ same)) ∙ put-same _ _ _,

@@ -9,5 +9,7 @@ mod Plans
 mod CorePromise
 mod Endings
 mod There
+mod WholePromises
 mod Firsts
 mod OutcomeLaws
+mod WholeOnes

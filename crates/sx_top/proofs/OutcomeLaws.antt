@@ -27,16 +27,16 @@ use Rattle.sx_top.proofs.Firsts.{one_first, good_moded}
 -- ---- steps
 
 -- the step has one result, read faults aside
-abbrev IsOne : {A : Type 0} → (Result A Stop → Type 0) → Type 0
+abbrev pub IsOne : {A : Type 0} → (Result A Stop → Type 0) → Type 0
 IsOne {A} step = (x y : Result A Stop) → step x → step y → IsNoReadFault x → IsNoReadFault y → x ≡ y
 
-ok_same : {A B : Type 0} (a b : A) → ◌≡◌ {A = Result A B} (Ok a) (Ok b) → a ≡ b
+pub ok_same : {A B : Type 0} (a b : A) → ◌≡◌ {A = Result A B} (Ok a) (Ok b) → a ≡ b
 ok_same a b e = cc
 
-err_same : {A B : Type 0} (s t : B) → ◌≡◌ {A = Result A B} (Err s) (Err t) → s ≡ t
+pub err_same : {A B : Type 0} (s t : B) → ◌≡◌ {A = Result A B} (Err s) (Err t) → s ≡ t
 err_same s t e = cc
 
-ok_no_err : {A B : Type 0} (a : A) (s : B) → ◌≡◌ {A = Result A B} (Ok a) (Err s) → ⊥
+pub ok_no_err : {A B : Type 0} (a : A) (s : B) → ◌≡◌ {A = Result A B} (Ok a) (Err s) → ⊥
 ok_no_err a s e = cc
 
 module _ {A B : Type 0} (first : Result A Stop → Type 0) (next : A → Result B Stop → Type 0) (one : IsOne first) (more : (given : A) → first (Ok given) → IsOne (next given)) where
@@ -50,15 +50,15 @@ module _ {A B : Type 0} (first : Result A Stop → Type 0) (next : A → Result 
       let same = err_same s t (one (Err s) (Err t) f e (subst (λ (z : Result B Stop). IsNoReadFault z) h n) (subst (λ (z : Result B Stop). IsNoReadFault z) j m)) in
       h ∙ ap (λ (z : Stop). Err z) same ∙ sym j
 
-  then_one : IsOne (Then first next)
+  pub then_one : IsOne (Then first next)
   then_one x y h k n m = goes_one h.given k.given x y h.begins k.begins h.goes k.goes n m
 
 -- a value that is as it should be, or this stop where none is
-abbrev IsOr : {A : Type 0} → (A → Type 0) → Stop → Result A Stop → Type 0
+abbrev pub IsOr : {A : Type 0} → (A → Type 0) → Stop → Result A Stop → Type 0
 IsOr {A} Is stop (Ok x) = Is x
 IsOr {A} Is stop (Err other) = (other ≡ stop) × ((x : A) → Is x → ⊥)
 
-or_one : {A : Type 0} (Is : A → Type 0) (stop : Stop) → ((a b : A) → Is a → Is b → a ≡ b) → (x y : Result A Stop) → IsOr Is stop x → IsOr Is stop y → x ≡ y
+pub or_one : {A : Type 0} (Is : A → Type 0) (stop : Stop) → ((a b : A) → Is a → Is b → a ≡ b) → (x y : Result A Stop) → IsOr Is stop x → IsOr Is stop y → x ≡ y
 or_one Is stop same (Ok a) (Ok b) h k = ap Ok (same a b h k)
 or_one Is stop same (Ok a) (Err t) h k = absurd (k.1 a h)
 or_one Is stop same (Err s) (Ok b) h k = absurd (h.1 b k)

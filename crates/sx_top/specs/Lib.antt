@@ -17,3 +17,11 @@ pub mod Performing
 pub mod Telling
 pub mod Tries
 pub mod Laws
+pub mod GoalTexts
+pub mod CoreStops
+pub mod Held
+pub mod Lower
+pub mod Search
+pub mod Written
+pub mod Awaited
+pub mod WholeFiles

@@ -4,7 +4,11 @@
 mod build_core;
 mod call;
 mod commands;
+mod core_stops;
 mod forms;
+mod goal_stops;
+mod goal_texts;
+mod held;
 mod laws;
 mod names;
 mod perform;
@@ -17,6 +21,7 @@ mod stop;
 mod tell;
 mod texts;
 mod work;
+mod written;
 
 pub use call::run;
 pub use laws::one_outcome;

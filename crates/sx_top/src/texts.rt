@@ -12,7 +12,7 @@ use std::alloc::Global;
 use sx_rules::{Form, Goal, Place, Role};
 use sx_term::{NoMemory, Term, Text, TextError, write_core};
 
-fn is_out(role: Role) -> bool
+pub fn is_out(role: Role) -> bool
     ensures { result ≡ role_is_out role }
 {
     match role {

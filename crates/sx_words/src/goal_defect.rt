@@ -18,13 +18,13 @@ pub enum GoalDefect {
     /// A premise that two terms differ does not hold. Outputs of the goal are shown as `_`.
     Equal {
         goal: Text,
-        premise: u32,
+        premise: u64,
         rule: Text,
     },
     /// The goal, with the outputs that it has, is not what a premise asks for.
     Mismatch {
         goal: Text,
-        premise: u32,
+        premise: u64,
         rule: Text,
     },
     /// The goal, with the outputs that it has, is not the stated conclusion.
@@ -48,7 +48,7 @@ pub(crate) fn put_goal(
             premise,
             rule,
         } => {
-            let premise = number(alloc, u64::from(*premise))?;
+            let premise = number(alloc, *premise)?;
             put(
                 &[
                     goal.bytes(),
@@ -66,7 +66,7 @@ pub(crate) fn put_goal(
             premise,
             rule,
         } => {
-            let premise = number(alloc, u64::from(*premise))?;
+            let premise = number(alloc, *premise)?;
             put(
                 &[
                     goal.bytes(),

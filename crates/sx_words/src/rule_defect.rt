@@ -19,7 +19,7 @@ pub enum RuleDefect {
     /// A term of another sort than its place. At `Place::Rule`.
     SortDiffers,
     /// A part of the discipline that a premise breaks. At `Place::Rule`.
-    Discipline { part: u32, premise: u32 },
+    Discipline { part: u32, premise: u64 },
     /// A variable that is not bound, with the mark before its name: `~V`, in a core file `?N`. At `Place::Rule`.
     NotModed(Text),
 }
@@ -39,7 +39,7 @@ pub(crate) fn put_rule(
         RuleDefect::SortDiffers => put(&[b"sorts differ"], into),
         RuleDefect::Discipline { part, premise } => {
             let part = number(alloc, u64::from(*part))?;
-            let premise = number(alloc, u64::from(*premise))?;
+            let premise = number(alloc, *premise)?;
             put(
                 &[
                     b"part ",
