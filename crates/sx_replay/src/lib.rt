@@ -15,3 +15,6 @@ mod step;
 pub use laws::{beginnings_are_within, derivations_are_replayed, fronts_are_alone};
 pub use replay_error::ReplayError;
 pub use replaying::replay;
+
+#[cfg(test)]
+mod tests;
