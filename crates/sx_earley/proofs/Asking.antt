@@ -1,5 +1,5 @@
 -- What has been asked for.
-use Rattle.std.proofs.Common.{◌≡◌, ◌∙◌, sym, subst, ap, ⊎_elim, List, [], Contains, Bool, true, false, if◌then◌else◌, ◌++◌, ◌∷◌, arith}
+use Rattle.std.proofs.Common.{◌≡◌, sym, subst, ⊎_elim, List, [], Contains, Bool, true, if◌then◌else◌, ◌++◌, ◌∷◌, arith}
 use Rattle.std.proofs.lemmas.Bool.Decides.{nat_tests}
 use Rattle.indexmap.proofs.CallerLemmas.{Contains-list_any}
 use Rattle.std.specs.List.{list_any}
@@ -8,7 +8,7 @@ use Rattle.sx_grammar.specs.declared.head.Head.{Head}
 use Rattle.sx_grammar.specs.declared.item.Item.{Item}
 use Rattle.sx_earley.specs.declared.ask.Ask.{Ask}
 use Rattle.sx_earley.specs.contracts.ask.AskPartialEq.TheImpl as ask_eq
-use Rattle.sx_earley.specs.Growth.{Extends, Only}
+use Rattle.sx_earley.specs.Growth.{Extends}
 use Rattle.sx_earley.specs.Chart.{AllAsked, IsOfSort, beginning}
 use Rattle.sx_earley.proofs.Growth.{still_there}
 use Rattle.sx_earley.proofs.Same.{only_inserted}

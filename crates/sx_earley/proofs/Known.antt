@@ -1,5 +1,5 @@
 -- The tokens that a text is cut into have the texts of their literals.
-use Rattle.std.proofs.Common.{◌≡◌, refl, ℕ, suc, zero, Bool, true, is_some, List, [], ◌∷◌, Contains, Some, arith}
+use Rattle.std.proofs.Common.{◌≡◌, refl, ℕ, suc, Bool, true, is_some, List, [], ◌∷◌, Contains, Some, arith}
 use Rattle.std.specs.Prelude.{slice_get}
 use Rattle.std.specs.List.{AllByRecursion}
 use Rattle.sx_term.specs.declared.mark.Mark.{Mark}

@@ -1,6 +1,5 @@
 pub mod Filing
 pub mod Pairs
-pub mod Taking
 pub mod Same
 pub mod Growth
 pub mod Asking

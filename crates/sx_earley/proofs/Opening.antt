@@ -1,10 +1,8 @@
 -- The items that begin productions.
-use Rattle.std.proofs.Common.{◌≡◌, ◌∙◌, sym, ap, refl, ℕ, ◌<◌, List, Option, Some, None, length, map, Contains}
+use Rattle.std.proofs.Common.{◌≡◌, refl, ℕ, ◌<◌, List, Option, Some, None, length, Contains}
 use Rattle.std.specs.Prelude.{slice_get}
 use Rattle.std.proofs.lemmas.Option.{slice_get_within}
-use Rattle.std.proofs.lemmas.List.{length-map}
 use Rattle.sx_grammar.specs.Grammar.{Grammar, SortLine, brackets_of, bracket_production, production_of}
-use Rattle.sx_grammar.specs.declared.head.Head.{Head}
 use Rattle.sx_grammar.specs.declared.head.Head.TheVariants.{Labelled, Bracketed}
 use Rattle.sx_earley.specs.declared.table.Table.{Table}
 use Rattle.sx_earley.specs.Table.{row_at}

@@ -1,5 +1,5 @@
 -- Rows of items that wait or are complete.
-use Rattle.std.proofs.Common.{◌≡◌, ◌∙◌, sym, subst, ap, ⊎_elim, ℕ, ◌⊎◌, inl, inr, List, [], ◌∷◌, ◌++◌, Contains, Option, Some, None, arith}
+use Rattle.std.proofs.Common.{◌≡◌, ◌∙◌, sym, subst, ap, ⊎_elim, ℕ, ◌⊎◌, List, [], ◌∷◌, ◌++◌, Contains, Option, Some, None}
 use Rattle.std.proofs.lemmas.Option.{same_Some, none-some, some_pair_parts}
 use Rattle.std.proofs.lemmas.List.Elements.{Contains-push_cases}
 use Rattle.sx_grammar.specs.Grammar.{Grammar, Production, production_of}
@@ -7,7 +7,7 @@ use Rattle.sx_grammar.specs.declared.item.Item.{Item}
 use Rattle.sx_earley.specs.declared.slot.Slot.{Slot}
 use Rattle.sx_earley.specs.declared.table.Table.{Table}
 use Rattle.sx_earley.specs.Table.{row_at}
-use Rattle.sx_earley.specs.Chart.{IsOfSort, EndsAt, sort_made, as_part, next_symbol, Joins, IsFiledWaiting, IsFiledComplete, HasOnly}
+use Rattle.sx_earley.specs.Chart.{IsOfSort, sort_made, as_part, next_symbol, Joins, IsFiledWaiting, IsFiledComplete, HasOnly}
 
 -- what is of a sort makes it
 makes_sort : (o : Option Production) (sort least : ℕ) → IsOfSort o sort least → sort_made o ≡ Some sort

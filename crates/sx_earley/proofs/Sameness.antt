@@ -1,8 +1,7 @@
 -- Token lists that are read in the same way.
-use Rattle.std.proofs.Common.{◌≡◌, ◌∙◌, ◌↔◌, sym, ap, subst, refl, ℕ, zero, suc, ◌<◌, List, [], ◌∷◌, ◌⊎◌, inl, inr, ⊎_elim, Result, Ok, Err, IfOk, Some, None, Option, map, length, Contains}
-use Rattle.std.specs.Prelude.{slice_get, slice_index_or}
+use Rattle.std.proofs.Common.{◌≡◌, ◌∙◌, sym, subst, refl, ℕ, zero, suc, ◌<◌, List, [], ◌∷◌, inl, inr, ⊎_elim, Result, Ok, Err, IfOk, Some, None, Option, map, length}
+use Rattle.std.specs.Prelude.{slice_get}
 use Rattle.std.proofs.lemmas.Option.{same_Some, none-some, slice_get_within}
-use Rattle.sx_term.specs.declared.lex_kind.LexKind.TheVariants.{Id}
 use Rattle.sx_term.specs.declared.sort.Sort.{Sort}
 use Rattle.sx_term.specs.declared.sort.Sort.TheVariants as sorts
 use Rattle.sx_term.specs.declared.mark.Mark.{Mark}
@@ -13,13 +12,11 @@ use Rattle.sx_grammar.specs.Grammar.{Text, Grammar, Symbol, literal, lexical, pa
 use Rattle.sx_grammar.specs.Reading.{Marked, IsLiteral}
 use Rattle.sx_grammar.specs.Items as items
 use Rattle.sx_grammar.specs.Items.{ReadsToken, started, predicted, scanned, completed}
-use Rattle.sx_grammar.specs.ReadOne.{Holds, MoreHold, IsGreatestEnd}
+use Rattle.sx_grammar.specs.ReadOne.{MoreHold, IsGreatestEnd}
 use Rattle.sx_grammar.specs.declared.head.Head.{Head}
-use Rattle.sx_grammar.specs.declared.item.Item.{Item}
 use Rattle.sx_earley.specs.declared.span.Span.{Span}
 use Rattle.sx_earley.specs.Completed.{IsChart, head_of}
-use Rattle.sx_earley.specs.declared.shown.Shown.{Shown}
-use Rattle.sx_earley.specs.declared.shown.Shown.TheVariants.{Lit, Lex, Kind, Sort as OfSort}
+use Rattle.sx_earley.specs.declared.shown.Shown.TheVariants.{Lit}
 use Rattle.sx_earley.specs.Shown.{token_of, AreBelow}
 use Rattle.sx_earley.specs.Tokens.{Stems, stem_of, sort_of, found_stem, shown, plain_tokens, IsKnown, AreKnown}
 use Rattle.sx_earley.specs.Showing.{show, shown_stem}

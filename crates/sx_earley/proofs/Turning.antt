@@ -1,17 +1,15 @@
 -- One turn of the search for items.
-use Rattle.std.proofs.Common.{◌≡◌, ◌∙◌, sym, subst, ℕ, ◌+◌, ⊎_elim, ◌⊎◌, List, [], ◌∷◌, ◌++◌, Some, take, Contains}
+use Rattle.std.proofs.Common.{◌≡◌, subst, ℕ, ◌+◌, ◌⊎◌, List, [], ◌∷◌, ◌++◌, Some, take, Contains}
 use Rattle.std.specs.List.{slice_get}
-use Rattle.std.proofs.lemmas.List.Elements.{Contains-push_cases}
 use Rattle.sx_grammar.specs.Grammar.{Grammar, Token}
 use Rattle.sx_grammar.specs.declared.item.Item.{Item}
-use Rattle.sx_grammar.specs.ReadOne.{Holds}
 use Rattle.sx_earley.specs.declared.slot.Slot.{Slot}
 use Rattle.sx_earley.specs.declared.table.Table.{Table}
 use Rattle.sx_earley.specs.Table.{row_at}
 use Rattle.sx_earley.specs.Growth.{Extends, Only}
 use Rattle.sx_earley.specs.Chart.{Follows, AllFollow, Treated, AllHold, Joins, IsFiledWaiting, IsFiledComplete, HasOnly}
 use Rattle.sx_earley.proofs.Growth.{still_there}
-use Rattle.sx_earley.proofs.Closing.{there_at, front_more, front_in, more_hold, treated_more}
+use Rattle.sx_earley.proofs.Closing.{there_at, front_more, more_hold, treated_more}
 use Rattle.sx_earley.proofs.Rows.{waiting_on, complete_on, only_rows}
 
 -- what is known of an item that is filed, before what follows from it is added

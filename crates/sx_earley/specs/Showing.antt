@@ -1,5 +1,5 @@
 -- What tokens show, by the numbers of literals, kinds and sorts.
-use Rattle.std.specs.Prelude.{◌≡◌, ℕ, List, Option, Some, None}
+use Rattle.std.specs.Prelude.{◌≡◌, Option, Some, None}
 use Rattle.std.specs.HashMap.{get_by}
 use Rattle.std.specs.Str.{bytes_eq}
 use Rattle.sx_term.specs.declared.lex_kind.LexKind.TheVariants.{Id}

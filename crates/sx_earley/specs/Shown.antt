@@ -1,5 +1,5 @@
 -- What tokens show to a grammar, and which symbols read them.
-use Rattle.std.specs.Prelude.{◌≡◌, ℕ, ◌<◌, List, [], ◌∷◌, Option, Some, None, map, length, slice_get, slice_index_or}
+use Rattle.std.specs.Prelude.{◌≡◌, ℕ, ◌<◌, List, [], ◌∷◌, Option, Some, None, map, slice_get, slice_index_or}
 use Rattle.sx_grammar.specs.Grammar.{Text, Grammar, Token, is_literal, is_lexeme, is_variable, of_kind, of_sort}
 use Rattle.sx_grammar.specs.Parts.{numbered}
 use Rattle.sx_grammar.specs.Tables.{GrammarData, literals_of}

@@ -11,3 +11,4 @@ pub mod Answered
 pub mod Started
 pub mod Alone
 pub mod Beginnings
+pub mod Replayed

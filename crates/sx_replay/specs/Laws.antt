@@ -1,12 +1,19 @@
--- What is proved of fronts.
-use Rattle.std.specs.Prelude.{◌≡◌, ℕ, List, ◌∷◌, ◌++◌}
+-- What is proved of fronts and of answers.
+use Rattle.std.specs.Prelude.{None, ◌≤◌, map, Vec, Result, Ok, Err, ◌≡◌, ℕ, List, ◌∷◌, ◌++◌}
+use Rattle.std.specs.declared.alloc.Global.{Global}
 use Rattle.sx_term.specs.Tree.{Tree}
+use Rattle.sx_term.specs.Term.{tree}
+use Rattle.sx_term.specs.declared.term.Term.{Term}
 use Rattle.sx_rules.specs.Rules.{Rule, Hypotheses}
 use Rattle.sx_rules.specs.Modes.{Modes, Goal, AllModed}
-use Rattle.sx_rules.specs.Orders.{Entry}
+use Rattle.sx_rules.specs.Derivations.{Proof, height_of}
+use Rattle.sx_rules.specs.First.{DerivesGoal}
+use Rattle.sx_rules.specs.Orders.{Entry, order_of}
+use Rattle.sx_replay.specs.declared.replay_error.ReplayError.{ReplayError}
+use Rattle.sx_replay.specs.declared.replay_error.ReplayError.TheVariants.{Memory}
 use Rattle.sx_replay.specs.Limits.{first_deep, first_big}
-use Rattle.sx_replay.specs.Fronts.{Stage, open_one, IsFront}
-use Rattle.sx_replay.specs.Replay.{IsWithin}
+use Rattle.sx_replay.specs.Fronts.{Stage, open_one, made_in, IsFront}
+use Rattle.sx_replay.specs.Replay.{IsWithin, IsReplayed}
 
 -- a list is that of one stage of one derivation at most: its outputs, the first terms that pass a limit and its depth are determined
 abbrev pub FrontsAreAlone : Type 0
@@ -22,3 +29,16 @@ BeginningsAreWithin =
     (modes : Modes) (rules : List Rule) (hyps : Hypotheses) → AllModed modes rules →
     (goal : Goal) (stage : Stage) (front : List Entry) (next : Entry) (rest : List Entry) →
     IsWithin modes rules hyps goal stage (front ++ (next ∷ rest)) → IsWithin modes rules hyps goal open_one front
+
+-- the answer has these outputs, unless memory was wanting
+abbrev pub HasOutputs : List Tree → Result (Vec Term Global) ReplayError → Type 0
+HasOutputs outs (Ok made) = map tree made.items ≡ outs
+HasOutputs outs (Err e) = e ≡ Memory
+
+-- the list of a derivation within the limits is answered with the outputs of that derivation
+abbrev pub DerivationsAreReplayed : Type 0
+DerivationsAreReplayed =
+    (modes : Modes) (rules : List Rule) (hyps : Hypotheses) → AllModed modes rules →
+    (goal : Goal) (p : Proof) (outs : List Tree) → DerivesGoal modes rules hyps goal (p, outs) →
+    first_deep (made_in modes rules p) ≡ None → first_big (made_in modes rules p) ≡ None → height_of p ≤ 3000 →
+    (answer : Result (Vec Term Global) ReplayError) → IsReplayed modes rules hyps goal (order_of p) answer → HasOutputs outs answer

@@ -1,6 +1,6 @@
-//! Laws of fronts.
+//! Laws of fronts and answers.
 
-ghost use Rattle.sx_replay.specs.Laws.{FrontsAreAlone, BeginningsAreWithin};
+ghost use Rattle.sx_replay.specs.Laws.{FrontsAreAlone, BeginningsAreWithin, DerivationsAreReplayed};
 
 /// A list is that of one derivation at most, begun or whole.
 pub fn fronts_are_alone()
@@ -10,4 +10,9 @@ pub fn fronts_are_alone()
 /// Each beginning of a list within the limits is that of a derivation within the limits that has goals left.
 pub fn beginnings_are_within()
     ensures { BeginningsAreWithin }
+{}
+
+/// The list of a derivation within the limits is answered with the outputs of that derivation.
+pub fn derivations_are_replayed()
+    ensures { DerivationsAreReplayed }
 {}

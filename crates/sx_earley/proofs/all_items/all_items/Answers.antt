@@ -1,8 +1,6 @@
-use Rattle.std.proofs.Common.{◌≡◌, ◌∙◌, sym, subst, ap, take, Contains, Some, None, Err, [], slice_get, arith}
+use Rattle.std.proofs.Common.{◌≡◌, ◌∙◌, sym, subst, ap, take, Some, Err, slice_get, arith}
 use Rattle.std.proofs.lemmas.Option.{slice_get_within}
 use Rattle.std.proofs.lemmas.List.{take_all}
-use Rattle.sx_grammar.specs.declared.item.Item.{Item}
-use Rattle.sx_grammar.specs.ReadOne.{Holds}
 use Rattle.sx_earley.specs.declared.chart_error.ChartError.TheVariants.{TooHard}
 use Rattle.sx_earley.specs.Shown.{plain, tokens_of}
 use Rattle.sx_earley.specs.Chart.{Treated, beginning}

@@ -1,4 +1,4 @@
-use Rattle.std.proofs.Common.{◌≡◌, ◌-◌, ◌≤◌, length, take, Contains}
+use Rattle.std.proofs.Common.{◌-◌, ◌≤◌, length, take, Contains}
 use Rattle.sx_grammar.specs.Grammar.{production_of}
 use Rattle.sx_grammar.specs.declared.head.Head.{Head}
 use Rattle.sx_grammar.specs.declared.item.Item.{Item}

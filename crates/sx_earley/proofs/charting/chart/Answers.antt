@@ -1,4 +1,4 @@
-use Rattle.std.proofs.Common.{◌≡◌, ◌∙◌, sym, subst, map, length}
+use Rattle.std.proofs.Common.{◌∙◌, sym, subst, map, length}
 use Rattle.sx_grammar.specs.ReadOne.{MoreHold, IsGreatestEnd}
 use Rattle.sx_earley.specs.Shown.{plain, texts, token_of, tokens_of, AreBelow}
 use Rattle.sx_earley.specs.Tokens.{plain_tokens}

@@ -1,6 +1,5 @@
 use Rattle.std.proofs.Common.{◌<◌, length, Contains, arith}
-use Rattle.sx_earley.specs.Shown.{plain, tokens_of}
-use Rattle.sx_earley.specs.Growth.{Extends, Only}
+use Rattle.sx_earley.specs.Shown.{plain}
 use Rattle.sx_earley.specs.Chart.{Joins, moved}
 use Rattle.sx_earley.proofs.Growth.{extends_on, still_there}
 use Rattle.sx_earley.proofs.Joining.{one_more_done, all_done, each_only}

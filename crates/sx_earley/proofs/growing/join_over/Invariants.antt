@@ -1,5 +1,5 @@
 use Rattle.std.proofs.Common.{◌≤◌, [], ◌∷◌, length, Contains, take}
-use Rattle.sx_earley.specs.Shown.{plain, tokens_of}
+use Rattle.sx_earley.specs.Shown.{plain}
 use Rattle.sx_earley.specs.Growth.{Extends, Only}
 use Rattle.sx_grammar.specs.declared.item.Item.{Item}
 use Rattle.sx_earley.specs.Chart.{Joins, IsJoined, moved}

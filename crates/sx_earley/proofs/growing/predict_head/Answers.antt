@@ -1,6 +1,5 @@
 use Rattle.std.proofs.Common.{◌≡◌, subst, sym, refl}
-use Rattle.sx_earley.specs.Shown.{plain, tokens_of}
-use Rattle.sx_earley.specs.Growth.{Extends, Only}
+use Rattle.sx_earley.specs.Shown.{plain}
 use Rattle.sx_earley.specs.Chart.{IsPredicted, beginning}
 use Rattle.sx_earley.proofs.Growth.{only_more}
 use Rattle.sx_earley.proofs.growing.predict_head.Goals as goal

@@ -1,6 +1,5 @@
 use Rattle.std.proofs.Common.{sym}
-use Rattle.sx_earley.specs.Shown.{plain, tokens_of}
-use Rattle.sx_earley.specs.Growth.{Extends, Only}
+use Rattle.sx_earley.specs.Shown.{plain}
 use Rattle.sx_earley.specs.Chart.{Foresees, IsPredicted}
 use Rattle.sx_earley.proofs.Growth.{only_more}
 use Rattle.sx_earley.proofs.growing.predict_next.Goals as goal

@@ -1,7 +1,6 @@
-use Rattle.std.proofs.Common.{◌≡◌, ◌∙◌, sym, subst, ap}
+use Rattle.std.proofs.Common.{◌∙◌, sym, subst}
 use Rattle.sx_earley.specs.Shown.{plain}
 use Rattle.sx_earley.specs.Chart.{AllAsked, HasOpenings}
-use Rattle.sx_earley.specs.contracts.ask.AskPartialEq.TheImpl as ask_eq
 use Rattle.sx_earley.proofs.Asking.{was_asked, asked_more}
 use Rattle.sx_earley.proofs.growing.predict_once.Goals as goal
 

@@ -1,7 +1,6 @@
-use Rattle.std.proofs.Common.{◌≡◌, map, arith, ◌+◌}
+use Rattle.std.proofs.Common.{◌≡◌, arith, ◌+◌}
 use Rattle.std.proofs.lemmas.List.{length-map}
 use Rattle.sx_earley.specs.Shown.{plain, texts, token_of, tokens_of}
-use Rattle.sx_earley.specs.Growth.{Extends, Only}
 use Rattle.sx_earley.specs.Chart.{ReadsNext, next_symbol, moved}
 use Rattle.sx_earley.proofs.Growth.{only_more}
 use Rattle.sx_earley.proofs.Scanning.{within_tokens}

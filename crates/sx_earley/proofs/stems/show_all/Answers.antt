@@ -1,4 +1,4 @@
-use Rattle.std.proofs.Common.{◌≡◌, ◌<◌, length, arith}
+use Rattle.std.proofs.Common.{arith}
 use Rattle.sx_earley.specs.Showing.{show}
 use Rattle.sx_earley.proofs.StemLaws.{shown_more}
 use Rattle.sx_earley.proofs.stems.show_all.Goals as goal

@@ -1,7 +1,6 @@
 use Rattle.std.proofs.Common.{◌≡◌, ◌∙◌, refl, ap, sym, subst, cond, Some, None, ◌++◌, ◌∷◌, []}
 use Rattle.std.specs.Option.{option_copied_mut, IsSome}
 use Rattle.std.specs.HashMap.{get_by}
-use Rattle.sx_earley.specs.declared.slot.Slot.{Slot}
 use Rattle.sx_earley.specs.Table.{same_slot, items_of}
 use Rattle.sx_earley.proofs.Filing.{filed_kept, filed_only}
 use Rattle.sx_earley.proofs.table.Table.file.Goals as goal
