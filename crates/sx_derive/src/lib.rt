@@ -28,6 +28,8 @@ mod store;
 mod stuck_goal;
 mod subject_way;
 mod tasks;
+#[cfg(test)]
+mod tests;
 mod turns;
 mod walk;
 

@@ -1,0 +1,306 @@
+//! Each answer of `derive` once, on goals that are worked out by hand.
+
+ghost use Rattle.std.specs.Prelude.{◌≡◌, ◌≤◌, ◌<◌, [], IfOk, map};
+ghost use Rattle.sx_term.specs.Tree.{depth_of};
+ghost use Rattle.sx_term.specs.Term.{tree};
+ghost use Rattle.sx_rules.specs.Deep.{AreShallow, RuleIsShallow, RulesAreShallow};
+ghost use Rattle.sx_rules.specs.Views.{rule, goal as goal_of, hypotheses};
+ghost use Rattle.sx_rules.specs.Derivations.{ShallowJudgements};
+ghost use Rattle.sx_arena.specs.Entered.{ArePairsShallow};
+
+use super::*;
+use std::alloc::Global;
+use std::marker::Brand;
+use std::sync::ledger::{Blank, Ledger};
+use std::test::Fail;
+use sx_rules::{Form, Goal, Hyps, Judgement, Place, Premise, Proof, Role, Rule, RuleSet};
+use sx_term::{Con, Shapes, Sort, Steps, Term, Text, read_core};
+
+const T: Sort = Sort::Typed(0);
+
+const P: Sort = Sort::Plain(0);
+
+fn read(alloc: Global, core: &str) -> Result<Term, Fail>
+    ensures { IfOk result (λ t. depth_of (tree t) ≤ 1000) }
+{
+    let (term, _) = read_core(alloc, core.as_bytes(), 0)?;
+    Ok(term)
+}
+
+/// The terms z, w and y, the pair of two terms, and the types a and b.
+fn shapes(alloc: Global) -> Result<Shapes, Fail> {
+    let mut cons = Vec::new(alloc);
+    for (sort, kids) in [
+        (T, &[][..]),
+        (T, &[][..]),
+        (T, &[][..]),
+        (T, &[T, T][..]),
+        (P, &[][..]),
+        (P, &[][..]),
+    ] {
+        let kids = Vec::from_slice(alloc, kids)?;
+        cons.push(Con { sort, kids })?;
+    }
+    Ok(Shapes { cons })
+}
+
+/// The form of a typed subject and a plain output.
+fn forms(alloc: Global) -> Result<Vec<Form>, Fail> {
+    let subject = Place {
+        role: Role::Sub,
+        sort: T,
+    };
+    let output = Place {
+        role: Role::Out,
+        sort: P,
+    };
+    let mut forms = Vec::new(alloc);
+    forms.push(Form {
+        name: Text::make(alloc, b"typing")?,
+        places: Vec::from_slice(alloc, &[subject, output])?,
+    })?;
+    Ok(forms)
+}
+
+fn judgement(alloc: Global, subject: &str, output: &str) -> Result<Judgement, Fail>
+    ensures { IfOk result (λ j. AreShallow (map tree j.places.items)) }
+{
+    let mut places = Vec::new(alloc);
+    places.push(read(alloc, subject)?)?;
+    places.push(read(alloc, output)?)?;
+    Ok(Judgement { form: 0, places })
+}
+
+fn axiom(alloc: Global, name: &str, subject: &str, output: &str) -> Result<Rule, Fail>
+    ensures { IfOk result (λ r. RuleIsShallow (rule r)) }
+{
+    Ok(Rule {
+        name: Text::make(alloc, name.as_bytes())?,
+        vars: Vec::new(alloc),
+        premises: Vec::new(alloc),
+        conclusion: judgement(alloc, subject, output)?,
+    })
+}
+
+/// A pair has the type of its second part, and its first part has the type a.
+fn pair_rule(alloc: Global) -> Result<Rule, Fail>
+    ensures { IfOk result (λ r. RuleIsShallow (rule r)) }
+{
+    let mut premises = Vec::new(alloc);
+    premises.push(Premise::Holds(judgement(alloc, "?0", "(4)")?))?;
+    premises.push(Premise::Holds(judgement(alloc, "?1", "?2")?))?;
+    Ok(Rule {
+        name: Text::make(alloc, b"Pair")?,
+        vars: Vec::from_slice(alloc, &[T, T, P])?,
+        premises,
+        conclusion: judgement(alloc, "(3 ?0 ?1)", "?2")?,
+    })
+}
+
+fn three(alloc: Global, first: Rule, second: Rule, third: Rule) -> Result<Vec<Rule>, Fail>
+    requires first { RuleIsShallow (rule first) }
+    requires second { RuleIsShallow (rule second) }
+    requires third { RuleIsShallow (rule third) }
+    ensures { IfOk result (λ rs. RulesAreShallow (map rule rs.items)) }
+{
+    let mut rules = Vec::new(alloc);
+    rules.push(first)?;
+    rules.push(second)?;
+    rules.push(third)?;
+    Ok(rules)
+}
+
+/// z has the type a, w has the type b, and pairs.
+fn rules(alloc: Global) -> Result<RuleSet, Fail> {
+    let z = axiom(alloc, "Z", "(0)", "(4)")?;
+    let w = axiom(alloc, "W", "(1)", "(5)")?;
+    let rules = three(alloc, z, w, pair_rule(alloc)?)?;
+    Ok(RuleSet::make(alloc, &shapes(alloc)?, forms(alloc)?, rules)?)
+}
+
+/// The label of a node.
+fn label(term: &Term) -> u32 {
+    match term {
+        Term::Node { label, kids: _ } => *label,
+        _ => 9,
+    }
+}
+
+/// The rule of a proof.
+fn rule_of(proof: &Proof) -> u32 {
+    match proof {
+        Proof::Given(_) => 9,
+        Proof::By {
+            rule,
+            binds: _,
+            kids: _,
+        } => *rule,
+    }
+}
+
+/// The label of the stuck goal's subject, the path, and the cause in short.
+fn stuck(blame: &Blame) -> (u32, usize, usize, u64) {
+    let subject = match blame.goal.inputs.get(0) {
+        Some(term) => label(term),
+        None => 9,
+    };
+    let step = match blame.path.steps.get(0) {
+        Some(step) => *step,
+        None => 9,
+    };
+    let cause = match &blame.cause {
+        Cause::NoRule => 1,
+        Cause::Equal {
+            rule: _,
+            premise: _,
+        } => 2,
+        Cause::Mismatch {
+            by: Some((2, 0)),
+            got,
+        } => match got.get(0) {
+            Some(term) => u64::from(label(term)),
+            None => 9,
+        },
+        Cause::Mismatch { by: _, got: _ } => 3,
+    };
+    (subject, blame.path.steps.len(), step, cause)
+}
+
+/// No hypotheses.
+fn no_hypotheses(alloc: Global) -> Hyps
+    ensures holds { result.holds.items ≡ [] }
+    ensures apart { result.apart.items ≡ [] }
+{
+    Hyps {
+        holds: Vec::new(alloc),
+        apart: Vec::new(alloc),
+    }
+}
+
+/// The goal of the subject's type.
+fn goal(alloc: Global, subject: &str) -> Result<Goal, Fail>
+    ensures { IfOk result (λ g. AreShallow (goal_of g).terms) }
+{
+    let mut inputs = Vec::new(alloc);
+    inputs.push(read(alloc, subject)?)?;
+    Ok(Goal { form: 0, inputs })
+}
+
+/// The answer in numbers: 0 and the rule of the derivation; 1 and what is stuck; 2 and the tries that are spent; or else 3.
+fn told(answered: Result<Derived, DeriveError>) -> (u32, (u32, usize, usize, u64)) {
+    match answered {
+        Ok(it) => (0, (rule_of(&it.proof), 0, 0, 0)),
+        Err(DeriveError::Underivable(blame)) => (1, stuck(&blame)),
+        Err(DeriveError::BudgetSpent(tries)) => (2, (0, 0, 0, tries)),
+        Err(_) => (3, (0, 0, 0, 0)),
+    }
+}
+
+fn derive_with<L: Ledger>(
+    alloc: Global,
+    rules: &RuleSet,
+    given: &Hyps,
+    goal: &Goal,
+    budget: u64,
+    blank: Blank,
+) -> (u32, (u32, usize, usize, u64))
+    requires name { blank.name ≡ L.name }
+    requires parts { blank.parts ≡ L.parts }
+    requires some { 0 < blank.parts }
+    requires holds { given.now.holds.items ≡ [] }
+    requires apart { given.now.apart.items ≡ [] }
+    requires goal { AreShallow (goal_of goal.now).terms }
+{
+    let mut steps = Steps::<L>::new(blank);
+    told(derive(alloc, rules, given, goal, None, budget, &mut steps))
+}
+
+/// What `derive` answers for the subject's type, in numbers.
+fn answer(
+    alloc: Global,
+    subject: &str,
+    budget: u64,
+) -> Result<(u32, (u32, usize, usize, u64)), Fail> {
+    let rules = rules(alloc)?;
+    let given = no_hypotheses(alloc);
+    let goal = goal(alloc, subject)?;
+    Ok(derive_with::<Brand>(alloc, &rules, &given, &goal, budget, Blank::new(1)))
+}
+
+#[test]
+fn finds_a_pair(rt: HostRuntime) -> Result<(), Fail> {
+    let alloc = rt.alloc();
+    assert_eq!(rt; answer(alloc, "(3 (0) (1))", 6)?, (0, (2, 0, 0, 0)));
+    Ok(())
+}
+
+#[test]
+fn tells_the_stuck_goal(rt: HostRuntime) -> Result<(), Fail> {
+    let alloc = rt.alloc();
+    assert_eq!(rt; answer(alloc, "(3 (0) (2))", 9)?, (1, (2, 1, 1, 1)));
+    assert_eq!(rt; answer(alloc, "(3 (1) (0))", 6)?, (1, (1, 1, 0, 5)));
+    Ok(())
+}
+
+#[test]
+fn spends_the_tries(rt: HostRuntime) -> Result<(), Fail> {
+    let alloc = rt.alloc();
+    assert_eq!(rt; answer(alloc, "(3 (0) (1))", 5)?, (2, (0, 0, 0, 5)));
+    Ok(())
+}
+
+/// How many tries led to a derivation, where one was found.
+fn tries(found: Result<Found, SearchError>) -> Option<u64> {
+    match found {
+        Ok(Found::Next(_, tries)) => Some(tries),
+        _ => None,
+    }
+}
+
+/// The tries of the first two calls, with these budgets.
+fn two_calls<L: Ledger>(
+    alloc: Global,
+    rules: &RuleSet,
+    given: &Hyps,
+    goal: Goal,
+    budgets: (u64, u64),
+    blank: Blank,
+) -> (Option<u64>, Option<u64>)
+    requires name { blank.name ≡ L.name }
+    requires parts { blank.parts ≡ L.parts }
+    requires some { 0 < blank.parts }
+    requires holds { given.now.holds.items ≡ [] }
+    requires apart { given.now.apart.items ≡ [] }
+    requires goal { AreShallow (goal_of goal).terms }
+{
+    let mut steps = Steps::<L>::new(blank);
+    match Search::begin(alloc, rules, given, goal) {
+        Err(_) => (None, None),
+        Ok(it) => {
+            let mut search = it;
+            let first = tries(search.next(rules, given, budgets.0, &mut steps));
+            let second = tries(search.next(rules, given, budgets.1, &mut steps));
+            (first, second)
+        }
+    }
+}
+
+/// The tries of the first two calls for the subject's type, with these budgets.
+fn calls(
+    alloc: Global,
+    subject: &str,
+    budgets: (u64, u64),
+) -> Result<(Option<u64>, Option<u64>), Fail> {
+    let rules = rules(alloc)?;
+    let given = no_hypotheses(alloc);
+    let goal = goal(alloc, subject)?;
+    Ok(two_calls::<Brand>(alloc, &rules, &given, goal, budgets, Blank::new(1)))
+}
+
+#[test]
+fn goes_on_after_a_pause(rt: HostRuntime) -> Result<(), Fail> {
+    let alloc = rt.alloc();
+    assert_eq!(rt; calls(alloc, "(3 (0) (1))", (6, 9))?, (Some(6), None));
+    assert_eq!(rt; calls(alloc, "(3 (0) (1))", (5, 1))?, (None, Some(1)));
+    Ok(())
+}
