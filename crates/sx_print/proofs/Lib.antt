@@ -6,3 +6,4 @@ pub mod Good
 pub mod Cutting
 pub mod Fitting
 pub mod Sorting
+pub mod Limits

@@ -10,6 +10,8 @@
 
 mod laws;
 mod printing;
+#[cfg(test)]
+mod tests;
 mod walk;
 mod writing;
 
