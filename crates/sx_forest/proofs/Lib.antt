@@ -1,0 +1,3 @@
+pub mod Kids
+pub mod Placing
+pub mod Wording

@@ -1,0 +1,12 @@
+//! The only reading of tokens by a grammar.
+#![tactic(auto)]
+
+mod laws;
+mod place;
+mod reading;
+mod writing;
+
+pub use laws::paths_leave_together;
+pub use place::place_of;
+pub use reading::Reading;
+pub use writing::write_tree;
