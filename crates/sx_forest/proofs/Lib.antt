@@ -1,3 +1,5 @@
 pub mod Kids
 pub mod Placing
 pub mod Wording
+pub mod Naming
+pub mod Terms

@@ -1,3 +1,4 @@
 pub mod Readings
 pub mod Places
 pub mod Text
+pub mod Names

@@ -4,9 +4,11 @@
 mod laws;
 mod place;
 mod reading;
+mod stripping;
 mod writing;
 
 pub use laws::paths_leave_together;
 pub use place::place_of;
 pub use reading::Reading;
+pub use stripping::strip;
 pub use writing::write_tree;
