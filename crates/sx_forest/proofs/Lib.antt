@@ -3,3 +3,4 @@ pub mod Placing
 pub mod Wording
 pub mod Naming
 pub mod Terms
+pub mod Fits

@@ -2,3 +2,4 @@ pub mod Readings
 pub mod Places
 pub mod Text
 pub mod Names
+pub mod Fitting

@@ -7,7 +7,7 @@ mod reading;
 mod stripping;
 mod writing;
 
-pub use laws::paths_leave_together;
+pub use laws::{paths_leave_together, readings_fit};
 pub use place::place_of;
 pub use reading::Reading;
 pub use stripping::strip;
