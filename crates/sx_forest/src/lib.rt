@@ -5,6 +5,8 @@ mod laws;
 mod place;
 mod reading;
 mod stripping;
+#[cfg(test)]
+mod tests;
 mod writing;
 
 pub use laws::{paths_leave_together, readings_fit};
