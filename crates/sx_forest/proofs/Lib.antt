@@ -4,3 +4,4 @@ pub mod Wording
 pub mod Naming
 pub mod Terms
 pub mod Fits
+pub mod Pushing

@@ -3,3 +3,4 @@ pub mod Places
 pub mod Text
 pub mod Names
 pub mod Fitting
+pub mod Tallies
