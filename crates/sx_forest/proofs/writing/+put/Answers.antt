@@ -1,0 +1,34 @@
+use Rattle.std.proofs.Common.{rules, length, ◌∙◌}
+use Rattle.std.proofs.lemmas.Result.{on_ok_weaker}
+use Rattle.sx_grammar.specs.Parts.{labels}
+use Rattle.sx_forest.specs.declared.reading.Reading.TheViews.{the_lemmas}
+use Rattle.sx_forest.specs.Text.{texts}
+use Rattle.sx_forest.proofs.Kids.{readings_depth-kids}
+use Rattle.sx_forest.proofs.Wording.{node_text, kids_within, within_step, text_step, other_depth, appended}
+use Rattle.sx_forest.proofs.writing.+put.Goals as goal
+
+pub put_kids-put_reading-requires-in-loop-kid : goal.put_kids-put_reading-requires-in-loop-kid
+put_kids-put_reading-requires-in-loop-kid t c =
+    let d = other_depth c.args.kids.now c.in-Some.others.now c.in-Some.first.now c.kid-item.result c.loop-kid.kid-index c.in-Some.ensures.cases.0 c.loop-kid-test.true c.kid-item.is in
+    let w = within_step _ _ _ _ _ c.loop-kid-test.true c.kid-item.is c.loop-kid.invariant.within in
+    let v = w.0 in
+    search (rules, the_lemmas)
+
+pub put_kids-loop-kid-preserved : goal.put_kids-loop-kid-preserved
+put_kids-loop-kid-preserved t c = record {
+  so_far = text_step (labels c.args.grammar.now.parts) (texts c.args.tokens.now) _ _ _ _ _ _ c.loop-kid-test.true c.kid-item.is c.in_ok-push-in-Some-2.ensures.items c.in_ok-put_reading-in-Some-2.ensures.ok ∙ c.loop-kid.invariant.so_far;
+  within = (within_step _ _ _ _ _ c.loop-kid-test.true c.kid-item.is c.loop-kid.invariant.within).1;
+  appends = appended _ _ _ _ c.loop-kid.invariant.appends c.in_ok-push-in-Some-2.ensures.items c.in_ok-put_reading-in-Some-2.ensures.appends;
+}
+
+pub put_reading-put_kids-requires : goal.put_reading-put_kids-requires
+put_reading-put_kids-requires t c =
+    let d = readings_depth-kids _ _ _ _ _ _ c.in-Node.is c.deref.ensures.value in
+    let w = kids_within (length c.args.grammar.now.parts.productions) (length c.args.tokens.now) _ _ _ _ _ _ c.in-Node.is c.deref.ensures.value c.requires.within in
+    search (rules, the_lemmas)
+
+pub put_reading-returns-in_ok-put_label-in-Node-clause-ok : goal.put_reading-returns-in_ok-put_label-in-Node-clause-ok
+put_reading-returns-in_ok-put_label-in-Node-clause-ok t c =
+    on_ok_weaker c.put_kids.result
+    (λ e. node_text (labels c.args.grammar.now.parts) (texts c.args.tokens.now) _ _ _ _ _ _ _ _ _ c.in-Node.is c.deref.ensures.value c.in_ok-put_label-in-Node.ensures.ok e)
+    c.put_kids.ensures.ok

@@ -1,0 +1,6 @@
+pub mod Readings
+pub mod Places
+pub mod Text
+pub mod Names
+pub mod Fitting
+pub mod Tallies

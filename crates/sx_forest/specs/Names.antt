@@ -1,0 +1,53 @@
+-- The names of the metavariables in a reading.
+use Rattle.std.specs.Prelude.{◌≡◌, ℕ, List, [], ◌∷◌, ◌++◌, Option, Some, None, slice_get, slice_index_or, drop}
+use Rattle.sx_term.specs.declared.lex_kind.LexKind.{LexKind}
+use Rattle.sx_term.specs.declared.mark.Mark.TheVariants.{Lex, Meta}
+use Rattle.sx_term.specs.Vars.{IsAdded}
+use Rattle.sx_token.specs.declared.token.Token.{Token}
+use Rattle.sx_grammar.specs.Grammar.{Text}
+use Rattle.sx_grammar.specs.Reading.{Reading, Readings, branch, bracket, leaf, variable, done, ◌▸◌}
+use Rattle.sx_forest.specs.Text.{texts}
+
+-- there is a token, and it is a lexeme
+abbrev pub IsLexeme : Option Token → Type 0
+IsLexeme None = ⊥
+IsLexeme (Some t) = (kind : LexKind) × (t.mark ≡ Lex kind)
+
+-- there is a token, and it is a metavariable: `~` and a name
+abbrev pub IsMetavariable : Option Token → Type 0
+IsMetavariable None = ⊥
+IsMetavariable (Some t) = (name : Text) × (t.mark ≡ Meta) × (t.text ≡ 126 ∷ name)
+
+abbrev mutual
+  -- each lexeme of the reading is one of the tokens, and each metavariable too
+  pub IsMarked : List Token → Reading → Type 0
+  IsMarked tokens (branch label kids from to) = AreMarked tokens kids
+  IsMarked tokens (bracket inner from to) = IsMarked tokens inner
+  IsMarked tokens (leaf token) = IsLexeme (slice_get tokens token)
+  IsMarked tokens (variable token) = IsMetavariable (slice_get tokens token)
+
+  -- so it is of each reading
+  pub AreMarked : List Token → Readings → Type 0
+  AreMarked tokens done = Unit {0}
+  AreMarked tokens (kid ▸ kids) = IsMarked tokens kid × AreMarked tokens kids
+
+abbrev mutual
+  -- the names of the metavariables in order of standing, without `~`
+  pub names_in : List Token → Reading → List Text
+  names_in tokens (branch label kids from to) = names_of tokens kids
+  names_in tokens (bracket inner from to) = names_in tokens inner
+  names_in tokens (leaf token) = []
+  names_in tokens (variable token) = drop 1 (slice_index_or (texts tokens) token []) ∷ []
+
+  pub names_of : List Token → Readings → List Text
+  names_of tokens done = []
+  names_of tokens (kid ▸ kids) = names_in tokens kid ++ names_of tokens kids
+
+-- the new list is the old one and those of the names that are not in it, each added once, in order
+abbrev pub AddsEach : (old names new : List Text) → Type 0
+AddsEach old [] new = new ≡ old
+AddsEach old (name ∷ names) new = (middle : List Text) × (number : ℕ) × IsAdded old middle name number × AddsEach middle names new
+
+-- some of the names, the first ones, were added
+abbrev pub AddsFront : (old names new : List Text) → Type 0
+AddsFront old names new = (front : List Text) × (back : List Text) × (names ≡ front ++ back) × AddsEach old front new

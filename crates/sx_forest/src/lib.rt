@@ -1,0 +1,24 @@
+//! The only reading of tokens by a grammar.
+//!
+//! - `Reading`: a node, a bracket pair, a lexeme or a metavariable; contracts see it as the plain reading of sx_grammar.
+//! - `write_tree`: its tree text. `strip`: its term, without brackets. `place_of`: where a part of the term begins.
+//! - `readings_fit`: what reads tokens by a grammar meets the conditions of these calls. `paths_leave_together`: `place_of` has no
+//!   place exactly where the path leaves the term.
+//! - Within: `ways` counts readings, none, one or more, with their greatest depth.
+#![tactic(auto)]
+
+mod laws;
+mod place;
+mod reading;
+mod row;
+mod stripping;
+#[cfg(test)]
+mod tests;
+mod ways;
+mod writing;
+
+pub use laws::{paths_leave_together, readings_fit};
+pub use place::place_of;
+pub use reading::Reading;
+pub use stripping::strip;
+pub use writing::write_tree;
