@@ -1,0 +1,106 @@
+-- What reading a core file answers.
+use Rattle.std.specs.Prelude.{◌≡◌, ℕ, List, [], ◌∷◌, ◌++◌, ◌⊎◌, map, Result, Ok, Err, codes}
+use Rattle.std.specs.Str.{IsUtf8}
+use Rattle.std.specs.Str.Lossy.{utf8_valid_len}
+use Rattle.sx_lines.specs.Lines.{Lines, over, line, lines_from, texts}
+use Rattle.sx_lines.specs.Reading.{kept}
+use Rattle.sx_lines.specs.Takes.{Takes, number_of}
+use Rattle.sx_rules.specs.Good.{IsRefused}
+use Rattle.sx_rules.specs.declared.error.RuleError.{RuleError}
+use Rattle.sx_rules.specs.declared.error.RuleError.TheVariants.{Memory as NoRoom}
+use Rattle.sx_core.specs.File.{CoreFile}
+use Rattle.sx_core.specs.Problem.{Problem, problem}
+use Rattle.sx_core.specs.Stated.{Says, States}
+use Rattle.sx_core.specs.Table.{Row, row_text, rows_of, Has, NoKeyword}
+use Rattle.sx_core.specs.Fitting.{Context, IsFitting, IsDeepLine, Declare, AllFit, AreSorts}
+use Rattle.sx_core.specs.Order.{IsFront}
+use Rattle.sx_core.specs.declared.keyword.Keyword.TheVariants.{Rule, End, Goal}
+use Rattle.sx_core.specs.declared.kind.Kind.{Kind}
+use Rattle.sx_core.specs.declared.kind.Kind.TheVariants.{Head as BadHead, Directive, Shape, Order, Unfinished, Main, Variable}
+use Rattle.sx_core.specs.declared.problem.CoreProblem.{CoreProblem}
+use Rattle.sx_core.specs.declared.error.CoreFileError.{CoreFileError}
+use Rattle.sx_core.specs.declared.error.CoreFileError.TheVariants.{Memory, NotUtf8, Notation, TooDeep, Rules}
+
+-- The first lines are those of these rows, which are as stated and in order, and declare this. The others come next.
+pub record ReadTo (lines : Lines) (rows : List Row) (c : Context) (next : Lines) : Type 0 where
+  pub sorts : AreSorts [] lines c.sorts
+  pub takes : Takes (map row_text rows) lines next
+  pub declare : Declare c.sorts rows c
+  pub fit : AllFit c.sorts [] rows
+  pub front : IsFront rows
+
+-- neither the first line, nor one after the goal's
+abbrev pub IsUsual : List Row → Type 0
+IsUsual rows = (rows ≡ [] → ⊥) × (Has Goal rows → ⊥)
+
+-- what is bad about the line with this text after these rows
+abbrev pub IsBadLine : Context → List Row → List ℕ → Kind → Type 0
+IsBadLine c rows text BadHead = (rows ≡ []) × (text ≡ codes "sxcore 1" → ⊥)
+IsBadLine c rows text Directive = IsUsual rows × NoKeyword text
+IsBadLine c rows text Shape =
+    IsUsual rows × (NoKeyword text → ⊥) × ((row : Row) → IsFitting c text row → ⊥) × ((depth : ℕ) → IsDeepLine c text depth → ⊥)
+IsBadLine c rows text Order =
+    Has Goal rows ⊎ (IsUsual rows × (row : Row) × IsFitting c text row × (IsFront (rows ++ row ∷ []) → ⊥))
+IsBadLine c rows text Unfinished = ⊥
+IsBadLine c rows text Main = ⊥
+IsBadLine c rows text Variable = ⊥
+
+-- a core text of this depth stands in the line, and the line is that of no row that is as stated
+abbrev pub IsTooDeep : Context → List Row → List ℕ → ℕ → Type 0
+IsTooDeep c rows text depth = IsUsual rows × ((row : Row) → IsFitting c text row → ⊥) × IsDeepLine c text depth
+
+-- the rule that begins after these rows is not ended
+pub record IsOpen (rows front : List Row) : Type 0 where
+  pub rule : Row
+  pub inside : List Row
+  pub parts : rows ≡ front ++ rule ∷ inside
+  pub begins : rule.keyword ≡ Rule
+  pub not_ended : Has End inside → ⊥
+
+-- what is missing where no line comes after these rows
+abbrev pub IsMissing : Lines → List Row → ℕ → ℕ → Kind → Type 0
+IsMissing lines rows end number BadHead = (rows ≡ []) × (number ≡ end)
+IsMissing lines rows end number Unfinished =
+    (front : List Row) × (next : Lines) × IsOpen rows front × Takes (map row_text front) lines next × (number ≡ number_of next)
+IsMissing lines rows end number Main = IsUsual rows × ((front : List Row) → IsOpen rows front → ⊥) × (number ≡ end)
+IsMissing lines rows end number Directive = ⊥
+IsMissing lines rows end number Shape = ⊥
+IsMissing lines rows end number Order = ⊥
+IsMissing lines rows end number Variable = ⊥
+
+-- the next line is the first bad one, or one is missing
+abbrev pub IsBadAt : Lines → List Row → Context → Lines → ℕ → Kind → Type 0
+IsBadAt lines rows c (over n) number kind = IsMissing lines rows n number kind
+IsBadAt lines rows c (line n text after more) number kind = (number ≡ n) × IsBadLine c rows text kind
+
+-- the next line is the first bad one, and has a core text that is too deep
+abbrev pub IsDeepAt : List Row → Context → Lines → ℕ → ℕ → Type 0
+IsDeepAt rows c (over n) number depth = ⊥
+IsDeepAt rows c (line n text after more) number depth = (number ≡ n) × IsTooDeep c rows text depth
+
+-- the lines are those of this file
+abbrev pub AreLinesOf : Lines → CoreFile → Type 0
+AreLinesOf lines file = texts lines ≡ map row_text (rows_of file)
+
+-- the file says this, and this is why its rules are no rule set
+abbrev pub AreRulesRefused : CoreFile → RuleError → Type 0
+AreRulesRefused file NoRoom = ⊥
+AreRulesRefused file e = (p : Problem) × Says file p × IsRefused p.shapes p.forms p.rules e
+
+-- what reading the lines that are kept answers
+abbrev pub AreLinesRead : Lines → Result CoreProblem CoreFileError → Type 0
+AreLinesRead lines (Ok p) = (file : CoreFile) × AreLinesOf lines file × States file (problem p)
+AreLinesRead lines (Err Memory) = Unit {0}
+AreLinesRead lines (Err (NotUtf8 place)) = ⊥
+AreLinesRead lines (Err (Notation number kind)) =
+    (rows : List Row) × (c : Context) × (next : Lines) × ReadTo lines rows c next × IsBadAt lines rows c next number kind
+AreLinesRead lines (Err (TooDeep number depth)) =
+    (rows : List Row) × (c : Context) × (next : Lines) × ReadTo lines rows c next × IsDeepAt rows c next number depth
+AreLinesRead lines (Err (Rules e)) = (file : CoreFile) × AreLinesOf lines file × AreRulesRefused file e
+
+-- what reading a core file answers: lines that are blank or begin with `//` are not kept
+abbrev pub IsCoreRead : List ℕ → Result CoreProblem CoreFileError → Type 0
+IsCoreRead bytes (Ok p) = IsUtf8 bytes × AreLinesRead (kept (lines_from 1 bytes)) (Ok p)
+IsCoreRead bytes (Err Memory) = Unit {0}
+IsCoreRead bytes (Err (NotUtf8 place)) = (IsUtf8 bytes → ⊥) × (place ≡ utf8_valid_len bytes)
+IsCoreRead bytes (Err e) = IsUtf8 bytes × AreLinesRead (kept (lines_from 1 bytes)) (Err e)

@@ -1,0 +1,15 @@
+pub mod Problem
+pub mod File
+pub mod Stated
+pub mod TermsText
+pub mod Words
+pub mod Rows
+pub mod Resolving
+pub mod Statements
+pub mod Table
+pub mod Fitting
+pub mod Reading
+pub mod Order
+pub mod Machine
+pub mod CoreRead
+pub mod Laws

@@ -1,0 +1,45 @@
+-- The rows of core files as they are read.
+use Rattle.std.specs.Prelude.{◌≡◌, ℕ, List}
+use Rattle.sx_term.specs.Term.{tree}
+use Rattle.sx_term.specs.Shapes.{shape, shapes}
+use Rattle.sx_rules.specs.Views.{form, goal, judgement}
+use Rattle.sx_core.specs.File.{FormRow, JudgementRow}
+use Rattle.sx_core.specs.Stated.{NameSorts, IsGoal}
+use Rattle.sx_core.specs.Rows.{sort_row, con_row}
+use Rattle.sx_core.specs.Resolving.{rows_in, IsSortTable, IsConOf, IsFormOf}
+use Rattle.sx_core.specs.Statements.{known_in, IsFormTable}
+use Rattle.sx_core.specs.Table.{row, RuleRow}
+use Rattle.sx_core.specs.Fitting.{Context, IsFull, IsFitting}
+use Rattle.sx_core.specs.declared.found.Found.{Found}
+use Rattle.sx_core.specs.declared.line_read.LineRead.{LineRead}
+use Rattle.sx_core.specs.declared.line_read.LineRead.TheVariants.{Head as HeadRead, Sort as SortRead, Con as ConRead, Form as FormRead, Rule as RuleRead, If as IfRead, Not as NotRead, Then as ThenRead, End as EndRead, Goal as GoalRead}
+use Rattle.sx_core.specs.declared.keyword.Keyword.TheVariants.{Head, Sort, Con, Form, Rule, If, Not, Then, End, Goal}
+
+-- what was found as plain data
+abbrev pub context : Found → Context
+context found = record {
+  sorts = rows_in found.sorts;
+  taken = found.taken;
+  cons = found.cons.items;
+  shapes = shapes found.shapes;
+  forms = known_in found.forms;
+}
+
+-- the tables find each name
+pub record IsFound (found : Found) : Type 0 where
+  pub sorts : IsSortTable found.sorts
+  pub forms : IsFormTable found.forms
+  pub con_names : found.con_names ≡ found.cons.items
+
+-- the line is that of what was read
+abbrev pub IsRead : Context → List ℕ → LineRead → Type 0
+IsRead c text HeadRead = IsFitting c text (row Head tt)
+IsRead c text (SortRead r) = IsFitting c text (row Sort (sort_row r))
+IsRead c text (ConRead r con) = IsFitting c text (row Con (con_row r)) × IsConOf c.sorts (con_row r) (shape con)
+IsRead c text (FormRead f) = (r : FormRow) × IsFitting c text (row Form r) × IsFormOf c.sorts r (form f)
+IsRead c text (RuleRead name sorts) = (r : RuleRow) × IsFitting c text (row Rule r) × (r.name ≡ name) × NameSorts c.sorts r.sorts sorts.items
+IsRead c text (IfRead j) = (r : JudgementRow) × IsFitting c text (row If r) × IsFull c.forms r (judgement j)
+IsRead c text (NotRead left right) = IsFitting c text (row Not (record { left = tree left; right = tree right }))
+IsRead c text (ThenRead j) = (r : JudgementRow) × IsFitting c text (row Then r) × IsFull c.forms r (judgement j)
+IsRead c text EndRead = IsFitting c text (row End tt)
+IsRead c text (GoalRead g) = (r : JudgementRow) × IsFitting c text (row Goal r) × IsGoal c.shapes c.forms r (goal g)

@@ -1,0 +1,97 @@
+-- The rows of core files: their views, and what reading one answers.
+use Rattle.std.specs.Prelude.{◌≡◌, ℕ, Bool, List, [], ◌∷◌, ◌++◌, map}
+use Rattle.sx_lines.specs.Bytes.{space}
+use Rattle.sx_rules.specs.declared.rule.Role.{Role}
+use Rattle.sx_core.specs.File.{SortRow, ConRow, PlaceRow, FormRow, Declaration, sort_line, con_line, form_line, role_text, place_text, kind_text, words_text, declaration_text}
+use Rattle.sx_core.specs.Stated.{IsName, AreNames}
+use Rattle.sx_core.specs.Words.{Stops}
+use Rattle.sx_core.specs.declared.rows.SortRow.{SortRow as SortRowOf}
+use Rattle.sx_core.specs.declared.rows.ConRow.{ConRow as ConRowOf}
+use Rattle.sx_core.specs.declared.rows.PlaceRow.{PlaceRow as PlaceRowOf}
+use Rattle.sx_core.specs.declared.rows.FormRow.{FormRow as FormRowOf}
+use Rattle.sx_core.specs.declared.terms_row.RowError.{RowError}
+use Rattle.sx_core.specs.declared.terms_row.RowError.TheVariants.{Memory, Shape, TooDeep}
+
+-- rows as plain data
+abbrev pub sort_row : SortRowOf → SortRow
+sort_row row = record { name = row.name; typed = row.typed }
+
+abbrev pub con_row : ConRowOf → ConRow
+con_row row = record { name = row.name; sort = row.sort; kids = row.kids.items }
+
+abbrev pub place_row : PlaceRowOf → PlaceRow
+place_row row = record { role = row.role; sort = row.sort }
+
+abbrev pub form_row : FormRowOf → FormRow
+form_row row = record { name = row.name; places = map place_row row.places.items }
+
+-- the sorts of the places have names
+abbrev pub AreNamed : List PlaceRow → Type 0
+AreNamed [] = Unit {0}
+AreNamed (place ∷ places) = IsName place.sort × AreNamed places
+
+-- each word of the declaration is a name
+abbrev pub IsSpelled : Declaration → Type 0
+IsSpelled (sort_line row) = IsName row.name
+IsSpelled (con_line row) = AreNames (row.name ∷ row.sort ∷ row.kids)
+IsSpelled (form_line row) = IsName row.name × AreNamed row.places
+
+-- the line of a declaration
+pub record IsLineOf (text : List ℕ) (d : Declaration) : Type 0 where
+  pub line : text ≡ declaration_text d
+  pub spelled : IsSpelled d
+
+-- the role and what follows it in the text of a place
+abbrev pub IsRoleRead : List ℕ → Role → List ℕ → Type 0
+IsRoleRead word role sort = word ≡ role_text role ++ sort
+
+-- the text is that of no place
+abbrev pub NoRole : List ℕ → Type 0
+NoRole word = (role : Role) (sort : List ℕ) → word ≡ role_text role ++ sort → ⊥
+
+-- the word is this place
+abbrev pub IsPlaceWord : List ℕ → PlaceRow → Type 0
+IsPlaceWord word row = (word ≡ place_text row) × IsName row.sort
+
+-- the word is no place
+abbrev pub NoPlaceWord : List ℕ → RowError → Type 0
+NoPlaceWord word Memory = Unit {0}
+NoPlaceWord word Shape = (row : PlaceRow) → IsPlaceWord word row → ⊥
+NoPlaceWord word (TooDeep depth) = ⊥
+
+-- a blank, and `typed` or `plain`
+abbrev pub IsKind : List ℕ → Bool → Type 0
+IsKind text typed = text ≡ space ∷ kind_text typed
+
+-- neither of these
+abbrev pub NoKind : List ℕ → Type 0
+NoKind text = (typed : Bool) → IsKind text typed → ⊥
+
+-- a blank, this place, and the rest
+pub record IsPlaceRead (text : List ℕ) (row : PlaceRow) (rest : List ℕ) : Type 0 where
+  pub parts : text ≡ space ∷ (place_text row ++ rest)
+  pub named : IsName row.sort
+  pub stops : Stops rest
+
+-- no place stands there
+abbrev pub PlaceRefused : List ℕ → RowError → Type 0
+PlaceRefused text Memory = Unit {0}
+PlaceRefused text Shape = (row : PlaceRow) (rest : List ℕ) → IsPlaceRead text row rest → ⊥
+PlaceRefused text (TooDeep depth) = ⊥
+
+-- just these places
+pub record ArePlacesRead (text : List ℕ) (rows : List PlaceRow) : Type 0 where
+  pub parts : text ≡ words_text (map place_text rows)
+  pub named : AreNamed rows
+
+-- there are no places alone
+abbrev pub PlacesRefused : List ℕ → RowError → Type 0
+PlacesRefused text Memory = Unit {0}
+PlacesRefused text Shape = (rows : List PlaceRow) → ArePlacesRead text rows → ⊥
+PlacesRefused text (TooDeep depth) = ⊥
+
+-- after this front the line is that of no such row
+abbrev pub NoRow : {R : Type 0} → (R → Declaration) → List ℕ → List ℕ → RowError → Type 0
+NoRow {R} line_of front text Memory = Unit {0}
+NoRow {R} line_of front text Shape = (row : R) → IsLineOf (front ++ text) (line_of row) → ⊥
+NoRow {R} line_of front text (TooDeep depth) = ⊥

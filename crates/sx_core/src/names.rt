@@ -1,0 +1,56 @@
+//! Names, found by their hash.
+
+ghost use Rattle.std.specs.Prelude.{◌≡◌, ◌++◌, [], ◌∷◌, slice_get, Contains, MatchOption, Some, IfOk, IsTrue, ◌↔◌};
+
+use indexmap::IndexSet;
+use std::alloc::Global;
+use std::marker::Model;
+use sx_term::{NoMemory, Text};
+
+/// Distinct names, numbered from 0 in the order in which they came.
+#[derive(Drop)]
+pub(crate) struct Names {
+    texts: IndexSet<Vec<u8>>,
+}
+
+impl Model for Names {
+    ghost use Rattle.std.specs.Prelude.{List, ℕ, map};
+
+    ghost Value = { List (List ℕ) };
+
+    ghost view = { λ n. map (λ text. text.items) n.texts.keys };
+}
+
+impl Names {
+    /// No names. It takes no memory.
+    pub(crate) fn new(alloc: Global) -> Names
+        ensures { result ≡ [] }
+    {
+        Names {
+            texts: IndexSet::new(alloc),
+        }
+    }
+
+    /// The number of the name, or None where it is none of the names.
+    pub(crate) fn number(&self, name: &[u8]) -> Option<usize>
+        ensures { MatchOption result (Contains self.now name.now → ⊥) (λ n. slice_get self.now n ≡ Some name.now) }
+    {
+        self.texts.get_index_of(name)
+    }
+
+    /// Whether the text is one of the names.
+    pub(crate) fn has(&self, name: &Text) -> bool
+        ensures { IsTrue result ↔ Contains self.now name.now }
+    {
+        self.number(name.bytes()).is_some()
+    }
+
+    /// Adds a name that is none of the names.
+    pub(crate) fn push(&mut self, alloc: Global, name: &[u8]) -> Result<(), NoMemory>
+        requires { Contains self.old name.now → ⊥ }
+        ensures { IfOk result (λ _. self.new ≡ self.old ++ name.now ∷ []) }
+    {
+        self.texts.insert(Vec::from_slice(alloc, name)?)?;
+        Ok(())
+    }
+}

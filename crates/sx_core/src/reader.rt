@@ -1,0 +1,353 @@
+//! The reading of a core file, line by line.
+
+ghost use Rattle.std.specs.Prelude.{◌≡◌, ℕ, ◌++◌, [], ◌∷◌, Contains, MatchResult, OnOk};
+ghost use Rattle.sx_term.specs.Shapes.{shape};
+ghost use Rattle.sx_rules.specs.Views.{form};
+ghost use Rattle.sx_core.specs.Machine.{AddsSort, AddsCon, AddsForm, IsFresh, Steps, StepRefused, keyword_of};
+ghost use Rattle.sx_core.specs.declared.line_read.LineRead.TheVariants as line;
+ghost use Rattle.sx_core.specs.declared.keyword.Keyword.TheVariants as keyword;
+
+use crate::found::Found;
+use crate::line_read::LineRead;
+use crate::rows::{ConRow, SortRow};
+use crate::stage::{Open, Stage};
+use std::alloc::{AllocFailed, Global};
+use sx_rules::{Form, Goal, Judgement, Premise, Rule};
+use sx_term::{Con, NoMemory, Sort, Term, Text};
+
+/// What has been read of a core file: what was found, the rules that are ended, and where the reading stands.
+#[derive(Drop)]
+pub(crate) struct Reader {
+    pub found: Found,
+    pub rules: Vec<Rule>,
+    pub stage: Stage,
+}
+
+/// Why a line is not taken: memory is lacking, or such a line may not stand there.
+#[derive(Debug, Drop)]
+pub(crate) enum StepError {
+    Memory,
+    Order,
+}
+
+impl From<NoMemory> for StepError {
+    ghost use Rattle.std.specs.Prelude.{◌≡◌};
+    ghost use Rattle.sx_core.specs.declared.reader.StepError.TheVariants.{Memory};
+
+    ghost from_gives = { λ _ e. e ≡ Memory };
+
+    fn from(_e: NoMemory) -> StepError {
+        StepError::Memory
+    }
+}
+
+impl<T: Drop> From<AllocFailed<T>> for StepError {
+    ghost use Rattle.std.specs.Prelude.{◌≡◌};
+    ghost use Rattle.sx_core.specs.declared.reader.StepError.TheVariants.{Memory};
+
+    ghost from_gives = { λ _ e. e ≡ Memory };
+
+    fn from(_e: AllocFailed<T>) -> StepError {
+        StepError::Memory
+    }
+}
+
+/// Takes the name of one more sort.
+fn add_sort(alloc: Global, found: &mut Found, row: &SortRow) -> Result<(), NoMemory>
+    requires { Contains found.old.taken row.now.name → ⊥ }
+    ensures { OnOk result (AddsSort found.old found.new row.now.name) }
+{
+    found.taken.push(alloc, row.name.bytes())?;
+    Ok(())
+}
+
+/// Adds one more constructor.
+fn add_con(alloc: Global, found: &mut Found, row: &ConRow, con: Con) -> Result<(), NoMemory>
+    requires { Contains found.old.con_names row.now.name → ⊥ }
+    ensures { OnOk result (AddsCon found.old found.new row.now.name (shape con)) }
+{
+    found.con_names.push(alloc, row.name.bytes())?;
+    found.cons.push(row.name.copy(alloc)?)?;
+    found.shapes.cons.push(con)?;
+    Ok(())
+}
+
+/// Adds one more form.
+fn add_form(alloc: Global, found: &mut Found, one: Form) -> Result<(), NoMemory>
+    requires { Contains found.old.forms.names one.name → ⊥ }
+    ensures { OnOk result (AddsForm found.old found.new (form one)) }
+{
+    found.forms.names.push(alloc, one.name.bytes())?;
+    found.forms.forms.push(one)?;
+    Ok(())
+}
+
+impl Reader {
+    /// Takes the first line.
+    pub(crate) fn take_head(self) -> Result<Reader, StepError>
+        ensures { (n : ℕ) → MatchResult result (λ r. Steps self n line.Head r) (λ e. StepRefused self keyword.Head e) }
+    {
+        let Reader {
+            found,
+            rules,
+            stage,
+        } = self;
+        match stage {
+            Stage::Start => Ok(Reader {
+                found,
+                rules,
+                stage: Stage::Declaring,
+            }),
+            _ => Err(StepError::Order),
+        }
+    }
+
+    /// Takes the line of a sort.
+    fn take_sort(self, alloc: Global, row: SortRow) -> Result<Reader, StepError>
+        requires { Contains self.found.taken row.name → ⊥ }
+        ensures { (n : ℕ) → MatchResult result (λ r. Steps self n (line.Sort row) r) (λ e. StepRefused self keyword.Sort e) }
+    {
+        let Reader {
+            mut found,
+            rules,
+            stage,
+        } = self;
+        match stage {
+            Stage::Declaring => {
+                add_sort(alloc, &mut found, &row)?;
+                Ok(Reader {
+                    found,
+                    rules,
+                    stage: Stage::Declaring,
+                })
+            }
+            _ => Err(StepError::Order),
+        }
+    }
+
+    /// Takes the line of a constructor.
+    fn take_con(self, alloc: Global, row: ConRow, con: Con) -> Result<Reader, StepError>
+        requires { Contains self.found.con_names row.name → ⊥ }
+        ensures { (n : ℕ) → MatchResult result (λ r. Steps self n (line.Con row con) r) (λ e. StepRefused self keyword.Con e) }
+    {
+        let Reader {
+            mut found,
+            rules,
+            stage,
+        } = self;
+        match stage {
+            Stage::Declaring => {
+                add_con(alloc, &mut found, &row, con)?;
+                Ok(Reader {
+                    found,
+                    rules,
+                    stage: Stage::Declaring,
+                })
+            }
+            _ => Err(StepError::Order),
+        }
+    }
+
+    /// Takes the line of a form.
+    fn take_form(self, alloc: Global, one: Form) -> Result<Reader, StepError>
+        requires { Contains self.found.forms.names one.name → ⊥ }
+        ensures { (n : ℕ) → MatchResult result (λ r. Steps self n (line.Form one) r) (λ e. StepRefused self keyword.Form e) }
+    {
+        let Reader {
+            mut found,
+            rules,
+            stage,
+        } = self;
+        match stage {
+            Stage::Declaring => {
+                add_form(alloc, &mut found, one)?;
+                Ok(Reader {
+                    found,
+                    rules,
+                    stage: Stage::Declaring,
+                })
+            }
+            _ => Err(StepError::Order),
+        }
+    }
+
+    /// Takes the line of this number, which begins a rule.
+    fn take_rule(
+        self,
+        alloc: Global,
+        number: u32,
+        name: Text,
+        sorts: Vec<Sort>,
+    ) -> Result<Reader, StepError>
+        ensures { MatchResult result (λ r. Steps self number (line.Rule name sorts) r) (λ e. StepRefused self keyword.Rule e) }
+    {
+        let Reader {
+            found,
+            rules,
+            stage,
+        } = self;
+        let open = Open {
+            line: number,
+            name,
+            sorts,
+            premises: Vec::new(alloc),
+        };
+        match stage {
+            Stage::Declaring => Ok(Reader {
+                found,
+                rules,
+                stage: Stage::Premising(open),
+            }),
+            Stage::Between => Ok(Reader {
+                found,
+                rules,
+                stage: Stage::Premising(open),
+            }),
+            _ => Err(StepError::Order),
+        }
+    }
+
+    /// Takes the line of a judgement premise.
+    fn take_if(self, one: Judgement) -> Result<Reader, StepError>
+        ensures { (n : ℕ) → MatchResult result (λ r. Steps self n (line.If one) r) (λ e. StepRefused self keyword.If e) }
+    {
+        let Reader {
+            found,
+            rules,
+            stage,
+        } = self;
+        match stage {
+            Stage::Premising(mut open) => {
+                open.premises.push(Premise::Holds(one))?;
+                Ok(Reader {
+                    found,
+                    rules,
+                    stage: Stage::Premising(open),
+                })
+            }
+            _ => Err(StepError::Order),
+        }
+    }
+
+    /// Takes the line of two terms that are to be apart.
+    fn take_not(self, left: Term, right: Term) -> Result<Reader, StepError>
+        ensures { (n : ℕ) → MatchResult result (λ r. Steps self n (line.Not left right) r) (λ e. StepRefused self keyword.Not e) }
+    {
+        let Reader {
+            found,
+            rules,
+            stage,
+        } = self;
+        match stage {
+            Stage::Premising(mut open) => {
+                open.premises.push(Premise::Apart(left, right))?;
+                Ok(Reader {
+                    found,
+                    rules,
+                    stage: Stage::Premising(open),
+                })
+            }
+            _ => Err(StepError::Order),
+        }
+    }
+
+    /// Takes the line of a conclusion.
+    fn take_then(self, one: Judgement) -> Result<Reader, StepError>
+        ensures { (n : ℕ) → MatchResult result (λ r. Steps self n (line.Then one) r) (λ e. StepRefused self keyword.Then e) }
+    {
+        let Reader {
+            found,
+            rules,
+            stage,
+        } = self;
+        match stage {
+            Stage::Premising(open) => Ok(Reader {
+                found,
+                rules,
+                stage: Stage::Concluded(open, one),
+            }),
+            _ => Err(StepError::Order),
+        }
+    }
+
+    /// Takes the line that ends a rule.
+    fn take_end(self) -> Result<Reader, StepError>
+        ensures { (n : ℕ) → MatchResult result (λ r. Steps self n line.End r) (λ e. StepRefused self keyword.End e) }
+    {
+        let Reader {
+            found,
+            mut rules,
+            stage,
+        } = self;
+        match stage {
+            Stage::Concluded(open, conclusion) => {
+                let Open {
+                    line: _,
+                    name,
+                    sorts,
+                    premises,
+                } = open;
+                rules.push(Rule {
+                    name,
+                    vars: sorts,
+                    premises,
+                    conclusion,
+                })?;
+                Ok(Reader {
+                    found,
+                    rules,
+                    stage: Stage::Between,
+                })
+            }
+            _ => Err(StepError::Order),
+        }
+    }
+
+    /// Takes the line of the goal.
+    fn take_goal(self, goal: Goal) -> Result<Reader, StepError>
+        ensures { (n : ℕ) → MatchResult result (λ r. Steps self n (line.Goal goal) r) (λ e. StepRefused self keyword.Goal e) }
+    {
+        let Reader {
+            found,
+            rules,
+            stage,
+        } = self;
+        match stage {
+            Stage::Declaring => Ok(Reader {
+                found,
+                rules,
+                stage: Stage::Over(goal),
+            }),
+            Stage::Between => Ok(Reader {
+                found,
+                rules,
+                stage: Stage::Over(goal),
+            }),
+            _ => Err(StepError::Order),
+        }
+    }
+
+    /// Takes what the line of this number states.
+    pub(crate) fn take(
+        self,
+        alloc: Global,
+        number: u32,
+        read: LineRead,
+    ) -> Result<Reader, StepError>
+        requires { IsFresh self.found read }
+        ensures { MatchResult result (λ r. Steps self number read r) (λ e. StepRefused self (keyword_of read) e) }
+    {
+        match read {
+            LineRead::Head => self.take_head(),
+            LineRead::Sort(row) => self.take_sort(alloc, row),
+            LineRead::Con(row, con) => self.take_con(alloc, row, con),
+            LineRead::Form(one) => self.take_form(alloc, one),
+            LineRead::Rule(name, sorts) => self.take_rule(alloc, number, name, sorts),
+            LineRead::If(one) => self.take_if(one),
+            LineRead::Not(left, right) => self.take_not(left, right),
+            LineRead::Then(one) => self.take_then(one),
+            LineRead::End => self.take_end(),
+            LineRead::Goal(goal) => self.take_goal(goal),
+        }
+    }
+}
