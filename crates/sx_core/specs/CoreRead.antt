@@ -88,19 +88,28 @@ AreRulesRefused file NoRoom = ⊥
 AreRulesRefused file e = (p : Problem) × Says file p × IsRefused p.shapes p.forms p.rules e
 
 -- what reading the lines that are kept answers
-abbrev pub AreLinesRead : Lines → Result CoreProblem CoreFileError → Type 0
-AreLinesRead lines (Ok p) = (file : CoreFile) × AreLinesOf lines file × States file (problem p)
-AreLinesRead lines (Err Memory) = Unit {0}
-AreLinesRead lines (Err (NotUtf8 place)) = ⊥
-AreLinesRead lines (Err (Notation number kind)) =
+abbrev pub AreLinesAnswered : Lines → Result Problem CoreFileError → Type 0
+AreLinesAnswered lines (Ok p) = (file : CoreFile) × AreLinesOf lines file × States file p
+AreLinesAnswered lines (Err Memory) = Unit {0}
+AreLinesAnswered lines (Err (NotUtf8 place)) = ⊥
+AreLinesAnswered lines (Err (Notation number kind)) =
     (rows : List Row) × (c : Context) × (next : Lines) × ReadTo lines rows c next × IsBadAt lines rows c next number kind
-AreLinesRead lines (Err (TooDeep number depth)) =
+AreLinesAnswered lines (Err (TooDeep number depth)) =
     (rows : List Row) × (c : Context) × (next : Lines) × ReadTo lines rows c next × IsDeepAt rows c next number depth
-AreLinesRead lines (Err (Rules e)) = (file : CoreFile) × AreLinesOf lines file × AreRulesRefused file e
+AreLinesAnswered lines (Err (Rules e)) = (file : CoreFile) × AreLinesOf lines file × AreRulesRefused file e
 
--- what reading a core file answers: lines that are blank or begin with `//` are not kept
+abbrev pub AreLinesRead : Lines → Result CoreProblem CoreFileError → Type 0
+AreLinesRead lines (Ok p) = AreLinesAnswered lines (Ok (problem p))
+AreLinesRead lines (Err e) = AreLinesAnswered lines (Err e)
+
+-- what the bytes of a core file state, or why they state nothing: lines that are blank or begin with `//` are not kept
+abbrev pub IsCoreAnswer : List ℕ → Result Problem CoreFileError → Type 0
+IsCoreAnswer bytes (Ok p) = IsUtf8 bytes × AreLinesAnswered (kept (lines_from 1 bytes)) (Ok p)
+IsCoreAnswer bytes (Err Memory) = Unit {0}
+IsCoreAnswer bytes (Err (NotUtf8 place)) = (IsUtf8 bytes → ⊥) × (place ≡ utf8_valid_len bytes)
+IsCoreAnswer bytes (Err e) = IsUtf8 bytes × AreLinesAnswered (kept (lines_from 1 bytes)) (Err e)
+
+-- what reading a core file answers
 abbrev pub IsCoreRead : List ℕ → Result CoreProblem CoreFileError → Type 0
-IsCoreRead bytes (Ok p) = IsUtf8 bytes × AreLinesRead (kept (lines_from 1 bytes)) (Ok p)
-IsCoreRead bytes (Err Memory) = Unit {0}
-IsCoreRead bytes (Err (NotUtf8 place)) = (IsUtf8 bytes → ⊥) × (place ≡ utf8_valid_len bytes)
-IsCoreRead bytes (Err e) = IsUtf8 bytes × AreLinesRead (kept (lines_from 1 bytes)) (Err e)
+IsCoreRead bytes (Ok p) = IsCoreAnswer bytes (Ok (problem p))
+IsCoreRead bytes (Err e) = IsCoreAnswer bytes (Err e)

@@ -35,15 +35,20 @@ module _ (modes : Modes) (rules : List Rule) (hyps : Hypotheses) (goal : Goal) w
     pub front : IsFront modes rules hyps goal stage (take k list) terms depth
 
   -- the answer: the outputs of the derivation that has this list, or else what is wrong at the first entry at which something is
-  abbrev pub IsReplayed : List Entry → Result (Vec Term Global) ReplayError → Type 0
-  IsReplayed list (Ok outs) = IsWithin (whole (map tree outs.items)) list
-  IsReplayed list (Err Memory) = Unit {0}
-  IsReplayed list (Err (WrongAt k)) =
+  abbrev pub IsReplayAnswer : List Entry → Result (List Tree) ReplayError → Type 0
+  IsReplayAnswer list (Ok outs) = IsWithin (whole outs) list
+  IsReplayAnswer list (Err Memory) = Unit {0}
+  IsReplayAnswer list (Err (WrongAt k)) =
       IsReached list k × ((stage : Stage) (terms : List Tree) (depth : ℕ) → IsFront modes rules hyps goal stage (take k list) terms depth → ⊥)
-  IsReplayed list (Err EndsEarly) = IsWithin open_one list
-  IsReplayed list (Err (LongList k)) = (1 ≤ k) × (k ≤ length list) × ((outs : List Tree) × IsWithin (whole outs) (take (k - 1) list))
-  IsReplayed list (Err (DeepList k)) = (terms : List Tree) × (depth : ℕ) × IsFitting list k terms depth × (3000 < depth)
-  IsReplayed list (Err (TooDeep n)) =
+  IsReplayAnswer list (Err EndsEarly) = IsWithin open_one list
+  IsReplayAnswer list (Err (LongList k)) = (1 ≤ k) × (k ≤ length list) × ((outs : List Tree) × IsWithin (whole outs) (take (k - 1) list))
+  IsReplayAnswer list (Err (DeepList k)) = (terms : List Tree) × (depth : ℕ) × IsFitting list k terms depth × (3000 < depth)
+  IsReplayAnswer list (Err (TooDeep n)) =
       (k : ℕ) × (terms : List Tree) × (depth : ℕ) × IsFitting list k terms depth × (depth ≤ 3000) × (first_deep terms ≡ Some n)
-  IsReplayed list (Err (TooBig n)) =
+  IsReplayAnswer list (Err (TooBig n)) =
       (k : ℕ) × (terms : List Tree) × (depth : ℕ) × IsFitting list k terms depth × (depth ≤ 3000) × (first_deep terms ≡ None) × (first_big terms ≡ Some n)
+
+  -- what replaying a list answers
+  abbrev pub IsReplayed : List Entry → Result (Vec Term Global) ReplayError → Type 0
+  IsReplayed list (Ok outs) = IsReplayAnswer list (Ok (map tree outs.items))
+  IsReplayed list (Err e) = IsReplayAnswer list (Err e)
