@@ -10,6 +10,5 @@ mod CorePromise
 mod Endings
 mod There
 mod WholePromises
-mod Firsts
 mod OutcomeLaws
 mod WholeOnes

@@ -22,7 +22,8 @@ use Rattle.sx_top.specs.Commands.{by_now, Commands}
 use Rattle.sx_top.specs.Outcome.{Runs, Outcome}
 use Rattle.sx_top.specs.Laws.{IsNoReadFault, OneOutcome}
 use Rattle.sx_top.proofs.StepsOn.{went}
-use Rattle.sx_top.proofs.Firsts.{one_first, good_moded}
+use Rattle.sx_rules.proofs.Firsts.{one_first}
+use Rattle.sx_rules.proofs.Refusals.{good_moded}
 
 -- ---- steps
 

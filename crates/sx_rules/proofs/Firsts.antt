@@ -1,14 +1,12 @@
 -- A goal has one first derivation.
-use Rattle.std.proofs.Common.{◌≡◌, ℕ, List, [], ◌∷◌, ◌++◌, map, refl, ap, ◌∙◌, sym, subst, ⊎_elim, arith}
+use Rattle.std.proofs.Common.{◌≡◌, ℕ, List, [], ◌∷◌, ◌++◌, refl, ap, ◌∙◌, sym, subst, ⊎_elim, arith}
 use Rattle.std.specs.Prelude.{Option}
 use Rattle.sx_term.specs.Tree.{Tree}
-use Rattle.sx_term.specs.Sorts.{Shape}
 use Rattle.sx_rules.specs.Rules.{Rule, Hypotheses}
 use Rattle.sx_rules.specs.Modes.{Modes, Goal, AllModed}
-use Rattle.sx_rules.specs.Views.{FormData, NamedRule, modes_of}
-use Rattle.sx_rules.specs.Good.{AllGood}
 use Rattle.sx_rules.specs.Orders.{Entry, of_given, of_rule, order_of, EntryBefore, IsAtMost}
 use Rattle.sx_rules.specs.First.{Answer, IsFirst}
+use Rattle.sx_rules.specs.DerivationLaws.{FirstDerivationIsUnique}
 use Rattle.sx_rules.proofs.Unique.{order_is_unique}
 
 -- ---- orders
@@ -34,14 +32,7 @@ same_order (a ∷ xs) (b ∷ ys) h k =
 
 -- ---- first derivations
 
-module _ (modes : Modes) (rules : List Rule) (hyps : Hypotheses) (goal : Goal) (wanted : Option (List Tree)) where
-  pub one_first : AllModed modes rules → (a b : Answer) → IsFirst modes rules hyps goal wanted a → IsFirst modes rules hyps goal wanted b → a ≡ b
-  one_first moded a b h k =
-      (order_is_unique modes rules hyps moded goal a b h.derives k.derives [] []
-      (ap (λ (x : List Entry). x ++ []) (same_order (order_of a.0) (order_of b.0) (h.least b k.derives k.is_wanted) (k.least a h.derives h.is_wanted)))).0
-
--- ---- rule sets
-
-pub good_moded : (shapes : List Shape) (forms : List FormData) (names : List (List ℕ)) (rs : List NamedRule) → AllGood shapes forms names rs → AllModed (modes_of forms) (map (λ r. r.rule) rs)
-good_moded shapes forms names [] h = tt
-good_moded shapes forms names (r ∷ rs) h = (h.0.moded, good_moded shapes forms (names ++ r.name ∷ []) rs h.1)
+pub one_first : FirstDerivationIsUnique
+one_first modes rules hyps goal wanted moded a b h k =
+    (order_is_unique modes rules hyps moded goal a b h.derives k.derives [] []
+    (ap (λ (x : List Entry). x ++ []) (same_order (order_of a.0) (order_of b.0) (h.least b k.derives k.is_wanted) (k.least a h.derives h.is_wanted)))).0
