@@ -1,4 +1,8 @@
-//! Language files read line by line, without a grammar.
+//! The lines of language files, read without a grammar.
+//!
+//! A line's parts are its maximal runs of bytes that are no blank. `read_row` reads a line of a language file, `read_directive`
+//! one that extends a language. Each contract is a relation between the parts and what they state (`specs/Rows.antt`): what
+//! is read stands in it, and a line is refused exactly where nothing does. Want of memory may come at any call.
 #![tactic(auto)]
 
 mod directive;
@@ -13,6 +17,8 @@ mod rows;
 mod sorts;
 mod spelled;
 mod symbols;
+#[cfg(test)]
+mod tests;
 
 pub use directive::Directive;
 pub use reading::{read_directive, read_row};
