@@ -1,0 +1,4 @@
+mod PartLaws
+mod SpellingLaws
+mod RowLaws
+mod KeywordLaws

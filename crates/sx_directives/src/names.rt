@@ -1,0 +1,90 @@
+//! Names, stems and quoted literals.
+
+ghost use Rattle.std.specs.Prelude.{◌≡◌, MatchResult};
+ghost use Rattle.std.specs.List.{list_all};
+ghost use Rattle.std.specs.Char as char;
+ghost use Rattle.sx_directives.specs.Spelling as spec;
+ghost use Rattle.sx_directives.specs.Spelling.{IsNamed, IsStemOf, IsQuoted, IsTextOf, NoneIs};
+
+use crate::row_error::RowError;
+use std::alloc::Global;
+use sx_lines::is_name;
+use sx_term::{Text, TextError};
+
+fn text_error(e: TextError) -> RowError
+    ensures { result ≡ spec.text_error e }
+{
+    match e {
+        TextError::Memory => RowError::Memory,
+        TextError::NotUtf8(_) => RowError::Shape,
+    }
+}
+
+/// The text with these bytes.
+fn text_of(alloc: Global, bytes: &[u8]) -> Result<Text, RowError>
+    ensures { MatchResult result (IsTextOf bytes.now) (NoneIs (IsTextOf bytes.now)) }
+{
+    match Text::make(alloc, bytes) {
+        Ok(text) => Ok(text),
+        Err(e) => Err(text_error(e)),
+    }
+}
+
+/// The name that a part is.
+pub(crate) fn name_of(alloc: Global, part: &[u8]) -> Result<Text, RowError>
+    ensures { MatchResult result (IsNamed part.now) (NoneIs (IsNamed part.now)) }
+{
+    if !is_name(true, part) {
+        return Err(RowError::Shape);
+    }
+    text_of(alloc, part)
+}
+
+/// Whether each byte is an ASCII letter.
+fn are_letters(text: &[u8]) -> bool
+    ensures { result ≡ list_all char.is_ascii_alphabetic text.now }
+{
+    text.iter().all(|c| c.is_ascii_alphabetic())
+}
+
+/// The stem that a part is: a name of ASCII letters alone.
+pub(crate) fn stem_of(alloc: Global, part: &[u8]) -> Result<Text, RowError>
+    ensures { MatchResult result (IsStemOf part.now) (NoneIs (IsStemOf part.now)) }
+{
+    if !are_letters(part) {
+        return Err(RowError::Shape);
+    }
+    name_of(alloc, part)
+}
+
+/// Whether the byte is no quote.
+fn is_plain_byte(b: u8) -> bool
+    ensures { result ≡ spec.is_plain_byte b }
+{
+    b != b'"'
+}
+
+/// Whether no byte is a quote.
+fn are_plain_bytes(text: &[u8]) -> bool
+    ensures { result ≡ list_all spec.is_plain_byte text.now }
+{
+    text.iter().all(|b| is_plain_byte(*b))
+}
+
+/// The literal that a part is with its quotes.
+pub(crate) fn literal_of(alloc: Global, part: &[u8]) -> Result<Text, RowError>
+    ensures { MatchResult result (IsQuoted part.now) (NoneIs (IsQuoted part.now)) }
+{
+    match part.split_first() {
+        Some((first, more)) => match more.split_last() {
+            Some((last, inside)) => {
+                if *first != b'"' || *last != b'"' || !are_plain_bytes(inside) {
+                    return Err(RowError::Shape);
+                }
+                text_of(alloc, inside)
+            }
+            None => Err(RowError::Shape),
+        },
+        None => Err(RowError::Shape),
+    }
+}
