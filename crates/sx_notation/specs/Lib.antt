@@ -1,0 +1,3 @@
+pub mod GoalText
+pub mod Forms
+pub mod Placed
