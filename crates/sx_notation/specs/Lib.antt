@@ -1,3 +1,4 @@
 pub mod GoalText
 pub mod Forms
 pub mod Placed
+pub mod RuleParts

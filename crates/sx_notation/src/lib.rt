@@ -5,11 +5,20 @@
 #![tactic(auto)]
 
 mod content;
+mod copying;
+mod form_line;
+mod form_symbol;
 mod goal_printing;
 mod language;
 mod main_form;
+mod rule_productions;
+mod spelled_sort;
 mod walk;
 
+pub use form_line::FormLine;
+pub use form_symbol::FormSymbol;
 pub use goal_printing::print_goal;
 pub use language::Language;
 pub use main_form::MainForm;
+pub use rule_productions::rule_parts;
+pub use spelled_sort::SpelledSort;
