@@ -1,6 +1,7 @@
 //! Languages.
 
 use crate::main_form::MainForm;
+use sx_earley::Metas;
 use sx_grammar::Grammar;
 use sx_rules::RuleSet;
 use sx_term::{Text, Vars};
@@ -12,6 +13,7 @@ pub struct Language {
     pub name: Text,
     pub grammar: Grammar,
     pub rule_grammar: Grammar,
+    pub metas: Metas,
     pub rules: RuleSet,
     pub names: Vec<Vars>,
     pub main: MainForm,
