@@ -2,3 +2,4 @@ pub mod GoalText
 pub mod Forms
 pub mod Placed
 pub mod RuleParts
+pub mod RuleLaws
