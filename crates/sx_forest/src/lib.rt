@@ -7,10 +7,16 @@
 //! - Within: `ways` counts readings, none, one or more, with their greatest depth.
 #![tactic(auto)]
 
+mod entries;
+mod entry;
+mod judged;
 mod laws;
+mod ordered;
 mod place;
+mod read_error;
 mod reading;
 mod row;
+mod step;
 mod stripping;
 #[cfg(test)]
 mod tests;
@@ -19,6 +25,7 @@ mod writing;
 
 pub use laws::{paths_leave_together, readings_fit};
 pub use place::place_of;
+pub use read_error::ReadError;
 pub use reading::Reading;
 pub use stripping::strip;
 pub use writing::write_tree;
