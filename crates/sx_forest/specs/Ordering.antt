@@ -1,10 +1,10 @@
 -- Complete spans in the order in which they are counted.
-use Rattle.std.specs.Prelude.{◌≡◌, ◌≤◌, ◌<◌, ℕ, ◌+◌, ◌-◌, ◌*◌, Contains, List, Option, None, Some, length, slice_get}
+use Rattle.std.specs.Prelude.{◌≡◌, ◌<◌, ℕ, ◌+◌, ◌-◌, ◌*◌, Contains, List, Option, None, Some, length, slice_get}
 use Rattle.std.specs.Global.{Vec}
 use Rattle.sx_grammar.specs.declared.head.Head.{Head}
 use Rattle.sx_grammar.specs.Grammar.{Grammar, Token, Production, production_of}
-use Rattle.sx_grammar.specs.Order.{ComesBefore, IsRanking}
-use Rattle.sx_earley.specs.Completed.{head_of, IsChart}
+use Rattle.sx_grammar.specs.Order.{ComesBefore}
+use Rattle.sx_earley.specs.Completed.{head_of}
 use Rattle.sx_earley.specs.declared.span.Span.{Span}
 use Rattle.sx_forest.specs.declared.ordered.Ordered.{Ordered}
 use Rattle.sx_forest.specs.declared.entry.Maker.TheVariants.{By}

@@ -1,5 +1,5 @@
 -- The table of the tallies of all complete spans.
-use Rattle.std.specs.Prelude.{suc, ◌≡◌, ◌≤◌, ◌<◌, ℕ, ◌+◌, ◌-◌, ◌++◌, List, [], ◌∷◌, Some, length, slice_get}
+use Rattle.std.specs.Prelude.{suc, ◌≡◌, ◌<◌, ℕ, ◌+◌, ◌-◌, ◌++◌, List, [], ◌∷◌, Some, length, slice_get}
 use Rattle.std.specs.Global.{Vec}
 use Rattle.sx_grammar.specs.declared.head.Head.{Head}
 use Rattle.sx_grammar.specs.Grammar.{Symbol, Grammar, Token, Production, production_of, is_variable, of_sort}

@@ -1,5 +1,5 @@
 -- What the readings of all tokens come to.
-use Rattle.std.specs.Prelude.{◌≡◌, List, ℕ, true, Result, Ok, Err}
+use Rattle.std.specs.Prelude.{◌≡◌, List, ℕ, true}
 use Rattle.std.specs.Cmp.Lexicographic.{slice_cmp}
 use Rattle.std.specs.Ordering.{is_le, nat_cmp}
 use Rattle.sx_grammar.specs.Grammar.{Text, Grammar, Token}

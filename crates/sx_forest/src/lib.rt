@@ -9,15 +9,22 @@
 
 mod entries;
 mod entry;
+mod first_entries;
+mod full;
+mod in_order;
+mod judge;
 mod judged;
 mod laws;
 mod ordered;
+mod part_ways;
 mod place;
 mod read_error;
 mod reading;
 mod row;
+mod span_rows;
 mod step;
 mod stripping;
+mod symbol_ways;
 #[cfg(test)]
 mod tests;
 mod ways;
