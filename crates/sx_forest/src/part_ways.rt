@@ -1,6 +1,6 @@
 //! The ways to read a part, and then the symbols after it.
 
-ghost use Rattle.std.specs.Prelude.{◌≡◌, ◌≤◌, ◌-◌, ◌↔◌, ℕ, IsTrue, Some, length, slice_get};
+ghost use Rattle.std.specs.Prelude.{◌≡◌, ◌≢◌, ◌≤◌, ◌-◌, ◌↔◌, ℕ, IsTrue, Some, length, slice_get};
 ghost use Rattle.sx_grammar.specs.Tally.{no_way};
 ghost use Rattle.sx_earley.specs.Shown.{plain};
 ghost use Rattle.sx_forest.specs.Tallies.{tally_of};
@@ -16,6 +16,13 @@ fn is_nothing(ways: Ways) -> bool
     ensures { IsTrue result ↔ (tally_of ways ≡ no_way) }
 {
     matches!(ways, Ways::Nothing)
+}
+
+/// Whether there is any way.
+pub(crate) fn is_some(ways: Ways) -> bool
+    ensures { IsTrue result ↔ (tally_of ways ≢ no_way) }
+{
+    !is_nothing(ways)
 }
 
 /// Whether the entry's maker makes the sort at least the level.
