@@ -20,7 +20,7 @@ use sx_term::Sort;
 use sx_token::Token;
 
 /// The number of a plain or typed sort.
-fn number_of(sort: Sort) -> u32
+pub fn number_of(sort: Sort) -> u32
     ensures { result ≡ number_of sort }
 {
     match sort {
@@ -31,7 +31,7 @@ fn number_of(sort: Sort) -> u32
 }
 
 /// The chart of what is shown, for the start sort with this number.
-fn chart_of(
+pub fn chart_of(
     alloc: Global,
     grammar: &Grammar,
     start: u32,

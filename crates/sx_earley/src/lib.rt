@@ -19,7 +19,10 @@ mod symbols;
 mod table;
 
 pub use chart_error::ChartError;
-pub use charting::chart;
+pub use charting::{chart, chart_of, number_of};
 pub use completed::Chart;
 pub use metas::Metas;
+pub use shown::{Shown, reads};
 pub use span::{Span, SpanOf};
+pub use stems::show_all;
+pub use symbols::{makes, production_at, sort_of, symbol_of};

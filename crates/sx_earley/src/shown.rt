@@ -11,7 +11,7 @@ use sx_term::LexKind;
 /// What a token shows: a literal by its number, a lexeme of a kind, or a metavariable for a lexeme of a kind or for a term
 /// of the sort with this number.
 #[derive(Clone, Copy)]
-pub(crate) enum Shown {
+pub enum Shown {
     Lit(u32),
     Lex(LexKind),
     Kind(LexKind),
@@ -32,7 +32,7 @@ fn takes(expected: NumberedSymbol, shown: Shown) -> bool
 }
 
 /// Whether the symbol reads by itself what is shown at the place.
-pub(crate) fn reads(
+pub fn reads(
     grammar: &Grammar,
     expected: NumberedSymbol,
     shown: &[Shown],

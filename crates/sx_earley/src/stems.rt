@@ -92,7 +92,7 @@ impl<'a> Stems<'a> {
 }
 
 /// What the tokens show.
-pub(crate) fn show_all(
+pub fn show_all(
     alloc: Global,
     metas: &Metas,
     tokens: &[Token],

@@ -10,7 +10,7 @@ use crate::shown::{Shown, reads};
 use sx_grammar::{Grammar, Head, NumberedProduction, NumberedSymbol};
 
 /// The production with this label.
-fn production_at(grammar: &Grammar, label: u32) -> Option<&NumberedProduction>
+pub fn production_at(grammar: &Grammar, label: u32) -> Option<&NumberedProduction>
     ensures is { option_map (λ p. production (texts grammar.now) p.now) result ≡ slice_get (plain grammar.now).productions label }
     ensures below { IfSome result (λ p. AllBelow (length (texts grammar.now)) p.now.symbols.items) }
 {
@@ -42,7 +42,7 @@ fn bracket_symbol(pair: Option<(u32, u32)>, sort: u32, dot: usize) -> Option<Num
 }
 
 /// The symbol after the dot, or None at the end and where the head makes nothing.
-pub(crate) fn symbol_of(grammar: &Grammar, head: Head, dot: usize) -> Option<NumberedSymbol>
+pub fn symbol_of(grammar: &Grammar, head: Head, dot: usize) -> Option<NumberedSymbol>
     ensures is { option_map (symbol (texts grammar.now)) result ≡ next_symbol (plain grammar.now) head dot }
     ensures below { IfSome result (IsBelow (length (texts grammar.now))) }
     ensures small { IfSome result (λ _. dot < 2 ^ 63) }
@@ -103,7 +103,7 @@ pub(crate) fn ends_at(grammar: &Grammar, head: Head, dot: usize) -> bool
 }
 
 /// The sort that the head makes, or None where it makes nothing.
-pub(crate) fn sort_of(grammar: &Grammar, head: Head) -> Option<u32>
+pub fn sort_of(grammar: &Grammar, head: Head) -> Option<u32>
     ensures { result ≡ sort_made (production_of (plain grammar.now) head) }
 {
     match head {
@@ -126,7 +126,7 @@ fn pair_makes(pair: Option<(u32, u32)>, own: u32, sort: u32, least: u8) -> bool
 }
 
 /// Whether the head makes the sort at least the level.
-pub(crate) fn makes(grammar: &Grammar, head: Head, sort: u32, least: u8) -> bool
+pub fn makes(grammar: &Grammar, head: Head, sort: u32, least: u8) -> bool
     ensures { IsTrue result ↔ IsOfSort (production_of (plain grammar.now) head) sort least }
 {
     match head {

@@ -5,3 +5,13 @@ pub mod Naming
 pub mod Terms
 pub mod Fits
 pub mod Pushing
+pub mod Summing
+pub mod Counting
+pub mod Rows
+pub mod Spans
+pub mod Filling
+pub mod Apart
+pub mod Sorting
+pub mod Tabling
+pub mod Whole
+pub mod Judging

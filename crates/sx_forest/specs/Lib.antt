@@ -1,6 +1,11 @@
+pub mod Tallies
 pub mod Readings
-pub mod Places
 pub mod Text
 pub mod Names
+pub mod Places
 pub mod Fitting
-pub mod Tallies
+pub mod Rows
+pub mod Table
+pub mod Ordering
+pub mod Verdict
+pub mod Stepping

@@ -7,11 +7,24 @@
 //! - Within: `ways` counts readings, none, one or more, with their greatest depth.
 #![tactic(auto)]
 
+mod entries;
+mod entry;
+mod first_entries;
+mod full;
+mod in_order;
+mod judge;
+mod judged;
 mod laws;
+mod ordered;
+mod part_ways;
 mod place;
+mod read_error;
 mod reading;
 mod row;
+mod span_rows;
+mod step;
 mod stripping;
+mod symbol_ways;
 #[cfg(test)]
 mod tests;
 mod ways;
@@ -19,6 +32,7 @@ mod writing;
 
 pub use laws::{paths_leave_together, readings_fit};
 pub use place::place_of;
+pub use read_error::ReadError;
 pub use reading::Reading;
 pub use stripping::strip;
 pub use writing::write_tree;

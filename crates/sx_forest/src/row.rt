@@ -1,6 +1,6 @@
 //! Rows: the ways to read some symbols from each of the places of a span up to its end.
 
-ghost use Rattle.std.specs.Prelude.{◌≡◌, ◌<◌, ◌≤◌, ◌^◌, IfOk};
+ghost use Rattle.std.specs.Prelude.{◌≡◌, ◌≤◌, IfOk};
 ghost use Rattle.sx_forest.specs.Tallies.{IsLastRow};
 
 use crate::ways::Ways;
@@ -8,8 +8,7 @@ use std::alloc::Global;
 use sx_term::NoMemory;
 
 /// The row of no symbols: one way at the end of the span.
-pub(crate) fn last_row(alloc: Global, from: usize, to: usize) -> Result<Vec<Ways>, NoMemory>
-    requires short { to < 2 ^ 62 }
+pub(crate) fn last_row(alloc: Global, from: u32, to: u32) -> Result<Vec<Ways>, NoMemory>
     requires along { from ≤ to }
     ensures { IfOk result (λ v. IsLastRow from to v.items) }
 {

@@ -66,13 +66,13 @@ pub(crate) fn inside(a: Ways) -> Ways
 }
 
 /// The ways at a place of a row that begins at another.
-pub(crate) fn at(row: &[Ways], from: usize, place: usize) -> Ways
+pub(crate) fn at(row: &[Ways], from: u32, place: u32) -> Ways
     ensures { from ≤ place → tally_of result ≡ ways_at row.now (place - from) }
 {
     if place < from {
         return Ways::Nothing;
     }
-    match row.get(place - from) {
+    match row.get((place - from) as usize) {
         None => Ways::Nothing,
         Some(ways) => *ways,
     }

@@ -1,0 +1,101 @@
+use Rattle.std.proofs.Common.{◌≡◌, ◌↔◌, ℕ, zero, suc, ◌+◌, ◌-◌, ◌<◌, ◌≤◌, List, [], ◌∷◌, ◌++◌, ◌⊎◌, inl, inr, ⊎_elim, Option, Some, None, refl, sym, subst, ap, ◌∙◌, length, take, map, get_or, Contains, arith}
+use Rattle.std.specs.Global.{Vec}
+use Rattle.std.specs.List.{slice_get}
+use Rattle.std.proofs.lemmas.Bool.{cases_lt}
+use Rattle.std.proofs.lemmas.Option.{same_Some, none-some}
+use Rattle.sx_grammar.specs.Grammar.{Grammar, Token, is_variable, of_sort}
+use Rattle.sx_grammar.specs.declared.head.Head.{Head}
+use Rattle.sx_grammar.specs.Reading.{Marked}
+use Rattle.sx_earley.specs.Chart.{next_symbol}
+use Rattle.sx_forest.specs.declared.ways.Ways.{Ways}
+use Rattle.sx_forest.specs.declared.ways.Ways.TheVariants.{One}
+use Rattle.sx_forest.specs.declared.entry.Maker.TheVariants.{Variable}
+use Rattle.sx_forest.specs.declared.entry.Entry.{Entry}
+use Rattle.std.proofs.lemmas.List.{take_more, map-append}
+use Rattle.std.proofs.lemmas.List.Elements.{Contains-push_cases}
+use Rattle.sx_earley.specs.declared.span.Span.{Span}
+use Rattle.sx_earley.specs.declared.span.SpanOf.TheVariants.{Node}
+use Rattle.sx_forest.specs.declared.ordered.Ordered.{Ordered}
+use Rattle.sx_forest.specs.Rows.{IsRow, AreRows, row_in, row_at, list_in}
+use Rattle.sx_forest.specs.Table.{IsFirstList, IsFirstTable}
+use Rattle.sx_forest.proofs.Pushing.{got_before, got_last, longer_pushed, each_pushed}
+
+-- one more row
+pub rows_on : (g : Grammar) (tokens : List Token) (lists : List (Vec Entry)) (head : Head) (count n from to : ℕ) (rows new : List (Vec Ways)) (r : Vec Ways) →
+    AreRows g tokens lists head count n from to rows → new ≡ rows ++ r ∷ [] → IsRow g tokens lists (next_symbol g head (count - n - 1)) from to (row_at rows n) r.items →
+    AreRows g tokens lists head count (n + 1) from to new
+rows_on g tokens lists head count n from to rows new r so e made = record {
+  long = omega (arith, longer_pushed rows new r e, so.long);
+  last = rw (old 0 (omega (arith, so.long))) so.last;
+  each = λ k low. by_place k (cases_lt k n) low;
+}
+  where
+    old : (k : ℕ) → k < length rows → row_at new k ≡ row_at rows k
+    old k low = ap (λ l. row_at l k) e ∙ ap row_in (got_before rows (r ∷ []) k low)
+
+    newest : row_at new (n + 1) ≡ r.items
+    newest = ap (λ l. row_at l (n + 1)) e ∙ (ap (λ k. row_at (rows ++ r ∷ []) k) (sym so.long) ∙ ap row_in (got_last rows r))
+
+    Made : ℕ → Type 0
+    Made k = IsRow g tokens lists (next_symbol g head (count - k - 1)) from to (row_at new k) (row_at new (k + 1))
+
+    by_place : (k : ℕ) → (k < n) ⊎ (n ≤ k) → k < n + 1 → Made k
+    by_place k (inl h) low = rw (old k (omega (arith, so.long)), old (k + 1) (omega (arith, so.long))) (so.each k h)
+    by_place k (inr h) low =
+        let same : n ≡ k = omega arith in
+        subst Made same (rw (old n (omega (arith, so.long)), newest) made)
+
+nothing_there : {X : Type 0} (i : ℕ) (x : X) → slice_get [] i ≡ Some x → ⊥
+nothing_there i x e = none-some x e
+
+-- the list of a place with no metavariable
+pub first_none : (tokens : List Token) (place : ℕ) (items : List Entry) (o : Option ℕ) → items ≡ [] → o ≡ None →
+    ((sort : ℕ) → (o ≡ Some sort) ↔ Marked tokens place (is_variable (of_sort sort))) → IsFirstList tokens place items
+first_none tokens place items o e none marks = rw e (record {
+  only = λ i x at. absurd (nothing_there i x at);
+  every = λ sort marked. absurd (none-some sort (sym none ∙ (marks sort).1 marked));
+})
+
+-- the entry of a metavariable
+abbrev pub of_variable : ℕ → ℕ → Entry
+of_variable s place = record { maker = Variable s; to = place + 1; ways = One 1 }
+
+-- and of one with a metavariable
+pub first_some : (tokens : List Token) (place s : ℕ) (xs items : List Entry) (o : Option ℕ) → xs ≡ [] →
+    items ≡ xs ++ (of_variable s place) ∷ [] → o ≡ Some s →
+    ((sort : ℕ) → (o ≡ Some sort) ↔ Marked tokens place (is_variable (of_sort sort))) → IsFirstList tokens place items
+first_some tokens place s xs items o none e some marks =
+    let alone : items ≡ of_variable s place ∷ [] = e ∙ ap (λ l. l ++ of_variable s place ∷ []) none in
+    rw alone (record {
+      only = only_one;
+      every = λ sort marked. (0, of_variable s place, refl, ap Variable (same_Some s sort (sym some ∙ (marks sort).1 marked)), refl);
+    })
+  where
+    only_one : (i : ℕ) (x : Entry) → slice_get (of_variable s place ∷ []) i ≡ Some x →
+        (i ≡ 0) × (sort : ℕ) × Marked tokens place (is_variable (of_sort sort)) × (x ≡ record { maker = Variable sort; to = place + 1; ways = One 1 })
+    only_one zero x at = (refl, s, (marks s).0 some, sym (same_Some (of_variable s place) x at))
+    only_one (suc i) x at = absurd (nothing_there i x at)
+
+-- one more list
+pub first_on : (tokens : List Token) (n : ℕ) (lists new : List (Vec Entry)) (v : Vec Entry) → IsFirstTable tokens n lists → new ≡ lists ++ v ∷ [] →
+    IsFirstList tokens n v.items → IsFirstTable tokens (n + 1) new
+first_on tokens n lists new v first e here = record {
+  long = omega (arith, longer_pushed lists new v e, first.long);
+  each = each_pushed (λ k o. IsFirstList tokens k (list_in o)) lists new v e first.each (subst (λ k. IsFirstList tokens k v.items) (sym first.long) here);
+}
+
+abbrev pub no_span : Span
+no_span = record { of = Node 0; from = 0; to = 0 }
+
+-- what holds of the listed spans, with one more
+pub only_on : (spans : List Span) (P : Ordered → Type 0) (list new : List Ordered) (x : Ordered) → new ≡ list ++ x ∷ [] →
+    ((o : Ordered) → Contains list o → Contains spans o.span × P o) → Contains spans x.span → P x → (o : Ordered) → Contains new o → Contains spans o.span × P o
+only_on spans P list new x e before there here o within =
+    ⊎_elim (λ old. before o old) (λ same. subst (λ y. Contains spans y.span × P y) same (there, here))
+    (Contains-push_cases list x o (subst (λ l. Contains l o) e within))
+
+-- the spans that are listed are the first ones, as they stand
+pub spans_on : (n : ℕ) (spans : List Span) (list new : List Ordered) (x : Ordered) → n < length spans → new ≡ list ++ x ∷ [] → x.span ≡ get_or spans n no_span →
+    map (λ o. o.span) list ≡ take n spans → map (λ o. o.span) new ≡ take (n + 1) spans
+spans_on n spans list new x low e is before =
+    ap (map (λ o. o.span)) e ∙ (map-append (λ o. o.span) list (x ∷ []) ∙ (ap (λ l. l ++ x.span ∷ []) before ∙ (ap (λ s. take n spans ++ s ∷ []) is ∙ sym (take_more spans n no_span low))))

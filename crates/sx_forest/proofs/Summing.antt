@@ -1,0 +1,62 @@
+use Rattle.std.proofs.Common.{◌≡◌, ℕ, ◌+◌, ◌-◌, ◌<◌, ◌≤◌, ◌⊎◌, inl, inr, refl, sym, ap, ◌∙◌, Option, None, Some, List, subst, length, get_or, arith, add-one}
+use Rattle.std.proofs.lemmas.Bool.{cases_lt}
+use Rattle.std.proofs.lemmas.Option.{slice_get-get_or}
+use Rattle.sx_grammar.specs.Grammar.{Grammar, Production, production_of}
+use Rattle.sx_grammar.specs.Tally.{Tally, no_way, one_way, more_ways, plus, times}
+use Rattle.sx_earley.specs.Chart.{IsOfSort}
+use Rattle.sx_forest.specs.declared.ways.Ways.{Ways}
+use Rattle.sx_forest.specs.declared.ways.Ways.TheVariants.{Nothing}
+use Rattle.sx_forest.specs.declared.entry.Maker.{Maker}
+use Rattle.sx_forest.specs.declared.entry.Maker.TheVariants.{Variable, By}
+use Rattle.sx_forest.specs.declared.entry.Entry.{Entry}
+use Rattle.sx_forest.specs.Tallies.{tally_of, ways_at}
+use Rattle.sx_forest.specs.Rows.{FitsPart, IsEntryTally, SumTo, sum_more}
+
+abbrev pub no_entry : Entry
+no_entry = record { maker = Variable 0; to = 0; ways = Nothing }
+
+-- one more entry
+pub sum_on : (g : Grammar) (sort least : ℕ) (next : List Ways) (from : ℕ) (entries : List Entry) (n : ℕ) (t u v : Tally) → n < length entries →
+    SumTo g sort least next from entries n t → IsEntryTally g sort least next from (get_or entries n no_entry) u → v ≡ plus t u →
+    SumTo g sort least next from entries (n + 1) v
+sum_on g sort least next from entries n t u v low sum one e =
+    rw (e, add-one) (sum_more (get_or entries n no_entry) sum (slice_get-get_or entries n no_entry low) one)
+
+pub sum_all : (g : Grammar) (sort least : ℕ) (next : List Ways) (from : ℕ) (entries : List Entry) (n : ℕ) (t : Tally) → n ≡ length entries →
+    SumTo g sort least next from entries n t → SumTo g sort least next from entries (length entries) t
+sum_all g sort least next from entries n t e sum = subst (λ m. SumTo g sort least next from entries m t) e sum
+
+same_or_not : (a b : ℕ) → (a ≡ b) ⊎ (a ≡ b → ⊥)
+same_or_not a b = by_order (cases_lt a b) (cases_lt b a)
+  where
+    by_order : (a < b) ⊎ (b ≤ a) → (b < a) ⊎ (a ≤ b) → (a ≡ b) ⊎ (a ≡ b → ⊥)
+    by_order (inl low) h = inr (λ e. omega arith)
+    by_order (inr high) (inl low) = inr (λ e. omega arith)
+    by_order (inr high) (inr low) = inl (omega arith)
+
+made_or_not : (o : Option Production) (sort least : ℕ) → IsOfSort o sort least ⊎ (IsOfSort o sort least → ⊥)
+made_or_not None sort least = inr (λ h. h)
+made_or_not (Some p) sort least = by_both (same_or_not p.sort sort) (cases_lt p.level least)
+  where
+    by_both : (p.sort ≡ sort) ⊎ (p.sort ≡ sort → ⊥) → (p.level < least) ⊎ (least ≤ p.level) → IsOfSort (Some p) sort least ⊎ (IsOfSort (Some p) sort least → ⊥)
+    by_both (inl e) (inl low) = inr (λ h. let k = h.1 in omega arith)
+    by_both (inl e) (inr high) = inl (e, high)
+    by_both (inr differ) h = inr (λ k. differ k.0)
+
+fits_or_not : (g : Grammar) (m : Maker) (sort least : ℕ) → FitsPart g m sort least ⊎ (FitsPart g m sort least → ⊥)
+fits_or_not g (Variable other) sort least = same_or_not other sort
+fits_or_not g (By head) sort least = made_or_not (production_of g head) sort least
+
+nothing_after : (u : Tally) → times u no_way ≡ no_way
+nothing_after no_way = refl
+nothing_after (one_way d) = refl
+nothing_after (more_ways d) = refl
+
+-- where the row has no way, there is none by the entry
+pub no_rest : (g : Grammar) (sort least : ℕ) (next : List Ways) (from : ℕ) (e : Entry) (t : Tally) → t ≡ no_way → t ≡ ways_at next (e.to - from) →
+    IsEntryTally g sort least next from e no_way
+no_rest g sort least next from e t none is = by_case (fits_or_not g e.maker sort least)
+  where
+    by_case : FitsPart g e.maker sort least ⊎ (FitsPart g e.maker sort least → ⊥) → IsEntryTally g sort least next from e no_way
+    by_case (inl fits) = inl (fits, sym (nothing_after (tally_of e.ways)) ∙ ap (times (tally_of e.ways)) (sym none ∙ is))
+    by_case (inr not_fits) = inr (not_fits, refl)

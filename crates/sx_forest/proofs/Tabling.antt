@@ -1,0 +1,271 @@
+use Rattle.std.proofs.Common.{◌≡◌, ℕ, zero, suc, ◌+◌, ◌-◌, ◌^◌, ◌<◌, ◌≤◌, List, [], ◌∷◌, ◌++◌, ◌⊎◌, inl, inr, ⊎_elim, Some, refl, sym, subst, ap, ◌∙◌, length, Contains, get_or, arith, add-one}
+use Rattle.std.specs.Global.{Vec}
+use Rattle.std.specs.List.{slice_get}
+use Rattle.std.proofs.lemmas.Bool.{cases_lt}
+use Rattle.std.proofs.lemmas.Option.{slice_get_within, slice_get-get_or, same_Some, none-some}
+use Rattle.sx_grammar.specs.Grammar.{Production, Grammar, Token, production_of, HasLevels}
+use Rattle.sx_grammar.specs.Items.{Span}
+use Rattle.sx_grammar.specs.Order.{IsRanking, ComesBefore}
+use Rattle.sx_grammar.specs.Tally.{Tally}
+use Rattle.sx_earley.specs.declared.span.Span as plain
+use Rattle.sx_earley.specs.Completed.{IsChart, head_of, of_head}
+use Rattle.sx_earley.specs.declared.span.SpanOf.{SpanOf}
+use Rattle.sx_earley.specs.declared.span.SpanOf.TheVariants.{Node, Bracket}
+use Rattle.sx_grammar.specs.declared.head.Head.{Head}
+use Rattle.sx_grammar.specs.declared.head.Head.TheVariants.{Labelled, Bracketed}
+use Rattle.sx_forest.specs.declared.ways.Ways.{Ways}
+use Rattle.sx_forest.specs.declared.ordered.Ordered.{Ordered}
+use Rattle.sx_forest.specs.declared.entry.Maker.{Maker}
+use Rattle.sx_forest.specs.declared.entry.Maker.TheVariants.{Variable, By}
+use Rattle.sx_forest.specs.declared.entry.Entry.{Entry}
+use Rattle.sx_forest.specs.Tallies.{tally_of}
+use Rattle.sx_forest.specs.Rows.{list_at, AllLater}
+use Rattle.sx_forest.specs.Table.{IsSoundBy, IsTable, HasEntry, HasBefore, IsPut, IsAdded, IsFirstTable, IsFull}
+use Rattle.sx_forest.specs.Ordering.{IsSoFar, AreOrdered, sort_in}
+use Rattle.sx_forest.proofs.Pushing.{got_before, got_last, got_cases}
+use Rattle.sx_forest.proofs.Rows.{span_forward}
+use Rattle.sx_forest.proofs.Spans.{span_sound}
+
+same_or_not : (a b : ℕ) → (a ≡ b) ⊎ (a ≡ b → ⊥)
+same_or_not a b = by_order (cases_lt a b) (cases_lt b a)
+  where
+    by_order : (a < b) ⊎ (b ≤ a) → (b < a) ⊎ (a ≤ b) → (a ≡ b) ⊎ (a ≡ b → ⊥)
+    by_order (inl low) h = inr (λ e. omega arith)
+    by_order (inr high) (inl low) = inr (λ e. omega arith)
+    by_order (inr high) (inr low) = inl (omega arith)
+
+module _ (g : Grammar) (tokens : List Token) (start : ℕ) where
+  later_by : (m : Maker) (place to : ℕ) (t : Tally) → IsSoundBy g tokens start m place to t → place ≤ to
+  later_by (Variable s) place to t h = omega (arith, h.1)
+  later_by (By head) place to t h = span_forward g tokens start head place to h.0
+
+  pub all_later : (lists : List (Vec Entry)) → IsTable g tokens start lists → AllLater lists
+  all_later lists table = λ place i e at. later_by e.maker place e.to (tally_of e.ways) (table.sound place i e at)
+
+  module _ (old new : List (Vec Entry)) (place : ℕ) (e : Entry) (put : IsPut old new place e) where
+    -- what was there still is
+    still_at : (p i : ℕ) (x : Entry) → slice_get (list_at old p) i ≡ Some x → slice_get (list_at new p) i ≡ Some x
+    still_at p i x at = by_place (same_or_not p place)
+      where
+        by_place : (p ≡ place) ⊎ (p ≡ place → ⊥) → slice_get (list_at new p) i ≡ Some x
+        by_place (inl same) =
+            let low = slice_get_within (list_at old p) i x at in
+            let there : list_at new p ≡ list_at old p ++ e ∷ [] = subst (λ q. list_at new q ≡ list_at old q ++ e ∷ []) (sym same) put.there in
+            ap (λ l. slice_get l i) there ∙ (got_before (list_at old p) (e ∷ []) i low ∙ at)
+        by_place (inr differ) = ap (λ l. slice_get l i) (put.others p differ) ∙ at
+
+    pub still_has : (p : ℕ) (m : Maker) (to : ℕ) → HasEntry old p m to → HasEntry new p m to
+    still_has p m to h = (h.0, h.1, still_at p h.0 h.1 h.2, h.3, h.4)
+
+    pub now_has : HasEntry new place e.maker e.to
+    now_has = (length (list_at old place), e, ap (λ l. slice_get l (length (list_at old place))) put.there ∙ got_last (list_at old place) e, refl, refl)
+
+    -- what is there was there, or is the new entry
+    got_either : (p i : ℕ) (x : Entry) → slice_get (list_at new p) i ≡ Some x →
+        (slice_get (list_at old p) i ≡ Some x) ⊎ ((p ≡ place) × (i ≡ length (list_at old place)) × (e ≡ x))
+    got_either p i x at = by_place (same_or_not p place)
+      where
+        by_place : (p ≡ place) ⊎ (p ≡ place → ⊥) → (slice_get (list_at old p) i ≡ Some x) ⊎ ((p ≡ place) × (i ≡ length (list_at old place)) × (e ≡ x))
+        by_place (inl same) =
+            let there : list_at new p ≡ list_at old p ++ e ∷ [] = subst (λ q. list_at new q ≡ list_at old q ++ e ∷ []) (sym same) put.there in
+            ⊎_elim (λ h. inl h.1) (λ h. inr (same, h.0 ∙ ap (λ q. length (list_at old q)) same, h.1))
+            (got_cases (list_at old p) e x i (subst (λ l. slice_get l i ≡ Some x) there at))
+        by_place (inr differ) = inl (subst (λ l. slice_get l i ≡ Some x) (put.others p differ) at)
+
+    -- a table with one more entry
+    pub table_on : IsTable g tokens start old → (HasEntry old place e.maker e.to → ⊥) → IsSoundBy g tokens start e.maker place e.to (tally_of e.ways) → IsTable g tokens start new
+    table_on table fresh sound = record {
+      sound = λ p i x at. ⊎_elim (λ h. table.sound p i x h)
+          (λ h. subst (λ y. IsSoundBy g tokens start y.maker p y.to (tally_of y.ways)) h.2
+          (subst (λ q. IsSoundBy g tokens start e.maker q e.to (tally_of e.ways)) (sym h.0) sound)) (got_either p i x at);
+      once = λ p i j a b at bt makers ends. by_both p i j a b makers ends (got_either p i a at) (got_either p j b bt);
+      variables = λ p sort marked. still_has p (Variable sort) (suc p) (table.variables p sort marked);
+    }
+      where
+        by_both : (p i j : ℕ) (a b : Entry) → a.maker ≡ b.maker → a.to ≡ b.to →
+            (slice_get (list_at old p) i ≡ Some a) ⊎ ((p ≡ place) × (i ≡ length (list_at old place)) × (e ≡ a)) →
+            (slice_get (list_at old p) j ≡ Some b) ⊎ ((p ≡ place) × (j ≡ length (list_at old place)) × (e ≡ b)) → i ≡ j
+        by_both p i j a b makers ends (inl h) (inl k) = table.once p i j a b h k makers ends
+        by_both p i j a b makers ends (inl h) (inr k) =
+            absurd (fresh (i, a, subst (λ q. slice_get (list_at old q) i ≡ Some a) k.0 h, makers ∙ ap (λ x. x.maker) (sym k.2), ends ∙ ap (λ x. x.to) (sym k.2)))
+        by_both p i j a b makers ends (inr h) (inl k) =
+            absurd (fresh (j, b, subst (λ q. slice_get (list_at old q) j ≡ Some b) h.0 k, sym makers ∙ ap (λ x. x.maker) (sym h.2), sym ends ∙ ap (λ x. x.to) (sym h.2)))
+        by_both p i j a b makers ends (inr h) (inr k) = h.1 ∙ sym k.1
+
+  list_there : (lists : List (Vec Entry)) (p i : ℕ) (x : Entry) → slice_get (list_at lists p) i ≡ Some x → p < length lists
+  list_there lists p i x at = by_place (cases_lt p (length lists))
+    where
+      none_at : (ls : List (Vec Entry)) (q : ℕ) → length ls ≤ q → list_at ls q ≡ []
+      none_at [] q long = refl
+      none_at (l ∷ ls) zero long = absurd (omega arith)
+      none_at (l ∷ ls) (suc q) long = none_at ls q (omega arith)
+
+      by_place : (p < length lists) ⊎ (length lists ≤ p) → p < length lists
+      by_place (inl low) = low
+      by_place (inr high) = absurd (none-some x (subst (λ l. slice_get l i ≡ Some x) (none_at lists p high) at))
+
+  -- before any span is counted there are the metavariables
+  pub first_is_table : (lists : List (Vec Entry)) → IsFirstTable tokens (length tokens + 1) lists → IsTable g tokens start lists
+  first_is_table lists first = record {
+    sound = λ p i x at.
+        let o = (first.each p (list_there lists p i x at)).only i x at in
+        subst (λ y. IsSoundBy g tokens start y.maker p y.to (tally_of y.ways)) (sym o.3) (o.2, add-one p, refl);
+    once = λ p i j a b at bt makers ends.
+        let o = (first.each p (list_there lists p i a at)).only i a at in let q = (first.each p (list_there lists p j b bt)).only j b bt in o.0 ∙ sym q.0;
+    variables = λ p sort marked.
+        let within = slice_get_within tokens p _ marked.1 in
+        let h = (first.each p (omega (arith, first.long))).every sort marked in (h.0, h.1, h.2, h.3, h.4 ∙ add-one p);
+  }
+
+there_at : {X : Type 0} (xs : List X) (n : ℕ) (x : X) → slice_get xs n ≡ Some x → Contains xs x
+there_at xs n x at =
+    let low = slice_get_within xs n x at in
+    (n, low, same_Some (get_or xs n x) x (sym (slice_get-get_or xs n x low) ∙ at))
+
+index_of : {X : Type 0} (xs : List X) (x : X) → Contains xs x → (i : ℕ) × (i < length xs) × (slice_get xs i ≡ Some x)
+index_of xs x there = (there.0, there.1, slice_get-get_or xs there.0 x there.1 ∙ ap Some there.2)
+
+abbrev pub no_ordered : Ordered
+no_ordered = record { width = 0; rank = 0; span = record { of = Node 0; from = 0; to = 0 } }
+
+-- what a chart has goes forward
+pub chart_forward : (g : Grammar) (tokens : List Token) (start : ℕ) (spans : List plain.Span) → IsChart g tokens start spans → (s : plain.Span) → Contains spans s → s.from ≤ s.to
+chart_forward g tokens start spans chart s there = span_forward g tokens start (head_of s.of) s.from s.to ((chart s).0 there)
+
+-- a head is the head of its span
+head_back : (head : Head) → head_of (of_head head) ≡ head
+head_back (Labelled label) = refl
+head_back (Bracketed sort) = refl
+
+of_back : (of : SpanOf) → of_head (head_of of) ≡ of
+of_back (Node label) = refl
+of_back (Bracket sort) = refl
+
+-- spans with the same head and the same places are the same
+same_span : (a b : plain.Span) → head_of a.of ≡ head_of b.of → a.from ≡ b.from → a.to ≡ b.to → a ≡ b
+same_span a b heads froms tos =
+    let of : a.of ≡ b.of = sym (of_back a.of) ∙ (ap of_head heads ∙ of_back b.of) in
+    λ t. record { of = of t; from = froms t; to = tos t }
+
+module _ (g : Grammar) (tokens : List Token) (start : ℕ) (rank : ℕ → ℕ) (spans : List plain.Span) (chart : IsChart g tokens start spans)
+    (list : List Ordered) (ordered : AreOrdered g rank spans list) where
+  -- each of the list is a complete span
+  pub span_at : (n : ℕ) (o : Ordered) → slice_get list n ≡ Some o → Span g tokens start (head_of o.span.of) o.span.from o.span.to
+  span_at n o at = (chart o.span).0 (ordered.only o (there_at list n o at)).0
+
+  -- a span is listed
+  listed : (head : Head) (from to : ℕ) → Span g tokens start head from to →
+      (i : ℕ) × (o : Ordered) × (slice_get list i ≡ Some o) × (head_of o.span.of ≡ head) × (o.span.from ≡ from) × (o.span.to ≡ to)
+  listed head from to span =
+      let s : plain.Span = record { of = of_head head; from = from; to = to } in
+      let e = ordered.every s ((chart s).1 (subst (λ h. Span g tokens start h from to) (sym (head_back head)) span)) in
+      let i = index_of list e.0 e.1 in
+      (i.0, e.0, i.2, ap (λ x. head_of x.of) e.2 ∙ head_back head, ap (λ x. x.from) e.2, ap (λ x. x.to) e.2)
+
+  -- a span that comes before stands before
+  earlier : (n i : ℕ) (o o' : Ordered) (p q : Production) → slice_get list n ≡ Some o → slice_get list i ≡ Some o' →
+      production_of g (head_of o.span.of) ≡ Some p → production_of g (head_of o'.span.of) ≡ Some q →
+      ComesBefore (o'.span.to - o'.span.from) (rank q.sort) (o.span.to - o.span.from) (rank p.sort) → i < n
+  earlier n i o o' p q at at' is is' before =
+      let w = (ordered.only o (there_at list n o at)).1 in
+      let w' = (ordered.only o' (there_at list i o' at')).1 in
+      let r : o.rank ≡ rank p.sort = w.1 ∙ ap (λ x. rank (sort_in x)) is in
+      let r' : o'.rank ≡ rank q.sort = w'.1 ∙ ap (λ x. rank (sort_in x)) is' in
+      ordered.sorted i n o' o at' at (rw (w.0, w'.0, r, r') before)
+
+  -- the spans before a place are those that come before its span
+  before_has : (lists : List (Vec Entry)) (n : ℕ) (o : Ordered) (p : Production) → slice_get list n ≡ Some o → production_of g (head_of o.span.of) ≡ Some p →
+      IsSoFar g tokens start list n lists → HasBefore g tokens start rank lists (o.span.to - o.span.from) (rank p.sort)
+  before_has lists n o p at is so = λ head q place to is' span before.
+      let l = listed head place to span in
+      let is'' : production_of g (head_of l.1.span.of) ≡ Some q = ap (production_of g) l.3 ∙ is' in
+      let before' : ComesBefore (l.1.span.to - l.1.span.from) (rank q.sort) (o.span.to - o.span.from) (rank p.sort) = rw (l.4, l.5) before in
+      let index : l.0 < n = earlier n l.0 o l.1 p q at l.2 is is'' before' in
+      let h = so.has l.0 l.1 index l.2 in
+      subst (λ x. HasEntry lists place (By x) to) l.3 (subst (λ x. HasEntry lists place (By (head_of l.1.span.of)) x) l.5
+      (subst (λ x. HasEntry lists x (By (head_of l.1.span.of)) l.1.span.to) l.4 h))
+
+  has_on : (lists : List (Vec Entry)) (n : ℕ) (o : Ordered) → slice_get list n ≡ Some o → HasEntry lists o.span.from (By (head_of o.span.of)) o.span.to →
+      ((q : ℕ) (o' : Ordered) → q < n → slice_get list q ≡ Some o' → HasEntry lists o'.span.from (By (head_of o'.span.of)) o'.span.to) →
+      (q : ℕ) (o' : Ordered) → q < n + 1 → slice_get list q ≡ Some o' → HasEntry lists o'.span.from (By (head_of o'.span.of)) o'.span.to
+  has_on lists n o at here before q o' low at' = by_order (cases_lt q n)
+    where
+      by_order : (q < n) ⊎ (n ≤ q) → HasEntry lists o'.span.from (By (head_of o'.span.of)) o'.span.to
+      by_order (inl h) = before q o' h at'
+      by_order (inr h) =
+          let same : q ≡ n = omega arith in
+          let there : slice_get list n ≡ Some o' = subst (λ m. slice_get list m ≡ Some o') same at' in
+          let is : o ≡ o' = same_Some o o' (sym at ∙ there) in
+          subst (λ x. HasEntry lists x.span.from (By (head_of x.span.of)) x.span.to) is here
+
+  -- there is no entry of a span that stands later
+  fresh : (lists : List (Vec Entry)) (n : ℕ) (o : Ordered) → slice_get list n ≡ Some o → IsSoFar g tokens start list n lists →
+      HasEntry lists o.span.from (By (head_of o.span.of)) o.span.to → ⊥
+  fresh lists n o at so h =
+      let u = so.only o.span.from h.0 h.1 (head_of o.span.of) h.2 h.3 in
+      let same : u.1.span ≡ o.span = same_span u.1.span o.span u.4 u.5 (u.6 ∙ h.4) in
+      let index = ordered.once u.0 n u.1 o u.3 at same in
+      omega (arith, u.2)
+
+  -- an entry by a head is of one of the spans so far, with one more
+  only_on : (old new : List (Vec Entry)) (n : ℕ) (o : Ordered) (ways : Ways) → slice_get list n ≡ Some o → IsSoFar g tokens start list n old →
+      IsPut old new o.span.from (record { maker = By (head_of o.span.of); to = o.span.to; ways = ways }) →
+      (place i : ℕ) (e : Entry) (head : Head) → slice_get (list_at new place) i ≡ Some e → e.maker ≡ By head →
+      (q : ℕ) × (u : Ordered) × (q < n + 1) × (slice_get list q ≡ Some u) × (head_of u.span.of ≡ head) × (u.span.from ≡ place) × (u.span.to ≡ e.to)
+  only_on old new n o ways at so put place i e head got by =
+      ⊎_elim
+      (λ h. let u = so.only place i e head h by in (u.0, u.1, omega (arith, u.2), u.3, u.4, u.5, u.6))
+      (λ h.
+      let maker : By (head_of o.span.of) ≡ By head = ap (λ x. x.maker) h.2 ∙ by in
+      (n, o, omega arith, at, by_head (head_of o.span.of) head maker, sym h.0, ap (λ x. x.to) h.2))
+      (got_either g tokens start old new o.span.from (record { maker = By (head_of o.span.of); to = o.span.to; ways = ways }) put place i e got)
+    where
+      by_head : (a b : Head) → By a ≡ By b → a ≡ b
+      by_head a b e = cc
+
+  -- one more span has its entry
+  pub so_far_on : (old new : List (Vec Entry)) (n : ℕ) (o : Ordered) → HasLevels g → IsRanking g rank → length g.productions < 2 ^ 32 → length tokens ≤ 10000 →
+      slice_get list n ≡ Some o → IsSoFar g tokens start list n old → IsAdded g tokens old new o.span → IsSoFar g tokens start list (n + 1) new
+  so_far_on old new n o levels ranking many short at so added =
+      let s = o.span in
+      let span = span_at n o at in
+      let ways = added.ways in
+      let e : Entry = record { maker = By (head_of s.of); to = s.to; ways = ways } in
+      let p = span.1.0 in let is = span.1.1 in
+      let along = span_forward g tokens start (head_of s.of) s.from s.to span in
+      let sound = span_sound g tokens start levels rank ranking old so.table (head_of s.of) p is s.from s.to along (before_has old n o p at is so) span many short (tally_of ways) added.counted in
+      record {
+        table = table_on g tokens start old new s.from e added.put so.table (fresh old n o at so) sound;
+        long = added.put.same ∙ so.long;
+        has = has_on new n o at (now_has g tokens start old new s.from e added.put)
+            (λ q o' low at'. still_has g tokens start old new s.from e added.put o'.span.from (By (head_of o'.span.of)) o'.span.to (so.has q o' low at'));
+        only = only_on old new n o ways at so added.put;
+      }
+
+  pub full_is : (lists : List (Vec Entry)) (n : ℕ) → n ≡ length list → IsSoFar g tokens start list n lists → IsFull g tokens start lists
+  full_is lists n end so = record {
+    table = so.table;
+    has = λ head from to span.
+        let l = listed head from to span in
+        let within = slice_get_within list l.0 l.1 l.2 in
+        let h = so.has l.0 l.1 (omega arith) l.2 in
+        subst (λ x. HasEntry lists from (By x) to) l.3 (subst (λ x. HasEntry lists from (By (head_of l.1.span.of)) x) l.5
+        (subst (λ x. HasEntry lists x (By (head_of l.1.span.of)) l.1.span.to) l.4 h));
+  }
+
+  no_head_first : (lists : List (Vec Entry)) → IsFirstTable tokens (length tokens + 1) lists → (place i : ℕ) (e : Entry) (head : Head) →
+      slice_get (list_at lists place) i ≡ Some e → e.maker ≡ By head → ⊥
+  no_head_first lists first place i e head at by =
+      let o = (first.each place (list_there g tokens start lists place i e at)).only i e at in
+      differ o.1 head (sym (ap (λ x. x.maker) o.3) ∙ by)
+    where
+      differ : (sort : ℕ) (head : Head) → Variable sort ≡ By head → ⊥
+      differ sort head e = absurd cc
+
+  pub so_far_first : (lists : List (Vec Entry)) → IsFirstTable tokens (length tokens + 1) lists → IsSoFar g tokens start list 0 lists
+  so_far_first lists first = record {
+    table = first_is_table g tokens start lists first;
+    long = first.long;
+    has = λ q o none at. absurd (omega arith);
+    only = λ place i e head at by. absurd (no_head_first lists first place i e head at by);
+  }

@@ -1,0 +1,53 @@
+-- Complete spans in the order in which they are counted.
+use Rattle.std.specs.Prelude.{◌≡◌, ◌<◌, ℕ, ◌+◌, ◌-◌, ◌*◌, Contains, List, Option, None, Some, length, slice_get}
+use Rattle.std.specs.Global.{Vec}
+use Rattle.sx_grammar.specs.declared.head.Head.{Head}
+use Rattle.sx_grammar.specs.Grammar.{Grammar, Token, Production, production_of}
+use Rattle.sx_grammar.specs.Order.{ComesBefore}
+use Rattle.sx_earley.specs.Completed.{head_of}
+use Rattle.sx_earley.specs.declared.span.Span.{Span}
+use Rattle.sx_forest.specs.declared.ordered.Ordered.{Ordered}
+use Rattle.sx_forest.specs.declared.entry.Maker.TheVariants.{By}
+use Rattle.sx_forest.specs.declared.entry.Entry.{Entry}
+use Rattle.sx_forest.specs.Rows.{list_at}
+use Rattle.sx_forest.specs.Table.{HasEntry, IsTable}
+
+-- the sort that a production makes
+abbrev pub sort_in : Option Production → ℕ
+sort_in None = 0
+sort_in (Some p) = p.sort
+
+abbrev pub number_in : Option ℕ → ℕ
+number_in None = 0
+number_in (Some n) = n
+
+-- a sort's rank in a list of ranks
+abbrev pub rank_at : List ℕ → ℕ → ℕ
+rank_at ranks sort = number_in (slice_get ranks sort)
+
+-- the span has its width, and the rank of the sort that its head makes
+abbrev pub IsOrdered : Grammar → (ℕ → ℕ) → Ordered → Type 0
+IsOrdered g rank o = (o.width ≡ o.span.to - o.span.from) × (o.rank ≡ rank (sort_in (production_of g (head_of o.span.of))))
+
+-- what comes before stands before
+abbrev pub IsInOrder : List Ordered → Type 0
+IsInOrder list = (i j : ℕ) (a b : Ordered) → slice_get list i ≡ Some a → slice_get list j ≡ Some b → ComesBefore a.width a.rank b.width b.rank → i < j
+
+-- the spans in order, each once
+pub record AreOrdered (g : Grammar) (rank : ℕ → ℕ) (spans : List Span) (list : List Ordered) : Type 0 where
+  pub only : (o : Ordered) → Contains list o → Contains spans o.span × IsOrdered g rank o
+  pub every : (s : Span) → Contains spans s → (o : Ordered) × Contains list o × (o.span ≡ s)
+  pub once : (i j : ℕ) (a b : Ordered) → slice_get list i ≡ Some a → slice_get list j ≡ Some b → a.span ≡ b.span → i ≡ j
+  pub sorted : IsInOrder list
+
+-- the table has an entry for each of the first n spans of the list, and for no other
+pub record IsSoFar (g : Grammar) (tokens : List Token) (start : ℕ) (list : List Ordered) (n : ℕ) (lists : List (Vec Entry)) : Type 0 where
+  pub table : IsTable g tokens start lists
+  pub long : length lists ≡ length tokens + 1
+  pub has : (q : ℕ) (o : Ordered) → q < n → slice_get list q ≡ Some o → HasEntry lists o.span.from (By (head_of o.span.of)) o.span.to
+  pub only : (place i : ℕ) (e : Entry) (head : Head) → slice_get (list_at lists place) i ≡ Some e → e.maker ≡ By head →
+      (q : ℕ) × (o : Ordered) × (q < n) × (slice_get list q ≡ Some o) × (head_of o.span.of ≡ head) × (o.span.from ≡ place) × (o.span.to ≡ e.to)
+
+-- a span as a number: the wider the greater, and as wide the greater by the rank of its sort
+abbrev pub key_of : Grammar → (ℕ → ℕ) → Head → (from to : ℕ) → ℕ
+key_of g rank head from to = (to - from) * 4294967296 + rank (sort_in (production_of g head))

@@ -1,0 +1,96 @@
+-- Rows of ways: how many ways there are to read some symbols from each place of a span up to its end.
+use Rattle.std.specs.Prelude.{suc, ◌≡◌, ◌⊎◌, ◌≤◌, ◌<◌, ℕ, ◌+◌, ◌-◌, List, [], Option, None, Some, length, slice_get}
+use Rattle.std.specs.Global.{Vec}
+use Rattle.sx_grammar.specs.declared.head.Head.{Head}
+use Rattle.sx_grammar.specs.Grammar.{Symbol, literal, lexical, part, Grammar, Token, Production, production_of}
+use Rattle.sx_grammar.specs.Reading.{IsLiteral}
+use Rattle.sx_grammar.specs.Items.{ReadsToken}
+use Rattle.sx_grammar.specs.Tally.{Tally, no_way, one_way, plus, times, deeper}
+use Rattle.sx_earley.specs.Chart.{IsOfSort, next_symbol}
+use Rattle.sx_forest.specs.declared.ways.Ways.{Ways}
+use Rattle.sx_forest.specs.declared.entry.Maker.{Maker}
+use Rattle.sx_forest.specs.declared.entry.Maker.TheVariants.{Variable, By}
+use Rattle.sx_forest.specs.declared.entry.Entry.{Entry}
+use Rattle.sx_forest.specs.Tallies.{tally_of, ways_at, IsSmall, IsLastRow}
+
+-- the maker makes the sort at least the level
+abbrev pub FitsPart : Grammar → Maker → ℕ → ℕ → Type 0
+FitsPart g (Variable other) sort least = other ≡ sort
+FitsPart g (By head) sort least = IsOfSort (production_of g head) sort least
+
+-- this tally where P holds, and none elsewhere
+abbrev pub IsWhere : Type 0 → Tally → Tally → Type 0
+IsWhere P u t = (P × (t ≡ u)) ⊎ ((P → ⊥) × (t ≡ no_way))
+
+-- the ways by one entry, and then those of the row
+abbrev pub IsEntryTally : Grammar → (sort least : ℕ) → List Ways → (from : ℕ) → Entry → Tally → Type 0
+IsEntryTally g sort least next from e t = IsWhere (FitsPart g e.maker sort least) (times (tally_of e.ways) (ways_at next (e.to - from))) t
+
+-- the sum of those of the first n entries
+pub data SumTo (g : Grammar) (sort least : ℕ) (next : List Ways) (from : ℕ) (entries : List Entry) : ℕ → Tally → Type 0 where
+  sum_none : SumTo g sort least next from entries 0 no_way
+  sum_more : {n : ℕ} {t u : Tally} (e : Entry) → SumTo g sort least next from entries n t → slice_get entries n ≡ Some e →
+      IsEntryTally g sort least next from e u → SumTo g sort least next from entries (suc n) (plus t u)
+
+-- the ways to read the symbol from the place, and then those of the row
+abbrev pub IsPlace : Grammar → List Token → List Entry → Symbol → (from place : ℕ) → List Ways → Tally → Type 0
+IsPlace g tokens entries (literal text) from place next t = IsWhere (IsLiteral tokens place text) (ways_at next (suc place - from)) t
+IsPlace g tokens entries (lexical kind) from place next t = IsWhere (ReadsToken tokens (lexical kind) place) (times (one_way 1) (ways_at next (suc place - from))) t
+IsPlace g tokens entries (part sort least) from place next t = SumTo g sort least next from entries (length entries) t
+
+-- the same of a symbol that may be there
+abbrev pub IsNext : Grammar → List Token → List Entry → Option Symbol → (from place : ℕ) → List Ways → Tally → Type 0
+IsNext g tokens entries None from place next t = t ≡ no_way
+IsNext g tokens entries (Some symbol) from place next t = IsPlace g tokens entries symbol from place next t
+
+-- the entries of the list at this place
+abbrev pub list_in : Option (Vec Entry) → List Entry
+list_in None = []
+list_in (Some v) = v.items
+
+abbrev pub list_at : List (Vec Entry) → ℕ → List Entry
+list_at lists place = list_in (slice_get lists place)
+
+-- what begins at a place ends no earlier
+abbrev pub AllLater : List (Vec Entry) → Type 0
+AllLater lists = (place i : ℕ) (e : Entry) → slice_get (list_at lists place) i ≡ Some e → place ≤ e.to
+
+-- the ways from each place by the symbol, and then those of the next row
+pub record IsRow (g : Grammar) (tokens : List Token) (lists : List (Vec Entry)) (symbol : Option Symbol) (from to : ℕ) (next row : List Ways) : Type 0 where
+  pub long : length row ≡ suc (to - from)
+  pub each : (k : ℕ) → k < length row → IsNext g tokens (list_at lists (from + k)) symbol from (from + k) next (ways_at row k)
+
+-- how many symbols a production has
+abbrev pub count_of : Option Production → ℕ
+count_of None = 0
+count_of (Some p) = length p.symbols
+
+-- the row at this place of a list of rows
+abbrev pub row_in : Option (Vec Ways) → List Ways
+row_in None = []
+row_in (Some v) = v.items
+
+abbrev pub row_at : List (Vec Ways) → ℕ → List Ways
+row_at rows place = row_in (slice_get rows place)
+
+-- the row after all symbols, and the n rows before it, from the last symbol of the head on
+pub record AreRows (g : Grammar) (tokens : List Token) (lists : List (Vec Entry)) (head : Head) (count n from to : ℕ) (rows : List (Vec Ways)) : Type 0 where
+  pub long : length rows ≡ n + 1
+  pub last : IsLastRow from to (row_at rows 0)
+  pub each : (k : ℕ) → k < n → IsRow g tokens lists (next_symbol g head (count - k - 1)) from to (row_at rows k) (row_at rows (k + 1))
+
+-- the rows of a span, from that after all symbols to that before all
+abbrev pub AreSpanRows : Grammar → List Token → List (Vec Entry) → Head → (from to : ℕ) → List (Vec Ways) → Type 0
+AreSpanRows g tokens lists head from to rows = AreRows g tokens lists head (count_of (production_of g head)) (count_of (production_of g head)) from to rows
+
+-- the tally is that of the head's rows, one deeper
+pub record IsSpanWays (g : Grammar) (tokens : List Token) (lists : List (Vec Entry)) (head : Head) (from to : ℕ) (t : Tally) : Type 0 where
+  pub rows : List (Vec Ways)
+  pub are : AreSpanRows g tokens lists head from to rows
+  pub is : IsSmall (ways_at (row_at rows (count_of (production_of g head))) 0) → t ≡ deeper (ways_at (row_at rows (count_of (production_of g head))) 0)
+
+-- the tally is the sum over the entries of all tokens
+pub record IsWholeWays (g : Grammar) (start n : ℕ) (lists : List (Vec Entry)) (t : Tally) : Type 0 where
+  pub row : List Ways
+  pub last : IsLastRow 0 n row
+  pub sum : SumTo g start 0 row 0 (list_at lists 0) (length (list_at lists 0)) t

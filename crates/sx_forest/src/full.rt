@@ -1,0 +1,104 @@
+//! The table of all complete spans.
+
+ghost use Rattle.std.specs.Prelude.{◌≡◌, ◌≤◌, ◌<◌, OnOk, IfOk, Err, length};
+ghost use Rattle.sx_grammar.specs.Order.{IsRanking};
+ghost use Rattle.sx_grammar.specs.Tally.{EachOnce};
+ghost use Rattle.sx_grammar.specs.ReadOne.{MoreHold, IsGreatestEnd};
+ghost use Rattle.sx_earley.specs.Shown.{plain, texts, tokens_of, AreBelow};
+ghost use Rattle.sx_earley.specs.Completed.{IsChart};
+ghost use Rattle.sx_forest.specs.Rows.{AllLater};
+ghost use Rattle.sx_forest.specs.Table.{IsAdded, IsFull};
+ghost use Rattle.sx_forest.specs.Ordering.{rank_at};
+
+use crate::entries::Entries;
+use crate::entry::{Entry, Maker};
+use crate::first_entries::first_entries;
+use crate::in_order::{head_of, in_order};
+use crate::span_rows::span_ways;
+use std::alloc::Global;
+use sx_earley::{Chart, ChartError, Shown, Span, chart_of};
+use sx_grammar::Grammar;
+use sx_term::NoMemory;
+
+/// Adds an entry for the span.
+fn add_span(
+    alloc: Global,
+    grammar: &Grammar,
+    shown: &[Shown],
+    table: &mut Entries,
+    span: Span,
+) -> Result<(), NoMemory>
+    requires short { span.to ≤ 10000 }
+    requires along { span.from ≤ span.to }
+    requires inside { span.from < length table.old.lists.items }
+    requires shown { AreBelow (length (texts grammar.now)) shown.now }
+    requires later { AllLater table.old.lists.items }
+    ensures { OnOk result (IsAdded (plain grammar.now) (tokens_of grammar.now shown.now) table.old.lists.items table.new.lists.items span) }
+{
+    let head = head_of(span.of);
+    let ways = span_ways(alloc, grammar, shown, table, head, span.from, span.to)?;
+    table.put(
+        span.from,
+        Entry {
+            maker: Maker::By(head),
+            to: span.to,
+            ways,
+        },
+    )
+}
+
+/// The entries of the spans, and those of metavariables.
+fn fill(
+    alloc: Global,
+    grammar: &Grammar,
+    ranks: &[u32],
+    _start: u32,
+    shown: &[Shown],
+    spans: &[Span],
+) -> Result<Entries, NoMemory>
+    requires short { length shown.now ≤ 10000 }
+    requires below { AreBelow (length (texts grammar.now)) shown.now }
+    requires ranking { IsRanking (plain grammar.now) (rank_at ranks.now) }
+    requires chart { IsChart (plain grammar.now) (tokens_of grammar.now shown.now) _start spans.now }
+    requires once { EachOnce spans.now }
+    ensures { IfOk result (λ t. IsFull (plain grammar.now) (tokens_of grammar.now shown.now) _start t.lists.items) }
+{
+    grammar.facts();
+    let ordered = in_order(alloc, grammar, ranks, spans)?;
+    let mut table = first_entries(alloc, shown)?;
+    for item in &ordered {
+        add_span(alloc, grammar, shown, &mut table, item.span)?;
+    }
+    Ok(table)
+}
+
+/// The table of the complete spans of what is shown, and the greatest end of any item.
+#[derive(Drop)]
+pub(crate) struct Tabled {
+    pub(crate) table: Entries,
+    pub(crate) reach: u32,
+}
+
+/// The table of the complete spans of what is shown.
+pub(crate) fn make_table(
+    alloc: Global,
+    grammar: &Grammar,
+    ranks: &[u32],
+    start: u32,
+    shown: &[Shown],
+) -> Result<Tabled, ChartError>
+    requires short { length shown.now ≤ 10000 }
+    requires below { AreBelow (length (texts grammar.now)) shown.now }
+    requires ranking { IsRanking (plain grammar.now) (rank_at ranks.now) }
+    ensures full { IfOk result (λ t. IsFull (plain grammar.now) (tokens_of grammar.now shown.now) start t.table.lists.items) }
+    ensures reach { IfOk result (λ t. IsGreatestEnd (plain grammar.now) (tokens_of grammar.now shown.now) start t.reach) }
+    ensures few { IfOk result (λ _. MoreHold (plain grammar.now) (tokens_of grammar.now shown.now) start 2000000 → ⊥) }
+    ensures hard { result ≡ Err ChartError.TooHard → MoreHold (plain grammar.now) (tokens_of grammar.now shown.now) start 2000000 }
+{
+    let chart: Chart = chart_of(alloc, grammar, start, shown)?;
+    let table = fill(alloc, grammar, ranks, start, shown, chart.spans())?;
+    Ok(Tabled {
+        table,
+        reach: chart.reach(),
+    })
+}

@@ -1,0 +1,62 @@
+//! The verdict on what is shown.
+
+ghost use Rattle.std.specs.Prelude.{◌≡◌, ◌≤◌, ℕ, List, IfOk, length};
+ghost use Rattle.sx_grammar.specs.Grammar as plain;
+ghost use Rattle.sx_grammar.specs.Reading.{ReadsWhole, reading_depth};
+ghost use Rattle.sx_grammar.specs.Tally.{IsTally};
+ghost use Rattle.sx_grammar.specs.ReadOne.{MoreHold, IsGreatestEnd};
+ghost use Rattle.sx_earley.specs.Shown.{plain, tokens_of};
+ghost use Rattle.sx_forest.specs.Tallies.{tally_of};
+ghost use Rattle.sx_forest.specs.Rows.{AllLater, IsWholeWays};
+ghost use Rattle.sx_forest.specs.Table.{IsFull};
+ghost use Rattle.sx_forest.specs.Verdict.{IsVerdict};
+
+use crate::entries::Entries;
+use crate::judged::Judged;
+use crate::part_ways::part_ways;
+use crate::row::last_row;
+use crate::ways::Ways;
+use std::alloc::Global;
+use sx_grammar::Grammar;
+use sx_term::NoMemory;
+
+/// The ways to read all tokens.
+pub(crate) fn whole_ways(
+    alloc: Global,
+    grammar: &Grammar,
+    start: u32,
+    count: u32,
+    table: &Entries,
+) -> Result<Ways, NoMemory>
+    requires { count ≤ 10000 }
+    ensures { IfOk result (λ w. IsWholeWays (plain grammar.now) start count table.now.lists.items (tally_of w)) }
+{
+    let row = last_row(alloc, 0, count)?;
+    Ok(part_ways(grammar, table.from(0), start, 0, &row, 0))
+}
+
+/// How deep a reading may be.
+const MOST_DEPTH: u64 = 1000;
+
+/// What the ways to read all tokens come to.
+pub(crate) fn judge(ways: Ways, reach: u32) -> Judged
+    ensures { (g : plain.Grammar) (ts : List plain.Token) (start : ℕ) → (MoreHold g ts start 2000000 → ⊥) → IsGreatestEnd g ts start reach → IsTally (ReadsWhole g ts start) reading_depth (tally_of ways) → IsVerdict g ts start result }
+{
+    match ways {
+        Ways::Nothing => Judged::Nothing(reach),
+        Ways::One(depth) => {
+            if depth > MOST_DEPTH {
+                Judged::TooDeep(depth)
+            } else {
+                Judged::One
+            }
+        }
+        Ways::More(depth) => {
+            if depth > MOST_DEPTH {
+                Judged::TooDeep(depth)
+            } else {
+                Judged::More
+            }
+        }
+    }
+}

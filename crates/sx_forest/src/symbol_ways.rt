@@ -1,0 +1,74 @@
+//! The ways to read a symbol, and then the symbols after it.
+
+ghost use Rattle.std.specs.Prelude.{◌≡◌, ◌≤◌, ◌<◌, ◌^◌, ℕ, Some, IfSome, length, slice_get, option_map};
+ghost use Rattle.sx_grammar.specs.Numbered.{symbol};
+ghost use Rattle.sx_earley.specs.Shown.{plain, texts, tokens_of, IsBelow, AreBelow};
+ghost use Rattle.sx_forest.specs.Tallies.{tally_of};
+ghost use Rattle.sx_forest.specs.Rows.{IsPlace, IsNext};
+
+use crate::entry::Entry;
+use crate::part_ways::part_ways;
+use crate::ways::{Ways, at, both};
+use sx_earley::{Shown, reads};
+use sx_grammar::{Grammar, NumberedSymbol};
+
+/// The ways to read the symbol at the place, and then those of the row.
+fn symbol_ways(
+    grammar: &Grammar,
+    shown: &[Shown],
+    entries: &[Entry],
+    expected: NumberedSymbol,
+    next: &[Ways],
+    from: u32,
+    place: u32,
+) -> Ways
+    requires here { from ≤ place }
+    requires short { place ≤ 10000 }
+    requires below { IsBelow (length (texts grammar.now)) expected }
+    requires shown { AreBelow (length (texts grammar.now)) shown.now }
+    requires later { (i : ℕ) (e : Entry) → slice_get entries.now i ≡ Some e → from ≤ e.to }
+    ensures { IsPlace (plain grammar.now) (tokens_of grammar.now shown.now) entries.now (symbol (texts grammar.now) expected) from place next.now (tally_of result) }
+{
+    match expected {
+        NumberedSymbol::Part { sort, least } => {
+            part_ways(grammar, entries, sort, least, next, from)
+        }
+        NumberedSymbol::Lit(_) => {
+            if reads(grammar, expected, shown, place) {
+                at(next, from, place + 1)
+            } else {
+                Ways::Nothing
+            }
+        }
+        NumberedSymbol::Lex(_) => {
+            if reads(grammar, expected, shown, place) {
+                both(Ways::One(1), at(next, from, place + 1))
+            } else {
+                Ways::Nothing
+            }
+        }
+    }
+}
+
+/// The ways to read the symbol, if there is one, at the place, and then those of the row.
+pub(crate) fn next_ways(
+    grammar: &Grammar,
+    shown: &[Shown],
+    entries: &[Entry],
+    expected: Option<NumberedSymbol>,
+    next: &[Ways],
+    from: u32,
+    place: u32,
+) -> Ways
+    requires here { from ≤ place }
+    requires short { place ≤ 10000 }
+    requires below { IfSome expected (IsBelow (length (texts grammar.now))) }
+    requires shown { AreBelow (length (texts grammar.now)) shown.now }
+    requires later { (i : ℕ) (e : Entry) → slice_get entries.now i ≡ Some e → from ≤ e.to }
+    ensures { IsNext (plain grammar.now) (tokens_of grammar.now shown.now) entries.now (option_map (symbol (texts grammar.now)) expected) from place next.now (tally_of result) }
+{
+    match expected {
+        None => Ways::Nothing,
+        Some(expected) => symbol_ways(grammar, shown, entries, expected, next, from, place),
+    }
+}
