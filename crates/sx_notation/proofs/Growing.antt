@@ -1,9 +1,9 @@
 -- Lists that go on.
-use Rattle.std.proofs.Common.{◌≡◌, ℕ, zero, suc, ◌+◌, ◌<◌, ◌≤◌, Bool, true, false, cond, List, [], ◌∷◌, ◌++◌, length, length-append, Some, sym, refl, ap, ◌∙◌, subst, arith, Contains, ◌⊎◌, inl, inr}
-use Rattle.std.specs.Prelude.{None, Option, slice_get, unwrap_or, not, nat_lt}
+use Rattle.std.proofs.Common.{◌≡◌, ℕ, zero, suc, ◌+◌, ◌<◌, ◌≤◌, Bool, true, false, cond, List, [], ◌∷◌, ◌++◌, length, length-append, Some, sym, refl, ap, ◌∙◌, arith, Contains, ◌⊎◌, inl, inr}
+use Rattle.std.specs.Prelude.{None, slice_get, unwrap_or, not}
 use Rattle.std.specs.Str.{bytes_eq}
 use Rattle.std.specs.List.{position_or_len}
-use Rattle.std.proofs.lemmas.Option.{slice_get_within, slice_get_past}
+use Rattle.std.proofs.lemmas.Option.{slice_get_within}
 use Rattle.std.proofs.lemmas.Bool.{lt-ltb, le-ltb, cases_lt}
 use Rattle.sx_grammar.specs.Grammar.{Text}
 use Rattle.sx_grammar.specs.Parts.{number_of}

@@ -3,3 +3,4 @@ pub mod Filling
 pub mod Fitting
 pub mod Growing
 pub mod RuleGrammars
+pub mod Numbers

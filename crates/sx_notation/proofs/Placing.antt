@@ -1,8 +1,8 @@
 -- The tokens of symbols with what stands at their places.
-use Rattle.std.proofs.Common.{◌≡◌, ℕ, zero, suc, ◌+◌, ◌<◌, ◌≤◌, get_or, List, [], ◌∷◌, ◌++◌, length, map, drop, Some, sym, refl, ap, ◌∙◌, subst, arith}
-use Rattle.std.specs.Prelude.{None, Option, slice_get, slice_index_or}
+use Rattle.std.proofs.Common.{◌≡◌, ℕ, zero, suc, ◌+◌, ◌<◌, ◌≤◌, get_or, List, [], ◌∷◌, ◌++◌, length, map, drop, sym, ap, ◌∙◌, subst, arith}
+use Rattle.std.specs.Prelude.{Option, slice_index_or}
 use Rattle.std.specs.Borrow.{Bor}
-use Rattle.std.proofs.lemmas.List.{at_drop_more, at_drop_all, length-map, append-nil}
+use Rattle.std.proofs.lemmas.List.{at_drop_more, at_drop_all, append-nil}
 use Rattle.sx_term.specs.declared.term.Term.{Term}
 use Rattle.sx_term.specs.declared.lex_kind.LexKind.{LexKind}
 use Rattle.sx_term.proofs.Cores.{Grows, Grows-trans}
@@ -12,7 +12,6 @@ use Rattle.sx_grammar.specs.Grammar.{Text, Stem, of_kind, of_sort, Token, Gramma
 use Rattle.sx_grammar.specs.Numbered.{symbol}
 use Rattle.sx_grammar.specs.Print.{literal_token, print_symbols}
 use Rattle.sx_print.specs.Printed.{Adds, parts_in}
-use Rattle.sx_print.specs.Rows.{HasLiteralsBelow}
 use Rattle.sx_print.proofs.Adding.{Adds-append, Adds-none}
 use Rattle.sx_notation.specs.GoalText.{printer}
 use Rattle.sx_notation.specs.Placed.{shown, IsPuttable, ArePuttable}

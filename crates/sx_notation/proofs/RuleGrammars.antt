@@ -1,34 +1,33 @@
 -- The grammar by which rules are read, and the grammar of the language.
-use Rattle.std.proofs.Common.{◌≡◌, ℕ, zero, suc, ◌+◌, ◌-◌, ◌<◌, ◌≤◌, List, [], ◌∷◌, ◌++◌, length, length-append, map, Some, sym, refl, ap, ◌∙◌, subst, arith, Contains, inl, cond}
+use Rattle.std.proofs.Common.{◌≡◌, ℕ, zero, suc, ◌+◌, ◌<◌, List, [], ◌∷◌, ◌++◌, length, length-append, map, Some, refl, ap, ◌∙◌, subst, arith, Contains, inl, cond}
 use Rattle.std.specs.Prelude.{None, Option, slice_get, option_map, flat_map}
 use Rattle.std.specs.List.{AllByRecursion}
 use Rattle.std.proofs.lemmas.Option.{slice_get_within, slice_get-map, none-some}
 use Rattle.std.proofs.lemmas.List.{length-map, map-append}
 use Rattle.sx_term.specs.declared.sort.Sort.{Sort}
 use Rattle.sx_term.specs.declared.sort.Sort.TheVariants as TheSort
-use Rattle.sx_term.specs.Tree.{Tree, Trees, node, lexeme, hole, none, ◌▹◌}
+use Rattle.sx_term.specs.Tree.{Tree, Trees}
 use Rattle.sx_term.specs.Sorts.{HaveSorts}
-use Rattle.sx_grammar.specs.declared.sort_line.SortLine.{SortLine}
 use Rattle.sx_grammar.specs.declared.symbol.Symbol as declared
 use Rattle.sx_grammar.specs.declared.symbol.Symbol.TheVariants as names_of
-use Rattle.sx_grammar.specs.Grammar.{Text, Symbol, part, Production, Grammar, Stem}
+use Rattle.sx_grammar.specs.Grammar.{Text, Symbol, part, Stem}
 use Rattle.sx_grammar.specs.Parts.{Line, Parts, names, number_of, numbered, numbered_symbol, numbered_line, symbol_sorts, sorts_named}
-use Rattle.sx_grammar.specs.Made.{IsUnknown, HasNone, IsGrammar}
+use Rattle.sx_grammar.specs.Made.{IsGrammar}
 use Rattle.sx_grammar.specs.Told.{is_typed, sort_with, kid_sorts, shapes_of}
 use Rattle.sx_grammar.specs.Print.{Fits, node_fits, lexeme_fits, hole_fits, AllFit, none_fit, past_literal_fit, lexical_fit, part_fit}
 use Rattle.sx_grammar.proofs.Finding.{at_contains, is_head, past_head, in_flat_map, mapped_at, named_at}
 use Rattle.sx_print.specs.Sorted.{place_of}
 use Rattle.sx_print.proofs.Sorting.{sorted_fits}
-use Rattle.sx_rules.specs.Views.{FormData, modes_of, sorts_of}
-use Rattle.sx_rules.specs.Modes.{inputs, outputs, Goal}
+use Rattle.sx_rules.specs.Views.{modes_of, sorts_of}
+use Rattle.sx_rules.specs.Modes.{inputs, outputs}
 use Rattle.sx_notation.specs.declared.spelled_sort.SpelledSort.TheVariants.{Lex, Named}
 use Rattle.sx_notation.specs.declared.form_symbol.FormSymbol.{FormSymbol}
 use Rattle.sx_notation.specs.declared.form_symbol.FormSymbol.TheVariants.{Lit, Place}
 use Rattle.sx_notation.specs.declared.form_line.FormLine.{FormLine}
 use Rattle.sx_notation.specs.RuleParts.{judgement_sort, symbol_for, form_line, apart_lines, rule_parts}
-use Rattle.sx_notation.specs.Forms.{HasForms, IsFormAt, HaveFits, MayFit, GoalFits}
+use Rattle.sx_notation.specs.Forms.{IsFormAt, HaveFits, MayFit}
 use Rattle.sx_notation.specs.GoalText.{form_label}
-use Rattle.sx_notation.specs.RuleLaws.{sort_of, places_of, form_of, HasSortOf, HaveSortsOf, MayHaveSorts, ProductionsStay, FormsFollow, SortedGoalsFit}
+use Rattle.sx_notation.specs.RuleLaws.{places_of, form_of, HasSortOf, HaveSortsOf, MayHaveSorts, ProductionsStay, FormsFollow, SortedGoalsFit}
 use Rattle.sx_notation.proofs.Growing.{got_before, got_behind-at, number_stays}
 
 -- the names of the sorts go on
@@ -73,7 +72,7 @@ known_symbols p r is has (s ∷ ss) inside = (one s (inside s (is_head s ss)), k
     one (names_of.Lex kind) here = tt
     one (names_of.Part name least) here =
         not_unknown p name is (in_flat_map (λ l. l.sort ∷ flat_map symbol_sorts l.symbols) p.productions r name has
-            (past_head r.sort (flat_map symbol_sorts r.symbols) name (in_flat_map symbol_sorts r.symbols (names_of.Part name least) name here (is_head name []))))
+        (past_head r.sort (flat_map symbol_sorts r.symbols) name (in_flat_map symbol_sorts r.symbols (names_of.Part name least) name here (is_head name []))))
 
 known_sort : (p : Parts) (r : Line) → IsGrammar p → Contains p.productions r → ¬ (¬ (Contains (names p) r.sort))
 known_sort p r is has = not_unknown p r.sort is (in_flat_map (λ l. l.sort ∷ flat_map symbol_sorts l.symbols) p.productions r r.sort has (is_head r.sort (flat_map symbol_sorts r.symbols)))
@@ -93,7 +92,7 @@ sort_same : (p : Parts) (fs : List FormLine) (name : Text) → Contains (names p
 sort_same p fs name has =
     let known : ¬ (¬ (Contains (names p) name)) = λ missing. missing has in
     let within : number_of (names p) name < length p.sorts =
-        omega (arith, slice_get_within (names p) (number_of (names p) name) name (named_at (names p) name known), length-map p.sorts (λ s. s.name)) in
+    omega (arith, slice_get_within (names p) (number_of (names p) name) name (named_at (names p) name known), length-map p.sorts (λ s. s.name)) in
     ap (sort_with (rule_parts p fs).sorts) (known_number p fs name known) ∙ sort_stays p fs (number_of (names p) name) within
 
 -- the parts of a form's production have the sorts of the form's places
@@ -117,10 +116,10 @@ form_follows p fs have n f at =
     let found : slice_get more n ≡ Some (form_line f) = got_before (map form_line fs) apart_lines n lt ∙ slice_get-map form_line fs n ∙ ap (option_map form_line) at in
     let label = form_label (length (rule_parts p fs).productions) (length (map (form_of p) fs)) n in
     let place : label ≡ length p.productions + n =
-        omega (arith, length-append p.productions more, length-append (map form_line fs) apart_lines, length-map fs form_line, length-map fs (form_of p)) in (
+    omega (arith, length-append p.productions more, length-append (map form_line fs) apart_lines, length-map fs form_line, length-map fs (form_of p)) in (
       numbered_line (names (rule_parts p fs)) (form_line f),
       slice_get-map (numbered_line (names (rule_parts p fs))) (p.productions ++ more) label
-      ∙ ap (option_map (numbered_line (names (rule_parts p fs)))) (got_behind-at p.productions more label n place ∙ found),
+          ∙ ap (option_map (numbered_line (names (rule_parts p fs)))) (got_behind-at p.productions more label n place ∙ found),
       sorts_same p fs f.symbols.items (have_sorts_at p fs n f have at),
     )
 

@@ -11,7 +11,7 @@ use Rattle.sx_grammar.specs.Made.{IsGrammar}
 use Rattle.sx_grammar.specs.Told.{sort_with, shapes_of}
 use Rattle.sx_rules.specs.declared.rule.Place.{Place as PlaceOf}
 use Rattle.sx_rules.specs.Views.{FormData, modes_of, sorts_of}
-use Rattle.sx_rules.specs.Modes.{inputs, outputs, Goal}
+use Rattle.sx_rules.specs.Modes.{outputs, Goal}
 use Rattle.sx_rules.specs.Sorts.{GoalIsSorted}
 use Rattle.sx_notation.specs.declared.spelled_sort.SpelledSort.{SpelledSort}
 use Rattle.sx_notation.specs.declared.spelled_sort.SpelledSort.TheVariants.{Lex as Lexical, Named}

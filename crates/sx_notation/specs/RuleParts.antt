@@ -1,5 +1,5 @@
 -- The parts of the grammar by which rules are read.
-use Rattle.std.specs.Prelude.{true, List, [], ◌∷◌, ◌++◌, Option, None, map, codes}
+use Rattle.std.specs.Prelude.{true, List, [], ◌∷◌, ◌++◌, None, map, codes}
 use Rattle.sx_term.specs.declared.lex_kind.LexKind.{LexKind}
 use Rattle.sx_term.specs.declared.lex_kind.LexKind.TheVariants.{Id, Num, Str}
 use Rattle.sx_grammar.specs.declared.symbol.Symbol.{Symbol}

@@ -96,11 +96,7 @@ fn apart_production(alloc: Global, kind: LexKind) -> Result<Production, NoMemory
 }
 
 /// Adds the productions of the forms.
-fn add_forms(
-    alloc: Global,
-    forms: &[FormLine],
-    into: &mut Vec<Production>,
-) -> Result<(), NoMemory>
+fn add_forms(alloc: Global, forms: &[FormLine], into: &mut Vec<Production>) -> Result<(), NoMemory>
     ensures { OnOk result (map line into.new.items ≡ map line into.old.items ++ map form_line forms.now) }
 {
     for i in 0..forms.len() {

@@ -1,4 +1,4 @@
-use Rattle.std.proofs.Common.{◌≡◌, List, map, unwrap_or, option_map, [], ◌∷◌, ◌++◌, ◌+◌, sym, subst, ap, ◌∙◌}
+use Rattle.std.proofs.Common.{List, map, unwrap_or, option_map, [], ◌∷◌, ◌+◌, sym, subst, ap, ◌∙◌}
 use Rattle.std.proofs.lemmas.List.{map-append}
 use Rattle.sx_term.specs.Tree.{Tree}
 use Rattle.sx_term.specs.Term.{tree}

@@ -1,8 +1,7 @@
-use Rattle.std.proofs.Common.{◌≡◌, List, map, length, option_map, unwrap_or, [], Some, None, Option, sym, subst, ap, ◌∙◌, arith, Bor, Vec}
+use Rattle.std.proofs.Common.{map, length, option_map, unwrap_or, [], Some, None, Option, subst, ap, ◌∙◌, arith, Bor, Vec}
 use Rattle.std.specs.declared.alloc.Global.{Global}
 use Rattle.std.specs.Prelude.{MatchOption}
 use Rattle.sx_term.specs.declared.term.Term.{Term}
-use Rattle.sx_term.specs.Tree.{Tree}
 use Rattle.sx_term.specs.Term.{tree}
 use Rattle.sx_grammar.specs.Parts.{numbered}
 use Rattle.sx_print.specs.Printed.{Adds}
