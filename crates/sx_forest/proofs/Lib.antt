@@ -15,3 +15,5 @@ pub mod Sorting
 pub mod Tabling
 pub mod Whole
 pub mod Judging
+pub mod Retelling
+pub mod Afterness

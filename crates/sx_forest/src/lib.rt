@@ -10,6 +10,7 @@
 mod entries;
 mod entry;
 mod first_entries;
+mod found;
 mod full;
 mod in_order;
 mod judge;
@@ -27,6 +28,7 @@ mod stripping;
 mod symbol_ways;
 #[cfg(test)]
 mod tests;
+mod text_order;
 mod ways;
 mod writing;
 
