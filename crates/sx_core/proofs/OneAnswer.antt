@@ -91,7 +91,7 @@ one_halt : (lines : Lines) (h k : Halt) → Halts lines h → Halts lines k → 
 one_halt lines h k (rows, c, next, a, x) (ys, d, others, b, y) =
     elim (compared rows ys lines next others (rows_spelled c.sorts [] rows a.fit) (rows_spelled d.sorts [] ys b.fit) a.takes b.takes) [
       | inl e ↦ one_halt_here lines rows c next h k a.front x
-        (subst (λ (z : List Row). IsHaltAt lines z c next k) (sym e.0) (subst (λ (z : Context). IsHaltAt lines ys z next k) (sym (same_context lines rows ys c d next others a b e.0)) (subst (λ (z : Lines). IsHaltAt lines ys d z k) (sym e.1) y)))
+          (subst (λ (z : List Row). IsHaltAt lines z c next k) (sym e.0) (subst (λ (z : Context). IsHaltAt lines ys z next k) (sym (same_context lines rows ys c d next others a b e.0)) (subst (λ (z : Lines). IsHaltAt lines ys d z k) (sym e.1) y)))
       | inr w ↦ elim w [
         | inl g ↦ absurd (goes_halt lines rows ys c d next others a b g h x)
         | inr g ↦ absurd (goes_halt lines ys rows d c others next b a g k y)
