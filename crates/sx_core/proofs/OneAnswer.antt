@@ -1,5 +1,5 @@
 -- Two answers for the bytes of a core file agree.
-use Rattle.std.proofs.Common.{◌≡◌, ◌≢◌, ℕ, List, [], ◌∷◌, ◌++◌, ◌⊎◌, inl, inr, map, refl, sym, ap, ◌∙◌, subst}
+use Rattle.std.proofs.Common.{◌≡◌, ◌≢◌, ℕ, List, [], ◌∷◌, ◌++◌, ◌⊎◌, inl, inr, refl, sym, ap, ◌∙◌, subst}
 use Rattle.std.specs.Prelude.{Result, Ok, Err}
 use Rattle.std.specs.Str.{IsUtf8}
 use Rattle.std.specs.Str.Lossy.{utf8_valid_len}
@@ -13,8 +13,8 @@ use Rattle.sx_core.specs.File.{SortRow, CoreFile}
 use Rattle.sx_core.specs.Problem.{Problem}
 use Rattle.sx_core.specs.Stated.{AreDistinct, Says}
 use Rattle.sx_core.specs.Resolving.{sort_names}
-use Rattle.sx_core.specs.Table.{Row, row_text, rows_of}
-use Rattle.sx_core.specs.Fitting.{Context, Fits, Declare, AllFit, AreSorts}
+use Rattle.sx_core.specs.Table.{Row, rows_of}
+use Rattle.sx_core.specs.Fitting.{Context, Fits, Declare, AllFit}
 use Rattle.sx_core.specs.Order.{IsFront}
 use Rattle.sx_core.specs.CoreRead.{ReadTo, IsBadAt, IsDeepAt, AreLinesOf, AreRulesRefused, AreLinesAnswered, IsCoreAnswer}
 use Rattle.sx_core.specs.Laws.{OneCoreAnswer}

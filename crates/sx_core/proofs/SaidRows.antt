@@ -14,7 +14,7 @@ use Rattle.sx_core.specs.Stated.{sort_rows, con_rows, form_rows, IsName, AreName
 use Rattle.sx_core.specs.Resolving.{sort_names, IsConOf, IsFormOf}
 use Rattle.sx_core.specs.Statements.{names_in}
 use Rattle.sx_core.specs.Table.{Parts, Row, row, row_text, declaration_row, premise_row, rule_rows, rows_of}
-use Rattle.sx_core.specs.Fitting.{Context, Fits, sorts_at, cons_at, forms_at, sorts_among, cons_among, forms_among, Declare, AllFit, IsNewSort, AreSorts}
+use Rattle.sx_core.specs.Fitting.{Context, Fits, sorts_at, cons_at, forms_at, sorts_among, cons_among, forms_among, Declare, AllFit, AreSorts}
 use Rattle.sx_core.specs.CoreRead.{ReadTo, AreLinesOf}
 use Rattle.sx_core.specs.declared.keyword.Keyword.{Keyword}
 use Rattle.sx_core.specs.declared.keyword.Keyword.TheVariants.{Head, Sort, Con, Form, Rule, If, Not, Then, End, Goal}
