@@ -1,5 +1,5 @@
 -- Two answers for the bytes of a core file agree.
-use Rattle.std.proofs.Common.{◌≡◌, ◌≢◌, ℕ, List, [], ◌∷◌, ◌++◌, ◌⊎◌, inl, inr, map, refl, sym, ap, ◌∙◌, subst}
+use Rattle.std.proofs.Common.{◌≡◌, ◌≢◌, ℕ, List, [], ◌∷◌, ◌++◌, ◌⊎◌, inl, inr, refl, sym, ap, ◌∙◌, subst}
 use Rattle.std.specs.Prelude.{Result, Ok, Err}
 use Rattle.std.specs.Str.{IsUtf8}
 use Rattle.std.specs.Str.Lossy.{utf8_valid_len}
@@ -13,8 +13,8 @@ use Rattle.sx_core.specs.File.{SortRow, CoreFile}
 use Rattle.sx_core.specs.Problem.{Problem}
 use Rattle.sx_core.specs.Stated.{AreDistinct, Says}
 use Rattle.sx_core.specs.Resolving.{sort_names}
-use Rattle.sx_core.specs.Table.{Row, row_text, rows_of}
-use Rattle.sx_core.specs.Fitting.{Context, Fits, Declare, AllFit, AreSorts}
+use Rattle.sx_core.specs.Table.{Row, rows_of}
+use Rattle.sx_core.specs.Fitting.{Context, Fits, Declare, AllFit}
 use Rattle.sx_core.specs.Order.{IsFront}
 use Rattle.sx_core.specs.CoreRead.{ReadTo, IsBadAt, IsDeepAt, AreLinesOf, AreRulesRefused, AreLinesAnswered, IsCoreAnswer}
 use Rattle.sx_core.specs.Laws.{OneCoreAnswer}
@@ -91,7 +91,7 @@ one_halt : (lines : Lines) (h k : Halt) → Halts lines h → Halts lines k → 
 one_halt lines h k (rows, c, next, a, x) (ys, d, others, b, y) =
     elim (compared rows ys lines next others (rows_spelled c.sorts [] rows a.fit) (rows_spelled d.sorts [] ys b.fit) a.takes b.takes) [
       | inl e ↦ one_halt_here lines rows c next h k a.front x
-        (subst (λ (z : List Row). IsHaltAt lines z c next k) (sym e.0) (subst (λ (z : Context). IsHaltAt lines ys z next k) (sym (same_context lines rows ys c d next others a b e.0)) (subst (λ (z : Lines). IsHaltAt lines ys d z k) (sym e.1) y)))
+          (subst (λ (z : List Row). IsHaltAt lines z c next k) (sym e.0) (subst (λ (z : Context). IsHaltAt lines ys z next k) (sym (same_context lines rows ys c d next others a b e.0)) (subst (λ (z : Lines). IsHaltAt lines ys d z k) (sym e.1) y)))
       | inr w ↦ elim w [
         | inl g ↦ absurd (goes_halt lines rows ys c d next others a b g h x)
         | inr g ↦ absurd (goes_halt lines ys rows d c others next b a g k y)

@@ -14,7 +14,7 @@ use Rattle.sx_core.specs.Stated.{sort_rows, con_rows, form_rows, IsName, AreName
 use Rattle.sx_core.specs.Resolving.{sort_names, IsConOf, IsFormOf}
 use Rattle.sx_core.specs.Statements.{names_in}
 use Rattle.sx_core.specs.Table.{Parts, Row, row, row_text, declaration_row, premise_row, rule_rows, rows_of}
-use Rattle.sx_core.specs.Fitting.{Context, Fits, sorts_at, cons_at, forms_at, sorts_among, cons_among, forms_among, Declare, AllFit, IsNewSort, AreSorts}
+use Rattle.sx_core.specs.Fitting.{Context, Fits, sorts_at, cons_at, forms_at, sorts_among, cons_among, forms_among, Declare, AllFit, AreSorts}
 use Rattle.sx_core.specs.CoreRead.{ReadTo, AreLinesOf}
 use Rattle.sx_core.specs.declared.keyword.Keyword.{Keyword}
 use Rattle.sx_core.specs.declared.keyword.Keyword.TheVariants.{Head, Sort, Con, Form, Rule, If, Not, Then, End, Goal}
@@ -331,20 +331,18 @@ lines_sorts [] found lines next n o t sp d = subst (λ (z : Lines). AreSorts fou
 lines_sorts (r ∷ rows) found (over m) next n o t sp d = absurd t
 lines_sorts (r ∷ rows) found (line m text after more) next n o t sp d = elim (sort_or_none r.keyword r.parts) [
   | inl w ↦ inl (
-    let x = w.0 in
-    let same : sorts_of r ≡ x ∷ [] = ap sorts_of w.1 in
-    let e : found ++ sorts_among (r ∷ rows) ≡ (found ++ x ∷ []) ++ sorts_among rows = ap (λ (z : List SortRow). found ++ (z ++ sorts_among rows)) same ∙ sym (append_assoc found (x ∷ []) (sorts_among rows)) in
-    (
-      x,
-      (t.0 ∙ ap row_text w.1, spelled_sort r x sp.0 w.1, new_sort found x (sorts_among rows) (subst (λ (z : List SortRow). AreDistinct (sort_names z)) (ap (λ (z : List SortRow). found ++ (z ++ sorts_among rows)) same) d)),
-      subst (AreSorts (found ++ x ∷ []) more) (sym e) (lines_sorts rows (found ++ x ∷ []) more next n o t.1 sp.1 (subst (λ (z : List SortRow). AreDistinct (sort_names z)) e d)),
-    ))
+      let x = w.0 in
+      let same : sorts_of r ≡ x ∷ [] = ap sorts_of w.1 in
+      let e : found ++ sorts_among (r ∷ rows) ≡ (found ++ x ∷ []) ++ sorts_among rows = ap (λ (z : List SortRow). found ++ (z ++ sorts_among rows)) same ∙ sym (append_assoc found (x ∷ []) (sorts_among rows)) in (
+        x,
+        (t.0 ∙ ap row_text w.1, spelled_sort r x sp.0 w.1, new_sort found x (sorts_among rows) (subst (λ (z : List SortRow). AreDistinct (sort_names z)) (ap (λ (z : List SortRow). found ++ (z ++ sorts_among rows)) same) d)),
+        subst (AreSorts (found ++ x ∷ []) more) (sym e) (lines_sorts rows (found ++ x ∷ []) more next n o t.1 sp.1 (subst (λ (z : List SortRow). AreDistinct (sort_names z)) e d)),
+      ))
   | inr none ↦ inr (
-    let e : found ++ sorts_among (r ∷ rows) ≡ found ++ sorts_among rows = ap (λ (z : List SortRow). found ++ (z ++ sorts_among rows)) none in
-    (
-      (λ x h. none_one x (sym none ∙ ap sorts_of (only_sort text x h.1 h.0 r t.0 (λ y q. spelled_sort r y sp.0 q)))),
-      subst (AreSorts found more) (sym e) (lines_sorts rows found more next n o t.1 sp.1 (subst (λ (z : List SortRow). AreDistinct (sort_names z)) e d)),
-    ))
+      let e : found ++ sorts_among (r ∷ rows) ≡ found ++ sorts_among rows = ap (λ (z : List SortRow). found ++ (z ++ sorts_among rows)) none in (
+        (λ x h. none_one x (sym none ∙ ap sorts_of (only_sort text x h.1 h.0 r t.0 (λ y q. spelled_sort r y sp.0 q)))),
+        subst (AreSorts found more) (sym e) (lines_sorts rows found more next n o t.1 sp.1 (subst (λ (z : List SortRow). AreDistinct (sort_names z)) e d)),
+      ))
 ]
   where
     names_append : (xs : List SortRow) (x : SortRow) (ys : List SortRow) → sort_names (xs ++ x ∷ ys) ≡ sort_names xs ++ x.name ∷ map (λ row. row.name) ys

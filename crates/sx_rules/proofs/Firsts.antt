@@ -1,11 +1,6 @@
 -- A goal has one first derivation.
-use Rattle.std.proofs.Common.{◌≡◌, ℕ, List, [], ◌∷◌, ◌++◌, refl, ap, ◌∙◌, sym, subst, ⊎_elim, arith}
-use Rattle.std.specs.Prelude.{Option}
-use Rattle.sx_term.specs.Tree.{Tree}
-use Rattle.sx_rules.specs.Rules.{Rule, Hypotheses}
-use Rattle.sx_rules.specs.Modes.{Modes, Goal, AllModed}
+use Rattle.std.proofs.Common.{◌≡◌, List, [], ◌∷◌, ◌++◌, refl, ap, ◌∙◌, sym, subst, ⊎_elim, arith}
 use Rattle.sx_rules.specs.Orders.{Entry, of_given, of_rule, order_of, EntryBefore, IsAtMost}
-use Rattle.sx_rules.specs.First.{Answer, IsFirst}
 use Rattle.sx_rules.specs.DerivationLaws.{FirstDerivationIsUnique}
 use Rattle.sx_rules.proofs.Unique.{order_is_unique}
 
