@@ -24,3 +24,4 @@ pub mod NumberLaws
 pub mod MixedLaws
 pub mod LevelLaws
 pub mod MakeLaws
+pub mod LimitLaws

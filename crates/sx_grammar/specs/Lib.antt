@@ -21,3 +21,4 @@ pub mod Levels
 pub mod Ranks
 pub mod Settled
 pub mod Sorting
+pub mod High

@@ -16,6 +16,7 @@ mod item;
 mod labels_below;
 mod laws;
 mod levels;
+mod limits;
 mod make;
 mod mixing;
 mod names;
