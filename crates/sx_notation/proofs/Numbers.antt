@@ -7,8 +7,8 @@ use Rattle.sx_grammar.specs.Parts.{Parts, names, number_of}
 use Rattle.sx_grammar.specs.Made.{IsGrammar}
 use Rattle.sx_grammar.specs.Told.{sort_with}
 use Rattle.sx_term.specs.declared.sort.Sort.{Sort}
-use Rattle.sx_notation.specs.declared.spelled_sort.SpelledSort.{SpelledSort}
-use Rattle.sx_notation.specs.declared.spelled_sort.SpelledSort.TheVariants.{Named}
+use Rattle.sx_directives.specs.declared.spelled.SpelledSort.{SpelledSort}
+use Rattle.sx_directives.specs.declared.spelled.SpelledSort.TheVariants.{Named}
 use Rattle.sx_notation.specs.RuleLaws.{IsSortOf, sort_of}
 use Rattle.sx_grammar.proofs.Finding.{at_contains, named_at}
 

@@ -20,10 +20,10 @@ use Rattle.sx_print.specs.Sorted.{place_of}
 use Rattle.sx_print.proofs.Sorting.{sorted_fits}
 use Rattle.sx_rules.specs.Views.{modes_of, sorts_of}
 use Rattle.sx_rules.specs.Modes.{inputs, outputs}
-use Rattle.sx_notation.specs.declared.spelled_sort.SpelledSort.TheVariants.{Lex, Named}
-use Rattle.sx_notation.specs.declared.form_symbol.FormSymbol.{FormSymbol}
-use Rattle.sx_notation.specs.declared.form_symbol.FormSymbol.TheVariants.{Lit, Place}
-use Rattle.sx_notation.specs.declared.form_line.FormLine.{FormLine}
+use Rattle.sx_directives.specs.declared.spelled.SpelledSort.TheVariants.{Lex, Named}
+use Rattle.sx_directives.specs.declared.spelled.FormSymbol.{FormSymbol}
+use Rattle.sx_directives.specs.declared.spelled.FormSymbol.TheVariants.{Lit, Place}
+use Rattle.sx_directives.specs.declared.rows.FormLine.{FormLine}
 use Rattle.sx_notation.specs.RuleParts.{judgement_sort, symbol_for, form_line, apart_lines, rule_parts}
 use Rattle.sx_notation.specs.Forms.{IsFormAt, HaveFits, MayFit}
 use Rattle.sx_notation.specs.GoalText.{form_label}

@@ -13,11 +13,11 @@ use Rattle.sx_rules.specs.declared.rule.Place.{Place as PlaceOf}
 use Rattle.sx_rules.specs.Views.{FormData, modes_of, sorts_of}
 use Rattle.sx_rules.specs.Modes.{outputs, Goal}
 use Rattle.sx_rules.specs.Sorts.{GoalIsSorted}
-use Rattle.sx_notation.specs.declared.spelled_sort.SpelledSort.{SpelledSort}
-use Rattle.sx_notation.specs.declared.spelled_sort.SpelledSort.TheVariants.{Lex as Lexical, Named}
-use Rattle.sx_notation.specs.declared.form_symbol.FormSymbol.{FormSymbol}
-use Rattle.sx_notation.specs.declared.form_symbol.FormSymbol.TheVariants.{Lit, Place}
-use Rattle.sx_notation.specs.declared.form_line.FormLine.{FormLine}
+use Rattle.sx_directives.specs.declared.spelled.SpelledSort.{SpelledSort}
+use Rattle.sx_directives.specs.declared.spelled.SpelledSort.TheVariants.{Lex as Lexical, Named}
+use Rattle.sx_directives.specs.declared.spelled.FormSymbol.{FormSymbol}
+use Rattle.sx_directives.specs.declared.spelled.FormSymbol.TheVariants.{Lit, Place}
+use Rattle.sx_directives.specs.declared.rows.FormLine.{FormLine}
 use Rattle.sx_notation.specs.RuleParts.{rule_parts}
 use Rattle.sx_notation.specs.Forms.{HasForms, GoalFits}
 

@@ -7,11 +7,11 @@ use Rattle.sx_grammar.specs.declared.symbol.Symbol.TheVariants.{Lit, Lex, Part}
 use Rattle.sx_grammar.specs.declared.sort_line.SortLine.{SortLine}
 use Rattle.sx_grammar.specs.Grammar.{Text}
 use Rattle.sx_grammar.specs.Parts.{Line, Parts}
-use Rattle.sx_notation.specs.declared.spelled_sort.SpelledSort.{SpelledSort}
-use Rattle.sx_notation.specs.declared.spelled_sort.SpelledSort.TheVariants.{Lex as Lexical, Named}
-use Rattle.sx_notation.specs.declared.form_symbol.FormSymbol.{FormSymbol}
-use Rattle.sx_notation.specs.declared.form_symbol.FormSymbol.TheVariants.{Lit as Literal, Place}
-use Rattle.sx_notation.specs.declared.form_line.FormLine.{FormLine}
+use Rattle.sx_directives.specs.declared.spelled.SpelledSort.{SpelledSort}
+use Rattle.sx_directives.specs.declared.spelled.SpelledSort.TheVariants.{Lex as Lexical, Named}
+use Rattle.sx_directives.specs.declared.spelled.FormSymbol.{FormSymbol}
+use Rattle.sx_directives.specs.declared.spelled.FormSymbol.TheVariants.{Lit as Literal, Place}
+use Rattle.sx_directives.specs.declared.rows.FormLine.{FormLine}
 
 -- the sort of judgements, which has no name that a line can spell
 abbrev pub judgement_sort : SortLine

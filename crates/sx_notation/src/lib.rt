@@ -9,23 +9,17 @@
 
 mod content;
 mod copying;
-mod form_line;
-mod form_symbol;
 mod goal_printing;
 mod language;
 mod laws;
 mod main_form;
 mod resolving;
 mod rule_productions;
-mod spelled_sort;
 mod walk;
 
-pub use form_line::FormLine;
-pub use form_symbol::FormSymbol;
 pub use goal_printing::print_goal;
 pub use language::Language;
 pub use laws::{rule_grammars_go_on, sorted_goals_fit};
 pub use main_form::MainForm;
 pub use resolving::forms_of;
 pub use rule_productions::rule_parts;
-pub use spelled_sort::SpelledSort;

@@ -6,9 +6,7 @@ ghost use Rattle.sx_grammar.specs.Told as told;
 ghost use Rattle.sx_rules.specs.Views as view;
 ghost use Rattle.sx_notation.specs.RuleLaws.{sort_of, places_of, form_of, IsSortOf, HasSortOf, HaveSortsOf};
 
-use crate::form_line::FormLine;
-use crate::form_symbol::FormSymbol;
-use crate::spelled_sort::SpelledSort;
+use sx_directives::{FormLine, FormSymbol, SpelledSort};
 use std::alloc::Global;
 use sx_grammar::Grammar;
 use sx_rules::{Form, Place};

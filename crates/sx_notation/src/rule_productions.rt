@@ -6,9 +6,7 @@ ghost use Rattle.sx_grammar.specs.Parts.{line, parts};
 ghost use Rattle.sx_notation.specs.RuleParts.{symbol_for, judgement_sort, form_line, kind_name, apart_line, apart_lines, rule_parts};
 
 use crate::copying::{copy_productions, copy_sorts};
-use crate::form_line::FormLine;
-use crate::form_symbol::FormSymbol;
-use crate::spelled_sort::SpelledSort;
+use sx_directives::{FormLine, FormSymbol, SpelledSort};
 use std::alloc::Global;
 use sx_grammar::{GrammarParts, Production, SortLine, Symbol};
 use sx_term::{LexKind, NoMemory, Text, TextError};
