@@ -1,8 +1,7 @@
 -- The words that begin lines.
-use Rattle.std.proofs.Common.{◌≡◌, ℕ, List, [], ◌∷◌, get_or, refl, sym, ap, subst, ◌∙◌, arith}
+use Rattle.std.proofs.Common.{◌≡◌, ℕ, List, ◌∷◌, get_or, refl, sym, ap, subst, ◌∙◌}
 use Rattle.std.specs.Prelude.{◌==◌, if◌then◌else◌}
 use Rattle.sx_grammar.specs.Parts.{Line, line}
-use Rattle.sx_directives.specs.Parts.{parts_of}
 use Rattle.sx_directives.specs.Spelling.{NoneIs}
 use Rattle.sx_directives.specs.Rows.{keyword_text, IsProdRow, IsVarRow, IsDirectiveOf}
 use Rattle.sx_directives.specs.declared.rows.VarLine.{VarLine}

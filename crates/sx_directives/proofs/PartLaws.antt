@@ -1,8 +1,8 @@
 -- The parts of a line.
-use Rattle.std.proofs.Common.{◌≡◌, ◌≢◌, ℕ, zero, suc, ◌+◌, ◌<◌, ◌≤◌, Bool, true, false, List, [], ◌∷◌, ◌++◌, length, get_or, take, drop, refl, sym, ap, subst, ◌∙◌, arith}
-use Rattle.std.proofs.lemmas.List.{drop_more, take_all, drop_all, take-append-drop}
+use Rattle.std.proofs.Common.{◌≡◌, ◌≢◌, ℕ, zero, suc, ◌<◌, ◌≤◌, Bool, true, false, List, [], ◌∷◌, ◌++◌, length, get_or, take, drop, refl, sym, ap, subst, ◌∙◌, arith}
+use Rattle.std.proofs.lemmas.List.{drop_more, drop_all, take-append-drop}
 use Rattle.sx_lines.specs.Bytes.{is_blank}
-use Rattle.sx_directives.specs.Parts.{parts_of, begun, with_byte, NoBlank, AllBlank, Stops, Starts, IsBlankFront, IsPartEnd}
+use Rattle.sx_directives.specs.Parts.{parts_of, begun, NoBlank, AllBlank, Stops, Starts, IsBlankFront, IsPartEnd}
 
 all_blank-take : (text : List ℕ) (n : ℕ) → ((k : ℕ) → k < n → is_blank (get_or text k 0) ≡ true) → n ≤ length text → AllBlank (take n text)
 all_blank-take text zero h le = tt

@@ -1,5 +1,5 @@
 -- How names, literals, sorts and symbols are spelled.
-use Rattle.std.proofs.Common.{◌≡◌, ◌≢◌, ℕ, zero, suc, ◌+◌, ◌<◌, ◌≤◌, Bool, true, false, leb, ◌&&◌, List, [], ◌∷◌, ◌++◌, length, get_or, take, drop, Option, Some, None, Result, Ok, Err, refl, sym, ap, subst, ◌∙◌, arith, ◌⊎◌, inl, inr}
+use Rattle.std.proofs.Common.{◌≡◌, ◌≢◌, ℕ, zero, suc, ◌+◌, ◌<◌, ◌≤◌, Bool, true, false, leb, ◌&&◌, List, [], ◌∷◌, ◌++◌, length, get_or, take, drop, Option, Some, None, Result, Ok, Err, refl, sym, ap, subst, ◌∙◌, arith, inl, inr}
 use Rattle.std.specs.Prelude.{MatchOption, MatchResult}
 use Rattle.std.specs.Borrow.{Bor}
 use Rattle.std.specs.Option.{option_copied}
@@ -11,7 +11,7 @@ use Rattle.std.proofs.lemmas.Bool.Decides.{nat_tests}
 use Rattle.sx_lines.specs.Words.{is_name, is_name_byte, after, number_within}
 use Rattle.sx_lines.proofs.WordLaws.{after_front, front_of}
 use Rattle.sx_lines.proofs.Utf8Laws.{name_utf8}
-use Rattle.sx_directives.specs.Spelling.{NoneIs, IsName, IsNamed, IsTextOf, NoAt, NotLexical, IsAlone, IsAtLevel, SpellsSort, IsLevelled, IsQuoted, Spells, EachSpelled}
+use Rattle.sx_directives.specs.Spelling.{NoneIs, IsName, IsNamed, IsTextOf, NoAt, NotLexical, SpellsSort, IsLevelled, IsQuoted, Spells, EachSpelled}
 use Rattle.sx_directives.specs.Parts.{texts}
 use Rattle.sx_grammar.specs.declared.symbol.Symbol.{Symbol}
 use Rattle.sx_grammar.specs.declared.symbol.Symbol.TheVariants.{Lit, Lex as LexSymbol, Part}

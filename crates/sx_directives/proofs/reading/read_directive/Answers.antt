@@ -1,4 +1,4 @@
-use Rattle.std.proofs.Common.{◌≡◌, sym, ap, ◌∙◌, List, ℕ}
+use Rattle.std.proofs.Common.{◌≡◌, sym, ap, ◌∙◌}
 use Rattle.sx_directives.specs.Parts.{parts_of, texts}
 use Rattle.sx_directives.proofs.KeywordLaws.{no_directive}
 use Rattle.sx_directives.proofs.reading.read_directive.Goals as goal
