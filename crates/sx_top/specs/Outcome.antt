@@ -6,21 +6,21 @@ use Rattle.sx_top.specs.declared.stop.Stop.{Stop}
 use Rattle.sx_top.specs.Steps.{Then}
 use Rattle.sx_top.specs.Commands.{Commands}
 use Rattle.sx_top.specs.Work.{Plan}
-use Rattle.sx_top.specs.BuildCore.{BuildsCore, CoreTries, CoreUnit}
+use Rattle.sx_top.specs.BuildCore.{BuildsWhole, WholeTries, BuiltUnit}
 
 -- the steps of each command; a command that is not there yet has none
 abbrev pub Runs : Meant → Files → Result Plan Stop → Type 0
-Runs (builds true name tries nodes audits) files result = BuildsCore name files result
+Runs (builds true name tries nodes audits) files result = BuildsWhole name tries files result
 Runs command files result = ⊥
 
 -- the walks of each command make so many tries
 abbrev pub Walks : Meant → Files → ℕ → Type 0
-Walks (builds true name tries nodes audits) files made = CoreTries name files made
+Walks (builds true name tries nodes audits) files made = WholeTries name tries files made
 Walks command files made = ⊥
 
 -- what each command promises when it is done, of the files and of what the sink got
 abbrev pub Promises : Meant → Files → Files → List ℕ → List ℕ → Type 0
-Promises (builds true name tries nodes audits) old new sent sent' = CoreUnit name old new sent sent'
+Promises (builds true name tries nodes audits) old new sent sent' = BuiltUnit name old new sent sent'
 Promises command old new sent sent' = ⊥
 
 -- the words, and then the command's steps

@@ -32,16 +32,16 @@ fn run_command<S: Shelf, L: Ledger>(
         (S.read_faults shelf.old) (S.read_faults shelf.new)
         (S.write_faults shelf.old) (S.write_faults shelf.new) result }
     ensures tries { WhereTold (S.content shelf.old) (λ files. TriesOf (command_view command.now) files result steps.old steps.new) }
-    ensures most { RisesWithin 4096 steps.old steps.new }
+    ensures most { RisesWithin 1000000 steps.old steps.new }
 {
     match command {
         Command::Build {
             core: true,
             name,
-            tries: _,
+            tries,
             nodes: _,
             audits: _,
-        } => plan_build_core(alloc, name, shelf, steps),
+        } => plan_build_core(alloc, name, *tries, shelf, steps),
         _ => unreachable!(),
     }
 }
@@ -58,7 +58,7 @@ pub fn plan<S: Shelf, L: Ledger>(
         (S.read_faults shelf.old) (S.read_faults shelf.new)
         (S.write_faults shelf.old) (S.write_faults shelf.new) result }
     ensures tries { WhereTold (S.content shelf.old) (λ files. Tried (HasWalks words.now files) result steps.old steps.new) }
-    ensures most { RisesWithin 4096 steps.old steps.new }
+    ensures most { RisesWithin 1000000 steps.old steps.new }
 {
     match read_command(alloc, words) {
         Ok(command) => run_command(alloc, &command, shelf, steps),
