@@ -76,7 +76,7 @@ module _ (modes : Modes) (rules : List Rule) (hyps : Hypotheses) where
         (enough-then_each weight_of kids_weigh (after_kid next patterns env) 0 (below goal) (enough goal)
         (λ found n l. enough-when_matched kids_weigh (match_all patterns found.1 env) n (λ more. then_each (put_first found.0) (next more))
         (λ more. enough-then_each (λ end. kids_weigh end + nodes_of found.0) kids_weigh (put_first found.0) n (next more)
-        (enough-plus kids_weigh (nodes_of found.0) 0 n (next more) l (premises_enough ps more))
+        (let k : nodes_of found.0 ≤ n = l in enough-plus kids_weigh (nodes_of found.0) 0 n (next more) (omega arith) (premises_enough ps more))
         (λ last m k. (omega arith, tt)))))
 
     rule_enough : (r : ℕ) (rule : Rule) (goal : Goal) → Enough weight_of 1 (rule_events modes hyps below r rule goal)
@@ -149,4 +149,5 @@ pub few_nodes : FoundHasFewNodes
 unfolding events
 few_nodes modes rules hyps goal wanted budget depth a e =
     let es = events modes rules hyps goal depth in
-    (walk_few wanted budget 0 es a (events_enough modes rules hyps (3001 - depth) goal) e, tries_within wanted budget es)
+    let few = walk_few wanted budget 0 es a (events_enough modes rules hyps (3001 - depth) goal) e in
+    (omega arith, tries_within wanted budget es)

@@ -124,13 +124,11 @@ module _ (modes : Modes) (rules : List Rule) (hyps : Hypotheses) (moded : AllMod
         let x : ⊥ = omega arith in x
 
     one_place : (i k : ℕ) (v w : Verdict) → IsVerdictAt list i v → IsVerdictAt list k w → (i ≡ k) × (v ≡ w)
-    one_place i k v w a b = elim (three_ways i k) [
-      inl l ↦ absurd (no_sooner i k v w a b l)
-    | inr h ↦ elim h [
-        inl e ↦ (e, one_verdict (take k list) v w (subst (λ (n : ℕ). HasVerdict (take n list) v) e a.verdict) b.verdict)
-      | inr l ↦ absurd (no_sooner k i w v b a l)
-      ]
-    ]
+    one_place i k v w a b =
+        elim (three_ways i k) [
+          | inl l ↦ absurd (no_sooner i k v w a b l)
+          | inr h ↦ elim h [ inl e ↦ (e, one_verdict (take k list) v w (subst (λ (n : ℕ). HasVerdict (take n list) v) e a.verdict) b.verdict) | inr l ↦ absurd (no_sooner k i w v b a l) ]
+        ]
 
     -- within the limits up to an entry, so before
     within_before : (stage : Stage) (k : ℕ) → k ≤ length list → IsWithin modes rules hyps goal stage (take k list) → (i : ℕ) → i < k → IsWithin modes rules hyps goal open_one (take i list)
@@ -139,13 +137,13 @@ module _ (modes : Modes) (rules : List Rule) (hyps : Hypotheses) (moded : AllMod
         beginnings_within modes rules hyps moded goal stage (take i list) c.0 c.1 (subst (λ (xs : List Entry). IsWithin modes rules hyps goal stage xs) c.2 w)
 
     reached_before : (k : ℕ) → IsReached modes rules hyps goal list k → (i : ℕ) → i < k → IsWithin modes rules hyps goal open_one (take i list)
-    reached_before k r i l = elim (three_ways i (k - 1)) [
-      inl m ↦ (let f = r.first in let e = r.last in within_before open_one (k - 1) (omega arith) r.before i m)
-    | inr h ↦ elim h [
-        inl e ↦ subst (λ (n : ℕ). IsWithin modes rules hyps goal open_one (take n list)) (sym e) r.before
-      | inr m ↦ absurd (omega arith)
-      ]
-    ]
+    reached_before k r i l =
+        let f = r.first in
+        let e = r.last in
+        elim (three_ways i (k - 1)) [
+          | inl m ↦ within_before open_one (k - 1) (omega arith) r.before i m
+          | inr h ↦ elim h [ inl e ↦ subst (λ (n : ℕ). IsWithin modes rules hyps goal open_one (take n list)) (sym e) r.before | inr m ↦ absurd (omega arith) ]
+        ]
 
     -- the verdict where all entries are taken
     at_end : (stage : Stage) → IsWithin modes rules hyps goal stage list → IsVerdictAt list (length list) (of_stage stage)

@@ -20,7 +20,7 @@ use Rattle.sx_top.specs.Ending.{IsDone}
 use Rattle.sx_top.proofs.StepsOn.{went}
 use Rattle.sx_top.proofs.Propers.{proper}
 
-same_end : (name some others : List ℕ) → name ++ some ≡ name ++ others → some ≡ others
+pub same_end : (name some others : List ℕ) → name ++ some ≡ name ++ others → some ≡ others
 same_end [] some others same = same
 same_end (b ∷ name) some others same = let rest : name ++ some ≡ name ++ others = cc in same_end name some others rest
 

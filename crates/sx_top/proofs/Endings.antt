@@ -27,6 +27,8 @@ use Rattle.sx_top.specs.declared.step_error.StepError.TheVariants as errors
 use Rattle.sx_top.specs.declared.work.Work.{Work}
 use Rattle.sx_top.proofs.StepsOn.{went}
 use Rattle.sx_top.proofs.BuildPromise.{build_promise}
+use Rattle.sx_top.proofs.VerifyPromise.{verify_promise}
+use Rattle.sx_top.proofs.VerifySteps.{replayed_derives}
 
 -- a run that had a plan
 pub ends_performed : (words : List (List ℕ)) (plan : Plan) (status : Status) (old new : Files) (sent sent' : List ℕ) → Outcome words old (Ok plan) → Performs plan status old new sent sent' → Ends words status old new sent sent'
@@ -107,7 +109,8 @@ kept (builds true name tries nodes audits) plan old new sent sent' runs is = bui
 kept (builds false name tries nodes audits) plan old new sent sent' runs is = absurd runs
 kept (compiles name tries nodes audits) plan old new sent sent' runs is = absurd runs
 kept (checks name tries) plan old new sent sent' runs is = absurd runs
-kept (verifies of_core name) plan old new sent sent' runs is = absurd runs
+kept (verifies true name) plan old new sent sent' runs is = verify_promise replayed_derives name old new sent sent' plan runs is
+kept (verifies false name) plan old new sent sent' runs is = absurd runs
 kept (samples number) plan old new sent sent' runs is = absurd runs
 
 kept_by : (words : List (List ℕ)) (plan : Plan) (old new : Files) (sent sent' : List ℕ) → Outcome words old (Ok plan) → IsDone plan old new sent sent' → (command : Meant) → Spelled words command → Promises command old new sent sent'
@@ -163,7 +166,8 @@ tries_of (builds true name tries nodes audits) files result before after tried =
 tries_of (builds false name tries nodes audits) files result before after tried = absurd tried
 tries_of (compiles name tries nodes audits) files result before after tried = absurd tried
 tries_of (checks name tries) files result before after tried = absurd tried
-tries_of (verifies of_core name) files result before after tried = absurd tried
+tries_of (verifies true name) files result before after tried = tried
+tries_of (verifies false name) files result before after tried = absurd tried
 tries_of (samples number) files result before after tried = absurd tried
 
 -- a run that had no plan and ends with a read fault was stopped by one

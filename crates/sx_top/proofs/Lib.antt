@@ -10,3 +10,11 @@ mod Endings
 mod There
 mod OutcomeLaws
 mod WholeOnes
+mod ShortTexts
+mod SubjectTexts
+mod ListTexts
+mod FoundWithin
+mod VerifySteps
+mod FirstBads
+mod VerifyOnes
+mod BuiltVerified

@@ -4,7 +4,7 @@ use Rattle.sx_words.specs.declared.stage.Stage.{Stage}
 use Rattle.sx_words.specs.declared.verb.Verb.{Verb}
 use Rattle.sx_words.specs.declared.verb.Verb.TheVariants.{Build, Compile, Check, Verify}
 use Rattle.sx_words.specs.Commands.{Given, core, tries, nodes, audit, Settings, Meant, builds, compiles, checks, verifies, samples, IsGiven, nothing_said, with_option, with_options, MayStand, or_most, meant, SpellsAt}
-use Rattle.sx_words.proofs.StageLaws.{core_goals}
+use Rattle.sx_words.proofs.StageLaws.{core_files}
 use Rattle.sx_top.specs.Commands.{by_now, Spelled, IsThere}
 
 -- no more tries than 1,000,000 are said
@@ -52,5 +52,7 @@ spelled_few stage words command (inr h) = subst HasFew (sym h.is) tt
 pub spelled_there : (words : List (List ℕ)) (command : Meant) → Spelled words command → IsThere command
 unfolding HasFew
 spelled_there words command spelled =
-    let goal = core_goals words command spelled in
-    subst IsThere (sym goal.is) (subst HasFew goal.is (spelled_few by_now words command spelled))
+    elim (core_files words command spelled) [
+      | inl goal ↦ subst IsThere (sym goal.is) (subst HasFew goal.is (spelled_few by_now words command spelled))
+      | inr verified ↦ subst IsThere (sym verified.is) tt
+    ]

@@ -24,4 +24,5 @@ pub mod Ending
 pub mod Performing
 pub mod Telling
 pub mod Tries
+pub mod VerifyLaws
 pub mod Laws

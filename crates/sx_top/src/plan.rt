@@ -12,6 +12,7 @@ ghost use Rattle.sx_top.specs.Work.{plan_of};
 use crate::build_core::plan_build_core;
 use crate::commands::read_command;
 use crate::step_error::StepError;
+use crate::verify_core::plan_verify_core;
 use crate::work::Work;
 use std::alloc::Global;
 use std::sync::ledger::Ledger;
@@ -42,6 +43,7 @@ fn run_command<S: Shelf, L: Ledger>(
             nodes: _,
             audits: _,
         } => plan_build_core(alloc, name, *tries, shelf, steps),
+        Command::Verify { core: true, name } => plan_verify_core(alloc, name, shelf),
         _ => unreachable!(),
     }
 }

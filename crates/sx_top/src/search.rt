@@ -23,7 +23,7 @@ use sx_term::{NoMemory, Steps, Text};
 use sx_words::{BudgetDefect, Defect, TextDefect};
 
 /// No hypotheses.
-fn nothing_given(alloc: Global) -> Hyps
+pub fn nothing_given(alloc: Global) -> Hyps
     ensures none { hypotheses result ≡ no_hypotheses }
     ensures few { length result.holds.items < 2 ^ 32 }
 {
