@@ -17,7 +17,7 @@ use Rattle.sx_arena.proofs.Matchings.{match_all-matches, stays-bound, stays-agre
 use Rattle.sx_arena.proofs.Filled.{filled-inputs, filled-outputs, first_values-at}
 use Rattle.sx_arena.specs.Matching.{value_or}
 use Rattle.sx_rules.proofs.Moded.{moded-at}
-use Rattle.sx_derive.proofs.Sound.{given-append, given-when, given-when_matched, given-then_each, unbound-only, events_sound}
+use Rattle.sx_derive.proofs.Sound.{given-append, given-when, given-when_matched, given-then_each, events_sound}
 use Rattle.sx_derive.proofs.Bounded.{IsBoundedAnswer, events_bounded}
 use Rattle.sx_top.specs.VerifyLaws.{FoundIsWithin}
 
@@ -65,6 +65,10 @@ given_weaker P Q k (give a ∷ es) h = (k a h.0, given_weaker P Q k es h.1)
 bound_later : {X Y Z : Type 0} → (X → Y) → X ⊎ Z → Y ⊎ Z
 bound_later f (inl x) = inl (f x)
 bound_later f (inr z) = inr z
+
+not_before : {Z : Type 0} (v : ℕ) → IsBound unbound v ⊎ Z → Z
+not_before v (inl x) = let e : None ≡ Some x.0 = x.1 in cc
+not_before v (inr z) = z
 
 -- ---- what a derivation makes
 
@@ -138,7 +142,7 @@ module _ (modes : Modes) (rules : List Rule) (hyps : Hypotheses) where
         (λ env e.
         let k = match_all-matches patterns goal.terms unbound env e in
         given-then_each (IsQuietEnd rule rule.premises env) IsQuietAnswer (conclude modes r rule) (premise_events modes hyps below rule.premises env)
-        (premises_quiet rule rule.premises env (λ v. StandsAmong v patterns) k.every (λ v h. unbound-only v (k.only v h)) m)
+        (premises_quiet rule rule.premises env (λ v. StandsAmong v patterns) k.every (λ v h. not_before v (k.only v h)) m)
         (λ end h.
         let binds = first_values n (filled end.0) in
         let s = bound_by binds in
