@@ -32,3 +32,5 @@ pub use verify_laws::{built_is_verified, found_is_within};
 
 #[cfg(test)]
 mod tests;
+#[cfg(test)]
+mod verify_tests;

@@ -16,7 +16,7 @@ const ONE: &str =
 const TWO: &str =
     "sxcore 1\nsort Exp typed\nsort Ty plain\ncon one Exp\ncon int Ty\nform typing sub:Exp out:Ty\ngoal typing (0)\n";
 
-fn text(alloc: Global, word: &str) -> Result<Text, Fail> {
+pub fn text(alloc: Global, word: &str) -> Result<Text, Fail> {
     Ok(Text::make(alloc, word.as_bytes())?)
 }
 
@@ -36,7 +36,7 @@ fn run_with<L: Ledger>(
     run(alloc, words, shelf, &mut input, out, &mut steps)
 }
 
-fn run_words(
+pub fn run_words(
     alloc: Global,
     line: &str,
     shelf: &mut MemShelf,
@@ -50,7 +50,7 @@ fn run_words(
 }
 
 /// A shelf with this core file, whose calls fail at these numbers.
-fn shelf_with(alloc: Global, name: &str, bytes: &str, failing: &[u64]) -> Result<MemShelf, Fail> {
+pub fn shelf_with(alloc: Global, name: &str, bytes: &str, failing: &[u64]) -> Result<MemShelf, Fail> {
     let mut shelf = MemShelf::new(alloc);
     shelf.put(
         text(alloc, name)?,
@@ -61,7 +61,7 @@ fn shelf_with(alloc: Global, name: &str, bytes: &str, failing: &[u64]) -> Result
 }
 
 /// Whether just these bytes stand under the name.
-fn has(alloc: Global, shelf: &MemShelf, name: &str, bytes: &str) -> Result<bool, Fail> {
+pub fn has(alloc: Global, shelf: &MemShelf, name: &str, bytes: &str) -> Result<bool, Fail> {
     Ok(match shelf.get(&text(alloc, name)?) {
         None => false,
         Some(held) => held == bytes.as_bytes(),
