@@ -49,7 +49,7 @@ module _ {B : Type 0} (f : Row → List B) (fh : f (row Head tt) ≡ []) (fr : (
   rules_none [] = refl
   rules_none (r ∷ rs) = flat_append f (rule_rows r) (flat_map rule_rows rs) ∙ ap (λ z. z ++ flat_map f (flat_map rule_rows rs)) (rule_none r) ∙ rules_none rs
 
-  declared_rows : (ds : List Declaration) (rs : List RuleRows) (q : JudgementRow) → flat_map f (front_rows ds rs ++ row Goal q ∷ []) ≡ flat_map f (map declaration_row ds)
+  pub declared_rows : (ds : List Declaration) (rs : List RuleRows) (q : JudgementRow) → flat_map f (front_rows ds rs ++ row Goal q ∷ []) ≡ flat_map f (map declaration_row ds)
   declared_rows ds rs q =
       ap (λ z. z ++ flat_map f ((map declaration_row ds ++ flat_map rule_rows rs) ++ row Goal q ∷ [])) fh
       ∙ flat_append f (map declaration_row ds ++ flat_map rule_rows rs) (row Goal q ∷ [])
@@ -59,19 +59,19 @@ module _ {B : Type 0} (f : Row → List B) (fh : f (row Head tt) ≡ []) (fr : (
       ∙ ap (λ z. flat_map f (map declaration_row ds) ++ z) (rules_none rs)
       ∙ append-nil (flat_map f (map declaration_row ds))
 
-sorts_declared : (ds : List Declaration) → sorts_among (map declaration_row ds) ≡ sort_rows ds
+pub sorts_declared : (ds : List Declaration) → sorts_among (map declaration_row ds) ≡ sort_rows ds
 sorts_declared [] = refl
 sorts_declared (sort_line x ∷ ds) = ap (λ z. x ∷ z) (sorts_declared ds)
 sorts_declared (con_line x ∷ ds) = sorts_declared ds
 sorts_declared (form_line x ∷ ds) = sorts_declared ds
 
-cons_declared : (ds : List Declaration) → cons_among (map declaration_row ds) ≡ con_rows ds
+pub cons_declared : (ds : List Declaration) → cons_among (map declaration_row ds) ≡ con_rows ds
 cons_declared [] = refl
 cons_declared (sort_line x ∷ ds) = cons_declared ds
 cons_declared (con_line x ∷ ds) = ap (λ z. x ∷ z) (cons_declared ds)
 cons_declared (form_line x ∷ ds) = cons_declared ds
 
-forms_declared : (ds : List Declaration) → forms_among (map declaration_row ds) ≡ form_rows ds
+pub forms_declared : (ds : List Declaration) → forms_among (map declaration_row ds) ≡ form_rows ds
 forms_declared [] = refl
 forms_declared (sort_line x ∷ ds) = forms_declared ds
 forms_declared (con_line x ∷ ds) = forms_declared ds
@@ -79,7 +79,7 @@ forms_declared (form_line x ∷ ds) = ap (λ z. x ∷ z) (forms_declared ds)
 
 -- ---- the sorts of the file are those of its rows
 
-sort_or_none : (k : Keyword) (p : Parts k) → ((x : SortRow) × (row k p ≡ row Sort x)) ⊎ (sorts_at k p ≡ [])
+pub sort_or_none : (k : Keyword) (p : Parts k) → ((x : SortRow) × (row k p ≡ row Sort x)) ⊎ (sorts_at k p ≡ [])
 sort_or_none Head p = inr refl
 sort_or_none Sort p = inl (p, refl)
 sort_or_none Con p = inr refl
@@ -95,7 +95,7 @@ abbrev sort_part : Row → List SortRow
 sort_part r = sorts_at r.keyword r.parts
 
 -- a row with the line of a sort is the row of that sort
-only_sort : (text : List ℕ) (x : SortRow) → IsName x.name → text ≡ row_text (row Sort x) → (r : Row) → text ≡ row_text r → ((y : SortRow) → r ≡ row Sort y → IsName y.name) → r ≡ row Sort x
+pub only_sort : (text : List ℕ) (x : SortRow) → IsName x.name → text ≡ row_text (row Sort x) → (r : Row) → text ≡ row_text r → ((y : SortRow) → r ≡ row Sort y → IsName y.name) → r ≡ row Sort x
 only_sort text x n e r f named =
     only_row text Sort (parts_text Sort x) (subst (λ (t : List ℕ). IsKeyword t Sort (parts_text Sort x)) (sym e) (row_keyword (row Sort x)))
     (λ (z : Row). ((y : SortRow) → z ≡ row Sort y → IsName y.name) → z ≡ row Sort x) (λ y q h. ap (row Sort) (sort_same y x (h y refl) n (sym q))) r f named

@@ -43,7 +43,7 @@ no_word text n r s = n Sort (parts_text Sort r) (keyword_here text r s.0)
 
 -- ---- one line
 
-one_sort : (text : List ℕ) (a b : SortRow) → IsSortLine text a → IsSortLine text b → a ≡ b
+pub one_sort : (text : List ℕ) (a b : SortRow) → IsSortLine text a → IsSortLine text b → a ≡ b
 one_sort text a b h k = sort_same a b h.1 k.1 (one_keyword text Sort Sort (parts_text Sort a) (parts_text Sort b) (keyword_here text a h.0) (keyword_here text b k.0)).1
 
 pub finds_new : (old new : SortTable) (text : List ℕ) (r : SortRow) → old.names ≡ sort_names (rows_in old) → IsSortLine text r → (Contains old.names r.name → ⊥) → rows_in new ≡ rows_in old ++ r ∷ [] → new.names ≡ old.names ++ r.name ∷ [] → FindsSort old new text
@@ -124,7 +124,7 @@ num_new h = num_not (contains_among (codes "id" ∷ []) (codes "num") h)
 pub str_new : Contains (codes "id" ∷ codes "num" ∷ []) (codes "str") → ⊥
 str_new h = str_not (contains_among (codes "id" ∷ codes "num" ∷ []) (codes "str") h)
 
-lexical_distinct : AreDistinct (sort_names [])
+pub lexical_distinct : AreDistinct (sort_names [])
 lexical_distinct = (
   (λ h. not_id (contains_among (codes "num" ∷ codes "str" ∷ []) (codes "id") h)),
   (

@@ -20,3 +20,7 @@ pub mod FinishLaws
 pub mod LoopLaws
 pub mod FindLaws
 pub mod OneProblem
+pub mod SameRows
+pub mod BadLines
+pub mod SaidRows
+pub mod OneAnswer

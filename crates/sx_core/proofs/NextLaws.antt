@@ -175,7 +175,7 @@ module _ (all : List SortRow) (lines : Lines) (rows : List Row) (r : Reader) (ne
 
 -- ---- no line is left
 
-has_split : (xs ys : List Row) (k : Keyword) → Has k (xs ++ ys) → (Has k xs → ⊥) → (Has k ys → ⊥) → ⊥
+pub has_split : (xs ys : List Row) (k : Keyword) → Has k (xs ++ ys) → (Has k xs → ⊥) → (Has k ys → ⊥) → ⊥
 has_split [] ys k h a b = b h
 has_split (x ∷ xs) ys k (inl e) a b = a (inl e)
 has_split (x ∷ xs) ys k (inr h) a b = has_split xs ys k h (λ z. a (inr z)) b

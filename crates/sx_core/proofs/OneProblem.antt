@@ -39,7 +39,7 @@ use Rattle.sx_core.proofs.Wording.{name_space, one_word}
 -- ---- a line is that of one row
 
 -- the names are names, and the terms have core texts
-abbrev Spelled : (k : Keyword) → Parts k → Type 0
+abbrev pub Spelled : (k : Keyword) → Parts k → Type 0
 Spelled Head p = Unit {0}
 Spelled Sort r = IsName r.name
 Spelled Con r = AreNames (r.name ∷ r.sort ∷ r.kids)
@@ -52,11 +52,11 @@ Spelled End p = Unit {0}
 Spelled Goal r = IsName r.form × HaveCores r.terms
 
 -- each of the rows is spelled so
-abbrev AllSpelled : List Row → Type 0
+abbrev pub AllSpelled : List Row → Type 0
 AllSpelled [] = Unit {0}
 AllSpelled (r ∷ rows) = Spelled r.keyword r.parts × AllSpelled rows
 
-all_spelled : (xs ys : List Row) → AllSpelled xs → AllSpelled ys → AllSpelled (xs ++ ys)
+pub all_spelled : (xs ys : List Row) → AllSpelled xs → AllSpelled ys → AllSpelled (xs ++ ys)
 all_spelled [] ys h k = k
 all_spelled (x ∷ xs) ys h k = (h.0, all_spelled xs ys h.1 k)
 
@@ -86,7 +86,7 @@ parts_same Then p q h j e = judgement_same p q h j e
 parts_same End p q h j e = refl
 parts_same Goal p q h j e = judgement_same p q h j e
 
-row_same : (r s : Row) → Spelled r.keyword r.parts → Spelled s.keyword s.parts → row_text r ≡ row_text s → r ≡ s
+pub row_same : (r s : Row) → Spelled r.keyword r.parts → Spelled s.keyword s.parts → row_text r ≡ row_text s → r ≡ s
 row_same r s h k e =
     only_row (row_text r) r.keyword (parts_text r.keyword r.parts) (row_keyword r) (λ (z : Row). Spelled z.keyword z.parts → r ≡ z)
     (λ p q j. ap (row r.keyword) (parts_same r.keyword r.parts p h j q)) s e k
@@ -165,17 +165,17 @@ back_file f =
     ap back (append_assoc (map declaration_row f.declarations) (flat_map rule_rows f.rules) (row Goal f.goal ∷ []))
     ∙ back_declarations f.declarations (flat_map rule_rows f.rules ++ row Goal f.goal ∷ []) f.rules f.goal (back_rules f.rules f.goal)
 
-file_same : (f g : CoreFile) → rows_of f ≡ rows_of g → f ≡ g
+pub file_same : (f g : CoreFile) → rows_of f ≡ rows_of g → f ≡ g
 file_same f g e = ap (λ (t : Tail). record { declarations = t.declarations; rules = t.rules; goal = t.goal }) (sym (back_file f) ∙ ap back e ∙ back_file g)
 
 -- ---- the rows of a file that says something are spelled
 
-row_named : (all : List SortRow) (n : ℕ) (r : SortRow) → AreNames (map (λ row. row.name) all) → slice_get all n ≡ Some r → IsName r.name
+pub row_named : (all : List SortRow) (n : ℕ) (r : SortRow) → AreNames (map (λ row. row.name) all) → slice_get all n ≡ Some r → IsName r.name
 row_named [] n r h e = absurd (none_some r e)
 row_named (x ∷ all) zero r h e = subst (λ (z : SortRow). IsName z.name) (some_same x r e) h.0
 row_named (x ∷ all) (suc n) r h e = row_named all n r h.1 e
 
-sort_named : (all : List SortRow) (name : List ℕ) (s : SortOf) → AreNames (map (λ row. row.name) all) → NamesSort all name s → IsName name
+pub sort_named : (all : List SortRow) (name : List ℕ) (s : SortOf) → AreNames (map (λ row. row.name) all) → NamesSort all name s → IsName name
 unfolding is_name
 sort_named all name (Lex Id) n h = subst IsName (sym h) refl
 sort_named all name (Lex Num) n h = subst IsName (sym h) refl
@@ -183,17 +183,17 @@ sort_named all name (Lex Str) n h = subst IsName (sym h) refl
 sort_named all name (Plain m) n h = row_named all m (record { name = name; typed = false }) n h
 sort_named all name (Typed m) n h = row_named all m (record { name = name; typed = true }) n h
 
-sorts_named : (all : List SortRow) (names : List (List ℕ)) (ss : List SortOf) → AreNames (map (λ row. row.name) all) → NameSorts all names ss → AreNames names
+pub sorts_named : (all : List SortRow) (names : List (List ℕ)) (ss : List SortOf) → AreNames (map (λ row. row.name) all) → NameSorts all names ss → AreNames names
 sorts_named all [] ss n h = tt
 sorts_named all (name ∷ names) [] n h = absurd h
 sorts_named all (name ∷ names) (s ∷ ss) n h = (sort_named all name s n h.0, sorts_named all names ss n h.1)
 
-places_named : (all : List SortRow) (rows : List PlaceRow) (ps : List Place) → AreNames (map (λ row. row.name) all) → ArePlaces all rows ps → AreNamed rows
+pub places_named : (all : List SortRow) (rows : List PlaceRow) (ps : List Place) → AreNames (map (λ row. row.name) all) → ArePlaces all rows ps → AreNamed rows
 places_named all [] ps n h = tt
 places_named all (r ∷ rows) [] n h = absurd h
 places_named all (r ∷ rows) (p ∷ ps) n h = (sort_named all r.sort p.sort n h.1, places_named all rows ps n h.3)
 
-declarations_spelled : (all : List SortRow) → AreNames (map (λ row. row.name) all) → (ds : List Declaration) (cs : List (List ℕ)) (ss : List Shape) (fs : List FormData)
+pub declarations_spelled : (all : List SortRow) → AreNames (map (λ row. row.name) all) → (ds : List Declaration) (cs : List (List ℕ)) (ss : List Shape) (fs : List FormData)
     → AreNames (map (λ row. row.name) (sort_rows ds)) → AreCons all (con_rows ds) cs ss → AreNames cs → AreForms all (form_rows ds) fs → AreNames (names_in fs) → AllSpelled (map declaration_row ds)
 declarations_spelled all n [] cs ss fs a b c d e = tt
 declarations_spelled all n (sort_line r ∷ ds) cs ss fs a b c d e = (a.0, declarations_spelled all n ds cs ss fs a.1 b c d e)
@@ -210,7 +210,7 @@ name_at [] n f h e = absurd (none_some f e)
 name_at (x ∷ known) zero f h e = subst (λ (z : FormData). IsName z.name) (some_same x f e) h.0
 name_at (x ∷ known) (suc n) f h e = name_at known n f h.1 e
 
-form_named : (known : List FormData) (name : List ℕ) (n : ℕ) → AreNames (names_in known) → NamesForm known name n → IsName name
+pub form_named : (known : List FormData) (name : List ℕ) (n : ℕ) → AreNames (names_in known) → NamesForm known name n → IsName name
 form_named known name n h w = subst IsName w.2 (name_at known n w.0 h w.1)
 
 module _ (all : List SortRow) (known : List FormData) (named : AreNames (map (λ row. row.name) all)) (forms : AreNames (names_in known)) where
@@ -236,7 +236,7 @@ module _ (all : List SortRow) (known : List FormData) (named : AreNames (map (λ
       )
       (rules_spelled ls rs h.1)
 
-file_spelled : (f : CoreFile) (p : Problem) → Says f p → AllSpelled (rows_of f)
+pub file_spelled : (f : CoreFile) (p : Problem) → Says f p → AllSpelled (rows_of f)
 file_spelled f p s =
     let all = sort_rows f.declarations in
     let named : AreNames (map (λ row. row.name) (sort_rows f.declarations)) = subst AreNames s.sorts s.sort_names in (
@@ -298,7 +298,7 @@ module _ (all : List SortRow) (known : List FormData) (sorts : AreDistinct (sort
       ap (λ (x : ℕ). record { form = x; terms = g.terms }) (one_form r.form g.form i.form h.form k.form)
       ∙ ap (λ (x : List Tree). record { form = i.form; terms = x }) (h.terms ∙ sym k.terms)
 
-one_said : (f : CoreFile) (p q : Problem) → Says f p → Says f q → p ≡ q
+pub one_said : (f : CoreFile) (p q : Problem) → Says f p → Says f q → p ≡ q
 one_said f p q h k =
     let distinct : AreDistinct (sort_names (sort_rows f.declarations)) = subst (λ (x : List (List ℕ)). AreDistinct (codes "id" ∷ codes "num" ∷ codes "str" ∷ x)) h.sorts h.sorts_distinct in
     let cons = cons_same (sort_rows f.declarations) (con_rows f.declarations) p.cons q.cons p.shapes q.shapes distinct h.cons k.cons in
@@ -313,7 +313,7 @@ one_said f p q h k =
     ∙ ap (λ (x : List NamedRule). record { sorts = q.sorts; cons = q.cons; shapes = q.shapes; forms = q.forms; rules = x; goal = p.goal }) rules
     ∙ ap (λ (x : GoalOf). record { sorts = q.sorts; cons = q.cons; shapes = q.shapes; forms = q.forms; rules = q.rules; goal = x }) goal
 
-one_of_lines : (lines : Lines) (f g : CoreFile) (p q : Problem) → AreLinesOf lines f → AreLinesOf lines g → Says f p → Says g q → p ≡ q
+pub one_of_lines : (lines : Lines) (f g : CoreFile) (p q : Problem) → AreLinesOf lines f → AreLinesOf lines g → Says f p → Says g q → p ≡ q
 one_of_lines lines f g p q a b h k =
     let same = file_same f g (rows_same (rows_of f) (rows_of g) (file_spelled f p h) (file_spelled g q k) (sym a ∙ b)) in
     one_said f p q h (subst (λ (x : CoreFile). Says x q) (sym same) k)

@@ -23,7 +23,7 @@ reach_split (x ∷ xs) ys p r h = let w = reach_split xs ys h.0 r h.2 in (w.0, (
 one_next : (p q : Phase) → Some p ≡ Some q → p ≡ q
 one_next p q e = cc
 
-none_next : (p : Phase) → None ≡ Some p → ⊥
+pub none_next : (p : Phase) → None ≡ Some p → ⊥
 none_next p e = cc
 
 pub reach_one : (xs : List Row) (p q r : Phase) → Reaches p xs q → Reaches p xs r → q ≡ r
@@ -56,7 +56,7 @@ rules_reach p (r ∷ rs) goal e f =
     subst (λ (x : List Row). Reaches p x at_end) (sym (append_assoc (rule_rows r) (flat_map rule_rows rs) (row Goal goal ∷ [])))
     (reach_append (rule_rows r) (flat_map rule_rows rs ++ row Goal goal ∷ []) p at_rules at_end (rule_reaches p r e) (rules_reach at_rules rs goal refl refl))
 
-file_reaches : (file : CoreFile) → Reaches at_start (rows_of file) at_end
+pub file_reaches : (file : CoreFile) → Reaches at_start (rows_of file) at_end
 file_reaches file =
     let goal = row Goal file.goal ∷ [] in (
       at_declarations,
@@ -84,7 +84,7 @@ goal_step at_premises m e = absurd (none_next m e)
 goal_step at_conclusion m e = absurd (none_next m e)
 goal_step at_end m e = absurd (none_next m e)
 
-end_step : (k : Keyword) (m : Phase) → step at_end k ≡ Some m → ⊥
+pub end_step : (k : Keyword) (m : Phase) → step at_end k ≡ Some m → ⊥
 end_step Head m e = none_next m e
 end_step Sort m e = none_next m e
 end_step Con m e = none_next m e
@@ -147,7 +147,7 @@ pub inside_stays : (rows : List Row) (p q : Phase) → IsInside p → (Has End r
 inside_stays [] p q h n k = subst IsInside k h
 inside_stays (r ∷ rows) p q h n k = inside_stays rows k.0 q (inside_step p r.keyword k.0 h (λ e. n (inl e)) k.1) (λ e. n (inr e)) k.2
 
-rule_step : (p m : Phase) → step p Rule ≡ Some m → IsInside m
+pub rule_step : (p m : Phase) → step p Rule ≡ Some m → IsInside m
 rule_step at_start m e = absurd (none_next m e)
 rule_step at_declarations m e = subst IsInside (one_next at_premises m e) tt
 rule_step at_rules m e = subst IsInside (one_next at_premises m e) tt

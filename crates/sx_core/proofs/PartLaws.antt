@@ -236,13 +236,13 @@ module _ (c : Context) (rest : List ℕ) where
   -- ---- judgements
 
   full_of : (row : JudgementRow) (j : Judgement) → rest ≡ judgement_text row → IsFull c.forms row j → IsJudgementRead c.forms rest j
-  full_of row j e h = record { row = row; parts = e; named = h.0; is = h.1; many = h.2 }
+  full_of row j e h = record { row = row; parts = e; named = h.0; is = h.1 }
 
   pub if_part : (j : Judgement) (h : IsJudgementRead c.forms rest j) → IsPart c If rest h.row
-  if_part j h = (h.parts, (j, (h.named, h.is, h.many)))
+  if_part j h = (h.parts, (j, (h.named, h.is)))
 
   pub then_part : (j : Judgement) (h : IsJudgementRead c.forms rest j) → IsPart c Then rest h.row
-  then_part j h = (h.parts, (j, (h.named, h.is, h.many)))
+  then_part j h = (h.parts, (j, (h.named, h.is)))
 
   pub if_bad : (e : RowError) → RefusedAs (IsJudgementRead c.forms rest) (IsDeepJudgement c.forms rest) e → RefusedAs (IsPart c If rest) (IsDeep c If rest) e
   if_bad Memory n = tt

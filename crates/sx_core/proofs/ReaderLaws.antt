@@ -37,7 +37,7 @@ pub among_snoc : {A B : Type 0} (f : A → List B) (xs : List A) (x : A) → fla
 among_snoc f [] x = append-nil (f x)
 among_snoc f (y ∷ xs) x = ap (λ r. f y ++ r) (among_snoc f xs x) ∙ sym (append_assoc (f y) (flat_map f xs) (f x))
 
-none_more : {A B : Type 0} (f : A → List B) (xs : List A) (x : A) → f x ≡ [] → flat_map f (xs ++ x ∷ []) ≡ flat_map f xs
+pub none_more : {A B : Type 0} (f : A → List B) (xs : List A) (x : A) → f x ≡ [] → flat_map f (xs ++ x ∷ []) ≡ flat_map f xs
 none_more f xs x e = among_snoc f xs x ∙ ap (λ r. flat_map f xs ++ r) e ∙ append-nil (flat_map f xs)
 
 abbrev sort_of : Row → List SortRow

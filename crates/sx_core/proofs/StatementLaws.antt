@@ -103,8 +103,7 @@ module _ (known : List FormData) where
     row = record { form = f.word; terms = ts };
     parts = f.parts ∙ ap (λ (x : List ℕ). 32 ∷ (f.word ++ x)) r.3 ∙ sym (judgement_open (record { form = f.word; terms = ts }));
     named = f.named;
-    is = record { form = f.is; places = refl; readable = readable_of ts r.1 r.2 };
-    many = r.0;
+    is = record { form = f.is; places = refl; readable = readable_of ts r.1 r.2; many = r.0 };
   }
 
   pub judgement_no_form : (text : List ℕ) (e : RowError) → FormRefused known text e → RefusedAs (IsJudgementRead known text) (IsDeepJudgement known text) e
@@ -121,7 +120,7 @@ module _ (known : List FormData) (d : AreDistinct (names_in known)) where
       → (length h.row.terms ≡ length (places_at known form)) × HaveCores h.row.terms × AreShallow h.row.terms × (rest ≡ terms_text h.row.terms)
   terms_after text form rest f j h =
       let q = form_same known d text form j.form rest (terms_text h.row.terms) f (form_of known text j h) in (
-        sym (ap length h.is.places) ∙ h.many ∙ ap (λ n. length (places_at known n)) (sym q.0),
+        sym (ap length h.is.places) ∙ h.is.many ∙ ap (λ n. length (places_at known n)) (sym q.0),
         cores_of h.row.terms h.is.readable,
         shallow_of h.row.terms h.is.readable,
         q.1,

@@ -26,7 +26,7 @@ tail_is a b x y e = cc
 pub nothing_is : (a : ℕ) (x : List ℕ) → [] ≡ a ∷ x → ⊥
 nothing_is a x e = cc
 
-nil_no_digit : NoDigit []
+pub nil_no_digit : NoDigit []
 nil_no_digit d z h e = nothing_is (48 + d) z e
 
 pub no_digit_terms : (ts : List Tree) → NoDigit (terms_text ts)

@@ -1,11 +1,11 @@
 -- What a row of a core file must be where it stands.
-use Rattle.std.specs.Prelude.{◌≡◌, ℕ, List, [], ◌∷◌, ◌++◌, ◌⊎◌, length, Contains}
+use Rattle.std.specs.Prelude.{◌≡◌, ℕ, List, [], ◌∷◌, ◌++◌, ◌⊎◌, Contains}
 use Rattle.std.specs.List.{flat_map}
 use Rattle.sx_term.specs.Sorts.{Shape}
 use Rattle.sx_term.specs.declared.sort.Sort.{Sort as SortOf}
 use Rattle.sx_rules.specs.Modes.{Goal as GoalOf}
 use Rattle.sx_rules.specs.Rules.{Judgement}
-use Rattle.sx_rules.specs.Views.{FormData, places_at}
+use Rattle.sx_rules.specs.Views.{FormData}
 use Rattle.sx_lines.specs.Lines.{Lines, over, line}
 use Rattle.sx_core.specs.File.{SortRow, ConRow, FormRow, JudgementRow}
 use Rattle.sx_core.specs.Stated.{IsName, AreNames, AreCons, AreForms, NameSorts, AreReadable, IsJudgement, IsGoal}
@@ -25,9 +25,9 @@ pub record Context : Type 0 where
   pub shapes : List Shape
   pub forms : List FormData
 
--- a judgement of a form that is known, with as many terms as the form has places
+-- a judgement of a form that is known
 abbrev pub IsFull : List FormData → JudgementRow → Judgement → Type 0
-IsFull forms row j = IsName row.form × IsJudgement forms row j × (length j.places ≡ length (places_at forms j.form))
+IsFull forms row j = IsName row.form × IsJudgement forms row j
 
 -- the parts are as stated
 abbrev pub Fits : Context → (k : Keyword) → Parts k → Type 0

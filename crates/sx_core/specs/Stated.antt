@@ -1,5 +1,5 @@
 -- What a core file states.
-use Rattle.std.specs.Prelude.{◌≡◌, ℕ, ◌+◌, ◌≤◌, Bool, true, false, IsTrue, List, [], ◌∷◌, map, Some, slice_get, Contains, codes}
+use Rattle.std.specs.Prelude.{◌≡◌, ℕ, ◌+◌, ◌≤◌, Bool, true, false, IsTrue, List, [], ◌∷◌, map, length, Some, slice_get, Contains, codes}
 use Rattle.sx_term.specs.declared.lex_kind.LexKind.TheVariants.{Id, Num, Str}
 use Rattle.sx_term.specs.declared.sort.Sort.{Sort}
 use Rattle.sx_term.specs.declared.sort.Sort.TheVariants.{Lex, Plain, Typed}
@@ -129,11 +129,12 @@ AreReadable (t ∷ ts) = HasCore t × (depth_of t ≤ 1000) × AreReadable ts
 abbrev pub NamesForm : List FormData → List ℕ → ℕ → Type 0
 NamesForm forms name n = (form : FormData) × (slice_get forms n ≡ Some form) × (form.name ≡ name)
 
--- the line states this judgement
+-- the line states this judgement, with as many terms as the form has places
 pub record IsJudgement (forms : List FormData) (row : JudgementRow) (j : Judgement) : Type 0 where
   pub form : NamesForm forms row.form j.form
   pub places : j.places ≡ row.terms
   pub readable : AreReadable row.terms
+  pub many : length j.places ≡ length (places_at forms j.form)
 
 -- the lines state these premises
 abbrev pub ArePremises : List FormData → List PremiseRow → List Premise → Type 0

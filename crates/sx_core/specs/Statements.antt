@@ -42,13 +42,12 @@ FormRefused known text Memory = Unit {0}
 FormRefused known text Bad = (form : ℕ) (rest : List ℕ) → IsFormRead known text form rest → ⊥
 FormRefused known text (TooDeep depth) = ⊥
 
--- the text is that of this judgement, with as many terms as its form has places
+-- the text is that of this judgement
 pub record IsJudgementRead (known : List FormData) (text : List ℕ) (j : Judgement) : Type 0 where
   pub row : JudgementRow
   pub parts : text ≡ judgement_text row
   pub named : IsName row.form
   pub is : IsJudgement known row j
-  pub many : length j.places ≡ length (places_at known j.form)
 
 -- after its form the text has good terms, and then a core text of this depth at one of the places
 pub record IsDeepJudgement (known : List FormData) (text : List ℕ) (depth : ℕ) : Type 0 where

@@ -30,6 +30,6 @@ mod words;
 
 pub use error::CoreFileError;
 pub use kind::Kind;
-pub use laws::one_problem_is_stated;
+pub use laws::{one_core_answer, one_problem_is_stated};
 pub use problem::CoreProblem;
 pub use read::read_core_file;

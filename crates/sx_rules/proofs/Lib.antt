@@ -17,3 +17,5 @@ pub mod Facts
 pub mod ListLaws
 pub mod TallyLaws
 pub mod Texts
+pub mod Firsts
+pub mod Refusals

@@ -1,5 +1,5 @@
 -- Laws of derivations.
-use Rattle.std.specs.Prelude.{◌≡◌, ℕ, List, [], ◌∷◌, ◌++◌}
+use Rattle.std.specs.Prelude.{◌≡◌, ℕ, List, [], ◌∷◌, ◌++◌, Option}
 use Rattle.sx_term.specs.Tree.{Tree}
 use Rattle.sx_term.specs.declared.sort.Sort.{Sort}
 use Rattle.sx_term.specs.Sorts.{Shape}
@@ -8,7 +8,7 @@ use Rattle.sx_rules.specs.Modes.{Modes, Goal, goal_of, IsModed, AllModed}
 use Rattle.sx_rules.specs.Sorts.{FormSorts, JudgementIsSorted, GoalIsSorted, RuleIsSorted, RulesAreSorted, JudgementsAreSorted, ProofIsSorted}
 use Rattle.sx_rules.specs.Derivations.{Proof, Proofs, Derives, DeriveEach, proof_instance, hypotheses_instance, graft}
 use Rattle.sx_rules.specs.Orders.{Entry, order_of}
-use Rattle.sx_rules.specs.First.{Answer, DerivesGoal}
+use Rattle.sx_rules.specs.First.{Answer, DerivesGoal, IsFirst}
 use Rattle.sx_rules.specs.Discipline.{IsDisciplined, PlainHaveNoTyped, FormsFit}
 use Rattle.sx_rules.specs.Typed.{IsTypedInSubjects, TypedAreSubjects}
 use Rattle.sx_rules.specs.Writable.{HaveTexts, JudgementsHaveTexts, RulesHaveTexts}
@@ -37,6 +37,12 @@ OrderIsUnique =
     (modes : Modes) (rules : List Rule) (hyps : Hypotheses) → AllModed modes rules →
     (goal : Goal) (p q : Answer) → DerivesGoal modes rules hyps goal p → DerivesGoal modes rules hyps goal q →
     (more rest : List Entry) → order_of p.0 ++ more ≡ order_of q.0 ++ rest → (p ≡ q) × (more ≡ rest)
+
+-- a goal has one first derivation at most
+abbrev pub FirstDerivationIsUnique : Type 0
+FirstDerivationIsUnique =
+    (modes : Modes) (rules : List Rule) (hyps : Hypotheses) (goal : Goal) (wanted : Option (List Tree)) → AllModed modes rules →
+    (a b : Answer) → IsFirst modes rules hyps goal wanted a → IsFirst modes rules hyps goal wanted b → a ≡ b
 
 -- where rules, hypotheses and the goal are well sorted, each derivation of the goal has well-sorted bindings and a well-sorted judgement
 abbrev pub DerivationsAreSorted : Type 0

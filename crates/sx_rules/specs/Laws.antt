@@ -1,8 +1,9 @@
 -- Laws of good rules and their breaches.
-use Rattle.std.specs.Prelude.{◌≡◌, ℕ, List, ◌↔◌, None}
+use Rattle.std.specs.Prelude.{◌≡◌, ◌≢◌, ℕ, List, ◌↔◌, None, map}
 use Rattle.sx_rules.specs.declared.error.RuleError.{RuleError}
+use Rattle.sx_rules.specs.declared.error.RuleError.TheVariants.{Memory}
 use Rattle.sx_rules.specs.Rules.{Rule}
-use Rattle.sx_rules.specs.Modes.{IsModed}
+use Rattle.sx_rules.specs.Modes.{IsModed, AllModed}
 use Rattle.sx_term.specs.Sorts.{Shape}
 use Rattle.sx_rules.specs.Sorts.{RuleIsSorted}
 use Rattle.sx_rules.specs.Discipline.{IsDisciplined}
@@ -10,7 +11,7 @@ use Rattle.sx_rules.specs.Views.{FormData, NamedRule, modes_of, subjects_in, sor
 use Rattle.sx_rules.specs.Fits.{RuleFits}
 use Rattle.sx_rules.specs.Subjects.{broken_part}
 use Rattle.sx_rules.specs.Unmoded.{unbound}
-use Rattle.sx_rules.specs.Good.{IsGood, IsBreach}
+use Rattle.sx_rules.specs.Good.{IsGood, IsBreach, AllGood, IsRuleSet, IsRefused}
 
 -- no part is broken exactly where the rule is disciplined
 abbrev pub NoneBrokenIsDisciplined : Type 0
@@ -35,3 +36,15 @@ BreachIsUnique = (shapes : List Shape) (forms : List FormData) (names : List (Li
 -- a rule that fits the forms is well sorted
 abbrev pub FittingIsSorted : Type 0
 FittingIsSorted = (shapes : List Shape) (forms : List FormData) (rule : Rule) → RuleFits shapes forms rule → RuleIsSorted shapes (sorts_of forms) rule
+
+-- no rule set is refused, out of memory aside
+abbrev pub RuleSetsAreNotRefused : Type 0
+RuleSetsAreNotRefused = (shapes : List Shape) (forms : List FormData) (rules : List NamedRule) (e : RuleError) → IsRuleSet shapes forms rules → IsRefused shapes forms rules e → e ≡ Memory
+
+-- rules are refused in one way at most, out of memory aside
+abbrev pub OneRefusalIsDue : Type 0
+OneRefusalIsDue = (shapes : List Shape) (forms : List FormData) (rules : List NamedRule) (e g : RuleError) → IsRefused shapes forms rules e → IsRefused shapes forms rules g → e ≢ Memory → g ≢ Memory → e ≡ g
+
+-- good rules are moded
+abbrev pub GoodRulesAreModed : Type 0
+GoodRulesAreModed = (shapes : List Shape) (forms : List FormData) (names : List (List ℕ)) (rules : List NamedRule) → AllGood shapes forms names rules → AllModed (modes_of forms) (map (λ r. r.rule) rules)

@@ -1,6 +1,6 @@
 //! What holds of derivations by any rules.
 
-ghost use Rattle.sx_rules.specs.DerivationLaws.{DerivationsAreSorted, OrderIsUnique, SubstitutionKeepsDerivations, GraftsAreDerivations, DisciplineSuffices, OutputsHaveTexts};
+ghost use Rattle.sx_rules.specs.DerivationLaws.{DerivationsAreSorted, OrderIsUnique, FirstDerivationIsUnique, SubstitutionKeepsDerivations, GraftsAreDerivations, DisciplineSuffices, OutputsHaveTexts};
 
 /// Where rules, hypotheses and the goal are well sorted, each derivation of the goal is well sorted.
 pub fn derivations_are_sorted()
@@ -10,6 +10,11 @@ pub fn derivations_are_sorted()
 /// A goal has one derivation at most with a given order, and none whose order goes on from another's.
 pub fn order_is_unique()
     ensures { OrderIsUnique }
+{}
+
+/// A goal has one first derivation at most.
+pub fn first_derivation_is_unique()
+    ensures { FirstDerivationIsUnique }
 {}
 
 /// A derivation from hypotheses stays one when terms are put for the variables.

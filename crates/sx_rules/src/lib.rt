@@ -26,14 +26,15 @@ mod subject;
 mod tests;
 
 pub use derivation_laws::{
-    derivations_are_sorted, discipline_suffices, grafts_are_derivations, order_is_unique,
-    outputs_have_texts, substitution_keeps_derivations,
+    derivations_are_sorted, discipline_suffices, first_derivation_is_unique,
+    grafts_are_derivations, order_is_unique, outputs_have_texts, substitution_keeps_derivations,
 };
 pub use entry::Entry;
 pub use error::RuleError;
 pub use laws::{
-    breach_is_unique, fitting_is_sorted, good_has_no_breach, no_breach_is_good,
-    none_broken_is_disciplined, none_unbound_is_moded,
+    breach_is_unique, fitting_is_sorted, good_has_no_breach, good_rules_are_moded,
+    no_breach_is_good, none_broken_is_disciplined, none_unbound_is_moded, one_refusal_is_due,
+    rule_sets_are_not_refused,
 };
 pub use list_error::ListError;
 pub use list_reading::{read_list, written_list_is_read};

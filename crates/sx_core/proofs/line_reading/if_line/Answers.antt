@@ -9,7 +9,7 @@ returns-in-Ok c =
     let h = c.in-Ok.ensures in (
       h.row,
       line_fits (context c.args.found.now) word.If c.args.text.now c.args.rest.now c.requires.line h.row (if_part (context c.args.found.now) c.args.rest.now (judgement c.in-Ok.judgement) h),
-      (h.named, h.is, h.many),
+      (h.named, h.is),
     )
 
 pub returns-in-Err : goal.returns-in-Err
