@@ -2,7 +2,9 @@ mod Writes
 mod StepsOn
 mod Utf8
 mod Propers
+mod Refused
 mod Searching
+mod Listed
 mod Plans
 mod BuildPromise
 mod VerifyPromise

@@ -1,64 +1,20 @@
 -- The plan of `build --core` by its parts.
-use Rattle.std.proofs.Common.{◌≡◌, ℕ, ◌+◌, List, [], ◌∷◌, ◌++◌, map, length, refl, sym, ap, ◌∙◌, codes, arith}
-use Rattle.std.specs.Prelude.{Ok, Some, None, slice_get, slice_index_or, decimal}
-use Rattle.std.specs.List.{AllByRecursion}
-use Rattle.std.proofs.lemmas.List.{length-append}
+use Rattle.std.proofs.Common.{◌≡◌, ℕ, List, [], ◌∷◌, ◌++◌, map, ap, ◌∙◌, codes}
+use Rattle.std.specs.Prelude.{Result, Ok, Err, decimal}
 use Rattle.sx_outside.specs.Files.{Files, File}
-use Rattle.sx_lines.specs.Reading.{written}
-use Rattle.sx_rules.specs.declared.rule.Rule.{Rule as RuleOf}
-use Rattle.sx_rules.specs.declared.entry.Entry.{Entry as EntryOf}
-use Rattle.sx_rules.specs.declared.entry.Entry.TheVariants as entry_of
-use Rattle.sx_rules.specs.Views.{named}
-use Rattle.sx_rules.specs.Good.{names_of}
-use Rattle.sx_rules.specs.Derivations.{Proof, Proofs, by, given, no_more, ◌⊳◌, nodes_of, nodes_of_all}
-use Rattle.sx_rules.specs.Orders.{Entry, order_of, order_of_all}
-use Rattle.sx_rules.specs.EntryView.{entry, entries}
-use Rattle.sx_rules.specs.ListText.{entry_line, list_lines}
+use Rattle.sx_rules.specs.Derivations.{nodes_of}
+use Rattle.sx_rules.specs.Orders.{order_of}
 use Rattle.sx_rules.specs.First.{Answer}
 use Rattle.sx_core.specs.Problem.{Problem}
-use Rattle.sx_top.specs.CoreTexts.{subject_text, list_text, entry_text, entry_lines, rule_name, term_lines}
-use Rattle.sx_top.specs.ReadCore.{base_file, list_file, interface_file}
+use Rattle.sx_top.specs.CoreTexts.{subject_text, list_text, term_lines}
+use Rattle.sx_top.specs.ReadCore.{base_file, list_file, interface_file, Reads}
+use Rattle.sx_top.specs.Search.{HasWalked}
+use Rattle.sx_top.specs.Stop.{Counts, Tried}
 use Rattle.sx_top.specs.Work.{Plan, file_of}
-use Rattle.sx_top.specs.BuildCore.{core_plan}
+use Rattle.sx_top.specs.BuildCore.{core_plan, FileTries}
 use Rattle.sx_top.specs.declared.work.Output.{Output}
-
--- ---- nodes
-
-mutual
-  nodes_in_order : (p : Proof) → length (order_of p) ≡ nodes_of p
-  nodes_in_order (by r binds kids) = let h = nodes_in_orders kids in omega (arith, h)
-  nodes_in_order (given i) = refl
-
-  nodes_in_orders : (ps : Proofs) → length (order_of_all ps) ≡ nodes_of_all ps
-  nodes_in_orders no_more = refl
-  nodes_in_orders (p ⊳ ps) = length-append (order_of p) (order_of_all ps) ∙ (λ i. nodes_in_order p i + nodes_in_orders ps i)
-
-length_entries : (list : List EntryOf) → length (entries list) ≡ length list
-length_entries [] = refl
-length_entries (e ∷ list) = ap (λ n. n + 1) (length_entries list)
-
--- a list has an entry for each node
-pub nodes_listed : (list : List EntryOf) (p : Proof) → entries list ≡ order_of p → length list ≡ nodes_of p
-nodes_listed list p same = sym (length_entries list) ∙ ap length same ∙ nodes_in_order p
-
--- ---- lists
-
-name_at : (rules : List RuleOf) (number : ℕ) → slice_index_or (names_of rules) number [] ≡ rule_name (map named rules) number
-name_at rules number = ?
-
-line_of_entry : (rules : List RuleOf) (e : EntryOf) → entry_line (names_of rules) e ≡ entry_text (map named rules) (entry e)
-line_of_entry rules (entry_of.Rule number) = name_at rules number
-line_of_entry rules (entry_of.Given number) = refl
-
-lines_of_list : (rules : List RuleOf) (list : List EntryOf) → written (map (entry_line (names_of rules)) list) ≡ entry_lines (map named rules) (entries list)
-lines_of_list rules [] = refl
-lines_of_list rules (e ∷ list) = ?
-
--- the text that is written of a list is its text
-pub written_text : (rules : List RuleOf) (list : List EntryOf) → written (list_lines (names_of rules) list) ≡ list_text (map named rules) (entries list)
-written_text rules list = ?
-
--- ---- plans
+use Rattle.sx_top.specs.declared.step_error.StepError.{StepError}
+use Rattle.sx_top.proofs.StepsOn.{tried_counted, tried_more}
 
 -- a file with these bytes
 abbrev pub file : List ℕ → List ℕ → File
@@ -83,3 +39,9 @@ plan_made name p answer files a b c lines base list interface nodes are is_a bas
     (same_file (file_of b) _ list _ is_b list_is)
     (same_file (file_of c) _ interface _ is_c interface_is)
     (lines_is ∙ ap (line_by name) nodes_are)
+
+-- the tries on a problem are those on the file that states it
+pub file_tries : {X : Type 0} (file : List ℕ) (budget : ℕ) (files : Files) (p : Problem) (result : Result X StepError) (before after : ℕ) → Reads file files (Ok p) → Counts (HasWalked budget p) result before after → Tried (FileTries file budget files) result before after
+file_tries file budget files p result before after reads counts =
+    tried_more (HasWalked budget p) (FileTries file budget files) before after (λ tries walked. record { problem = p; reads = reads; walked = walked }) result
+    (tried_counted (HasWalked budget p) result before after counts)

@@ -23,8 +23,6 @@ use Rattle.sx_derive.proofs.Blamed.{exhausted_has_no_stop}
 use Rattle.sx_derive.proofs.BlameTexts.{stuck_goal_has_texts}
 use Rattle.sx_derive.proofs.BlameDepths.{stuck_goal_is_shallow}
 use Rattle.sx_top.specs.declared.stop.Stop.{Stop}
-use Rattle.sx_top.specs.declared.status.Status.TheVariants as statuses
-use Rattle.sx_top.specs.Refusal.{status_of}
 use Rattle.sx_top.specs.Stop.{RisesBy, RisesUpTo}
 use Rattle.sx_top.specs.FindFirst.{no_hypotheses, rules_of}
 use Rattle.sx_top.specs.CoreStops.{tries_spent, depth_spent, too_deep, too_big, underivable}
@@ -71,15 +69,6 @@ module _ (file : List ℕ) (p : Problem) (budget : ℕ) where
   comes_stop ending (TooBig n) stop told is =
       let same : too_big file n ≡ stop = cc in
       subst (λ (x : Ending). ComesTo file p budget x (Err stop)) (sym told.1) (ap Err (sym same ∙ ap (too_big file) told.2))
-
--- ---- no fault
-
-refused_as : (s stop : Stop) → s ≡ stop → status_of s ≡ statuses.Refused → status_of stop ≡ statuses.Refused
-refused_as s stop same is = sym (ap status_of same) ∙ is
-
--- the stop of a search is no fault of reading or writing
-pub search_quiet : (file : List ℕ) (p : Problem) (e : DeriveError) (stop : Stop) → derive_stop file p e ≡ Some stop → (status_of stop ≡ statuses.ReadFault → ⊥) × (status_of stop ≡ statuses.WriteFault → ⊥)
-search_quiet file p e stop is = ?
 
 -- ---- what the walk gives
 

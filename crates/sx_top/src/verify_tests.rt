@@ -26,7 +26,7 @@ fn comes(
     code: u8,
     told: &[u8],
 ) -> Result<bool, Fail> {
-    let mut shelf = shelf_with(alloc, "P.core", PAIRS, &[])?;
+    let mut shelf = shelf_with(alloc, "P.core", PAIRS.as_bytes(), &[])?;
     put(alloc, &mut shelf, "P.base", base)?;
     put(alloc, &mut shelf, "P.der", list)?;
     put(alloc, &mut shelf, "P.int", interface)?;
@@ -44,7 +44,7 @@ const INTERFACE: &str = "(3)\n";
 #[test]
 fn what_was_built(rt: HostRuntime) -> Result<(), Fail> {
     let alloc = rt.alloc();
-    let mut shelf = shelf_with(alloc, "P.core", PAIRS, &[])?;
+    let mut shelf = shelf_with(alloc, "P.core", PAIRS.as_bytes(), &[])?;
     let mut out = MemSink::new(alloc);
     assert_eq!(rt; run_words(alloc, "build --core P", &mut shelf, &mut out)?, 0);
     assert!(rt; has(alloc, &shelf, "P.base", BASE)?);
@@ -88,7 +88,7 @@ fn texts_that_differ(rt: HostRuntime) -> Result<(), Fail> {
 #[test]
 fn files_that_are_absent(rt: HostRuntime) -> Result<(), Fail> {
     let alloc = rt.alloc();
-    let mut shelf = shelf_with(alloc, "P.core", PAIRS, &[])?;
+    let mut shelf = shelf_with(alloc, "P.core", PAIRS.as_bytes(), &[])?;
     let mut out = MemSink::new(alloc);
     assert_eq!(rt; run_words(alloc, "verify --core P", &mut shelf, &mut out)?, 1);
     assert_eq!(rt; out.written(), b"soundx: P.base: absent\n".as_slice());
