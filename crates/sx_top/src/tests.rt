@@ -253,12 +253,13 @@ fn words_that_are_no_command(rt: HostRuntime) -> Result<(), Fail> {
 #[test]
 fn commands_that_are_not_there_yet(rt: HostRuntime) -> Result<(), Fail> {
     let alloc = rt.alloc();
-    assert!(rt; are_refused(alloc, "verify One", b"soundx: words: word 1\n")?);
+    assert!(rt; are_refused(alloc, "check One", b"soundx: words: word 1\n")?);
+    assert!(rt; are_refused(alloc, "verify One", b"soundx: words: word 2\n")?);
     assert!(rt; are_refused(alloc, "build One", b"soundx: words: word 2\n")?);
     assert!(rt;
         are_refused(
             alloc,
-            "build --core --tries=5 One",
+            "build --core --nodes=5 One",
             b"soundx: words: word 3\n"
         )?
     );
