@@ -10,9 +10,8 @@ use Rattle.sx_rules.specs.declared.rule.Role.{Role}
 use Rattle.sx_rules.specs.declared.rule.Role.TheVariants.{In, Sub, Out}
 use Rattle.sx_core.specs.Problem.{Problem}
 use Rattle.sx_core.specs.CoreRead.{IsCoreAnswer}
-use Rattle.sx_core.specs.File.{CoreFile, words_text}
-use Rattle.sx_core.specs.Table.{Row, row, row_text, declaration_row, rule_rows, rows_of}
-use Rattle.sx_core.specs.declared.keyword.Keyword.TheVariants.{Goal}
+use Rattle.sx_core.specs.File.{CoreFile, words_text, judgement_text}
+use Rattle.sx_core.specs.Table.{Row, row_text, declaration_row, rule_rows, rows_of}
 use Rattle.sx_top.specs.CoreTexts.{roles_of, subjects, subject_text, term_lines}
 use Rattle.sx_top.proofs.ShortTexts.{AreShort, lines_short, kept_short}
 
@@ -36,8 +35,8 @@ short_behind n [] rest h = h
 short_behind n (r ∷ front) rest h = short_behind n front rest h.1
 
 -- the goal's line is among the lines
-goal_short : (n : ℕ) (file : CoreFile) → AreShort n (map row_text (rows_of file)) → length (row_text (row Goal file.goal)) ≤ n
-goal_short n file h = (short_behind n (map declaration_row file.declarations ++ flat_map rule_rows file.rules) (row Goal file.goal ∷ []) h.1).0
+goal_short : (n : ℕ) (file : CoreFile) → AreShort n (map row_text (rows_of file)) → length (codes "goal" ++ judgement_text file.goal) ≤ n
+goal_short n file h = (short_behind n (map declaration_row file.declarations ++ flat_map rule_rows file.rules) _ h.1).0
 
 pub subject_short : (bytes : List ℕ) (p : Problem) → IsCoreAnswer bytes (Ok p) → length (subject_text p.forms p.goal) ≤ length bytes
 subject_short bytes p answer =

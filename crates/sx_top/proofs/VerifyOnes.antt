@@ -10,7 +10,7 @@ use Rattle.sx_rules.specs.Modes.{AllModed}
 use Rattle.sx_rules.specs.EntryView.{entries}
 use Rattle.sx_rules.specs.RuleNames.{AreNames, AreDistinct}
 use Rattle.sx_rules.specs.ListText.{StatesList}
-use Rattle.sx_rules.proofs.ListLaws.{list_again}
+use Rattle.sx_rules.proofs.ListLaws.{AreRuleNames, list_again}
 use Rattle.sx_core.specs.Problem.{Problem}
 use Rattle.sx_core.specs.CoreRead.{IsCoreAnswer}
 use Rattle.sx_core.specs.declared.error.CoreFileError.{CoreFileError}
@@ -71,7 +71,7 @@ module _ {A E : Type 0} (stop_of : E → Option Stop) (Answers : Result A E → 
 module _ (file : List ℕ) (names : List (List ℕ)) (named : AreNames names) (distinct : AreDistinct names) where
   same_list : (bytes : List ℕ) (a b : List EntryOf) → StatesList names (texts (lines_from 1 bytes)) a → StatesList names (texts (lines_from 1 bytes)) b → a ≡ b
   same_list bytes a b h k =
-      let r = record { named = named; distinct = distinct } in
+      let r : AreRuleNames names = record { named = named; distinct = distinct } in
       ok_same a b (sym (list_again names (lines_from 1 bytes) a r h) ∙ list_again names (lines_from 1 bytes) b r k)
 
   entries_one : (bytes : List ℕ) → IsOne (StatesEntries file names bytes)

@@ -75,13 +75,3 @@ pub record VerifiedUnit (name : List ℕ) (old new : Files) (sent sent' : List �
   pub interface : old (interface_file name) ≡ Some (term_lines answer.1)
   pub files : new ≡ old
   pub line : sent' ≡ sent ++ verified_line name (length list)
-
--- ---- one after the other
-
--- what was built is verified, where the texts of the outputs are short enough to be read; a walk takes 1,000,000 tries at most
-abbrev pub BuiltIsVerified : Type 0
-BuiltIsVerified =
-    (name : List ℕ) (budget : ℕ) (files : Files) (problem : Problem) (answer : Answer) →
-    Reads (core_file name) files (Ok problem) → Searches (core_file name) budget problem (Ok answer) →
-    budget ≤ 1000000 → length (term_lines answer.1) ≤ most_bytes →
-    (nodes : ℕ) × VerifiesWhole name (after ((core_plan name problem answer).files) files) (Ok (verified_plan name nodes))
