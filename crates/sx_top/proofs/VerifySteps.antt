@@ -11,7 +11,7 @@ use Rattle.sx_rules.specs.declared.entry.Entry.{Entry as EntryOf}
 use Rattle.sx_rules.specs.declared.rule.Rule.{Rule as RuleOf}
 use Rattle.sx_rules.specs.Rules.{Rule, Hypotheses, judgement_instance, judgements_of}
 use Rattle.sx_rules.specs.Instances.{bound_by}
-use Rattle.sx_rules.specs.Views.{named, modes_of}
+use Rattle.sx_rules.specs.Views.{named, modes_of, rule as rule_of}
 use Rattle.sx_rules.specs.Modes.{outputs_of}
 use Rattle.sx_rules.specs.Good.{names_of}
 use Rattle.sx_rules.specs.Derivations.{Proof, by, given, AreShallow}
@@ -20,7 +20,8 @@ use Rattle.sx_rules.specs.Orders.{Entry, order_of}
 use Rattle.sx_rules.specs.EntryView.{entries}
 use Rattle.sx_rules.specs.ListText.{entry_line, list_lines, StatesList}
 use Rattle.sx_rules.proofs.Texts.{outputs_have_texts}
-use Rattle.sx_core.specs.Problem.{Problem}
+use Rattle.sx_core.specs.Problem.{Problem, problem}
+use Rattle.sx_core.specs.declared.problem.CoreProblem.{CoreProblem}
 use Rattle.sx_replay.specs.Limits.{first_of, first_deep}
 use Rattle.sx_replay.specs.Fronts.{asked_of, concluded_of, whole, made_in, made_below}
 use Rattle.sx_replay.specs.Replay.{IsWithin, IsReplayAnswer}
@@ -32,6 +33,11 @@ use Rattle.sx_top.specs.declared.status.Status.TheVariants as statuses
 use Rattle.sx_top.specs.declared.step_error.StepError.{StepError}
 use Rattle.sx_top.proofs.Propers.{terms_of}
 use Rattle.sx_top.proofs.ShortTexts.{lines_few}
+
+-- ---- equals for equals
+
+pub same_two : {X Y : Type 0} (P : X → Y → Type 0) (x z : X) (y w : Y) → x ≡ z → y ≡ w → P x y → P z w
+same_two {X} {Y} P x z y w one other holds = subst (λ (u : Y). P z u) other (subst (λ (u : X). P u y) one holds)
 
 -- ---- reads
 
@@ -68,6 +74,16 @@ pub names_are : (rs : List RuleOf) → map (λ r. r.name) (map named rs) ≡ nam
 names_are [] = refl
 names_are (r ∷ rs) = ap (λ (names : List (List ℕ)). r.name ∷ names) (names_are rs)
 
+-- so are the rules themselves
+bare_rules : (rs : List RuleOf) → map rule_of rs ≡ map (λ r. r.rule) (map named rs)
+bare_rules [] = refl
+bare_rules (r ∷ rs) = ap (λ (others : List Rule). rule_of r ∷ others) (bare_rules rs)
+
+-- what holds by the rules of a set, without hypotheses, holds by those of its problem
+pub by_plain : (p : CoreProblem) (P : List Rule → Hypotheses → Type 0) (hyps : Hypotheses) → hyps ≡ no_hypotheses → P (map rule_of p.rules.rules.items) hyps → P (rules_of (problem p)) no_hypotheses
+by_plain p P hyps none holds =
+    subst (λ (h : Hypotheses). P (rules_of (problem p)) h) none (subst (λ (rs : List Rule). P rs hyps) (bare_rules p.rules.rules.items) holds)
+
 -- a list has no more entries than its text has bytes
 pub few_entries : (names : List (List ℕ)) (bytes : List ℕ) (list : List EntryOf) → StatesList names (texts (lines_from 1 bytes)) list → length list ≤ length bytes
 few_entries names bytes list states =
@@ -99,7 +115,7 @@ module _ (p : Problem) where
   -- the outputs are the last terms that a derivation makes
   made_last : (q : Proof) (outs : List Tree) → DerivesGoal (modes_of p.forms) (rules_of p) no_hypotheses p.goal (q, outs) → (front : List Tree) × (made_in (modes_of p.forms) (rules_of p) q ≡ front ++ outs)
   made_last (given i) outs (j, g, o, d) = absurd (no_given i j d)
-  made_last (by r binds kids) outs (j, g, o, (rule, at, few, concluded, rest)) =
+  made_last (by r binds kids) outs (j, g, o, (rule, at, few, concluded, all_apart, each)) =
       let front = made_below (modes_of p.forms) (rules_of p) (asked_of (slice_get (rules_of p) r)) (bound_by binds) kids in
       (front, ap (λ ts. front ++ ts) (ap (λ x. concluded_of (modes_of p.forms) x (bound_by binds)) at ∙ ap (outputs_of (modes_of p.forms)) concluded ∙ o))
 
