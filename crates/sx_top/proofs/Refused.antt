@@ -37,27 +37,27 @@ core_refused file (core_error.Notation line what) stop is = same_status _ stop _
 core_refused file (core_error.TooDeep line depth) stop is = same_status _ stop _ is refl
 core_refused file (core_error.Rules e) stop is = rules_refused file e stop is
 
-refused_quiet : {X : Type 0} (stop : Stop) → status_of stop ≡ statuses.Refused → IsNoFault {X = X} (Err (errors.Stopped stop))
-refused_quiet stop is = (
+refused_quiet : (X : Type 0) (stop : Stop) → status_of stop ≡ statuses.Refused → IsNoFault {X = X} (Err (errors.Stopped stop))
+refused_quiet X stop is = (
   λ fault. let q : statuses.Refused ≡ statuses.ReadFault = sym is ∙ fault in cc,
   λ fault. let q : statuses.Refused ≡ statuses.WriteFault = sym is ∙ fault in cc,
 )
 
-spent_quiet : {X : Type 0} (stop : Stop) → status_of stop ≡ statuses.Spent → IsNoFault {X = X} (Err (errors.Stopped stop))
-spent_quiet stop is = (
+spent_quiet : (X : Type 0) (stop : Stop) → status_of stop ≡ statuses.Spent → IsNoFault {X = X} (Err (errors.Stopped stop))
+spent_quiet X stop is = (
   λ fault. let q : statuses.Spent ≡ statuses.ReadFault = sym is ∙ fault in cc,
   λ fault. let q : statuses.Spent ≡ statuses.WriteFault = sym is ∙ fault in cc,
 )
 
 -- the stop of a core file's refusal
-pub core_quiet : {X : Type 0} (file : List ℕ) (e : CoreFileError) (stop : Stop) → core_stop file e ≡ Some stop → IsNoFault {X = X} (Err (errors.Stopped stop))
-core_quiet file e stop is = refused_quiet stop (core_refused file e stop is)
+pub core_quiet : (X : Type 0) (file : List ℕ) (e : CoreFileError) (stop : Stop) → core_stop file e ≡ Some stop → IsNoFault {X = X} (Err (errors.Stopped stop))
+core_quiet X file e stop is = refused_quiet X stop (core_refused file e stop is)
 
 -- the stop of a search without an answer
-pub search_quiet : {X : Type 0} (file : List ℕ) (p : Problem) (e : DeriveError) (stop : Stop) → derive_stop file p e ≡ Some stop → IsNoFault {X = X} (Err (errors.Stopped stop))
-search_quiet file p derive_error.Memory stop is = absurd cc
-search_quiet file p (derive_error.Underivable blame) stop is = refused_quiet stop (same_status _ stop _ is refl)
-search_quiet file p (derive_error.BudgetSpent budget) stop is = spent_quiet stop (same_status _ stop _ is refl)
-search_quiet file p (derive_error.DepthSpent depth) stop is = spent_quiet stop (same_status _ stop _ is refl)
-search_quiet file p (derive_error.TooDeep depth) stop is = refused_quiet stop (same_status _ stop _ is refl)
-search_quiet file p (derive_error.TooBig size) stop is = refused_quiet stop (same_status _ stop _ is refl)
+pub search_quiet : (X : Type 0) (file : List ℕ) (p : Problem) (e : DeriveError) (stop : Stop) → derive_stop file p e ≡ Some stop → IsNoFault {X = X} (Err (errors.Stopped stop))
+search_quiet X file p derive_error.Memory stop is = absurd cc
+search_quiet X file p (derive_error.Underivable blame) stop is = refused_quiet X stop (same_status _ stop _ is refl)
+search_quiet X file p (derive_error.BudgetSpent budget) stop is = spent_quiet X stop (same_status _ stop _ is refl)
+search_quiet X file p (derive_error.DepthSpent depth) stop is = spent_quiet X stop (same_status _ stop _ is refl)
+search_quiet X file p (derive_error.TooDeep depth) stop is = refused_quiet X stop (same_status _ stop _ is refl)
+search_quiet X file p (derive_error.TooBig size) stop is = refused_quiet X stop (same_status _ stop _ is refl)

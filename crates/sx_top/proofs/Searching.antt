@@ -4,12 +4,12 @@ use Rattle.std.specs.Prelude.{Result, Ok, Err, Option, Some, None}
 use Rattle.sx_term.specs.Tree.{Tree}
 use Rattle.sx_rules.specs.declared.rule.Rule.{Rule as RuleOf}
 use Rattle.sx_rules.specs.Rules.{Rule, Hypotheses}
-use Rattle.sx_rules.specs.Views.{rule, named, modes_of, subjects_in}
+use Rattle.sx_rules.specs.Views.{rule, named, goal, modes_of, subjects_in}
 use Rattle.sx_rules.specs.First.{Answer}
 use Rattle.sx_rules.proofs.Texts.{outputs_have_texts}
 use Rattle.sx_core.specs.Problem.{Problem, problem}
 use Rattle.sx_core.specs.declared.problem.CoreProblem.{CoreProblem}
-use Rattle.sx_derive.specs.Walk.{Event, try, give, stop, depth_spent as passes_depth, too_deep as passes_terms, too_big as passes_size}
+use Rattle.sx_derive.specs.Walk.{Event, try, give, stop, events, depth_spent as passes_depth, too_deep as passes_terms, too_big as passes_size}
 use Rattle.sx_derive.specs.Search.{Ending, found, stopped, spent, exhausted, EachGiven, walk, tries_of, tries_unless, are_wanted}
 use Rattle.sx_derive.specs.Stuck.{Blame}
 use Rattle.sx_derive.specs.Blames.{blame_of}
@@ -39,10 +39,19 @@ bare_rules : (rs : List RuleOf) → map rule rs ≡ map (λ r. r.rule) (map name
 bare_rules [] = refl
 bare_rules (r ∷ rs) = ap (λ (others : List Rule). rule r ∷ others) (bare_rules rs)
 
--- what a search by the rules of a problem answers is about its plain data
-pub about_problem : (p : CoreProblem) (P : List Rule → Hypotheses → Type 0) (hyps : Hypotheses) → hyps ≡ no_hypotheses → P (map rule p.rules.rules.items) hyps → P (rules_of (problem p)) no_hypotheses
-about_problem p P hyps none holds =
-    subst (λ (h : Hypotheses). P (rules_of (problem p)) h) none (subst (λ (rs : List Rule). P rs hyps) (bare_rules p.rules.rules.items) holds)
+module _ (p : CoreProblem) (hyps : Hypotheses) (none : hyps ≡ no_hypotheses) where
+  plain : (P : List Rule → Hypotheses → Type 0) → P (map rule p.rules.rules.items) hyps → P (rules_of (problem p)) no_hypotheses
+  plain P holds =
+      subst (λ (h : Hypotheses). P (rules_of (problem p)) h) none (subst (λ (rs : List Rule). P rs hyps) (bare_rules p.rules.rules.items) holds)
+
+  -- what a search answers is about the plain data of the problem
+  pub told_plain : (budget : ℕ) (r : Result Derived DeriveError) → IsDerived (modes_of (problem p).forms) (subjects_in (problem p).forms) (map rule p.rules.rules.items) hyps (goal p.goal) None budget r → IsDerived (modes_of (problem p).forms) (subjects_in (problem p).forms) (rules_of (problem p)) no_hypotheses (problem p).goal None budget r
+  told_plain budget r told =
+      plain (λ rs h. IsDerived (modes_of (problem p).forms) (subjects_in (problem p).forms) rs h (problem p).goal None budget r) told
+
+  pub counted_plain : (budget before after : ℕ) (r : Result Derived DeriveError) → AreCounted (tries_of None budget (events (modes_of (problem p).forms) (map rule p.rules.rules.items) hyps (goal p.goal) 1)) before after r → AreCounted (tries_of None budget (goal_events (problem p))) before after r
+  counted_plain budget before after r counted =
+      plain (λ rs h. AreCounted (tries_of None budget (events (modes_of (problem p).forms) rs h (problem p).goal 1)) before after r) counted
 
 -- ---- how the walk ends
 
@@ -52,23 +61,23 @@ module _ (file : List ℕ) (p : Problem) (budget : ℕ) where
   comes_answer ending answer is = subst (λ (e : Ending). ComesTo file p budget e (Ok answer)) (sym is) refl
 
   -- so is why there is none
-  pub comes_stop : (ending : Ending) (e : DeriveError) (stop : Stop) → IsTold (modes_of p.forms) (subjects_in p.forms) (rules_of p) no_hypotheses p.goal budget ending (Err e) → derive_stop file p e ≡ Some stop → ComesTo file p budget ending (Err stop)
-  comes_stop ending Memory stop told is = absurd cc
-  comes_stop ending (Underivable blame) stop told is =
-      let same : underivable file p (blame_of blame) ≡ stop = cc in
-      subst (λ (x : Ending). ComesTo file p budget x (Err stop)) (sym told.0) (blame_of blame, told.1, ap Err (sym same))
-  comes_stop ending (BudgetSpent n) stop told is =
-      let same : tries_spent file n ≡ stop = cc in
-      subst (λ (x : Ending). ComesTo file p budget x (Err stop)) (sym told.0) (ap Err (sym same ∙ ap (tries_spent file) told.1))
-  comes_stop ending (DepthSpent n) stop told is =
-      let same : depth_spent file ≡ stop = cc in
-      subst (λ (x : Ending). ComesTo file p budget x (Err stop)) (sym told.0) (ap Err (sym same))
-  comes_stop ending (TooDeep n) stop told is =
-      let same : too_deep file n ≡ stop = cc in
-      subst (λ (x : Ending). ComesTo file p budget x (Err stop)) (sym told.1) (ap Err (sym same ∙ ap (too_deep file) told.2))
-  comes_stop ending (TooBig n) stop told is =
-      let same : too_big file n ≡ stop = cc in
-      subst (λ (x : Ending). ComesTo file p budget x (Err stop)) (sym told.1) (ap Err (sym same ∙ ap (too_big file) told.2))
+  pub comes_stop : (ending : Ending) (e : DeriveError) (end : Stop) → IsTold (modes_of p.forms) (subjects_in p.forms) (rules_of p) no_hypotheses p.goal budget ending (Err e) → derive_stop file p e ≡ Some end → ComesTo file p budget ending (Err end)
+  comes_stop ending Memory end told is = absurd cc
+  comes_stop ending (Underivable blame) end told is =
+      let same : underivable file p (blame_of blame) ≡ end = cc in
+      subst (λ (x : Ending). ComesTo file p budget x (Err end)) (sym told.0) (blame_of blame, told.1, ap Err (sym same))
+  comes_stop ending (BudgetSpent n) end told is =
+      let same : tries_spent file n ≡ end = cc in
+      subst (λ (x : Ending). ComesTo file p budget x (Err end)) (sym told.0) (ap Err (sym same ∙ ap (tries_spent file) told.1))
+  comes_stop ending (DepthSpent n) end told is =
+      let same : depth_spent file ≡ end = cc in
+      subst (λ (x : Ending). ComesTo file p budget x (Err end)) (sym told.0) (ap Err (sym same))
+  comes_stop ending (TooDeep n) end told is =
+      let same : too_deep file n ≡ end = cc in
+      subst (λ (x : Ending). ComesTo file p budget x (Err end)) (sym told.1) (ap Err (sym same ∙ ap (too_deep file) told.2))
+  comes_stop ending (TooBig n) end told is =
+      let same : too_big file n ≡ end = cc in
+      subst (λ (x : Ending). ComesTo file p budget x (Err end)) (sym told.1) (ap Err (sym same ∙ ap (too_big file) told.2))
 
 -- ---- what the walk gives
 
@@ -122,13 +131,13 @@ module _ (p : Problem) (budget before after : ℕ) where
   counts_answer d counted = (tries_of None budget (goal_events p), refl, counted)
 
   -- those of one that was stopped
-  pub counts_stop : (file : List ℕ) (e : DeriveError) (stop : Stop) → AreCounted (tries_of None budget (goal_events p)) before after (Err e) → derive_stop file p e ≡ Some stop → RisesBy (HasWalked budget p) before after
-  counts_stop file Memory stop counted is = absurd cc
-  counts_stop file (Underivable blame) stop counted is = (tries_of None budget (goal_events p), refl, counted)
-  counts_stop file (BudgetSpent n) stop counted is = (tries_of None budget (goal_events p), refl, counted)
-  counts_stop file (DepthSpent n) stop counted is = (tries_of None budget (goal_events p), refl, counted)
-  counts_stop file (TooDeep n) stop counted is = (tries_of None budget (goal_events p), refl, counted)
-  counts_stop file (TooBig n) stop counted is = (tries_of None budget (goal_events p), refl, counted)
+  pub counts_stop : (file : List ℕ) (e : DeriveError) (end : Stop) → AreCounted (tries_of None budget (goal_events p)) before after (Err e) → derive_stop file p e ≡ Some end → RisesBy (HasWalked budget p) before after
+  counts_stop file Memory end counted is = absurd cc
+  counts_stop file (Underivable blame) end counted is = (tries_of None budget (goal_events p), refl, counted)
+  counts_stop file (BudgetSpent n) end counted is = (tries_of None budget (goal_events p), refl, counted)
+  counts_stop file (DepthSpent n) end counted is = (tries_of None budget (goal_events p), refl, counted)
+  counts_stop file (TooDeep n) end counted is = (tries_of None budget (goal_events p), refl, counted)
+  counts_stop file (TooBig n) end counted is = (tries_of None budget (goal_events p), refl, counted)
 
   counted_most : (r : Result Derived DeriveError) → AreCounted (tries_of None budget (goal_events p)) before after r → (before ≤ after) × (after ≤ before + tries_of None budget (goal_events p))
   counted_most (Ok d) counted = (omega arith, omega arith)

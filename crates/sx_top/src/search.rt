@@ -72,6 +72,9 @@ pub fn find_first<L: Ledger>(
     let given = nothing_given(alloc);
     match derive(alloc, &problem.rules, &given, &problem.goal, None, budget, steps) {
         Ok(derived) => Ok(derived),
-        Err(error) => Err(StepError::Stopped(no_answer(alloc, file, problem, error)?)),
+        Err(error) => match no_answer(alloc, file, problem, error) {
+            Ok(stop) => Err(StepError::Stopped(stop)),
+            Err(_) => Err(StepError::Memory),
+        },
     }
 }
