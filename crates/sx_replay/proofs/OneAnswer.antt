@@ -174,28 +174,43 @@ module _ (modes : Modes) (rules : List Rule) (hyps : Hypotheses) (moded : AllMod
         nothing_goes_on : fits_nothing ≡ goes_on → ⊥
         nothing_goes_on q = cc
     placed (Err EndsEarly) h n = (length list, goes_on, at_end open_one h, refl)
-    placed (Err (LongList k)) (a, b, (outs, w)) n =
-        (k - 1, ends outs, record { last = omega arith; before = within_before (whole outs) (k - 1) (omega arith) w; verdict = within_verdict (whole outs) (take (k - 1) list) w; ends_here = λ q. absurd (ended_goes_on outs q) },
-        (let e : k ≡ suc (k - 1) = omega arith in ap (λ (m : ℕ). Err (LongList m)) e)
-        ∙ sym (ap (λ b. answer_when b outs (k - 1)) (lt-ltb (k - 1) (length list) (omega arith))))
+    placed (Err (LongList k)) (a, b, (outs, w)) n = (
+      k - 1,
+      ends outs,
+      record { last = omega arith; before = within_before (whole outs) (k - 1) (omega arith) w; verdict = within_verdict (whole outs) (take (k - 1) list) w; ends_here = λ q. absurd (ended_goes_on outs q) },
+      (let e : k ≡ suc (k - 1) = omega arith in ap (λ (m : ℕ). Err (LongList m)) e)
+          ∙ sym (ap (λ b. answer_when b outs (k - 1)) (lt-ltb (k - 1) (length list) (omega arith))),
+    )
       where
         ended_goes_on : (os : List Tree) → ends os ≡ goes_on → ⊥
         ended_goes_on os q = cc
-    placed (Err (DeepList k)) (terms, d, f, l) n =
-        (k, stands_deep, judged_at k terms d f stands_deep deep_goes_on
-        (sym (ap (λ b. of_level b (of_depth (first_deep terms) (of_size (first_big terms) (of_stage f.stage)))) (lt-ltb 3000 d l))), refl)
+    placed (Err (DeepList k)) (terms, d, f, l) n = (
+      k,
+      stands_deep,
+      judged_at k terms d f stands_deep deep_goes_on
+          (sym (ap (λ b. of_level b (of_depth (first_deep terms) (of_size (first_big terms) (of_stage f.stage)))) (lt-ltb 3000 d l))),
+      refl,
+    )
       where
         deep_goes_on : stands_deep ≡ goes_on → ⊥
         deep_goes_on q = cc
-    placed (Err (TooDeep m)) (k, terms, d, f, l, e) n =
-        (k, term_deep m, judged_at k terms d f (term_deep m) (deep_goes_on m)
-        (sym (λ i. of_level (le-ltb 3000 d l i) (of_depth (e i) (of_size (first_big terms) (of_stage f.stage))))), refl)
+    placed (Err (TooDeep m)) (k, terms, d, f, l, e) n = (
+      k,
+      term_deep m,
+      judged_at k terms d f (term_deep m) (deep_goes_on m)
+          (sym (λ i. of_level (le-ltb 3000 d l i) (of_depth (e i) (of_size (first_big terms) (of_stage f.stage))))),
+      refl,
+    )
       where
         deep_goes_on : (x : ℕ) → term_deep x ≡ goes_on → ⊥
         deep_goes_on x q = cc
-    placed (Err (TooBig m)) (k, terms, d, f, l, e, g) n =
-        (k, term_big m, judged_at k terms d f (term_big m) (big_goes_on m)
-        (sym (λ i. of_level (le-ltb 3000 d l i) (of_depth (e i) (of_size (g i) (of_stage f.stage))))), refl)
+    placed (Err (TooBig m)) (k, terms, d, f, l, e, g) n = (
+      k,
+      term_big m,
+      judged_at k terms d f (term_big m) (big_goes_on m)
+          (sym (λ i. of_level (le-ltb 3000 d l i) (of_depth (e i) (of_size (g i) (of_stage f.stage))))),
+      refl,
+    )
       where
         big_goes_on : (x : ℕ) → term_big x ≡ goes_on → ⊥
         big_goes_on x q = cc

@@ -57,6 +57,7 @@ all_on count (of_given i ∷ front) list all more = absurd all
 module _ (rules : List Rule) where
   mutual
     unfolding AllOf
+
     all_in_order : (j : Judgement) (p : Proof) → Derives rules no_hypotheses j p → AllOf (length rules) (order_of p)
     all_in_order j (by r binds kids) derives = (slice_get_within rules r derives.0 derives.1, all_in_orders _ kids derives.5)
     all_in_order j (given i) derives = absurd cc

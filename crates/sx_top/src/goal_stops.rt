@@ -118,15 +118,34 @@ fn not_stated(
 }
 
 /// The goal where the search is stuck, and why.
-pub fn stuck_goal(alloc: Global, file: &Text, rules: &RuleSet, blame: &Blame) -> Result<Stop, NoMemory>
+pub fn stuck_goal(
+    alloc: Global,
+    file: &Text,
+    rules: &RuleSet,
+    blame: &Blame,
+) -> Result<Stop, NoMemory>
     requires goal { AreTerms (blame_of blame.now).goal.terms }
     requires got { AreTerms (got_in (blame_of blame.now).reason) }
     ensures { IfOk result (λ stop. stop ≡ stuck file.now (forms_in rules.now) (rules_in rules.now) (blame_of blame.now).goal (blame_of blame.now).reason) }
 {
     match &blame.cause {
         Cause::NoRule => no_rule(alloc, file, rules, &blame.goal),
-        Cause::Equal { rule, premise } => not_apart(alloc, file, rules, &blame.goal, *rule, *premise),
-        Cause::Mismatch { by: Some(by), got } => not_asked(alloc, file, rules, &blame.goal, *by, got),
+        Cause::Equal { rule, premise } => not_apart(
+            alloc,
+            file,
+            rules,
+            &blame.goal,
+            *rule,
+            *premise,
+        ),
+        Cause::Mismatch { by: Some(by), got } => not_asked(
+            alloc,
+            file,
+            rules,
+            &blame.goal,
+            *by,
+            got,
+        ),
         Cause::Mismatch { by: None, got } => not_stated(alloc, file, rules, &blame.goal, got),
     }
 }

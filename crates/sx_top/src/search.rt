@@ -70,7 +70,15 @@ pub fn find_first<L: Ledger>(
     ensures most { RisesWithin budget steps.old steps.new }
 {
     let given = nothing_given(alloc);
-    match derive(alloc, &problem.rules, &given, &problem.goal, None, budget, steps) {
+    match derive(
+        alloc,
+        &problem.rules,
+        &given,
+        &problem.goal,
+        None,
+        budget,
+        steps,
+    ) {
         Ok(derived) => Ok(derived),
         Err(error) => match no_answer(alloc, file, problem, error) {
             Ok(stop) => Err(StepError::Stopped(stop)),

@@ -201,12 +201,22 @@ fn a_derivation_that_is_too_deep(rt: HostRuntime) -> Result<(), Fail> {
 fn files_that_are_refused(rt: HostRuntime) -> Result<(), Fail> {
     let alloc = rt.alloc();
     assert!(rt; is_refused(alloc, &["sxcore 2\n"], b"soundx: C.core: line 1: head\n")?);
-    assert!(rt; is_refused(alloc, &[SIGNATURE, "con c\n"], b"soundx: C.core: line 9: shape\n")?);
+    assert!(rt;
+        is_refused(
+            alloc,
+            &[SIGNATURE, "con c\n"],
+            b"soundx: C.core: line 9: shape\n"
+        )?
+    );
     assert!(rt; is_refused(alloc, &[SIGNATURE], b"soundx: C.core: line 9: main\n")?);
     assert!(rt;
         is_refused(
             alloc,
-            &[SIGNATURE, "rule R Exp\nthen f (0) (2)\nend\n", "goal f (0)\n"],
+            &[
+                SIGNATURE,
+                "rule R Exp\nthen f (0) (2)\nend\n",
+                "goal f (0)\n"
+            ],
             b"soundx: C.core: rule R: ?0 is not bound\n"
         )?
     );
@@ -217,7 +227,14 @@ fn files_that_are_refused(rt: HostRuntime) -> Result<(), Fail> {
             b"soundx: C.core: rule Z1 stands twice\n"
         )?
     );
-    assert!(rt; is_answered(alloc, &[b'a', b'\n', 255], 1, b"soundx: C.core: not UTF-8 at byte 2\n")?);
+    assert!(rt;
+        is_answered(
+            alloc,
+            &[b'a', b'\n', 255],
+            1,
+            b"soundx: C.core: not UTF-8 at byte 2\n"
+        )?
+    );
     Ok(())
 }
 

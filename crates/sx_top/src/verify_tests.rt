@@ -46,11 +46,17 @@ fn what_was_built(rt: HostRuntime) -> Result<(), Fail> {
     let alloc = rt.alloc();
     let mut shelf = shelf_with(alloc, "P.core", PAIRS.as_bytes(), &[])?;
     let mut out = MemSink::new(alloc);
-    assert_eq!(rt; run_words(alloc, "build --core P", &mut shelf, &mut out)?, 0);
+    assert_eq!(rt;
+        run_words(alloc, "build --core P", &mut shelf, &mut out)?,
+        0
+    );
     assert!(rt; has(alloc, &shelf, "P.base", BASE)?);
     assert!(rt; has(alloc, &shelf, "P.der", LIST)?);
     assert!(rt; has(alloc, &shelf, "P.int", INTERFACE)?);
-    assert_eq!(rt; run_words(alloc, "verify --core P", &mut shelf, &mut out)?, 0);
+    assert_eq!(rt;
+        run_words(alloc, "verify --core P", &mut shelf, &mut out)?,
+        0
+    );
     assert_eq!(rt;
         out.written(),
         b"built P: 3 nodes\nverified P: 3 nodes\n".as_slice()
@@ -64,11 +70,29 @@ fn lists_that_fit_nothing(rt: HostRuntime) -> Result<(), Fail> {
     let wrong = b"soundx: P.der: entry 1 fits no derivation\n";
     assert!(rt; comes(alloc, BASE, "sxder 1\nT-One\n", INTERFACE, 1, wrong)?);
     let later = b"soundx: P.der: entry 3 fits no derivation\n";
-    assert!(rt; comes(alloc, BASE, "sxder 1\nT-Pair\nT-One\nT-Two\n", INTERFACE, 1, later)?);
+    assert!(rt;
+        comes(
+            alloc,
+            BASE,
+            "sxder 1\nT-Pair\nT-One\nT-Two\n",
+            INTERFACE,
+            1,
+            later
+        )?
+    );
     let early = b"soundx: P.der: list ends early\n";
     assert!(rt; comes(alloc, BASE, "sxder 1\n", INTERFACE, 1, early)?);
     let over = b"soundx: P.der: entry 4 is left over\n";
-    assert!(rt; comes(alloc, BASE, "sxder 1\nT-Pair\nT-One\nT-One\nT-One\n", INTERFACE, 1, over)?);
+    assert!(rt;
+        comes(
+            alloc,
+            BASE,
+            "sxder 1\nT-Pair\nT-One\nT-One\nT-One\n",
+            INTERFACE,
+            1,
+            over
+        )?
+    );
     let bad = b"soundx: P.der: line 2: bad entry\n";
     assert!(rt; comes(alloc, BASE, "sxder 1\nT-None\n", INTERFACE, 1, bad)?);
     Ok(())
@@ -90,7 +114,10 @@ fn files_that_are_absent(rt: HostRuntime) -> Result<(), Fail> {
     let alloc = rt.alloc();
     let mut shelf = shelf_with(alloc, "P.core", PAIRS.as_bytes(), &[])?;
     let mut out = MemSink::new(alloc);
-    assert_eq!(rt; run_words(alloc, "verify --core P", &mut shelf, &mut out)?, 1);
+    assert_eq!(rt;
+        run_words(alloc, "verify --core P", &mut shelf, &mut out)?,
+        1
+    );
     assert_eq!(rt; out.written(), b"soundx: P.base: absent\n".as_slice());
     Ok(())
 }

@@ -21,8 +21,7 @@ returns-in-Ok-clause-terms c =
 
 pub returns-clause-step : goal.returns-clause-step
 returns-clause-step c =
-    let p = problem_data c.args.problem.now in
-    (
+    let p = problem_data c.args.problem.now in (
       c.in-Err.error,
       by_plain c.args.problem.now (λ (rs : List Rule) (hyps : Hypotheses). IsReplayAnswer (modes_of p.forms) rs hyps p.goal (entries c.args.list.now) (Err c.in-Err.error))
           (hypotheses c.nothing_given-given.result) c.nothing_given-given.ensures.none c.in-Err.ensures,
