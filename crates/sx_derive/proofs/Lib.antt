@@ -34,3 +34,4 @@ pub mod Standing
 pub mod BlameTexts
 pub mod BlameDepths
 pub mod Stopped
+pub mod FewNodes

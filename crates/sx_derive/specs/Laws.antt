@@ -3,11 +3,11 @@ use Rattle.std.specs.Prelude.{◌≤◌, ◌-◌, ◌≡◌, ℕ, suc, List, [],
 use Rattle.sx_term.specs.Tree.{Tree}
 use Rattle.sx_rules.specs.Rules.{Judgement, Rule, Hypotheses}
 use Rattle.sx_rules.specs.Modes.{Modes, Goal, goal_of, outputs_of, AllModed}
-use Rattle.sx_rules.specs.Derivations.{height_of, AreShallow, HasShallowBinds, ShallowJudgements, Proof, Derives}
+use Rattle.sx_rules.specs.Derivations.{height_of, nodes_of, AreShallow, HasShallowBinds, ShallowJudgements, Proof, Derives}
 use Rattle.sx_rules.specs.Orders.{order_of, IsBefore}
 use Rattle.sx_rules.specs.First.{Answer, DerivesGoal, AreWanted, IsFirst}
 use Rattle.sx_derive.specs.Walk.{Event, try, give, goal_events, events}
-use Rattle.sx_derive.specs.Search.{EachGiven, IsReached, IsGivenBeforeStop, HasStop, found, exhausted, walk}
+use Rattle.sx_derive.specs.Search.{EachGiven, IsReached, IsGivenBeforeStop, HasStop, found, exhausted, walk, tries_of}
 use Rattle.sx_derive.specs.Stuck.{Blame, IsStuck}
 use Rattle.sx_derive.specs.BlameTerms.{BlameHasTexts, BlameIsShallow}
 use Rattle.sx_rules.specs.Writable.{HaveTexts, JudgementsHaveTexts, RulesHaveTexts}
@@ -119,3 +119,11 @@ StuckGoalIsShallow =
     (modes subjects : Modes) (rules : List Rule) (hyps : Hypotheses) → AllModed modes rules → ShallowJudgements hyps.judgements →
     (depth : ℕ) (goal : Goal) (path : List ℕ) (blame : Blame) → AreShallow goal.terms → (HasStop (events modes rules hyps goal depth) → ⊥) →
     IsStuck modes subjects rules hyps (3001 - depth) goal path blame → BlameIsShallow blame
+
+-- each node of what a walk finds is one of its tries, and it makes no more tries than it may
+abbrev pub FoundHasFewNodes : Type 0
+FoundHasFewNodes =
+    (modes : Modes) (rules : List Rule) (hyps : Hypotheses)
+    (goal : Goal) (wanted : Option (List Tree)) (budget depth : ℕ) (a : Answer) →
+    walk wanted budget (events modes rules hyps goal depth) ≡ found a →
+    (nodes_of a.0 ≤ tries_of wanted budget (events modes rules hyps goal depth)) × (tries_of wanted budget (events modes rules hyps goal depth) ≤ budget)

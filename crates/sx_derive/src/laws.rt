@@ -1,7 +1,7 @@
 //! What is proved of the walk, of the machine and of the stuck goal.
 
 ghost use Rattle.sx_derive.specs.Samples.{SampleIsFound};
-ghost use Rattle.sx_derive.specs.Laws.{AnswersAreBounded, WalkDecides, EventsAreSound, EventsAreComplete, EachDerivationIsGiven, EventsAreInOrder, FoundIsFirst, ExhaustedMeansNone, MachineMakesEvents, StuckGoalExists, ExhaustedHasNoStop, StuckGoalIsUnique, StuckGoalHasTexts, StuckGoalIsShallow};
+ghost use Rattle.sx_derive.specs.Laws.{AnswersAreBounded, WalkDecides, EventsAreSound, EventsAreComplete, EachDerivationIsGiven, EventsAreInOrder, FoundIsFirst, ExhaustedMeansNone, MachineMakesEvents, StuckGoalExists, ExhaustedHasNoStop, StuckGoalIsUnique, StuckGoalHasTexts, StuckGoalIsShallow, FoundHasFewNodes};
 
 /// Whatever is given among the events of a goal derives it.
 pub fn events_are_sound()
@@ -77,4 +77,9 @@ pub fn stuck_goal_has_texts()
 /// are no deeper.
 pub fn stuck_goal_is_shallow()
     ensures { StuckGoalIsShallow }
+{}
+
+/// What a walk finds has no more nodes than the walk makes tries.
+pub fn found_has_few_nodes()
+    ensures { FoundHasFewNodes }
 {}

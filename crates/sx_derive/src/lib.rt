@@ -40,8 +40,8 @@ pub use derived::Derived;
 pub use found::Found;
 pub use laws::{
     answers_are_bounded, each_derivation_is_given, events_are_complete, events_are_in_order,
-    events_are_sound, exhausted_has_no_stop, exhausted_means_none, found_is_first,
-    machine_makes_events, sample_is_found, stuck_goal_exists, stuck_goal_has_texts,
+    events_are_sound, exhausted_has_no_stop, exhausted_means_none, found_has_few_nodes,
+    found_is_first, machine_makes_events, sample_is_found, stuck_goal_exists, stuck_goal_has_texts,
     stuck_goal_is_shallow, stuck_goal_is_unique, walk_decides,
 };
 pub use search::Search;

@@ -12,3 +12,4 @@ pub mod Started
 pub mod Alone
 pub mod Beginnings
 pub mod Replayed
+pub mod OneAnswer

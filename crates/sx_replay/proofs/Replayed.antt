@@ -24,7 +24,7 @@ cut (x ∷ xs) (suc k) l =
     let r = cut xs k (omega arith) in
     (r.0, r.1, ap (λ (ys : List Entry). x ∷ ys) r.2)
 
-all_taken : (xs : List Entry) (k : ℕ) → length xs ≤ k → take k xs ≡ xs
+pub all_taken : (xs : List Entry) (k : ℕ) → length xs ≤ k → take k xs ≡ xs
 all_taken [] zero l = refl
 all_taken [] (suc k) l = refl
 all_taken (x ∷ xs) zero l = absurd (omega arith)

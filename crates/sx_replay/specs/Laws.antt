@@ -1,5 +1,5 @@
 -- What is proved of fronts and of answers.
-use Rattle.std.specs.Prelude.{None, ◌≤◌, map, Vec, Result, Ok, Err, ◌≡◌, ℕ, List, ◌∷◌, ◌++◌}
+use Rattle.std.specs.Prelude.{None, ◌≤◌, map, Vec, Result, Ok, Err, ◌≡◌, ◌≢◌, ℕ, List, ◌∷◌, ◌++◌}
 use Rattle.std.specs.declared.alloc.Global.{Global}
 use Rattle.sx_term.specs.Tree.{Tree}
 use Rattle.sx_term.specs.Term.{tree}
@@ -13,7 +13,7 @@ use Rattle.sx_replay.specs.declared.replay_error.ReplayError.{ReplayError}
 use Rattle.sx_replay.specs.declared.replay_error.ReplayError.TheVariants.{Memory}
 use Rattle.sx_replay.specs.Limits.{first_deep, first_big}
 use Rattle.sx_replay.specs.Fronts.{Stage, open_one, made_in, IsFront}
-use Rattle.sx_replay.specs.Replay.{IsWithin, IsReplayed}
+use Rattle.sx_replay.specs.Replay.{IsWithin, IsReplayAnswer, IsReplayed}
 
 -- a list is that of one stage of one derivation at most: its outputs, the first terms that pass a limit and its depth are determined
 abbrev pub FrontsAreAlone : Type 0
@@ -42,3 +42,10 @@ DerivationsAreReplayed =
     (goal : Goal) (p : Proof) (outs : List Tree) → DerivesGoal modes rules hyps goal (p, outs) →
     first_deep (made_in modes rules p) ≡ None → first_big (made_in modes rules p) ≡ None → height_of p ≤ 3000 →
     (answer : Result (Vec Term Global) ReplayError) → IsReplayed modes rules hyps goal (order_of p) answer → HasOutputs outs answer
+
+-- a list has one answer, want of memory aside
+abbrev pub OneAnswerIsDue : Type 0
+OneAnswerIsDue =
+    (modes : Modes) (rules : List Rule) (hyps : Hypotheses) → AllModed modes rules →
+    (goal : Goal) (list : List Entry) (a b : Result (List Tree) ReplayError) →
+    IsReplayAnswer modes rules hyps goal list a → IsReplayAnswer modes rules hyps goal list b → (a ≢ Err Memory) → (b ≢ Err Memory) → a ≡ b

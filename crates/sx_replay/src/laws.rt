@@ -1,6 +1,6 @@
 //! Laws of fronts and answers.
 
-ghost use Rattle.sx_replay.specs.Laws.{FrontsAreAlone, BeginningsAreWithin, DerivationsAreReplayed};
+ghost use Rattle.sx_replay.specs.Laws.{FrontsAreAlone, BeginningsAreWithin, DerivationsAreReplayed, OneAnswerIsDue};
 
 /// A list is that of one derivation at most, begun or whole.
 pub fn fronts_are_alone()
@@ -15,4 +15,9 @@ pub fn beginnings_are_within()
 /// The list of a derivation within the limits is answered with the outputs of that derivation.
 pub fn derivations_are_replayed()
     ensures { DerivationsAreReplayed }
+{}
+
+/// A list has one answer, want of memory aside.
+pub fn one_answer_is_due()
+    ensures { OneAnswerIsDue }
 {}

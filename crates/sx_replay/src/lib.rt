@@ -12,7 +12,9 @@ mod replay_error;
 mod replaying;
 mod step;
 
-pub use laws::{beginnings_are_within, derivations_are_replayed, fronts_are_alone};
+pub use laws::{
+    beginnings_are_within, derivations_are_replayed, fronts_are_alone, one_answer_is_due,
+};
 pub use replay_error::ReplayError;
 pub use replaying::replay;
 

@@ -11,7 +11,7 @@ use Rattle.sx_words.proofs.CommandLaws.{one_command}
 use Rattle.sx_outside.specs.Files.{Files, after}
 use Rattle.sx_outside.specs.Faults.{Rose}
 use Rattle.sx_top.specs.Work.{Plan, plan_of}
-use Rattle.sx_top.specs.Stop.{Gives, IsStopped, RisesBy, Tried}
+use Rattle.sx_top.specs.Stop.{Gives, IsStopped, RisesBy, RisesUpTo, Tried}
 use Rattle.sx_top.specs.Commands.{by_now, Spelled}
 use Rattle.sx_top.specs.Outcome.{Outcome, Runs, Walks, Promises}
 use Rattle.sx_top.specs.Tries.{TriesOf}
@@ -26,7 +26,9 @@ use Rattle.sx_top.specs.declared.step_error.StepError.{StepError}
 use Rattle.sx_top.specs.declared.step_error.StepError.TheVariants as errors
 use Rattle.sx_top.specs.declared.work.Work.{Work}
 use Rattle.sx_top.proofs.StepsOn.{went}
-use Rattle.sx_top.proofs.CorePromise.{core_promise}
+use Rattle.sx_top.proofs.BuildPromise.{build_promise}
+use Rattle.sx_top.proofs.VerifyPromise.{verify_promise}
+use Rattle.sx_top.proofs.VerifySteps.{replayed_derives}
 
 -- a run that had a plan
 pub ends_performed : (words : List (List ℕ)) (plan : Plan) (status : Status) (old new : Files) (sent sent' : List ℕ) → Outcome words old (Ok plan) → Performs plan status old new sent sent' → Ends words status old new sent sent'
@@ -103,11 +105,12 @@ ends_told words (errors.Stopped stop) status old sent sent' outcome told = ends_
 
 -- each command keeps its promise
 kept : (command : Meant) (plan : Plan) (old new : Files) (sent sent' : List ℕ) → Runs command old (Ok plan) → IsDone plan old new sent sent' → Promises command old new sent sent'
-kept (builds true name tries nodes audits) plan old new sent sent' runs is = core_promise name old new sent sent' plan runs is
+kept (builds true name tries nodes audits) plan old new sent sent' runs is = build_promise name tries old new sent sent' plan runs is
 kept (builds false name tries nodes audits) plan old new sent sent' runs is = absurd runs
 kept (compiles name tries nodes audits) plan old new sent sent' runs is = absurd runs
 kept (checks name tries) plan old new sent sent' runs is = absurd runs
-kept (verifies of_core name) plan old new sent sent' runs is = absurd runs
+kept (verifies true name) plan old new sent sent' runs is = verify_promise replayed_derives name old new sent sent' plan runs is
+kept (verifies false name) plan old new sent sent' runs is = absurd runs
 kept (samples number) plan old new sent sent' runs is = absurd runs
 
 kept_by : (words : List (List ℕ)) (plan : Plan) (old new : Files) (sent sent' : List ℕ) → Outcome words old (Ok plan) → IsDone plan old new sent sent' → (command : Meant) → Spelled words command → Promises command old new sent sent'
@@ -147,10 +150,15 @@ within Walks before after rises = let e = rises.2 in (rises.0, rises.1, omega ar
 pub counted : (words : List (List ℕ)) (files : Files) (status : Status) (before after : ℕ) → RisesBy (HasWalks words files) before after → IsCounted words files status before after
 counted words files status before after rises = record { most = inr (within (HasWalks words files) before after rises); exact = λ done. rises }
 
+up_to : (Walks : ℕ → Type 0) (before after : ℕ) → RisesUpTo Walks before after → (tries : ℕ) × Walks tries × (after ≤ before + tries)
+up_to Walks before after rises = (rises.0, rises.1, rises.3)
+
 -- the steps of a run that had none
 pub counted_none : (words : List (List ℕ)) (files : Files) (status : Status) (e : StepError) (before after : ℕ) → (status ≡ statuses.Done → ⊥) → Tried {X = Work} (HasWalks words files) (Err e) before after → IsCounted words files status before after
-counted_none words files status e before after never (inl none) = record { most = inl none; exact = λ done. absurd (never done) }
-counted_none words files status e before after never (inr rises) = record { most = inr (within (HasWalks words files) before after rises); exact = λ done. absurd (never done) }
+counted_none words files status errors.Memory before after never (inl none) = record { most = inl none; exact = λ done. absurd (never done) }
+counted_none words files status errors.Memory before after never (inr rises) = record { most = inr (up_to (HasWalks words files) before after rises); exact = λ done. absurd (never done) }
+counted_none words files status (errors.Stopped stop) before after never (inl none) = record { most = inl none; exact = λ done. absurd (never done) }
+counted_none words files status (errors.Stopped stop) before after never (inr rises) = record { most = inr (within (HasWalks words files) before after rises); exact = λ done. absurd (never done) }
 
 -- the tries of a command are those of its walks
 pub tries_of : (command : Meant) (files : Files) (result : Result Work StepError) (before after : ℕ) → TriesOf command files result before after → Tried (Walks command files) result before after
@@ -158,7 +166,8 @@ tries_of (builds true name tries nodes audits) files result before after tried =
 tries_of (builds false name tries nodes audits) files result before after tried = absurd tried
 tries_of (compiles name tries nodes audits) files result before after tried = absurd tried
 tries_of (checks name tries) files result before after tried = absurd tried
-tries_of (verifies of_core name) files result before after tried = absurd tried
+tries_of (verifies true name) files result before after tried = tried
+tries_of (verifies false name) files result before after tried = absurd tried
 tries_of (samples number) files result before after tried = absurd tried
 
 -- a run that had no plan and ends with a read fault was stopped by one

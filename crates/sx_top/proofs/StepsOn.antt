@@ -4,7 +4,7 @@ use Rattle.std.specs.Prelude.{Result, Ok, Err, Option}
 use Rattle.sx_outside.specs.Files.{Files}
 use Rattle.sx_top.specs.declared.stop.Stop.{Stop}
 use Rattle.sx_top.specs.Steps.{Then, Goes}
-use Rattle.sx_top.specs.Stop.{Gives, OnlyReads, IsNoFault, RisesBy, Tried}
+use Rattle.sx_top.specs.Stop.{Gives, OnlyReads, IsNoFault, RisesBy, RisesUpTo, Counts, Tried}
 use Rattle.sx_top.specs.declared.step_error.StepError.{StepError}
 use Rattle.sx_top.specs.declared.step_error.StepError.TheVariants as errors
 
@@ -36,16 +36,23 @@ went_by first next result (Err stop) begins goes = absurd cc
 pub went : {A B : Type 0} (first : Result A Stop → Type 0) (next : A → Result B Stop → Type 0) (result : B) → Then first next (Ok result) → Went first next result
 went first next result steps = went_by first next result steps.given steps.begins steps.goes
 
--- where the walks were made, they were tried, whatever came then
-pub tried_all : {X : Type 0} (Walks : ℕ → Type 0) (result : Result X StepError) (before after : ℕ) → RisesBy Walks before after → Tried Walks result before after
-tried_all Walks (Ok x) before after rises = rises
-tried_all Walks (Err e) before after rises = inr rises
+-- where the tries of walks were counted, they were tried
+pub tried_counted : {X : Type 0} (Walks : ℕ → Type 0) (result : Result X StepError) (before after : ℕ) → Counts Walks result before after → Tried Walks result before after
+tried_counted Walks (Ok x) before after rises = rises
+tried_counted Walks (Err errors.Memory) before after rises = inr rises
+tried_counted Walks (Err (errors.Stopped stop)) before after rises = inr rises
 
-rises_more : (Walks Others : ℕ → Type 0) (before after : ℕ) → ((tries : ℕ) → Walks tries → Others tries) → RisesBy Walks before after → RisesBy Others before after
-rises_more Walks Others before after more rises = (rises.0, more rises.0 rises.1, rises.2)
+module _ (Walks Others : ℕ → Type 0) (before after : ℕ) (more : (tries : ℕ) → Walks tries → Others tries) where
+  rises_more : RisesBy Walks before after → RisesBy Others before after
+  rises_more rises = (rises.0, more rises.0 rises.1, rises.2)
 
--- the same tries, seen as those of other walks
-pub tried_more : {X : Type 0} (Walks Others : ℕ → Type 0) (result : Result X StepError) (before after : ℕ) → ((tries : ℕ) → Walks tries → Others tries) → Tried Walks result before after → Tried Others result before after
-tried_more Walks Others (Ok x) before after more tried = rises_more Walks Others before after more tried
-tried_more Walks Others (Err e) before after more (inl none) = inl none
-tried_more Walks Others (Err e) before after more (inr rises) = inr (rises_more Walks Others before after more rises)
+  up_more : RisesUpTo Walks before after → RisesUpTo Others before after
+  up_more rises = (rises.0, more rises.0 rises.1, rises.2, rises.3)
+
+  -- the same tries, seen as those of other walks
+  pub tried_more : {X : Type 0} (result : Result X StepError) → Tried Walks result before after → Tried Others result before after
+  tried_more (Ok x) tried = rises_more tried
+  tried_more (Err errors.Memory) (inl none) = inl none
+  tried_more (Err errors.Memory) (inr rises) = inr (up_more rises)
+  tried_more (Err (errors.Stopped stop)) (inl none) = inl none
+  tried_more (Err (errors.Stopped stop)) (inr rises) = inr (rises_more rises)

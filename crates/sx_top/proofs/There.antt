@@ -1,8 +1,13 @@
--- There are steps for each command that the words may spell by now.
-use Rattle.std.proofs.Common.{ℕ, List, sym, subst}
+-- There are steps for each command that the words may spell by now, and it has at most 1,000,000 tries to spend.
+use Rattle.std.proofs.Common.{ℕ, List, sym, subst, inl, inr}
 use Rattle.sx_words.specs.Commands.{Meant}
-use Rattle.sx_words.proofs.StageLaws.{core_goals}
-use Rattle.sx_top.specs.Commands.{Spelled, IsThere}
+use Rattle.sx_words.proofs.FewLaws.{HasFew, spelled_few}
+use Rattle.sx_words.proofs.StageLaws.{core_files}
+use Rattle.sx_top.specs.Commands.{by_now, Spelled, IsThere}
 
 pub spelled_there : (words : List (List ℕ)) (command : Meant) → Spelled words command → IsThere command
-spelled_there words command spelled = let goal = core_goals words command spelled in subst IsThere (sym goal.is) tt
+spelled_there words command spelled =
+    elim (core_files words command spelled) [
+      | inl goal ↦ subst IsThere (sym goal.is) (subst HasFew goal.is (spelled_few by_now words command spelled))
+      | inr verified ↦ subst IsThere (sym verified.is) tt
+    ]

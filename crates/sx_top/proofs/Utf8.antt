@@ -12,9 +12,8 @@ use Rattle.sx_term.specs.Tree.{Tree, Trees, node, lexeme, hole, none, ◌▹◌}
 use Rattle.sx_term.specs.Core.{core, cores, kind_byte, HasCore, HaveCore}
 use Rattle.sx_term.specs.declared.lex_kind.LexKind.{LexKind}
 use Rattle.sx_term.specs.declared.lex_kind.LexKind.TheVariants.{Id, Num, Str}
-use Rattle.sx_top.specs.CoreTexts.{places_text}
-use Rattle.sx_top.specs.GoalTexts.{places_text as shown_places}
-use Rattle.sx_top.specs.Plain.{AreTerms}
+use Rattle.sx_top.specs.GoalTexts.{places_text}
+use Rattle.sx_top.specs.Terms.{AreTerms}
 
 -- bytes that are UTF-8 are not refused
 pub not_refused : (bytes : List ℕ) (result : Result (List ℕ) TextError) (place : ℕ) → IsMade bytes result → result ≡ Err (NotUtf8 place) → IsUtf8 bytes → ⊥
@@ -46,23 +45,16 @@ mutual
   cores_utf8 none have = IsUtf8-nil
   cores_utf8 (t ▹ ts) have = front 32 _ (omega arith) (IsUtf8-append (core t) (cores ts) (core_utf8 t have.0) (cores_utf8 ts have.1))
 
--- the places of a goal
-pub places_utf8 : (modes : List Bool) (terms : List Tree) → AreTerms terms → IsUtf8 (places_text modes terms)
-places_utf8 [] terms are = IsUtf8-nil
-places_utf8 (true ∷ modes) terms are = front 32 _ (omega arith) (front 95 _ (omega arith) (places_utf8 modes terms are))
-places_utf8 (false ∷ modes) [] are = IsUtf8-nil
-places_utf8 (false ∷ modes) (term ∷ terms) are = front 32 _ (omega arith) (IsUtf8-append (core term) (places_text modes terms) are.2 (places_utf8 modes terms are.3))
-
 -- the places of a goal, with `_` for its outputs, and with the outputs got
-pub open_utf8 : (modes : List Bool) (terms : List Tree) → AreTerms terms → IsUtf8 (shown_places modes terms None)
+pub open_utf8 : (modes : List Bool) (terms : List Tree) → AreTerms terms → IsUtf8 (places_text modes terms None)
 open_utf8 [] terms are = IsUtf8-nil
 open_utf8 (true ∷ modes) terms are = front 32 _ (omega arith) (front 95 _ (omega arith) (open_utf8 modes terms are))
 open_utf8 (false ∷ modes) [] are = IsUtf8-nil
-open_utf8 (false ∷ modes) (term ∷ terms) are = front 32 _ (omega arith) (IsUtf8-append (core term) (shown_places modes terms None) are.2 (open_utf8 modes terms are.3))
+open_utf8 (false ∷ modes) (term ∷ terms) are = front 32 _ (omega arith) (IsUtf8-append (core term) (places_text modes terms None) are.2 (open_utf8 modes terms are.3))
 
-pub whole_utf8 : (modes : List Bool) (terms got : List Tree) → AreTerms terms → AreTerms got → IsUtf8 (shown_places modes terms (Some got))
+pub whole_utf8 : (modes : List Bool) (terms got : List Tree) → AreTerms terms → AreTerms got → IsUtf8 (places_text modes terms (Some got))
 whole_utf8 [] terms got are have = IsUtf8-nil
 whole_utf8 (true ∷ modes) terms [] are have = IsUtf8-nil
-whole_utf8 (true ∷ modes) terms (term ∷ got) are have = front 32 _ (omega arith) (IsUtf8-append (core term) (shown_places modes terms (Some got)) have.2 (whole_utf8 modes terms got are have.3))
+whole_utf8 (true ∷ modes) terms (term ∷ got) are have = front 32 _ (omega arith) (IsUtf8-append (core term) (places_text modes terms (Some got)) have.2 (whole_utf8 modes terms got are have.3))
 whole_utf8 (false ∷ modes) [] got are have = IsUtf8-nil
-whole_utf8 (false ∷ modes) (term ∷ terms) got are have = front 32 _ (omega arith) (IsUtf8-append (core term) (shown_places modes terms (Some got)) are.2 (whole_utf8 modes terms got are.3 have))
+whole_utf8 (false ∷ modes) (term ∷ terms) got are have = front 32 _ (omega arith) (IsUtf8-append (core term) (places_text modes terms (Some got)) are.2 (whole_utf8 modes terms got are.3 have))

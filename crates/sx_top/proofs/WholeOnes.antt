@@ -5,7 +5,7 @@ use Rattle.sx_outside.specs.Files.{Files}
 use Rattle.sx_rules.specs.Views.{modes_of, subjects_in}
 use Rattle.sx_rules.specs.Modes.{AllModed}
 use Rattle.sx_rules.specs.First.{Answer}
-use Rattle.sx_first.specs.Problem.{Problem}
+use Rattle.sx_core.specs.Problem.{Problem}
 use Rattle.sx_derive.specs.Search.{Ending, found, stopped, spent, exhausted, walk}
 use Rattle.sx_derive.specs.Stuck.{Blame}
 use Rattle.sx_derive.proofs.BlamedOnce.{stuck_goal_is_unique}

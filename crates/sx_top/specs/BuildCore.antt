@@ -1,16 +1,17 @@
--- The steps of `build --core NAME`.
+-- The steps of `build --core NAME`, and what it promises.
 use Rattle.std.specs.Prelude.{◌≡◌, ◌≢◌, ℕ, List, [], ◌∷◌, ◌++◌, Result, Ok, Some, codes, decimal}
 use Rattle.sx_outside.specs.Files.{Files}
 use Rattle.sx_rules.specs.Derivations.{nodes_of}
 use Rattle.sx_rules.specs.Orders.{order_of}
 use Rattle.sx_rules.specs.First.{Answer}
-use Rattle.sx_first.specs.Problem.{Problem}
-use Rattle.sx_first.specs.FirstForm.{StatesFirst}
+use Rattle.sx_core.specs.Problem.{Problem}
+use Rattle.sx_core.specs.CoreRead.{IsCoreAnswer}
 use Rattle.sx_top.specs.CoreTexts.{subject_text, list_text, term_lines}
 use Rattle.sx_top.specs.declared.stop.Stop.{Stop}
 use Rattle.sx_top.specs.Steps.{Then}
-use Rattle.sx_top.specs.ReadCore.{ReadsCore}
-use Rattle.sx_top.specs.FindFirst.{Finds, IsFirstOf, HasTries}
+use Rattle.sx_top.specs.ReadCore.{core_file, base_file, list_file, interface_file, Reads}
+use Rattle.sx_top.specs.FindFirst.{IsFirstOf}
+use Rattle.sx_top.specs.Search.{Searches, HasWalked}
 use Rattle.sx_top.specs.Work.{Plan}
 
 -- the line that tells how many nodes the derivation has
@@ -20,43 +21,43 @@ built_line name answer = codes "built " ++ name ++ codes ": " ++ decimal (nodes_
 -- the three files and the line
 unfoldable pub core_plan : List ℕ → Problem → Answer → Plan
 core_plan name problem answer = record {
-  files = record { name = name ++ codes ".base"; bytes = subject_text problem.forms problem.goal } ∷ record { name = name ++ codes ".der"; bytes = list_text problem.rules (order_of answer.0) } ∷ record { name = name ++ codes ".int"; bytes = term_lines answer.1 } ∷ [];
+  files = record { name = base_file name; bytes = subject_text problem.forms problem.goal } ∷ record { name = list_file name; bytes = list_text problem.rules (order_of answer.0) } ∷ record { name = interface_file name; bytes = term_lines answer.1 } ∷ [];
   lines = built_line name answer;
 }
 
--- the steps from the problem that the file states
-abbrev pub BuildsGoal : List ℕ → List ℕ → Problem → Result Plan Stop → Type 0
-BuildsGoal name file problem = Then (Finds file problem) (λ answer result. result ≡ Ok (core_plan name problem answer))
+-- the first derivation of the problem's goal, and then the three files and the line
+abbrev pub BuildsGoal : List ℕ → List ℕ → ℕ → Problem → Result Plan Stop → Type 0
+BuildsGoal name file budget problem =
+    Then (Searches file budget problem) (λ answer result. result ≡ Ok (core_plan name problem answer))
 
 -- the steps of the command, with the name of its file
-abbrev pub BuildsFrom : List ℕ → List ℕ → Files → Result Plan Stop → Type 0
-BuildsFrom name file files = Then (ReadsCore file files) (BuildsGoal name file)
+abbrev pub BuildsFrom : List ℕ → List ℕ → ℕ → Files → Result Plan Stop → Type 0
+BuildsFrom name file budget files = Then (Reads file files) (BuildsGoal name file budget)
 
-abbrev pub BuildsCore : List ℕ → Files → Result Plan Stop → Type 0
-BuildsCore name files = BuildsFrom name (name ++ codes ".core") files
+-- the steps of the command, with so many tries to spend
+abbrev pub BuildsWhole : List ℕ → ℕ → Files → Result Plan Stop → Type 0
+BuildsWhole name budget files = BuildsFrom name (core_file name) budget files
 
 -- the walk of the goal that the file states makes so many tries
-pub record FileTries (file : List ℕ) (files : Files) (tries : ℕ) : Type 0 where
-  pub bytes : List ℕ
+pub record FileTries (file : List ℕ) (budget : ℕ) (files : Files) (tries : ℕ) : Type 0 where
   pub problem : Problem
-  pub held : files file ≡ Some bytes
-  pub stated : StatesFirst bytes problem
-  pub made : HasTries problem tries
+  pub reads : Reads file files (Ok problem)
+  pub walked : HasWalked budget problem tries
 
-abbrev pub CoreTries : List ℕ → Files → ℕ → Type 0
-CoreTries name files tries = FileTries (name ++ codes ".core") files tries
+abbrev pub WholeTries : List ℕ → ℕ → Files → ℕ → Type 0
+WholeTries name budget files tries = FileTries (core_file name) budget files tries
 
 -- The three files are those of the first derivation of the goal that NAME.core states, all other files are as before,
 -- and the sink got the line with the number of its nodes.
-pub record CoreUnit (name : List ℕ) (old new : Files) (sent sent' : List ℕ) : Type 0 where
+pub record BuiltUnit (name : List ℕ) (old new : Files) (sent sent' : List ℕ) : Type 0 where
   pub bytes : List ℕ
   pub problem : Problem
   pub answer : Answer
-  pub held : old (name ++ codes ".core") ≡ Some bytes
-  pub stated : StatesFirst bytes problem
+  pub held : old (core_file name) ≡ Some bytes
+  pub stated : IsCoreAnswer bytes (Ok problem)
   pub first : IsFirstOf problem answer
-  pub base : new (name ++ codes ".base") ≡ Some (subject_text problem.forms problem.goal)
-  pub list : new (name ++ codes ".der") ≡ Some (list_text problem.rules (order_of answer.0))
-  pub interface : new (name ++ codes ".int") ≡ Some (term_lines answer.1)
-  pub others : (other : List ℕ) → other ≢ name ++ codes ".base" → other ≢ name ++ codes ".der" → other ≢ name ++ codes ".int" → new other ≡ old other
+  pub base : new (base_file name) ≡ Some (subject_text problem.forms problem.goal)
+  pub list : new (list_file name) ≡ Some (list_text problem.rules (order_of answer.0))
+  pub interface : new (interface_file name) ≡ Some (term_lines answer.1)
+  pub others : (other : List ℕ) → other ≢ base_file name → other ≢ list_file name → other ≢ interface_file name → new other ≡ old other
   pub line : sent' ≡ sent ++ built_line name answer

@@ -1,14 +1,14 @@
 -- The step that reads the words, and the commands that there are by now.
-use Rattle.std.specs.Prelude.{◌≡◌, ℕ, true, List, Result, Ok, Err}
-use Rattle.sx_words.specs.Commands.{Meant, builds, SpellsAt, IsMisfitAt}
+use Rattle.std.specs.Prelude.{◌≡◌, ℕ, ◌≤◌, true, List, Result, Ok, Err}
+use Rattle.sx_words.specs.Commands.{Meant, builds, verifies, SpellsAt, IsMisfitAt}
 use Rattle.sx_words.specs.declared.stage.Stage.{Stage}
-use Rattle.sx_words.specs.declared.stage.Stage.TheVariants.{CoreGoals}
+use Rattle.sx_words.specs.declared.stage.Stage.TheVariants.{CoreFiles}
 use Rattle.sx_top.specs.declared.stop.Stop.{Stop}
 use Rattle.sx_top.specs.Refusal.{bad_word}
 
--- the commands that there are by now: `build --core NAME`
+-- the commands that there are by now: `build --core`, with `--tries`, and `verify --core`
 abbrev pub by_now : Stage
-by_now = CoreGoals
+by_now = CoreFiles
 
 -- the words spell the command, of those that there are by now
 abbrev pub Spelled : List (List ℕ) → Meant → Type 0
@@ -19,7 +19,8 @@ abbrev pub Commands : List (List ℕ) → Result Meant Stop → Type 0
 Commands words (Ok command) = Spelled words command
 Commands words (Err stop) = (place : ℕ) × IsMisfitAt by_now words place × (stop ≡ bad_word place)
 
--- there are steps for the command
+-- there are steps for the command, and it has at most 1,000,000 tries to spend
 abbrev pub IsThere : Meant → Type 0
-IsThere (builds true name tries nodes audits) = Unit {0}
+IsThere (builds true name tries nodes audits) = tries ≤ 1000000
+IsThere (verifies true name) = Unit {0}
 IsThere command = ⊥

@@ -19,7 +19,7 @@ use Rattle.sx_words.specs.declared.refusal.Defect.TheVariants as defect
 use Rattle.sx_derive.specs.Stuck.{Blame, Reason, no_rule, unequal, mismatch}
 use Rattle.sx_rules.specs.Views.{FormData, NamedRule}
 use Rattle.sx_rules.specs.Modes.{Goal}
-use Rattle.sx_first.specs.Problem.{Problem}
+use Rattle.sx_core.specs.Problem.{Problem}
 use Rattle.sx_top.specs.declared.stop.Stop.{Stop}
 use Rattle.sx_top.specs.Refusal.{about}
 use Rattle.sx_top.specs.CoreTexts.{rule_name}

@@ -1,10 +1,10 @@
--- The texts of a core problem: its goal in a printed line, and the three files of a derivation.
-use Rattle.std.specs.Prelude.{ℕ, ◌+◌, Bool, true, false, List, [], ◌∷◌, ◌++◌, map, Option, Some, None, slice_get, codes, decimal}
+-- The texts of a core problem: names of forms and rules, and the three files of a derivation.
+use Rattle.std.specs.Prelude.{ℕ, ◌+◌, List, [], ◌∷◌, ◌++◌, map, Option, Some, None, slice_get, codes, decimal}
 use Rattle.sx_term.specs.Tree.{Tree}
 use Rattle.sx_term.specs.Core.{core}
 use Rattle.sx_rules.specs.declared.rule.Role.{Role}
 use Rattle.sx_rules.specs.declared.rule.Role.TheVariants.{In, Sub, Out}
-use Rattle.sx_rules.specs.Views.{FormData, NamedRule, places_at, modes_of}
+use Rattle.sx_rules.specs.Views.{FormData, NamedRule, places_at}
 use Rattle.sx_rules.specs.Modes.{Goal}
 use Rattle.sx_rules.specs.Orders.{Entry, of_given, of_rule}
 
@@ -19,17 +19,6 @@ form_name_or_none (Some form) = form.name
 -- the name of the form with this number
 abbrev pub form_name : List FormData → ℕ → List ℕ
 form_name forms number = form_name_or_none (slice_get forms number)
-
--- each place after a blank: the core text, or `_` for an output
-abbrev pub places_text : List Bool → List Tree → List ℕ
-places_text [] terms = []
-places_text (true ∷ modes) terms = codes " _" ++ places_text modes terms
-places_text (false ∷ modes) [] = []
-places_text (false ∷ modes) (term ∷ terms) = 32 ∷ (core term ++ places_text modes terms)
-
--- a goal as it is printed
-abbrev pub goal_text : List FormData → Goal → List ℕ
-goal_text forms goal = form_name forms goal.form ++ places_text (modes_of forms goal.form) goal.terms
 
 -- the subject among the inputs
 abbrev pub subjects : List Role → List Tree → List Tree

@@ -1,18 +1,31 @@
--- The step that reads a core file: what its bytes state.
-use Rattle.std.specs.Prelude.{◌≡◌, ℕ, List, Result, Ok, Err}
+-- The files of a core file, and the step that reads it.
+use Rattle.std.specs.Prelude.{ℕ, List, ◌++◌, map, Result, codes}
 use Rattle.sx_outside.specs.Files.{Files}
-use Rattle.sx_first.specs.Problem.{Problem}
-use Rattle.sx_first.specs.FirstForm.{StatesFirst}
+use Rattle.sx_core.specs.Problem.{Problem}
+use Rattle.sx_core.specs.CoreRead.{IsCoreAnswer}
 use Rattle.sx_top.specs.declared.stop.Stop.{Stop}
-use Rattle.sx_top.specs.Refusal.{not_read_yet}
 use Rattle.sx_top.specs.Steps.{Then}
-use Rattle.sx_top.specs.Holds.{Holds}
+use Rattle.sx_top.specs.Lower.{Lower}
+use Rattle.sx_top.specs.LowerStops.{core_stop}
+use Rattle.sx_top.specs.Held.{Held, most_bytes}
 
--- the problem that the bytes of the file state, or they are no core file of the first form
-abbrev pub StatesCore : List ℕ → List ℕ → Result Problem Stop → Type 0
-StatesCore file bytes (Ok problem) = StatesFirst bytes problem
-StatesCore file bytes (Err stop) = (stop ≡ not_read_yet file) × ((problem : Problem) → StatesFirst bytes problem → ⊥)
+-- the files of a core file
+abbrev pub core_file : List ℕ → List ℕ
+core_file name = name ++ codes ".core"
 
--- the bytes of the file, and then what they state
-abbrev pub ReadsCore : List ℕ → Files → Result Problem Stop → Type 0
-ReadsCore file files = Then (Holds files file) (StatesCore file)
+abbrev pub base_file : List ℕ → List ℕ
+base_file name = name ++ codes ".base"
+
+abbrev pub list_file : List ℕ → List ℕ
+list_file name = name ++ codes ".der"
+
+abbrev pub interface_file : List ℕ → List ℕ
+interface_file name = name ++ codes ".int"
+
+-- the names of a problem's rules
+abbrev pub rule_names : Problem → List (List ℕ)
+rule_names problem = map (λ r. r.name) problem.rules
+
+-- the bytes of the file, and then the problem that they state
+abbrev pub Reads : List ℕ → Files → Result Problem Stop → Type 0
+Reads file files = Then (Held most_bytes file files) (λ bytes. Lower (core_stop file) (IsCoreAnswer bytes))

@@ -5,7 +5,6 @@ use Rattle.sx_words.specs.RefusalText.{refusal_text}
 use Rattle.sx_words.specs.declared.place.Place.TheVariants.{Nowhere}
 use Rattle.sx_words.specs.declared.file_defect.FileDefect.{FileDefect}
 use Rattle.sx_words.specs.declared.file_defect.FileDefect.TheVariants as file_defect
-use Rattle.sx_words.specs.declared.goal_defect.GoalDefect.TheVariants as goal_defect
 use Rattle.sx_words.specs.declared.refusal.Defect.{Defect}
 use Rattle.sx_words.specs.declared.refusal.Defect.TheVariants as defect
 use Rattle.sx_top.specs.declared.stop.Stop.{Stop}
@@ -33,14 +32,6 @@ read_fault file = about file (defect.File file_defect.ReadFault)
 -- writing the file failed
 abbrev pub write_fault : List ℕ → Stop
 write_fault file = about file (defect.File file_defect.WriteFault)
-
--- the file is no core file of the first form; this one goes when core files are read whole
-abbrev pub not_read_yet : List ℕ → Stop
-not_read_yet file = about file (defect.File (file_defect.Notation (codes "not read yet")))
-
--- no rule concludes the goal, which is given as it is printed
-abbrev pub no_rule : List ℕ → List ℕ → Stop
-no_rule file goal = about file (defect.Goal (goal_defect.NoRule goal))
 
 -- ---- what a stop answers
 

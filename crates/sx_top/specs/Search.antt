@@ -2,7 +2,7 @@
 use Rattle.std.specs.Prelude.{◌≡◌, ℕ, ◌^◌, ◌-◌, min, List, [], Result, Ok, Err, None}
 use Rattle.sx_rules.specs.Views.{modes_of, subjects_in}
 use Rattle.sx_rules.specs.First.{Answer}
-use Rattle.sx_first.specs.Problem.{Problem}
+use Rattle.sx_core.specs.Problem.{Problem}
 use Rattle.sx_derive.specs.Walk.{Event, Cause, depth_spent as passes_depth, too_deep as passes_terms, too_big as passes_size, events}
 use Rattle.sx_derive.specs.Search.{Ending, found, stopped, spent, exhausted, walk, tries_of}
 use Rattle.sx_derive.specs.Stuck.{Blame, IsStuck}

@@ -37,7 +37,18 @@ pub record OnlyReads {X : Type 0} (old new : Option Files) (reads_before reads_a
 abbrev pub RisesBy : (ℕ → Type 0) → ℕ → ℕ → Type 0
 RisesBy Walks before after = (tries : ℕ) × Walks tries × (after ≡ before + tries)
 
--- the steps rose by the tries of these walks, or not at all where something stopped them
+-- the steps rose by at most the tries of these walks
+abbrev pub RisesUpTo : (ℕ → Type 0) → ℕ → ℕ → Type 0
+RisesUpTo Walks before after = (tries : ℕ) × Walks tries × (before ≤ after) × (after ≤ before + tries)
+
+-- the steps rose by the tries of these walks, or by at most as many where memory lacked
+abbrev pub Counts : {X : Type 0} → (ℕ → Type 0) → Result X StepError → ℕ → ℕ → Type 0
+Counts Walks (Ok x) before after = RisesBy Walks before after
+Counts Walks (Err errors.Memory) before after = RisesUpTo Walks before after
+Counts Walks (Err (errors.Stopped stop)) before after = RisesBy Walks before after
+
+-- so they rose, or not at all where something stopped them before
 abbrev pub Tried : {X : Type 0} → (ℕ → Type 0) → Result X StepError → ℕ → ℕ → Type 0
 Tried Walks (Ok x) before after = RisesBy Walks before after
-Tried Walks (Err e) before after = (after ≡ before) ⊎ RisesBy Walks before after
+Tried Walks (Err errors.Memory) before after = (after ≡ before) ⊎ RisesUpTo Walks before after
+Tried Walks (Err (errors.Stopped stop)) before after = (after ≡ before) ⊎ RisesBy Walks before after

@@ -1,13 +1,14 @@
 -- What the steps of each command say of its tries.
-use Rattle.std.specs.Prelude.{ℕ, true, Result}
+use Rattle.std.specs.Prelude.{◌≡◌, ℕ, true, Result}
 use Rattle.sx_outside.specs.Files.{Files}
 use Rattle.sx_top.specs.Stop.{Tried}
-use Rattle.sx_top.specs.BuildCore.{CoreTries}
-use Rattle.sx_words.specs.Commands.{Meant, builds}
+use Rattle.sx_top.specs.BuildCore.{WholeTries}
+use Rattle.sx_words.specs.Commands.{Meant, builds, verifies}
 use Rattle.sx_top.specs.declared.step_error.StepError.{StepError}
 use Rattle.sx_top.specs.declared.work.Work.{Work}
 
 -- the steps rose by the tries of the command's walks, or not at all where something stopped them
 abbrev pub TriesOf : Meant → Files → Result Work StepError → ℕ → ℕ → Type 0
-TriesOf (builds true name tries nodes audits) files result before after = Tried (CoreTries name files) result before after
+TriesOf (builds true name tries nodes audits) files result before after = Tried (WholeTries name tries files) result before after
+TriesOf (verifies true name) files result before after = Tried (λ made. made ≡ 0) result before after
 TriesOf command files result before after = ⊥

@@ -1,34 +1,31 @@
 //! The steps of `build --core NAME`.
 
-ghost use Rattle.std.specs.Prelude.{◌≡◌, ◌++◌, ℕ, IfOk, Some, slice_get, [], ◌∷◌, map};
+ghost use Rattle.std.specs.Prelude.{◌≡◌, ◌++◌, IfOk, [], ◌∷◌, map};
 ghost use Rattle.sx_outside.specs.Told.{WhereTold};
 ghost use Rattle.sx_term.specs.Term.{tree};
-ghost use Rattle.sx_first.specs.Problem.{problem as problem_data};
-ghost use Rattle.sx_rules.specs.Views.{named};
-ghost use Rattle.sx_top.specs.Plain.{AreTerms, IsSimple, rule_answer};
-ghost use Rattle.sx_top.specs.FindFirst.{HasTries};
-ghost use Rattle.sx_top.specs.BuildCore.{core_plan, BuildsGoal, BuildsFrom, BuildsCore, FileTries, CoreTries};
-ghost use Rattle.sx_top.specs.CoreTexts.{goal_text as text_of_goal};
-ghost use Rattle.sx_top.specs.Refusal.{no_rule};
+ghost use Rattle.sx_core.specs.Problem.{problem as problem_data};
+ghost use Rattle.sx_derive.specs.Deriving.{answer_of};
+ghost use Rattle.sx_top.specs.BuildCore.{core_plan, BuildsGoal, BuildsFrom, BuildsWhole, FileTries, WholeTries};
 ghost use Rattle.sx_top.specs.Ending.{RisesWithin};
-ghost use Rattle.sx_top.specs.Stop.{Gives, OnlyReads, IsNoFault, RisesBy, Tried};
+ghost use Rattle.sx_top.specs.Proper.{IsProper, IsGiven};
+ghost use Rattle.sx_top.specs.Search.{HasWalked};
+ghost use Rattle.sx_top.specs.Stop.{Gives, OnlyReads, IsNoFault, Counts, Tried};
+ghost use Rattle.sx_top.specs.Terms.{AreTerms};
 ghost use Rattle.sx_top.specs.Work.{plan_of, file_of};
 
-use crate::forms::places_of;
 use crate::names::with_suffix;
 use crate::read_core::read_problem;
 use crate::search::find_first;
 use crate::step_error::StepError;
-use crate::stop::{Stop, about};
-use crate::texts::{base_text, built_line, goal_text, interface_text, list_text};
+use crate::texts::{base_text, built_line, interface_text, list_text};
 use crate::work::{Output, Work};
 use std::alloc::Global;
 use std::sync::ledger::Ledger;
-use sx_first::CoreProblem;
+use sx_core::CoreProblem;
+use sx_derive::Derived;
 use sx_outside::Shelf;
-use sx_rules::Rule;
+use sx_rules::preorder;
 use sx_term::{NoMemory, Steps, Text};
-use sx_words::{Defect, GoalDefect};
 
 /// A file to write, under the name with a suffix.
 fn output(alloc: Global, name: &Text, suffix: &str, bytes: Vec<u8>) -> Result<Output, NoMemory>
@@ -54,40 +51,27 @@ fn three(
     Ok(files)
 }
 
-/// The three files, and the line, of the derivation that is this rule.
+/// The three files of the derivation, and the line.
 fn make_work(
     alloc: Global,
     name: &Text,
     problem: &CoreProblem,
-    rule: &Rule,
+    derived: &Derived,
 ) -> Result<Work, NoMemory>
     requires goal { AreTerms (map tree problem.now.goal.inputs.items) }
-    requires conclusion { AreTerms (map tree rule.now.conclusion.places.items) }
-    ensures { IfOk result (λ work. (number : ℕ) → slice_get (problem_data problem.now).rules number ≡ Some (named rule.now)
-        → plan_of work ≡ core_plan name.now (problem_data problem.now) (rule_answer (problem_data problem.now) number (named rule.now))) }
+    requires given { IsGiven (problem_data problem.now) (answer_of derived.now) }
+    ensures { IfOk result (λ work. plan_of work ≡ core_plan name.now (problem_data problem.now) (answer_of derived.now)) }
 {
-    let forms = problem.rules.forms();
-    let conclusion = &rule.conclusion;
-    let places = places_of(forms, conclusion.form);
-    let base_bytes = base_text(alloc, forms, &problem.goal)?;
-    let list_bytes = list_text(alloc, &rule.name)?;
-    let interface_bytes = interface_text(alloc, places, &conclusion.places)?;
+    let list = preorder(alloc, &derived.proof)?;
+    let base_bytes = base_text(alloc, problem.rules.forms(), &problem.goal)?;
+    let list_bytes = list_text(alloc, &problem.rules, &list)?;
+    let interface_bytes = interface_text(alloc, &derived.outputs)?;
     let base = output(alloc, name, ".base", base_bytes)?;
-    let list = output(alloc, name, ".der", list_bytes)?;
+    let entries = output(alloc, name, ".der", list_bytes)?;
     let interface = output(alloc, name, ".int", interface_bytes)?;
-    let files = three(alloc, base, list, interface)?;
-    let lines = built_line(alloc, name, 1)?;
+    let files = three(alloc, base, entries, interface)?;
+    let lines = built_line(alloc, name, list.len() as u64)?;
     Ok(Work { files, lines })
-}
-
-/// The refusal of a goal that no rule concludes.
-fn refuse(alloc: Global, file: &Text, problem: &CoreProblem) -> Result<Stop, NoMemory>
-    requires { AreTerms (map tree problem.now.goal.inputs.items) }
-    ensures { IfOk result (λ stop. stop ≡ no_rule file.now (text_of_goal (problem_data problem.now).forms (problem_data problem.now).goal)) }
-{
-    let file = file.copy(alloc)?;
-    let goal = goal_text(alloc, problem.rules.forms(), &problem.goal)?;
-    Ok(about(file, Defect::Goal(GoalDefect::NoRule { goal })))
 }
 
 /// The steps from the problem that the file states.
@@ -96,23 +80,21 @@ fn plan_goal<L: Ledger>(
     name: &Text,
     file: &Text,
     problem: &CoreProblem,
+    budget: u64,
     steps: &mut Steps<L>,
 ) -> Result<Work, StepError>
-    requires { IsSimple (problem_data problem.now) }
-    ensures step { Gives plan_of (BuildsGoal name.now file.now (problem_data problem.now)) result }
+    requires { IsProper (problem_data problem.now) }
+    ensures step { Gives plan_of (BuildsGoal name.now file.now budget (problem_data problem.now)) result }
     ensures no_fault { IsNoFault result }
-    ensures tries { RisesBy (HasTries (problem_data problem.now)) steps.old steps.new }
-    ensures most { RisesWithin 4096 steps.old steps.new }
+    ensures tries { Counts (HasWalked budget (problem_data problem.now)) result steps.old steps.new }
+    ensures most { RisesWithin budget steps.old steps.new }
 {
-    match find_first(problem, steps) {
-        Some(rule) => match make_work(alloc, name, problem, rule) {
+    match find_first(alloc, file, problem, budget, steps) {
+        Ok(derived) => match make_work(alloc, name, problem, &derived) {
             Ok(work) => Ok(work),
             Err(_) => Err(StepError::Memory),
         },
-        None => match refuse(alloc, file, problem) {
-            Ok(stop) => Err(StepError::Stopped(stop)),
-            Err(_) => Err(StepError::Memory),
-        },
+        Err(e) => Err(e),
     }
 }
 
@@ -121,38 +103,40 @@ fn plan_file<S: Shelf, L: Ledger>(
     alloc: Global,
     name: &Text,
     file: &Text,
+    budget: u64,
     shelf: &mut S,
     steps: &mut Steps<L>,
 ) -> Result<Work, StepError>
-    ensures step { WhereTold (S.content shelf.old) (λ files. Gives plan_of (BuildsFrom name.now file.now files) result) }
+    ensures step { WhereTold (S.content shelf.old) (λ files. Gives plan_of (BuildsFrom name.now file.now budget files) result) }
     ensures reads { OnlyReads (S.content shelf.old) (S.content shelf.new)
         (S.read_faults shelf.old) (S.read_faults shelf.new)
         (S.write_faults shelf.old) (S.write_faults shelf.new) result }
-    ensures tries { WhereTold (S.content shelf.old) (λ files. Tried (FileTries file.now files) result steps.old steps.new) }
-    ensures most { RisesWithin 4096 steps.old steps.new }
+    ensures tries { WhereTold (S.content shelf.old) (λ files. Tried (FileTries file.now budget files) result steps.old steps.new) }
+    ensures most { RisesWithin budget steps.old steps.new }
 {
     match read_problem(alloc, file, shelf) {
-        Ok(problem) => plan_goal(alloc, name, file, &problem, steps),
+        Ok(problem) => plan_goal(alloc, name, file, &problem, budget, steps),
         Err(e) => Err(e),
     }
 }
 
-/// The steps of `build --core NAME`.
+/// The steps of `build --core NAME`, with so many tries to spend.
 pub fn plan_build_core<S: Shelf, L: Ledger>(
     alloc: Global,
     name: &Text,
+    budget: u64,
     shelf: &mut S,
     steps: &mut Steps<L>,
 ) -> Result<Work, StepError>
-    ensures step { WhereTold (S.content shelf.old) (λ files. Gives plan_of (BuildsCore name.now files) result) }
+    ensures step { WhereTold (S.content shelf.old) (λ files. Gives plan_of (BuildsWhole name.now budget files) result) }
     ensures reads { OnlyReads (S.content shelf.old) (S.content shelf.new)
         (S.read_faults shelf.old) (S.read_faults shelf.new)
         (S.write_faults shelf.old) (S.write_faults shelf.new) result }
-    ensures tries { WhereTold (S.content shelf.old) (λ files. Tried (CoreTries name.now files) result steps.old steps.new) }
-    ensures most { RisesWithin 4096 steps.old steps.new }
+    ensures tries { WhereTold (S.content shelf.old) (λ files. Tried (WholeTries name.now budget files) result steps.old steps.new) }
+    ensures most { RisesWithin budget steps.old steps.new }
 {
     match with_suffix(alloc, name, ".core") {
-        Ok(file) => plan_file(alloc, name, &file, shelf, steps),
+        Ok(file) => plan_file(alloc, name, &file, budget, shelf, steps),
         Err(_) => Err(StepError::Memory),
     }
 }

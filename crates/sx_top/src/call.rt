@@ -44,9 +44,9 @@ pub fn run<S: Shelf, I: Source, K: Sink, L: Ledger>(
         → (Rose (K.faults out.old) (K.faults out.new) → ⊥)
         → IsDoneOrShort result) }
 
-    // The steps are those of the command's walks.
+    // The steps are those of the command's walks, which make at most 1,000,000 tries.
     ensures steps { WhereTold (S.content shelf.old) (λ files. IsCounted words.now files result steps.old steps.new) }
-    ensures most { RisesWithin 4096 steps.old steps.new }
+    ensures most { RisesWithin 1000000 steps.old steps.new }
 {
     let _ = input;
     match plan(alloc, words, shelf, steps) {

@@ -17,7 +17,7 @@ use sx_words::{Command, Defect, FileDefect, Stage, WordsError, read_words_at};
 fn by_now() -> Stage
     ensures { result ≡ stage_by_now }
 {
-    Stage::CoreGoals
+    Stage::CoreFiles
 }
 
 /// The refusal of words that are no command.

@@ -1,18 +1,21 @@
 //! Goals of core files that have no derivation.
 
-ghost use Rattle.std.specs.Prelude.{◌≡◌, IfOk, Some, None, map};
+ghost use Rattle.std.specs.Prelude.{◌≡◌, ◌+◌, IfOk, Some, None, map};
 ghost use Rattle.sx_term.specs.Term.{tree};
 ghost use Rattle.sx_rules.specs.Views.{goal as goal_data};
 ghost use Rattle.sx_rules.specs.Sets.{forms_in, rules_in};
 ghost use Rattle.sx_derive.specs.Stuck as reasons;
+ghost use Rattle.sx_derive.specs.Blames.{blame_of};
+ghost use Rattle.sx_derive.specs.BlameTerms.{got_in};
 ghost use Rattle.sx_top.specs.CoreTexts as core_texts;
 ghost use Rattle.sx_top.specs.CoreStops.{stuck};
-ghost use Rattle.sx_top.specs.Plain.{AreTerms};
+ghost use Rattle.sx_top.specs.Terms.{AreTerms};
 
 use crate::goal_texts::{open_goal, whole_goal};
 use crate::names::text_of;
 use crate::stop::{Stop, about};
 use std::alloc::Global;
+use sx_derive::{Blame, Cause};
 use sx_rules::{Goal, RuleSet};
 use sx_term::{NoMemory, Term, Text};
 use sx_words::{Defect, GoalDefect};
@@ -27,8 +30,18 @@ fn rule_name(alloc: Global, rules: &RuleSet, number: u32) -> Result<Text, NoMemo
     }
 }
 
+/// The number of a premise in a printed line, from 1. No rule in memory has a premise whose number is past the greatest u64.
+fn premise_number(premise: usize) -> Result<u64, NoMemory>
+    ensures { IfOk result (λ number. number ≡ premise + 1) }
+{
+    match (premise as u64).checked_add(1) {
+        Some(number) => Ok(number),
+        None => Err(NoMemory::Memory),
+    }
+}
+
 /// No rule concludes the goal.
-pub fn no_rule(alloc: Global, file: &Text, rules: &RuleSet, goal: &Goal) -> Result<Stop, NoMemory>
+fn no_rule(alloc: Global, file: &Text, rules: &RuleSet, goal: &Goal) -> Result<Stop, NoMemory>
     requires { AreTerms (map tree goal.now.inputs.items) }
     ensures { IfOk result (λ stop. stop ≡ stuck file.now (forms_in rules.now) (rules_in rules.now) (goal_data goal.now) reasons.no_rule) }
 {
@@ -38,13 +51,13 @@ pub fn no_rule(alloc: Global, file: &Text, rules: &RuleSet, goal: &Goal) -> Resu
 }
 
 /// A premise of a rule finds two terms that are not apart. The premise counts from 0.
-pub fn not_apart(
+fn not_apart(
     alloc: Global,
     file: &Text,
     rules: &RuleSet,
     goal: &Goal,
     rule: u32,
-    premise: u32,
+    premise: usize,
 ) -> Result<Stop, NoMemory>
     requires { AreTerms (map tree goal.now.inputs.items) }
     ensures { IfOk result (λ stop. stop ≡ stuck file.now (forms_in rules.now) (rules_in rules.now) (goal_data goal.now) (reasons.unequal rule premise)) }
@@ -52,7 +65,7 @@ pub fn not_apart(
     let file = file.copy(alloc)?;
     let goal = open_goal(alloc, rules.forms(), goal)?;
     let rule = rule_name(alloc, rules, rule)?;
-    let premise = u64::from(premise) + 1;
+    let premise = premise_number(premise)?;
     let defect = GoalDefect::Equal {
         goal,
         premise,
@@ -62,12 +75,12 @@ pub fn not_apart(
 }
 
 /// The outputs got are not what a premise of a rule asks for. The premise counts from 0.
-pub fn not_asked(
+fn not_asked(
     alloc: Global,
     file: &Text,
     rules: &RuleSet,
     goal: &Goal,
-    by: (u32, u32),
+    by: (u32, usize),
     got: &[Term],
 ) -> Result<Stop, NoMemory>
     requires inputs { AreTerms (map tree goal.now.inputs.items) }
@@ -78,7 +91,7 @@ pub fn not_asked(
     let goal = whole_goal(alloc, rules.forms(), goal, got)?;
     let (rule, premise) = by;
     let rule = rule_name(alloc, rules, rule)?;
-    let premise = u64::from(premise) + 1;
+    let premise = premise_number(premise)?;
     let defect = GoalDefect::Mismatch {
         goal,
         premise,
@@ -88,7 +101,7 @@ pub fn not_asked(
 }
 
 /// The outputs got are not the stated ones.
-pub fn not_stated(
+fn not_stated(
     alloc: Global,
     file: &Text,
     rules: &RuleSet,
@@ -102,4 +115,37 @@ pub fn not_stated(
     let file = file.copy(alloc)?;
     let goal = whole_goal(alloc, rules.forms(), goal, got)?;
     Ok(about(file, Defect::Goal(GoalDefect::NotStated { goal })))
+}
+
+/// The goal where the search is stuck, and why.
+pub fn stuck_goal(
+    alloc: Global,
+    file: &Text,
+    rules: &RuleSet,
+    blame: &Blame,
+) -> Result<Stop, NoMemory>
+    requires goal { AreTerms (blame_of blame.now).goal.terms }
+    requires got { AreTerms (got_in (blame_of blame.now).reason) }
+    ensures { IfOk result (λ stop. stop ≡ stuck file.now (forms_in rules.now) (rules_in rules.now) (blame_of blame.now).goal (blame_of blame.now).reason) }
+{
+    match &blame.cause {
+        Cause::NoRule => no_rule(alloc, file, rules, &blame.goal),
+        Cause::Equal { rule, premise } => not_apart(
+            alloc,
+            file,
+            rules,
+            &blame.goal,
+            *rule,
+            *premise,
+        ),
+        Cause::Mismatch { by: Some(by), got } => not_asked(
+            alloc,
+            file,
+            rules,
+            &blame.goal,
+            *by,
+            got,
+        ),
+        Cause::Mismatch { by: None, got } => not_stated(alloc, file, rules, &blame.goal, got),
+    }
 }

@@ -6,7 +6,7 @@ ghost use Rattle.sx_term.specs.Core.{core};
 ghost use Rattle.sx_term.specs.Term.{tree};
 ghost use Rattle.sx_rules.specs.Views.{is_out as role_is_out, forms, goal as goal_data};
 ghost use Rattle.sx_top.specs.GoalTexts.{places_text, goal_text};
-ghost use Rattle.sx_top.specs.Plain.{AreTerms};
+ghost use Rattle.sx_top.specs.Terms.{AreTerms};
 
 use crate::forms::{name_of, places_of};
 use crate::texts::is_out;

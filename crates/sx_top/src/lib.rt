@@ -20,12 +20,17 @@ mod step_error;
 mod stop;
 mod tell;
 mod texts;
+mod verify_core;
+mod verify_laws;
 mod work;
 mod written;
 
 pub use call::run;
 pub use laws::one_outcome;
 pub use status::Status;
+pub use verify_laws::{built_is_verified, found_is_within};
 
 #[cfg(test)]
 mod tests;
+#[cfg(test)]
+mod verify_tests;

@@ -12,6 +12,7 @@ ghost use Rattle.sx_top.specs.Work.{plan_of};
 use crate::build_core::plan_build_core;
 use crate::commands::read_command;
 use crate::step_error::StepError;
+use crate::verify_core::plan_verify_core;
 use crate::work::Work;
 use std::alloc::Global;
 use std::sync::ledger::Ledger;
@@ -32,16 +33,17 @@ fn run_command<S: Shelf, L: Ledger>(
         (S.read_faults shelf.old) (S.read_faults shelf.new)
         (S.write_faults shelf.old) (S.write_faults shelf.new) result }
     ensures tries { WhereTold (S.content shelf.old) (λ files. TriesOf (command_view command.now) files result steps.old steps.new) }
-    ensures most { RisesWithin 4096 steps.old steps.new }
+    ensures most { RisesWithin 1000000 steps.old steps.new }
 {
     match command {
         Command::Build {
             core: true,
             name,
-            tries: _,
+            tries,
             nodes: _,
             audits: _,
-        } => plan_build_core(alloc, name, shelf, steps),
+        } => plan_build_core(alloc, name, *tries, shelf, steps),
+        Command::Verify { core: true, name } => plan_verify_core(alloc, name, shelf),
         _ => unreachable!(),
     }
 }
@@ -58,7 +60,7 @@ pub fn plan<S: Shelf, L: Ledger>(
         (S.read_faults shelf.old) (S.read_faults shelf.new)
         (S.write_faults shelf.old) (S.write_faults shelf.new) result }
     ensures tries { WhereTold (S.content shelf.old) (λ files. Tried (HasWalks words.now files) result steps.old steps.new) }
-    ensures most { RisesWithin 4096 steps.old steps.new }
+    ensures most { RisesWithin 1000000 steps.old steps.new }
 {
     match read_command(alloc, words) {
         Ok(command) => run_command(alloc, &command, shelf, steps),

@@ -1,73 +1,88 @@
-//! The search for a rule that concludes a goal.
+//! The step that finds the first derivation of a core problem's goal.
 
-ghost use Rattle.std.specs.Prelude.{◌≡◌, ℕ, ◌+◌, ◌≤◌, MatchOption, IsTrue, ◌↔◌, map, length};
-ghost use Rattle.sx_term.specs.Term.{tree};
-ghost use Rattle.sx_rules.specs.Modes.{inputs as inputs_among, goal_of};
-ghost use Rattle.sx_rules.specs.Views.{is_out, places_at, forms, named, judgement, goal as goal_data, modes_of};
-ghost use Rattle.sx_first.specs.Problem.{problem as problem_data};
-ghost use Rattle.sx_top.specs.FindFirst.{HasNone};
-ghost use Rattle.sx_top.specs.Plain.{AreTerms, IsSimple, IsFoundAt};
+ghost use Rattle.std.specs.Prelude.{◌≡◌, ◌<◌, ◌^◌, Some, IfOk, length};
+ghost use Rattle.sx_core.specs.Problem.{problem as problem_data};
+ghost use Rattle.sx_rules.specs.Views.{hypotheses};
+ghost use Rattle.sx_derive.specs.Deriving.{answer_of};
+ghost use Rattle.sx_top.specs.Ending.{RisesWithin};
+ghost use Rattle.sx_top.specs.FindFirst.{no_hypotheses};
+ghost use Rattle.sx_top.specs.LowerStops.{derive_stop};
+ghost use Rattle.sx_top.specs.Proper.{IsProper, IsGiven, HasTerms};
+ghost use Rattle.sx_top.specs.Search.{Searches, HasWalked};
+ghost use Rattle.sx_top.specs.Stop.{Gives, IsNoFault, Counts};
 
-use crate::forms::places_of;
-use crate::texts::is_output;
+use crate::goal_stops::stuck_goal;
+use crate::step_error::StepError;
+use crate::stop::{Stop, about};
+use std::alloc::Global;
 use std::sync::ledger::Ledger;
-use sx_first::CoreProblem;
-use sx_rules::{Form, Goal, Judgement, Place, Rule};
-use sx_term::{Steps, Term};
+use sx_core::CoreProblem;
+use sx_derive::{DeriveError, Derived, derive};
+use sx_rules::Hyps;
+use sx_term::{NoMemory, Steps, Text};
+use sx_words::{BudgetDefect, Defect, TextDefect};
 
-/// The most rules that a rule set has.
-const MOST_RULES: u32 = 4096;
-
-/// Whether the terms at the inputs of a judgement are these.
-fn has_inputs(places: &[Place], terms: &[Term], inputs: &[Term]) -> bool
-    requires terms { AreTerms (map tree terms.now) }
-    requires inputs { AreTerms (map tree inputs.now) }
-    ensures { IsTrue result ↔ (inputs_among (map (λ place. is_out place.role) places.now) (map tree terms.now) ≡ map tree inputs.now) }
+/// No hypotheses.
+pub fn nothing_given(alloc: Global) -> Hyps
+    ensures none { hypotheses result ≡ no_hypotheses }
+    ensures few { length result.holds.items < 2 ^ 32 }
 {
-    let mut rest = inputs;
-    for (number, term) in terms.iter().enumerate() {
-        if !is_output(places, number) {
-            match rest {
-                [] => return false,
-                [first, more @ ..] => {
-                    if !term.same(first) {
-                        return false;
-                    }
-                    rest = more;
-                }
-            }
-        }
+    Hyps {
+        holds: Vec::new(alloc),
+        apart: Vec::new(alloc),
     }
-    rest.is_empty()
 }
 
-/// Whether the judgement is one of the goal.
-fn concludes(all: &[Form], conclusion: &Judgement, goal: &Goal) -> bool
-    requires terms { AreTerms (map tree conclusion.now.places.items) }
-    requires inputs { AreTerms (map tree goal.now.inputs.items) }
-    ensures { IsTrue result ↔ (goal_of (modes_of (forms all.now)) (judgement conclusion.now) ≡ goal_data goal.now) }
+/// Why the goal of the file has no answer.
+fn no_answer(
+    alloc: Global,
+    file: &Text,
+    problem: &CoreProblem,
+    error: DeriveError,
+) -> Result<Stop, NoMemory>
+    requires { HasTerms error }
+    ensures { IfOk result (λ stop. derive_stop file.now (problem_data problem.now) error ≡ Some stop) }
 {
-    conclusion.form == goal.form
-        && has_inputs(places_of(all, goal.form), &conclusion.places, &goal.inputs)
+    let defect = match error {
+        DeriveError::Memory => return Err(NoMemory::Memory),
+        DeriveError::Underivable(blame) => return stuck_goal(alloc, file, &problem.rules, &blame),
+        DeriveError::BudgetSpent(budget) => Defect::Budget(BudgetDefect::Tries(budget)),
+        DeriveError::DepthSpent(_) => Defect::Budget(BudgetDefect::Depth),
+        DeriveError::TooDeep(depth) => Defect::Text(TextDefect::TooDeep(depth)),
+        DeriveError::TooBig(size) => Defect::Text(TextDefect::TooBig(size)),
+    };
+    Ok(about(file.copy(alloc)?, defect))
 }
 
-/// The first rule that concludes the goal. Each comparison is one step.
-pub fn find_first<'a, L: Ledger>(problem: &'a CoreProblem, steps: &mut Steps<L>) -> Option<&'a Rule>
-    requires { IsSimple (problem_data problem.now) }
-    ensures { MatchOption result
-        (HasNone (problem_data problem.entry.now) × (steps.new ≡ steps.old + length (problem_data problem.entry.now).rules))
-        (λ rule. (number : ℕ) × IsFoundAt (problem_data problem.entry.now) number (named rule.now) × (steps.new ≡ steps.old + (number + 1))) }
+/// The first derivation of the goal that the file states, or why there is none. At most `budget` tries are made.
+pub fn find_first<L: Ledger>(
+    alloc: Global,
+    file: &Text,
+    problem: &CoreProblem,
+    budget: u64,
+    steps: &mut Steps<L>,
+) -> Result<Derived, StepError>
+    requires { IsProper (problem_data problem.now) }
+    ensures step { Gives answer_of (Searches file.now budget (problem_data problem.now)) result }
+    ensures given { IfOk result (λ d. IsGiven (problem_data problem.now) (answer_of d)) }
+    ensures no_fault { IsNoFault result }
+    ensures tries { Counts (HasWalked budget (problem_data problem.now)) result steps.old steps.new }
+    ensures most { RisesWithin budget steps.old steps.new }
 {
-    for number in 0..MOST_RULES {
-        match problem.rules.rule(number) {
-            None => return None,
-            Some(rule) => {
-                steps.tick();
-                if concludes(problem.rules.forms(), &rule.conclusion, &problem.goal) {
-                    return Some(rule);
-                }
-            }
-        }
+    let given = nothing_given(alloc);
+    match derive(
+        alloc,
+        &problem.rules,
+        &given,
+        &problem.goal,
+        None,
+        budget,
+        steps,
+    ) {
+        Ok(derived) => Ok(derived),
+        Err(error) => match no_answer(alloc, file, problem, error) {
+            Ok(stop) => Err(StepError::Stopped(stop)),
+            Err(_) => Err(StepError::Memory),
+        },
     }
-    None
 }

@@ -13,10 +13,17 @@ use sx_term::{Steps, Text};
 const ONE: &str =
     "sxcore 1\nsort Exp typed\nsort Ty plain\ncon one Exp\ncon int Ty\nform typing sub:Exp out:Ty\nrule T-One\nthen typing (0) (1)\nend\ngoal typing (0)\n";
 
-const TWO: &str =
-    "sxcore 1\nsort Exp typed\nsort Ty plain\ncon one Exp\ncon int Ty\nform typing sub:Exp out:Ty\ngoal typing (0)\n";
+/// The sorts, the constructors z, p, a and b, and the form of the core files below.
+const SIGNATURE: &str =
+    "sxcore 1\nsort Exp typed\nsort Ty plain\ncon z Exp\ncon p Exp Exp Exp\ncon a Ty\ncon b Ty\nform f sub:Exp out:Ty\n";
 
-fn text(alloc: Global, word: &str) -> Result<Text, Fail> {
+/// z has the type a, or else b.
+const LEAVES: &str = "rule Z1\nthen f (0) (2)\nend\nrule Z2\nthen f (0) (3)\nend\n";
+
+/// A pair of terms with types has the type a.
+const PAIR: &str = "rule P Exp Exp Ty Ty\nif f ?0 ?2\nif f ?1 ?3\nthen f (1 ?0 ?1) (2)\nend\n";
+
+pub fn text(alloc: Global, word: &str) -> Result<Text, Fail> {
     Ok(Text::make(alloc, word.as_bytes())?)
 }
 
@@ -36,7 +43,7 @@ fn run_with<L: Ledger>(
     run(alloc, words, shelf, &mut input, out, &mut steps)
 }
 
-fn run_words(
+pub fn run_words(
     alloc: Global,
     line: &str,
     shelf: &mut MemShelf,
@@ -49,19 +56,30 @@ fn run_words(
     Ok(run_with::<Brand>(alloc, &words, shelf, out, Blank::new(1)).code())
 }
 
+/// The bytes of these texts, one after another.
+fn join(alloc: Global, parts: &[&str]) -> Result<Vec<u8>, Fail> {
+    let mut bytes = Vec::new(alloc);
+    for part in parts {
+        bytes.extend_from_slice(part.as_bytes())?;
+    }
+    Ok(bytes)
+}
+
 /// A shelf with this core file, whose calls fail at these numbers.
-fn shelf_with(alloc: Global, name: &str, bytes: &str, failing: &[u64]) -> Result<MemShelf, Fail> {
+pub fn shelf_with(
+    alloc: Global,
+    name: &str,
+    bytes: &[u8],
+    failing: &[u64],
+) -> Result<MemShelf, Fail> {
     let mut shelf = MemShelf::new(alloc);
-    shelf.put(
-        text(alloc, name)?,
-        Vec::from_slice(alloc, bytes.as_bytes())?,
-    )?;
+    shelf.put(text(alloc, name)?, Vec::from_slice(alloc, bytes)?)?;
     shelf.fail(Vec::from_slice(alloc, failing)?);
     Ok(shelf)
 }
 
 /// Whether just these bytes stand under the name.
-fn has(alloc: Global, shelf: &MemShelf, name: &str, bytes: &str) -> Result<bool, Fail> {
+pub fn has(alloc: Global, shelf: &MemShelf, name: &str, bytes: &str) -> Result<bool, Fail> {
     Ok(match shelf.get(&text(alloc, name)?) {
         None => false,
         Some(held) => held == bytes.as_bytes(),
@@ -75,7 +93,7 @@ fn lacks(alloc: Global, shelf: &MemShelf, name: &str) -> Result<bool, Fail> {
 #[test]
 fn a_goal_by_one_rule(rt: HostRuntime) -> Result<(), Fail> {
     let alloc = rt.alloc();
-    let mut shelf = shelf_with(alloc, "One.core", ONE, &[])?;
+    let mut shelf = shelf_with(alloc, "One.core", ONE.as_bytes(), &[])?;
     let mut out = MemSink::new(alloc);
     assert_eq!(rt;
         run_words(alloc, "build --core One", &mut shelf, &mut out)?,
@@ -89,19 +107,145 @@ fn a_goal_by_one_rule(rt: HostRuntime) -> Result<(), Fail> {
 }
 
 #[test]
-fn a_goal_that_no_rule_concludes(rt: HostRuntime) -> Result<(), Fail> {
+fn a_goal_by_premises(rt: HostRuntime) -> Result<(), Fail> {
     let alloc = rt.alloc();
-    let mut shelf = shelf_with(alloc, "Two.core", TWO, &[])?;
+    let core = join(alloc, &[SIGNATURE, LEAVES, PAIR, "goal f (1 (0) (0))\n"])?;
+    let mut shelf = shelf_with(alloc, "Pairs.core", &core, &[])?;
     let mut out = MemSink::new(alloc);
     assert_eq!(rt;
-        run_words(alloc, "build --core Two", &mut shelf, &mut out)?,
-        1
+        run_words(alloc, "build --core Pairs", &mut shelf, &mut out)?,
+        0
     );
-    assert_eq!(rt;
-        out.written(),
-        b"soundx: Two.core: no rule concludes typing (0) _\n".as_slice()
+    assert!(rt; has(alloc, &shelf, "Pairs.base", "(1 (0) (0))\n")?);
+    assert!(rt; has(alloc, &shelf, "Pairs.der", "sxder 1\nP\nZ1\nZ1\n")?);
+    assert!(rt; has(alloc, &shelf, "Pairs.int", "(2)\n")?);
+    assert_eq!(rt; out.written(), b"built Pairs: 3 nodes\n".as_slice());
+    Ok(())
+}
+
+/// Whether building the core file `C.core` with these bytes ends with this status and this line, and nothing is written.
+fn is_answered(alloc: Global, core: &[u8], code: u8, told: &[u8]) -> Result<bool, Fail> {
+    let mut shelf = shelf_with(alloc, "C.core", core, &[])?;
+    let mut out = MemSink::new(alloc);
+    let status = run_words(alloc, "build --core C", &mut shelf, &mut out)?;
+    Ok(status == code && out.written() == told && lacks(alloc, &shelf, "C.base")?)
+}
+
+/// Whether the core file of these parts is refused with this line.
+fn is_refused(alloc: Global, parts: &[&str], told: &[u8]) -> Result<bool, Fail> {
+    let core = join(alloc, parts)?;
+    is_answered(alloc, &core, 1, told)
+}
+
+#[test]
+fn goals_that_are_stuck(rt: HostRuntime) -> Result<(), Fail> {
+    let alloc = rt.alloc();
+    assert!(rt;
+        is_refused(
+            alloc,
+            &[SIGNATURE, PAIR, "goal f (1 (0) (0))\n"],
+            b"soundx: C.core: no rule concludes f (0) _\n"
+        )?
     );
-    assert!(rt; lacks(alloc, &shelf, "Two.base")?);
+    assert!(rt;
+        is_refused(
+            alloc,
+            &[
+                SIGNATURE,
+                "rule Z1\nthen f (0) (2)\nend\n",
+                "rule Q Exp Exp\nif f ?0 (3)\nif f ?1 (2)\nthen f (1 ?0 ?1) (2)\nend\n",
+                "goal f (1 (0) (0))\n"
+            ],
+            b"soundx: C.core: f (0) (2) is not what premise 1 of Q asks for\n"
+        )?
+    );
+    assert!(rt;
+        is_refused(
+            alloc,
+            &[
+                SIGNATURE,
+                "con n Exp id\nrule N id id\nnot ?0 ?1\nthen f (1 (4 ?0) (4 ?1)) (2)\nend\n",
+                "goal f (1 (4 i1:x) (4 i1:x))\n"
+            ],
+            b"soundx: C.core: f (1 (4 i1:x) (4 i1:x)) _: premise 1 of N does not hold\n"
+        )?
+    );
+    Ok(())
+}
+
+#[test]
+fn a_derivation_that_is_too_deep(rt: HostRuntime) -> Result<(), Fail> {
+    let alloc = rt.alloc();
+    let core = join(
+        alloc,
+        &[
+            SIGNATURE,
+            "rule L Exp Ty\nif f ?0 ?1\nthen f ?0 ?1\nend\n",
+            LEAVES,
+            PAIR,
+            "goal f (1 (0) (0))\n",
+        ],
+    )?;
+    assert!(rt;
+        is_answered(
+            alloc,
+            &core,
+            6,
+            b"soundx: C.core: derivation deeper than 3000\n"
+        )?
+    );
+    Ok(())
+}
+
+#[test]
+fn files_that_are_refused(rt: HostRuntime) -> Result<(), Fail> {
+    let alloc = rt.alloc();
+    assert!(rt; is_refused(alloc, &["sxcore 2\n"], b"soundx: C.core: line 1: head\n")?);
+    assert!(rt;
+        is_refused(
+            alloc,
+            &[SIGNATURE, "con c\n"],
+            b"soundx: C.core: line 9: shape\n"
+        )?
+    );
+    assert!(rt; is_refused(alloc, &[SIGNATURE], b"soundx: C.core: line 9: main\n")?);
+    assert!(rt;
+        is_refused(
+            alloc,
+            &[
+                SIGNATURE,
+                "rule R Exp\nthen f (0) (2)\nend\n",
+                "goal f (0)\n"
+            ],
+            b"soundx: C.core: rule R: ?0 is not bound\n"
+        )?
+    );
+    assert!(rt;
+        is_refused(
+            alloc,
+            &[SIGNATURE, LEAVES, LEAVES, "goal f (0)\n"],
+            b"soundx: C.core: rule Z1 stands twice\n"
+        )?
+    );
+    assert!(rt;
+        is_answered(
+            alloc,
+            &[b'a', b'\n', 255],
+            1,
+            b"soundx: C.core: not UTF-8 at byte 2\n"
+        )?
+    );
+    Ok(())
+}
+
+#[test]
+fn a_file_that_is_too_long(rt: HostRuntime) -> Result<(), Fail> {
+    let alloc = rt.alloc();
+    let mut core = Vec::new(alloc);
+    core.resize(262_145, b'\n')?;
+    assert!(rt; is_answered(alloc, &core, 1, b"soundx: C.core: too long\n")?);
+    core.pop();
+    assert!(rt; is_answered(alloc, &core, 1, b"soundx: C.core: line 262145: head\n")?);
     Ok(())
 }
 
@@ -126,12 +270,13 @@ fn words_that_are_no_command(rt: HostRuntime) -> Result<(), Fail> {
 #[test]
 fn commands_that_are_not_there_yet(rt: HostRuntime) -> Result<(), Fail> {
     let alloc = rt.alloc();
-    assert!(rt; are_refused(alloc, "verify One", b"soundx: words: word 1\n")?);
+    assert!(rt; are_refused(alloc, "check One", b"soundx: words: word 1\n")?);
+    assert!(rt; are_refused(alloc, "verify One", b"soundx: words: word 2\n")?);
     assert!(rt; are_refused(alloc, "build One", b"soundx: words: word 2\n")?);
     assert!(rt;
         are_refused(
             alloc,
-            "build --core --tries=5 One",
+            "build --core --nodes=5 One",
             b"soundx: words: word 3\n"
         )?
     );
@@ -141,7 +286,7 @@ fn commands_that_are_not_there_yet(rt: HostRuntime) -> Result<(), Fail> {
 #[test]
 fn faults(rt: HostRuntime) -> Result<(), Fail> {
     let alloc = rt.alloc();
-    let mut shelf = shelf_with(alloc, "One.core", ONE, &[2])?;
+    let mut shelf = shelf_with(alloc, "One.core", ONE.as_bytes(), &[2])?;
     let mut out = MemSink::new(alloc);
     assert_eq!(rt;
         run_words(alloc, "build --core One", &mut shelf, &mut out)?,
@@ -154,7 +299,7 @@ fn faults(rt: HostRuntime) -> Result<(), Fail> {
         b"soundx: One.base: write fault\n".as_slice()
     );
 
-    let mut shelf = shelf_with(alloc, "One.core", ONE, &[1])?;
+    let mut shelf = shelf_with(alloc, "One.core", ONE.as_bytes(), &[1])?;
     let mut out = MemSink::new(alloc);
     assert_eq!(rt;
         run_words(alloc, "build --core One", &mut shelf, &mut out)?,

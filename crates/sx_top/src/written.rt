@@ -70,6 +70,7 @@ fn state_entries(
     requires names { AreNames (names_in rules.now) }
     requires short { length bytes.now ≤ 67108864 }
     ensures step { Gives (λ list. list.items) (StatesEntries file.now (names_in rules.now) bytes.now) result }
+    ensures few { IfOk result (λ list. length list.items ≤ 67108864) }
     ensures no_fault { IsNoFault result }
 {
     match read_list(alloc, rules, bytes) {
@@ -88,6 +89,7 @@ pub fn read_entries<S: Shelf>(
 ) -> Result<Vec<Entry>, StepError>
     requires { AreNames (names_in rules.now) }
     ensures step { WhereTold (S.content shelf.old) (λ files. Gives (λ list. list.items) (ReadsEntries file.now (names_in rules.now) files) result) }
+    ensures few { IfOk result (λ list. length list.items ≤ 67108864) }
     ensures reads { OnlyReads (S.content shelf.old) (S.content shelf.new)
         (S.read_faults shelf.old) (S.read_faults shelf.new)
         (S.write_faults shelf.old) (S.write_faults shelf.new) result }

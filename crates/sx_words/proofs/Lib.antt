@@ -6,3 +6,4 @@ pub mod KindLaws
 pub mod TurnLaws
 pub mod OneAnswer
 pub mod StageLaws
+pub mod FewLaws

@@ -1,9 +1,9 @@
 -- What words may spell at a stage.
-use Rattle.std.proofs.Common.{◌≡◌, ℕ, true, List, refl, sym, ap, ◌∙◌, inl, inr}
-use Rattle.sx_words.specs.declared.stage.Stage.TheVariants.{CoreGoals}
+use Rattle.std.proofs.Common.{◌≡◌, ℕ, true, List, ap, ◌∙◌, inl, inr, ◌⊎◌}
+use Rattle.sx_words.specs.declared.stage.Stage.TheVariants.{CoreGoals, CoreFiles}
 use Rattle.sx_words.specs.declared.verb.Verb.{Verb}
 use Rattle.sx_words.specs.declared.verb.Verb.TheVariants.{Build, Compile, Check, Verify}
-use Rattle.sx_words.specs.Commands.{AuditWord, Settings, Meant, builds, has_verb, may_end, or_most, meant, SpellsNamed, SpellsSample, SpellsAt}
+use Rattle.sx_words.specs.Commands.{AuditWord, Settings, Meant, builds, verifies, has_verb, may_end, or_most, meant, SpellsNamed, SpellsSample, SpellsAt}
 
 -- the command builds the goal of a core file
 pub record BuildsGoal (command : Meant) : Type 0 where
@@ -36,3 +36,29 @@ by_size words command h = let none = h.there in absurd cc
 pub core_goals : (words : List (List ℕ)) (command : Meant) → SpellsAt CoreGoals words command → BuildsGoal command
 core_goals words command (inl h) = by_name words command h
 core_goals words command (inr h) = by_size words command h
+
+-- the command verifies what was built for a core file
+pub record VerifiesGoal (command : Meant) : Type 0 where
+  pub name : List ℕ
+  pub is : command ≡ verifies true name
+
+verb_files : (verb : Verb) (s : Settings) (name : List ℕ) (command : Meant) → has_verb CoreFiles verb ≡ true → may_end CoreFiles s ≡ true → command ≡ meant verb s name → BuildsGoal command ⊎ VerifiesGoal command
+unfolding meant
+verb_files Build s name command there ends is = inl (record {
+  name = name;
+  tries = or_most s.tries;
+  nodes = or_most s.nodes;
+  audits = s.audits;
+  is = is ∙ ap (λ core. builds core name (or_most s.tries) (or_most s.nodes) s.audits) ends;
+})
+verb_files Compile s name command there ends is = absurd cc
+verb_files Check s name command there ends is = absurd cc
+verb_files Verify s name command there ends is = inr (record { name = name; is = is ∙ ap (λ core. verifies core name) ends })
+
+files_by_size : (words : List (List ℕ)) (command : Meant) → SpellsSample CoreFiles words command → BuildsGoal command ⊎ VerifiesGoal command
+files_by_size words command h = let none = h.there in absurd cc
+
+-- where there are core files alone, each command is one of these
+pub core_files : (words : List (List ℕ)) (command : Meant) → SpellsAt CoreFiles words command → BuildsGoal command ⊎ VerifiesGoal command
+core_files words command (inl h) = verb_files h.verb _ h.name command h.there h.ends h.is
+core_files words command (inr h) = files_by_size words command h

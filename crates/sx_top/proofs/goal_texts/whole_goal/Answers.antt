@@ -6,7 +6,7 @@ use Rattle.sx_term.specs.Term.{tree}
 use Rattle.sx_term.specs.declared.term.Term.{Term}
 use Rattle.sx_rules.specs.Views.{is_out}
 use Rattle.sx_top.specs.GoalTexts.{places_text}
-use Rattle.sx_top.specs.Plain.{AreTerms}
+use Rattle.sx_top.specs.Terms.{AreTerms}
 use Rattle.sx_top.proofs.Utf8.{whole_utf8}
 use Rattle.sx_top.proofs.goal_texts.whole_goal.Goals as goal
 

@@ -2,7 +2,7 @@ use Rattle.std.proofs.Common.{◌≡◌, ◌++◌, drop, map, Some}
 use Rattle.sx_term.specs.Term.{tree}
 use Rattle.sx_rules.specs.Views.{is_out}
 use Rattle.sx_top.specs.GoalTexts.{places_text}
-use Rattle.sx_top.specs.Plain.{AreTerms}
+use Rattle.sx_top.specs.Terms.{AreTerms}
 use Rattle.sx_top.proofs.goal_texts.write_whole.Given as goal
 
 abbrev pub invariant-loop-place : goal.invariant-loop-place

@@ -18,7 +18,7 @@ returns-in-Ok-clause-outcome g c = λ files told.
 
 pub returns-in-Ok-clause-tries : goal.returns-in-Ok-clause-tries
 returns-in-Ok-clause-tries g c = λ files told.
-    tried_more (Walks (command_view c.in-Ok.command) files) (HasWalks c.args.words.now files) c.run_command.result c.args.steps.now c.run_command.new.steps (λ tries walks. (command_view c.in-Ok.command, c.in-Ok.ensures.step, walks)) (tries_of (command_view c.in-Ok.command) files c.run_command.result c.args.steps.now c.run_command.new.steps (c.run_command.ensures.tries files told))
+    tried_more (Walks (command_view c.in-Ok.command) files) (HasWalks c.args.words.now files) c.args.steps.now c.run_command.new.steps (λ tries walks. (command_view c.in-Ok.command, c.in-Ok.ensures.step, walks)) c.run_command.result (tries_of (command_view c.in-Ok.command) files c.run_command.result c.args.steps.now c.run_command.new.steps (c.run_command.ensures.tries files told))
 
 pub returns-in-Err-clause-outcome : goal.returns-in-Err-clause-outcome
 unfolding Outcome

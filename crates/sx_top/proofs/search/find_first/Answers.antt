@@ -1,60 +1,61 @@
-use Rattle.std.proofs.Common.{◌≡◌, ℕ, ◌≤◌, List, length, sym, ap, ◌∙◌, subst, arith, below_more}
-use Rattle.std.specs.Prelude.{Some, slice_get}
-use Rattle.std.proofs.lemmas.Bool.{false≢true}
-use Rattle.sx_rules.specs.Modes.{goal_of}
-use Rattle.sx_rules.specs.Views.{FormData, NamedRule, modes_of, named, judgement}
-use Rattle.sx_first.specs.Problem.{problem}
-use Rattle.sx_top.proofs.Simple.{conclusion_at}
-use Rattle.sx_top.proofs.Axioms.{found_first, found_none, past_at, below_at, same_at}
+use Rattle.std.specs.Prelude.{Ok, Err}
+use Rattle.sx_rules.specs.Views.{hypotheses}
+use Rattle.sx_core.specs.Problem.{problem}
+use Rattle.sx_derive.specs.Deriving.{answer_of}
+use Rattle.sx_derive.specs.Search.{walk}
+use Rattle.sx_top.specs.Search.{goal_events}
+use Rattle.sx_top.proofs.Refused.{search_quiet}
+use Rattle.sx_top.proofs.Searching.{told_plain, counted_plain, comes_answer, comes_stop, searches_given, told_terms, counts_answer, counts_stop, counts_short, counts_most}
 use Rattle.sx_top.proofs.search.find_first.Goals as goal
 
-pub returns-in-None : goal.returns-in-None
-returns-in-None g c =
-    let p = problem c.args.problem.now in
-    let past = past_at p.rules c.loop-number.number c.in-None.ensures in
-    let steps = c.loop-number.invariant.steps in
-    let inside = c.loop-number.invariant.inside in
-    (found_none p c.loop-number.number c.requires past c.loop-number.invariant.none_below, omega arith)
+pub returns-in-Ok-clause-step : goal.returns-in-Ok-clause-step
+returns-in-Ok-clause-step g c =
+    comes_answer c.args.file.now (problem c.args.problem.now) c.args.budget _ (answer_of c.in-Ok.derived)
+    (told_plain c.args.problem.now (hypotheses c.nothing_given-given.result) c.nothing_given-given.ensures.none c.args.budget (Ok c.in-Ok.derived) c.in-Ok.ensures.answer)
 
-pub concludes-requires-clause-terms : goal.concludes-requires-clause-terms
-concludes-requires-clause-terms g c = conclusion_at (problem c.args.problem.now).rules c.loop-number.number (named c.in-Some.rule.now) c.in-Some.ensures c.requires.conclusions
+pub returns-in-Ok-clause-given : goal.returns-in-Ok-clause-given
+returns-in-Ok-clause-given g c =
+    searches_given (problem c.args.problem.now) c.requires c.args.file.now c.args.budget (answer_of c.in-Ok.derived)
+    (told_plain c.args.problem.now (hypotheses c.nothing_given-given.result) c.nothing_given-given.ensures.none c.args.budget (Ok c.in-Ok.derived) c.in-Ok.ensures.answer)
 
-pub returns-then-concludes : goal.returns-then-concludes
-returns-then-concludes g c =
-    let p = problem c.args.problem.now in
-    let steps = c.loop-number.invariant.steps in
-    let one_more = c.tick.ensures in (
-      c.loop-number.number,
-      found_first p c.loop-number.number (named c.in-Some.rule.now) c.requires c.in-Some.ensures
-          (subst (λ (fs : List FormData). goal_of (modes_of fs) (judgement c.in-Some.rule.now.conclusion) ≡ p.goal) c.forms.ensures (c.concludes.ensures.0 c.if-concludes.true))
-          c.loop-number.invariant.none_below,
-      omega arith,
-    )
+pub returns-in-Ok-clause-tries : goal.returns-in-Ok-clause-tries
+returns-in-Ok-clause-tries g c =
+    counts_answer (problem c.args.problem.now) c.args.budget c.args.steps.now c.derive.new.steps c.in-Ok.derived
+    (counted_plain c.args.problem.now (hypotheses c.nothing_given-given.result) c.nothing_given-given.ensures.none c.args.budget c.args.steps.now c.derive.new.steps (Ok c.in-Ok.derived) c.in-Ok.ensures.steps)
 
-pub loop-number-preserved : goal.loop-number-preserved
-loop-number-preserved g c =
-    let p = problem c.args.problem.now in
-    let steps = c.loop-number.invariant.steps in
-    let one_more = c.tick.ensures in
-    let below = below_at p.rules c.loop-number.number (named c.in-Some.rule.now) c.in-Some.ensures in
-    record {
-      steps = omega arith;
-      inside = omega arith;
-      none_below = λ k r less at concludes.
-          below_more (λ (j : ℕ). (q : NamedRule) → slice_get p.rules j ≡ Some q → goal_of (modes_of p.forms) q.rule.conclusion ≡ p.goal → ⊥) c.loop-number.number
-          (λ j h q. c.loop-number.invariant.none_below j q h)
-          (λ q here does.
-          let same = same_at p.rules c.loop-number.number q (named c.in-Some.rule.now) here c.in-Some.ensures in
-          let of_rule : goal_of (modes_of p.forms) (judgement c.in-Some.rule.now.conclusion) ≡ p.goal = ap (λ (n : NamedRule). goal_of (modes_of p.forms) n.rule.conclusion) (sym same) ∙ does in
-          false≢true (sym c.if-concludes.false ∙ c.concludes.ensures.1 (subst (λ (fs : List FormData). goal_of (modes_of fs) (judgement c.in-Some.rule.now.conclusion) ≡ p.goal) (sym c.forms.ensures) of_rule)))
-          k less r at concludes;
-    }
+pub returns-in-Ok-clause-most : goal.returns-in-Ok-clause-most
+returns-in-Ok-clause-most g c =
+    counts_most (problem c.args.problem.now) c.args.budget c.args.steps.now c.derive.new.steps (Ok c.in-Ok.derived)
+    (counted_plain c.args.problem.now (hypotheses c.nothing_given-given.result) c.nothing_given-given.ensures.none c.args.budget c.args.steps.now c.derive.new.steps (Ok c.in-Ok.derived) c.in-Ok.ensures.steps)
 
-pub returns : goal.returns
-returns g c =
-    let p = problem c.args.problem.now in
-    let few = c.requires.few in
-    let steps = c.loop-number.invariant.steps in
-    let inside = c.loop-number.invariant.inside in
-    let all : length p.rules ≤ c.loop-number.number = omega arith in
-    (found_none p c.loop-number.number c.requires all c.loop-number.invariant.none_below, omega arith)
+pub no_answer-requires : goal.no_answer-requires
+no_answer-requires g c =
+    told_terms (problem c.args.problem.now) c.requires c.args.budget c.in-Err.error
+    (told_plain c.args.problem.now (hypotheses c.nothing_given-given.result) c.nothing_given-given.ensures.none c.args.budget (Err c.in-Err.error) c.in-Err.ensures.answer)
+
+pub returns-clause-tries : goal.returns-clause-tries
+returns-clause-tries g c =
+    counts_short (problem c.args.problem.now) c.args.budget c.args.steps.now c.derive.new.steps (Err c.in-Err.error)
+    (counted_plain c.args.problem.now (hypotheses c.nothing_given-given.result) c.nothing_given-given.ensures.none c.args.budget c.args.steps.now c.derive.new.steps (Err c.in-Err.error) c.in-Err.ensures.steps)
+
+pub returns-clause-most : goal.returns-clause-most
+returns-clause-most g c =
+    counts_most (problem c.args.problem.now) c.args.budget c.args.steps.now c.derive.new.steps (Err c.in-Err.error)
+    (counted_plain c.args.problem.now (hypotheses c.nothing_given-given.result) c.nothing_given-given.ensures.none c.args.budget c.args.steps.now c.derive.new.steps (Err c.in-Err.error) c.in-Err.ensures.steps)
+
+pub returns-in-Ok-no_answer-clause-step : goal.returns-in-Ok-no_answer-clause-step
+returns-in-Ok-no_answer-clause-step g c =
+    comes_stop c.args.file.now (problem c.args.problem.now) c.args.budget _ c.in-Err.error c.in-Ok-no_answer.stop
+    (told_plain c.args.problem.now (hypotheses c.nothing_given-given.result) c.nothing_given-given.ensures.none c.args.budget (Err c.in-Err.error) c.in-Err.ensures.answer)
+    c.in-Ok-no_answer.ensures
+
+pub returns-in-Ok-no_answer-clause-tries : goal.returns-in-Ok-no_answer-clause-tries
+returns-in-Ok-no_answer-clause-tries g c =
+    counts_stop (problem c.args.problem.now) c.args.budget c.args.steps.now c.derive.new.steps c.args.file.now c.in-Err.error c.in-Ok-no_answer.stop
+    (counted_plain c.args.problem.now (hypotheses c.nothing_given-given.result) c.nothing_given-given.ensures.none c.args.budget c.args.steps.now c.derive.new.steps (Err c.in-Err.error) c.in-Err.ensures.steps)
+    c.in-Ok-no_answer.ensures
+
+pub returns-in-Ok-no_answer-clause-most : goal.returns-in-Ok-no_answer-clause-most
+returns-in-Ok-no_answer-clause-most g c =
+    counts_most (problem c.args.problem.now) c.args.budget c.args.steps.now c.derive.new.steps (Err c.in-Err.error)
+    (counted_plain c.args.problem.now (hypotheses c.nothing_given-given.result) c.nothing_given-given.ensures.none c.args.budget c.args.steps.now c.derive.new.steps (Err c.in-Err.error) c.in-Err.ensures.steps)

@@ -1,10 +1,11 @@
-use Rattle.std.proofs.Common.{map}
+use Rattle.std.proofs.Common.{◌≡◌, ◌++◌, drop, map}
 use Rattle.sx_term.specs.Term.{tree}
-use Rattle.sx_rules.specs.Views.{is_out}
-use Rattle.sx_rules.specs.Modes.{outputs}
 use Rattle.sx_top.specs.CoreTexts.{term_lines}
-use Rattle.sx_top.proofs.Inputs.{Writes}
+use Rattle.sx_top.specs.Terms.{AreTerms}
 use Rattle.sx_top.proofs.texts.interface_text.Given as goal
 
-abbrev pub invariant-loop-number : goal.invariant-loop-number
-invariant-loop-number l = Writes (map (λ place. is_out place.role) l.places) (map tree l.terms) l.number l.bytes.items (term_lines (outputs (map (λ place. is_out place.role) l.places) (map tree l.terms)))
+abbrev pub invariant-loop-output : goal.invariant-loop-output
+invariant-loop-output l = record {
+  so : l.bytes.items ++ term_lines (map tree (drop l.output-index l.outputs)) ≡ term_lines (map tree l.outputs);
+  rest_terms : AreTerms (map tree (drop l.output-index l.outputs));
+}

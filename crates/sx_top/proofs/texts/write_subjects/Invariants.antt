@@ -1,7 +1,7 @@
 use Rattle.std.proofs.Common.{◌≡◌, ◌++◌, drop, map}
 use Rattle.sx_term.specs.Term.{tree}
 use Rattle.sx_top.specs.CoreTexts.{subjects, term_lines}
-use Rattle.sx_top.specs.Plain.{AreTerms}
+use Rattle.sx_top.specs.Terms.{AreTerms}
 use Rattle.sx_top.proofs.texts.write_subjects.Given as goal
 
 abbrev pub invariant-loop-place : goal.invariant-loop-place

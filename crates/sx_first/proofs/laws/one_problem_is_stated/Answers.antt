@@ -1,5 +1,0 @@
-use Rattle.sx_first.proofs.OneProblem.{one_problem}
-use Rattle.sx_first.proofs.laws.one_problem_is_stated.Goals as goal
-
-pub returns : goal.returns
-returns c = one_problem

@@ -1,6 +1,0 @@
-use Rattle.std.proofs.Common.{take}
-use Rattle.sx_first.specs.Stated.{AreUntyped}
-use Rattle.sx_first.proofs.resolved.are_untyped.Given as goal
-
-abbrev pub invariant-loop-i : goal.invariant-loop-i
-invariant-loop-i l = AreUntyped (take l.i l.sorts)

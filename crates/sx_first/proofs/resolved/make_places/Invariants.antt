@@ -1,8 +1,0 @@
-use Rattle.std.proofs.Common.{take, map}
-use Rattle.sx_first.specs.Stated.{ArePlaces}
-use Rattle.sx_first.specs.Rows.{place_row}
-use Rattle.sx_first.specs.Resolving.{rows_in}
-use Rattle.sx_first.proofs.resolved.make_places.Given as goal
-
-abbrev pub invariant-loop-i : goal.invariant-loop-i
-invariant-loop-i l = ArePlaces (rows_in l.table) (take l.i (map place_row l.rows)) l.places.items

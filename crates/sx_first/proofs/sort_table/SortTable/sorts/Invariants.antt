@@ -1,7 +1,0 @@
-use Rattle.std.proofs.Common.{take}
-use Rattle.sx_first.specs.Stated.{NameSorts}
-use Rattle.sx_first.specs.Resolving.{rows_in}
-use Rattle.sx_first.proofs.sort_table.SortTable.sorts.Given as goal
-
-abbrev pub invariant-loop-i : goal.invariant-loop-i
-invariant-loop-i l = NameSorts (rows_in l.self) (take l.i l.names) l.sorts.items

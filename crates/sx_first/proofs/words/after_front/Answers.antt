@@ -1,5 +1,0 @@
-use Rattle.sx_first.proofs.Wording.{after_cases}
-use Rattle.sx_first.proofs.words.after_front.Goals as goal
-
-pub returns : goal.returns
-returns c = after_cases c.args.front.now c.args.text.now c.after.result c.after.ensures

@@ -1,0 +1,81 @@
+-- `build --core` keeps its promise.
+use Rattle.std.proofs.Common.{◌≡◌, ◌≢◌, ℕ, List, [], ◌∷◌, ◌++◌, sym, ap, ◌∙◌, subst, codes, get_or, arith}
+use Rattle.std.specs.Prelude.{Ok, Some, None}
+use Rattle.sx_outside.specs.Files.{Files, after, put}
+use Rattle.sx_outside.specs.FilesLaws.{put-same, put-other}
+use Rattle.sx_rules.specs.Views.{modes_of}
+use Rattle.sx_rules.specs.Modes.{AllModed}
+use Rattle.sx_rules.specs.First.{Answer}
+use Rattle.sx_rules.specs.Orders.{order_of}
+use Rattle.sx_core.specs.Problem.{Problem}
+use Rattle.sx_derive.specs.Search.{Ending, found, stopped, spent, exhausted, walk}
+use Rattle.sx_derive.proofs.Walked.{found_is_first}
+use Rattle.sx_top.specs.CoreTexts.{subject_text, list_text, term_lines}
+use Rattle.sx_top.specs.ReadCore.{core_file}
+use Rattle.sx_top.specs.FindFirst.{no_hypotheses, rules_of, IsFirstOf}
+use Rattle.sx_top.specs.Search.{goal_events, ComesTo, Searches}
+use Rattle.sx_top.specs.Work.{Plan}
+use Rattle.sx_top.specs.BuildCore.{core_plan, BuildsWhole, BuiltUnit}
+use Rattle.sx_top.specs.Ending.{IsDone}
+use Rattle.sx_top.proofs.StepsOn.{went}
+use Rattle.sx_top.proofs.Propers.{proper}
+
+pub same_end : (name some others : List ℕ) → name ++ some ≡ name ++ others → some ≡ others
+same_end [] some others same = same
+same_end (b ∷ name) some others same = let rest : name ++ some ≡ name ++ others = cc in same_end name some others rest
+
+base_der : codes ".base" ≢ codes ".der"
+base_der same = let letters : ◌≡◌ {A = ℕ} 98 100 = ap (λ (l : List ℕ). get_or l 1 0) same in absurd (omega arith)
+
+base_int : codes ".base" ≢ codes ".int"
+base_int same = let letters : ◌≡◌ {A = ℕ} 98 105 = ap (λ (l : List ℕ). get_or l 1 0) same in absurd (omega arith)
+
+der_int : codes ".der" ≢ codes ".int"
+der_int same = let letters : ◌≡◌ {A = ℕ} 100 105 = ap (λ (l : List ℕ). get_or l 1 0) same in absurd (omega arith)
+
+-- what stands after three writes under three names
+pub written : (name : List ℕ) (base list interface : List ℕ) (old : Files) → (let new : Files = put (put (put old (name ++ codes ".base") base) (name ++ codes ".der") list) (name ++ codes ".int") interface in (new (name ++ codes ".base") ≡ Some base) × (new (name ++ codes ".der") ≡ Some list) × (new (name ++ codes ".int") ≡ Some interface) × ((other : List ℕ) → other ≢ name ++ codes ".base" → other ≢ name ++ codes ".der" → other ≢ name ++ codes ".int" → new other ≡ old other))
+written name base list interface old = (
+  put-other _ _ _ _ (λ same. base_int (same_end name _ _ same)) ∙ put-other _ _ _ _ (λ same. base_der (same_end name _ _ same)) ∙ put-same _ _ _,
+  put-other _ _ _ _ (λ same. der_int (same_end name _ _ same)) ∙ put-same _ _ _,
+  put-same _ _ _,
+  λ other not_base not_der not_int. put-other _ _ _ _ not_int ∙ put-other _ _ _ _ not_der ∙ put-other _ _ _ _ not_base,
+)
+
+-- a walk that comes to an answer found it
+pub comes_found : (file : List ℕ) (problem : Problem) (budget : ℕ) (ending : Ending) (answer : Answer) → ComesTo file problem budget ending (Ok answer) → ending ≡ found answer
+comes_found file problem budget (found other) answer comes = let same : other ≡ answer = cc in ap found same
+comes_found file problem budget (stopped cause) answer comes = absurd cc
+comes_found file problem budget spent answer comes = absurd cc
+comes_found file problem budget exhausted answer comes = let none = comes.2 in absurd cc
+
+pub searches_first : (file : List ℕ) (budget : ℕ) (problem : Problem) (answer : Answer) → AllModed (modes_of problem.forms) (rules_of problem) → Searches file budget problem (Ok answer) → IsFirstOf problem answer
+searches_first file budget problem answer moded searches =
+    found_is_first (modes_of problem.forms) (rules_of problem) no_hypotheses moded problem.goal None budget 1 answer
+    (comes_found file problem budget (walk None budget (goal_events problem)) answer searches)
+
+pub build_promise : (name : List ℕ) (budget : ℕ) (old new : Files) (sent sent' : List ℕ) (plan : Plan) → BuildsWhole name budget old (Ok plan) → IsDone plan old new sent sent' → BuiltUnit name old new sent sent'
+unfolding core_plan
+build_promise name budget old new sent sent' plan built done =
+    let read = went _ _ _ built in
+    let held = went _ _ _ read.begins in
+    let search = went _ _ _ read.goes in
+    let problem = read.given in
+    let answer = search.given in
+    let made : plan ≡ core_plan name problem answer = cc (search.goes) in
+    let stands = written name (subject_text problem.forms problem.goal) (list_text problem.rules (order_of answer.0)) (term_lines answer.1) old in
+    let files : new ≡ after ((core_plan name problem answer).files) old = done.files ∙ ap (λ (p : Plan). after p.files old) made in
+    subst (λ (fs : Files). BuiltUnit name old fs sent sent') (sym files)
+    (record {
+      bytes = held.given;
+      problem = problem;
+      answer = answer;
+      held = held.begins.0;
+      stated = held.goes;
+      first = searches_first (core_file name) budget problem answer (proper held.given problem held.goes).moded search.begins;
+      base = stands.0;
+      list = stands.1;
+      interface = stands.2;
+      others = stands.3;
+      line = done.lines ∙ ap (λ (p : Plan). sent ++ p.lines) made;
+    })

@@ -1,0 +1,153 @@
+-- `build --core` and `verify --core` have one outcome each, read faults aside.
+use Rattle.std.proofs.Common.{◌≡◌, ◌≢◌, ℕ, true, false, List, length, refl, sym, ap, ◌∙◌}
+use Rattle.std.specs.Prelude.{Result, Ok, Err, Option, Some, None}
+use Rattle.sx_outside.specs.Files.{Files}
+use Rattle.sx_term.specs.Tree.{Tree}
+use Rattle.sx_lines.specs.Lines.{lines_from, texts}
+use Rattle.sx_rules.specs.declared.entry.Entry.{Entry as EntryOf}
+use Rattle.sx_rules.specs.Views.{modes_of}
+use Rattle.sx_rules.specs.Modes.{AllModed}
+use Rattle.sx_rules.specs.EntryView.{entries}
+use Rattle.sx_rules.specs.RuleNames.{AreNames, AreDistinct}
+use Rattle.sx_rules.specs.ListText.{StatesList}
+use Rattle.sx_rules.proofs.ListLaws.{AreRuleNames, list_again}
+use Rattle.sx_core.specs.Problem.{Problem}
+use Rattle.sx_core.specs.CoreRead.{IsCoreAnswer}
+use Rattle.sx_core.specs.declared.error.CoreFileError.{CoreFileError}
+use Rattle.sx_core.specs.declared.error.CoreFileError.TheVariants as core_error
+use Rattle.sx_replay.specs.Replay.{IsReplayAnswer}
+use Rattle.sx_replay.specs.declared.replay_error.ReplayError.TheVariants as replay_error
+use Rattle.sx_replay.proofs.OneAnswer.{one_answer}
+use Rattle.sx_words.specs.Commands.{Meant, builds, compiles, checks, verifies, samples}
+use Rattle.sx_top.specs.declared.stop.Stop.{Stop}
+use Rattle.sx_top.specs.CoreStops.{bad_entry}
+use Rattle.sx_top.specs.CoreTexts.{subject_text, term_lines}
+use Rattle.sx_top.specs.FindFirst.{no_hypotheses, rules_of}
+use Rattle.sx_top.specs.Held.{Held, most_bytes, most_list_bytes}
+use Rattle.sx_top.specs.Lower.{Lower}
+use Rattle.sx_top.specs.LowerStops.{core_stop, replay_stop}
+use Rattle.sx_top.specs.Proper.{IsProper}
+use Rattle.sx_top.specs.ReadCore.{core_file, base_file, list_file, interface_file, rule_names, Reads}
+use Rattle.sx_top.specs.Search.{Searches}
+use Rattle.sx_top.specs.Written.{Compares, StatesEntries, ReadsEntries}
+use Rattle.sx_top.specs.BuildCore.{core_plan, BuildsGoal, BuildsWhole}
+use Rattle.sx_top.specs.VerifyCore.{verified_plan, Replays, VerifiesOutputs, VerifiesEntries, VerifiesList, VerifiesSubject, VerifiesWhole}
+use Rattle.sx_top.specs.Commands.{Commands}
+use Rattle.sx_top.specs.Outcome.{Runs, Outcome}
+use Rattle.sx_top.specs.Laws.{OneOutcome}
+use Rattle.sx_top.proofs.StepsOn.{went}
+use Rattle.sx_top.proofs.OutcomeLaws.{IsOne, then_one, ok_same, err_same, ok_no_err, commands_one}
+use Rattle.sx_top.proofs.WholeOnes.{held_one, compares_one, searches_one}
+use Rattle.sx_top.proofs.Propers.{proper}
+use Rattle.sx_top.proofs.FirstBads.{bad_not_good, one_bad}
+
+-- ---- calls below
+
+some_same : {A : Type 0} (a b : A) → Some a ≡ Some b → a ≡ b
+some_same a b e = cc
+
+none_some : {A : Type 0} (a : A) → ◌≡◌ {A = Option A} None (Some a) → ⊥
+none_some a e = cc
+
+-- where a call below has one answer, want of memory aside, so has the step
+module _ {A E : Type 0} (stop_of : E → Option Stop) (Answers : Result A E → Type 0) (memory : E) (none : stop_of memory ≡ None)
+    (one : (x y : Result A E) → Answers x → Answers y → (x ≢ Err memory) → (y ≢ Err memory) → x ≡ y) where
+  not_lacking : (e : E) (stop : Stop) → stop_of e ≡ Some stop → ◌≢◌ {A = Result A E} (Err e) (Err memory)
+  not_lacking e stop is same = none_some stop (sym none ∙ ap stop_of (sym (err_same e memory same)) ∙ is)
+
+  given_value : (a : A) → ◌≢◌ {A = Result A E} (Ok a) (Err memory)
+  given_value a same = ok_no_err a memory same
+
+  pub lower_but : IsOne (Lower stop_of Answers)
+  lower_but (Ok a) (Ok b) h k n m = ap Ok (ok_same a b (one (Ok a) (Ok b) h k (given_value a) (given_value b)))
+  lower_but (Ok a) (Err t) h k n m = absurd (ok_no_err a k.0 (one (Ok a) (Err k.0) h k.1 (given_value a) (not_lacking k.0 t k.2)))
+  lower_but (Err s) (Ok b) h k n m = absurd (ok_no_err b h.0 (one (Ok b) (Err h.0) k h.1 (given_value b) (not_lacking h.0 s h.2)))
+  lower_but (Err s) (Err t) h k n m =
+      let same = err_same h.0 k.0 (one (Err h.0) (Err k.0) h.1 k.1 (not_lacking h.0 s h.2) (not_lacking k.0 t k.2)) in
+      ap Err (some_same s t (sym h.2 ∙ ap stop_of same ∙ k.2))
+
+-- ---- the list
+
+module _ (file : List ℕ) (names : List (List ℕ)) (named : AreNames names) (distinct : AreDistinct names) where
+  same_list : (bytes : List ℕ) (a b : List EntryOf) → StatesList names (texts (lines_from 1 bytes)) a → StatesList names (texts (lines_from 1 bytes)) b → a ≡ b
+  same_list bytes a b h k =
+      let r : AreRuleNames names = record { named = named; distinct = distinct } in
+      ok_same a b (sym (list_again names (lines_from 1 bytes) a r h) ∙ list_again names (lines_from 1 bytes) b r k)
+
+  entries_one : (bytes : List ℕ) → IsOne (StatesEntries file names bytes)
+  entries_one bytes (Ok a) (Ok b) h k n m = ap Ok (same_list bytes a b h k)
+  entries_one bytes (Ok a) (Err t) h k n m = absurd (bad_not_good (StatesList names) (texts (lines_from 1 bytes)) k.0 a k.1 h)
+  entries_one bytes (Err s) (Ok b) h k n m = absurd (bad_not_good (StatesList names) (texts (lines_from 1 bytes)) h.0 b h.1 k)
+  entries_one bytes (Err s) (Err t) h k n m =
+      ap Err (h.2 ∙ ap (bad_entry file) (one_bad (StatesList names) (texts (lines_from 1 bytes)) h.0 k.0 h.1 k.1) ∙ sym k.2)
+
+  list_one : (files : Files) → IsOne (ReadsEntries file names files)
+  list_one files = then_one (Held most_list_bytes file files) (StatesEntries file names) (held_one most_list_bytes file files) (λ bytes held. entries_one bytes)
+
+-- ---- the replay
+
+replays_one : (file : List ℕ) (p : Problem) (list : List EntryOf) → AllModed (modes_of p.forms) (rules_of p) → IsOne (Replays file p list)
+replays_one file p list moded =
+    lower_but (replay_stop file) (IsReplayAnswer (modes_of p.forms) (rules_of p) no_hypotheses p.goal (entries list)) replay_error.Memory refl
+    (one_answer (modes_of p.forms) (rules_of p) no_hypotheses moded p.goal (entries list))
+
+module _ (name : List ℕ) (files : Files) where
+  outputs_one : (nodes : ℕ) (outputs : List Tree) → IsOne (VerifiesOutputs name files nodes outputs)
+  outputs_one nodes outputs =
+      then_one (Compares (interface_file name) (term_lines outputs) files) (λ done result. result ≡ Ok (verified_plan name nodes))
+      (compares_one (interface_file name) (term_lines outputs) files) (λ done held x y h k n m. h ∙ sym k)
+
+  module _ (p : Problem) (is_proper : IsProper p) where
+    replay_one : (list : List EntryOf) → IsOne (VerifiesEntries name files p list)
+    replay_one list =
+        then_one (Replays (list_file name) p list) (VerifiesOutputs name files (length list)) (replays_one (list_file name) p list is_proper.moded)
+        (λ outputs replayed. outputs_one (length list) outputs)
+
+    verify_list_one : IsOne (VerifiesList name files p)
+    verify_list_one =
+        then_one (ReadsEntries (list_file name) (rule_names p) files) (VerifiesEntries name files p) (list_one (list_file name) (rule_names p) is_proper.names is_proper.distinct files)
+        (λ list read. replay_one list)
+
+    subject_one : IsOne (VerifiesSubject name files p)
+    subject_one =
+        then_one (Compares (base_file name) (subject_text p.forms p.goal) files) (λ done. VerifiesList name files p)
+        (compares_one (base_file name) (subject_text p.forms p.goal) files) (λ done held. verify_list_one)
+
+    goal_one : (budget : ℕ) → IsOne (BuildsGoal name (core_file name) budget p)
+    goal_one budget =
+        then_one (Searches (core_file name) budget p) (λ answer result. result ≡ Ok (core_plan name p answer))
+        (searches_one (core_file name) budget p is_proper.moded) (λ answer found x y h k n m. h ∙ sym k)
+
+-- ---- commands
+
+module _ (core_one : (bytes : List ℕ) (a b : Result Problem CoreFileError) → IsCoreAnswer bytes a → IsCoreAnswer bytes b → (a ≢ Err core_error.Memory) → (b ≢ Err core_error.Memory) → a ≡ b) where
+  reads_one : (file : List ℕ) (files : Files) → IsOne (Reads file files)
+  reads_one file files =
+      then_one (Held most_bytes file files) (λ bytes. Lower (core_stop file) (IsCoreAnswer bytes)) (held_one most_bytes file files)
+      (λ bytes held. lower_but (core_stop file) (IsCoreAnswer bytes) core_error.Memory refl (core_one bytes))
+
+  read_proper : (file : List ℕ) (files : Files) (p : Problem) → Reads file files (Ok p) → IsProper p
+  read_proper file files p read = let at = went _ _ _ read in proper at.given p at.goes
+
+  builds_one : (name : List ℕ) (budget : ℕ) (files : Files) → IsOne (BuildsWhole name budget files)
+  builds_one name budget files =
+      then_one (Reads (core_file name) files) (BuildsGoal name (core_file name) budget) (reads_one (core_file name) files)
+      (λ p read. goal_one name files p (read_proper (core_file name) files p read) budget)
+
+  verifies_one : (name : List ℕ) (files : Files) → IsOne (VerifiesWhole name files)
+  verifies_one name files =
+      then_one (Reads (core_file name) files) (VerifiesSubject name files) (reads_one (core_file name) files)
+      (λ p read. subject_one name files p (read_proper (core_file name) files p read))
+
+  runs_one : (command : Meant) (files : Files) → IsOne (Runs command files)
+  runs_one (builds true name tries nodes audits) files x y h k n m = builds_one name tries files x y h k n m
+  runs_one (builds false name tries nodes audits) files x y h k n m = absurd h
+  runs_one (compiles name tries nodes audits) files x y h k n m = absurd h
+  runs_one (checks name tries) files x y h k n m = absurd h
+  runs_one (verifies true name) files x y h k n m = verifies_one name files x y h k n m
+  runs_one (verifies false name) files x y h k n m = absurd h
+  runs_one (samples number) files x y h k n m = absurd h
+
+  pub one_outcome_by : OneOutcome
+  unfolding Outcome
+  one_outcome_by words files = then_one (Commands words) (λ command. Runs command files) (commands_one words) (λ command read. runs_one command files)

@@ -1,0 +1,196 @@
+//! The steps of `verify --core NAME`.
+
+ghost use Rattle.std.specs.Prelude.{◌≡◌, ◌++◌, ◌∷◌, [], ◌<◌, ◌-◌, ◌^◌, IfOk, Some, codes, decimal, length, map};
+ghost use Rattle.sx_outside.specs.Told.{WhereTold};
+ghost use Rattle.sx_term.specs.Term.{tree};
+ghost use Rattle.sx_core.specs.Problem.{problem as problem_data};
+ghost use Rattle.sx_top.specs.LowerStops.{replay_stop};
+ghost use Rattle.sx_top.specs.Proper.{IsProper};
+ghost use Rattle.sx_top.specs.ReadCore.{list_file};
+ghost use Rattle.sx_top.specs.Refusal.{status_of};
+ghost use Rattle.sx_top.specs.Stop.{Gives, OnlyReads, IsNoFault};
+ghost use Rattle.sx_top.specs.Terms.{AreTerms};
+ghost use Rattle.sx_top.specs.VerifyCore.{verified_line, verified_plan, Replays, VerifiesOutputs, VerifiesEntries, VerifiesList, VerifiesSubject, VerifiesWhole};
+ghost use Rattle.sx_top.specs.Work.{plan_of};
+ghost use Rattle.sx_top.specs.declared.status.Status.TheVariants as statuses;
+
+use crate::names::with_suffix;
+use crate::read_core::read_problem;
+use crate::search::nothing_given;
+use crate::step_error::StepError;
+use crate::stop::{Stop, about};
+use crate::texts::{base_text, interface_text};
+use crate::work::Work;
+use crate::written::{compare, read_entries};
+use std::alloc::Global;
+use sx_core::CoreProblem;
+use sx_outside::Shelf;
+use sx_replay::{ReplayError, replay};
+use sx_rules::Entry;
+use sx_term::{NoMemory, Term, Text};
+use sx_words::{Defect, ListDefect, TextDefect};
+
+/// Why the list in the file is not that of a derivation.
+fn bad_replay(alloc: Global, file: &Text, error: ReplayError) -> Result<Stop, NoMemory>
+    ensures stop { IfOk result (λ stop. replay_stop file.now error ≡ Some stop) }
+    ensures refused { IfOk result (λ stop. status_of stop ≡ statuses.Refused) }
+{
+    let defect = match error {
+        ReplayError::Memory => return Err(NoMemory::Memory),
+        ReplayError::WrongAt(entry) => Defect::List(ListDefect::WrongAt(u64::from(entry))),
+        ReplayError::EndsEarly => Defect::List(ListDefect::EndsEarly),
+        ReplayError::LongList(entry) => Defect::List(ListDefect::LongList(u64::from(entry))),
+        ReplayError::TooDeep(depth) => Defect::Text(TextDefect::TooDeep(depth)),
+        ReplayError::TooBig(size) => Defect::Text(TextDefect::TooBig(size)),
+        ReplayError::DeepList(entry) => Defect::List(ListDefect::DeepList(u64::from(entry))),
+    };
+    Ok(about(file.copy(alloc)?, defect))
+}
+
+/// The outputs of the derivation of the goal that has the list of the file.
+fn replay_list(
+    alloc: Global,
+    file: &Text,
+    problem: &CoreProblem,
+    list: &[Entry],
+) -> Result<Vec<Term>, StepError>
+    requires proper { IsProper (problem_data problem.now) }
+    requires short { length list.now < 2 ^ 32 - 1 }
+    ensures step { Gives (λ outputs. map tree outputs.items) (Replays file.now (problem_data problem.now) list.now) result }
+    ensures terms { IfOk result (λ outputs. AreTerms (map tree outputs.items)) }
+    ensures no_fault { IsNoFault result }
+{
+    let given = nothing_given(alloc);
+    match replay(alloc, &problem.rules, &given, &problem.goal, list) {
+        Ok(outputs) => Ok(outputs),
+        Err(error) => Err(StepError::Stopped(bad_replay(alloc, file, error)?)),
+    }
+}
+
+/// The line that tells how many entries the list has.
+fn line_of_list(alloc: Global, name: &Text, nodes: u64) -> Result<Vec<u8>, NoMemory>
+    ensures { IfOk result (λ bytes. bytes.items ≡ verified_line name.now nodes) }
+{
+    let mut bytes = Vec::from_slice(alloc, b"verified ")?;
+    bytes.extend_from_slice(name.bytes())?;
+    bytes.extend_from_slice(b": ")?;
+    let digits = nodes.to_string(alloc)?;
+    bytes.extend_from_slice(digits.as_bytes())?;
+    bytes.extend_from_slice(b" nodes\n")?;
+    Ok(bytes)
+}
+
+/// No file to write, and the line.
+fn make_verified(alloc: Global, name: &Text, nodes: u64) -> Result<Work, NoMemory>
+    ensures { IfOk result (λ work. plan_of work ≡ verified_plan name.now nodes) }
+{
+    let lines = line_of_list(alloc, name, nodes)?;
+    Ok(Work {
+        files: Vec::new(alloc),
+        lines,
+    })
+}
+
+/// The outputs are those of the file.
+fn verify_outputs<S: Shelf>(
+    alloc: Global,
+    name: &Text,
+    nodes: u64,
+    outputs: &[Term],
+    shelf: &mut S,
+) -> Result<Work, StepError>
+    requires { AreTerms (map tree outputs.now) }
+    ensures step { WhereTold (S.content shelf.old) (λ files. Gives plan_of (VerifiesOutputs name.now files nodes (map tree outputs.now)) result) }
+    ensures reads { OnlyReads (S.content shelf.old) (S.content shelf.new)
+        (S.read_faults shelf.old) (S.read_faults shelf.new)
+        (S.write_faults shelf.old) (S.write_faults shelf.new) result }
+{
+    let text = interface_text(alloc, outputs)?;
+    let file = with_suffix(alloc, name, ".int")?;
+    match compare(alloc, &file, &text, shelf) {
+        Ok(()) => Ok(make_verified(alloc, name, nodes)?),
+        Err(e) => Err(e),
+    }
+}
+
+/// The list is that of a derivation, whose outputs are those of the file.
+fn verify_entries<S: Shelf>(
+    alloc: Global,
+    name: &Text,
+    file: &Text,
+    problem: &CoreProblem,
+    list: &[Entry],
+    shelf: &mut S,
+) -> Result<Work, StepError>
+    requires file { file.now ≡ list_file name.now }
+    requires proper { IsProper (problem_data problem.now) }
+    requires short { length list.now < 2 ^ 32 - 1 }
+    ensures step { WhereTold (S.content shelf.old) (λ files. Gives plan_of (VerifiesEntries name.now files (problem_data problem.now) list.now) result) }
+    ensures reads { OnlyReads (S.content shelf.old) (S.content shelf.new)
+        (S.read_faults shelf.old) (S.read_faults shelf.new)
+        (S.write_faults shelf.old) (S.write_faults shelf.new) result }
+{
+    match replay_list(alloc, file, problem, list) {
+        Ok(outputs) => verify_outputs(alloc, name, list.len() as u64, &outputs, shelf),
+        Err(e) => Err(e),
+    }
+}
+
+/// The list in its file is verified.
+fn verify_list<S: Shelf>(
+    alloc: Global,
+    name: &Text,
+    problem: &CoreProblem,
+    shelf: &mut S,
+) -> Result<Work, StepError>
+    requires { IsProper (problem_data problem.now) }
+    ensures step { WhereTold (S.content shelf.old) (λ files. Gives plan_of (VerifiesList name.now files (problem_data problem.now)) result) }
+    ensures reads { OnlyReads (S.content shelf.old) (S.content shelf.new)
+        (S.read_faults shelf.old) (S.read_faults shelf.new)
+        (S.write_faults shelf.old) (S.write_faults shelf.new) result }
+{
+    let file = with_suffix(alloc, name, ".der")?;
+    match read_entries(alloc, &file, &problem.rules, shelf) {
+        Ok(list) => verify_entries(alloc, name, &file, problem, &list, shelf),
+        Err(e) => Err(e),
+    }
+}
+
+/// The subject of the goal is that of its file, and then the list is verified.
+fn verify_subject<S: Shelf>(
+    alloc: Global,
+    name: &Text,
+    problem: &CoreProblem,
+    shelf: &mut S,
+) -> Result<Work, StepError>
+    requires { IsProper (problem_data problem.now) }
+    ensures step { WhereTold (S.content shelf.old) (λ files. Gives plan_of (VerifiesSubject name.now files (problem_data problem.now)) result) }
+    ensures reads { OnlyReads (S.content shelf.old) (S.content shelf.new)
+        (S.read_faults shelf.old) (S.read_faults shelf.new)
+        (S.write_faults shelf.old) (S.write_faults shelf.new) result }
+{
+    let text = base_text(alloc, problem.rules.forms(), &problem.goal)?;
+    let file = with_suffix(alloc, name, ".base")?;
+    match compare(alloc, &file, &text, shelf) {
+        Ok(()) => verify_list(alloc, name, problem, shelf),
+        Err(e) => Err(e),
+    }
+}
+
+/// The steps of `verify --core NAME`. No try is made.
+pub fn plan_verify_core<S: Shelf>(
+    alloc: Global,
+    name: &Text,
+    shelf: &mut S,
+) -> Result<Work, StepError>
+    ensures step { WhereTold (S.content shelf.old) (λ files. Gives plan_of (VerifiesWhole name.now files) result) }
+    ensures reads { OnlyReads (S.content shelf.old) (S.content shelf.new)
+        (S.read_faults shelf.old) (S.read_faults shelf.new)
+        (S.write_faults shelf.old) (S.write_faults shelf.new) result }
+{
+    let file = with_suffix(alloc, name, ".core")?;
+    match read_problem(alloc, &file, shelf) {
+        Ok(problem) => verify_subject(alloc, name, &problem, shelf),
+        Err(e) => Err(e),
+    }
+}
