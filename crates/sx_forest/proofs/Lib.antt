@@ -15,3 +15,8 @@ pub mod Sorting
 pub mod Tabling
 pub mod Whole
 pub mod Judging
+pub mod Usable
+pub mod Following
+pub mod Making
+pub mod Stepwise
+pub mod Growing

@@ -7,14 +7,19 @@
 //! - Within: `ways` counts readings, none, one or more, with their greatest depth.
 #![tactic(auto)]
 
+mod building;
+mod choosing;
 mod entries;
 mod entry;
 mod first_entries;
+mod forest;
+mod fork;
 mod full;
 mod in_order;
 mod judge;
 mod judged;
 mod laws;
+mod opened;
 mod ordered;
 mod part_ways;
 mod place;
@@ -23,6 +28,7 @@ mod reading;
 mod row;
 mod span_rows;
 mod step;
+mod stepping;
 mod stripping;
 mod symbol_ways;
 #[cfg(test)]
