@@ -19,4 +19,6 @@ pub mod Usable
 pub mod Following
 pub mod Making
 pub mod Stepwise
+pub mod Parting
 pub mod Growing
+pub mod Branching

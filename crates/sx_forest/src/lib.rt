@@ -14,6 +14,7 @@ mod entry;
 mod first_entries;
 mod forest;
 mod fork;
+mod forking;
 mod full;
 mod in_order;
 mod judge;
