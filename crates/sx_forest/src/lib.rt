@@ -7,23 +7,33 @@
 //! - Within: `ways` counts readings, none, one or more, with their greatest depth.
 #![tactic(auto)]
 
+mod all_tokens;
+mod building;
+mod choosing;
 mod entries;
 mod entry;
 mod first_entries;
+mod forest;
+mod fork;
+mod forking;
 mod found;
 mod full;
 mod in_order;
 mod judge;
 mod judged;
 mod laws;
+mod opened;
 mod ordered;
 mod part_ways;
 mod place;
+mod ranked;
 mod read_error;
+mod read_shown;
 mod reading;
 mod row;
 mod span_rows;
 mod step;
+mod stepping;
 mod stripping;
 mod symbol_ways;
 #[cfg(test)]
