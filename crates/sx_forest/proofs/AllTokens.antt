@@ -70,11 +70,19 @@ module _ (g : Grammar) (tokens : List Token) (start : ℕ) (levels : HasLevels g
       let kid : Kid e r = subst (λ t. KidOf g tokens e.maker start 0 0 t r) (sym c.4) c.3 in
       let fits = kid_fits g tokens e.maker start 0 0 e.to r kid in
       let end : ways_at row (e.to - 0) ≡ one_way 0 = ap (λ t. ways_at row (t - 0)) c.4 ∙ last.end in
-      let tally : IsTally (Kid e) reading_depth (tally_of e.ways) = kid_tally g tokens start e.maker start 0 0 e.to (tally_of e.ways) (full.table.sound 0 c.0 e c.2) fits in
-      (c.0, e, c.2, (fits, λ none.
-      let gone : tally_of e.ways ≡ no_way = some_after (tally_of e.ways) (sym (ap (times (tally_of e.ways)) end) ∙ none) in
-      let no : IsTally (Kid e) reading_depth no_way = subst (λ t. IsTally (Kid e) reading_depth t) gone tally in
-      no r kid), kid)
+      let tally : IsTally (Kid e) reading_depth (tally_of e.ways) = kid_tally g tokens start e.maker start 0 0 e.to (tally_of e.ways) (full.table.sound 0 c.0 e c.2) fits in (
+        c.0,
+        e,
+        c.2,
+        (
+          fits,
+          λ none.
+              let gone : tally_of e.ways ≡ no_way = some_after (tally_of e.ways) (sym (ap (times (tally_of e.ways)) end) ∙ none) in
+              let no : IsTally (Kid e) reading_depth no_way = subst (λ t. IsTally (Kid e) reading_depth t) gone tally in
+              no r kid,
+        ),
+        kid,
+      )
 
   -- where no reading is too deep, none by a usable entry is
   pub used_shallow : ((r : Reading) → ReadsWhole g tokens start r → reading_depth r ≤ 1000) → (i : ℕ) (e : Entry) → slice_get (list_at lists 0) i ≡ Some e → Used e → IsShallow g tokens start 0 e

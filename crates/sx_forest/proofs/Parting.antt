@@ -94,9 +94,17 @@ module _ (g : Grammar) (tokens : List Token) (start : ℕ) (levels : HasLevels g
       let kid : KidOf g tokens e.maker start 0 0 e.to r = subst (λ q. KidOf g tokens e.maker start 0 0 q r) (sym h.4) h.3 in
       let fits = kid_fits g tokens e.maker start 0 0 e.to r kid in
       let tally = kid_tally g tokens start e.maker start 0 0 e.to (tally_of e.ways) (full.table.sound 0 h.0 e h.2) fits in
-      let end : ways_at row (e.to - 0) ≡ one_way 0 = ap (λ q. ways_at row (q - 0)) h.4 ∙ last.end in
-      (h.0, e, h.2, kid, (fits, λ none.
-      (subst (λ t. IsTally (KidOf g tokens e.maker start 0 0 e.to) reading_depth t) (times_last (tally_of e.ways) (ap (λ t. times (tally_of e.ways) t) (sym end) ∙ none)) tally) r kid))
+      let end : ways_at row (e.to - 0) ≡ one_way 0 = ap (λ q. ways_at row (q - 0)) h.4 ∙ last.end in (
+        h.0,
+        e,
+        h.2,
+        kid,
+        (
+          fits,
+          λ none.
+              (subst (λ t. IsTally (KidOf g tokens e.maker start 0 0 e.to) reading_depth t) (times_last (tally_of e.ways) (ap (λ t. times (tally_of e.ways) t) (sym end) ∙ none)) tally) r kid,
+        ),
+      )
 
   -- a usable entry reads up to the end
   pub reads_to_end : (e : Entry) → IsUsable g start 0 row 0 e → e.to ≡ length tokens

@@ -54,7 +54,16 @@ pub(crate) fn two_readings(
     let entries = forest.table.from(0);
     match first_usable(forest.grammar, entries, forest.start, 0, row, 0, 0) {
         Some((index, entry)) => {
-            match fork_of(forest.grammar, entries, forest.start, 0, row, 0, index, entry) {
+            match fork_of(
+                forest.grammar,
+                entries,
+                forest.start,
+                0,
+                row,
+                0,
+                index,
+                entry,
+            ) {
                 Some(fork) => pair_at(alloc, forest, fork, 0),
                 None => unreachable!(),
             }

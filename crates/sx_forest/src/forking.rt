@@ -38,7 +38,16 @@ fn fork_at(forest: Forest, opened: &Opened, dot: usize, place: u32, step: Step) 
                 let count = symbol_count(forest.grammar, opened.head);
                 let next = row_of(&opened.rows, count - dot - 1);
                 let entries = forest.table.from(place);
-                fork_of(forest.grammar, entries, sort, least, next, opened.from, index, entry)
+                fork_of(
+                    forest.grammar,
+                    entries,
+                    sort,
+                    least,
+                    next,
+                    opened.from,
+                    index,
+                    entry,
+                )
             }
             _ => unreachable!(),
         },
