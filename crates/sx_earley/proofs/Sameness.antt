@@ -46,12 +46,12 @@ same_at (z ∷ zs) (y ∷ ys) zero x h at = (y, refl, subst (λ w. Same w y) (sa
 same_at (z ∷ zs) (y ∷ ys) (suc n) x h at = same_at zs ys n x h.1 at
 
 module _ (xs ys : List Token) (same : AllSame xs ys) where
-  literal_same : (place : ℕ) (text : Text) → IsLiteral xs place text → IsLiteral ys place text
+  pub literal_same : (place : ℕ) (text : Text) → IsLiteral xs place text → IsLiteral ys place text
   literal_same place text at =
       let s = same_at xs ys place (record { mark = is_literal; text = text }) same at in
       s.1 ∙ (λ t. Some (record { mark = sym s.2.0 t; text = sym (s.2.1 refl) t }))
 
-  marked_same : (place : ℕ) (m : plain.Mark) → Marked xs place m → Marked ys place m
+  pub marked_same : (place : ℕ) (m : plain.Mark) → Marked xs place m → Marked ys place m
   marked_same place m h =
       let s = same_at xs ys place (record { mark = m; text = h.0 }) same h.1 in
       (s.0.text, s.1 ∙ (λ t. Some (record { mark = sym s.2.0 t; text = s.0.text })))

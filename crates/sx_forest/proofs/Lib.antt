@@ -15,6 +15,8 @@ pub mod Sorting
 pub mod Tabling
 pub mod Whole
 pub mod Judging
+pub mod Retelling
+pub mod Afterness
 pub mod Usable
 pub mod Following
 pub mod Making
@@ -22,3 +24,4 @@ pub mod Stepwise
 pub mod Parting
 pub mod Growing
 pub mod Branching
+pub mod AllTokens

@@ -9,6 +9,8 @@ use Rattle.sx_earley.specs.declared.chart_error.ChartError.{ChartError}
 use Rattle.sx_earley.specs.declared.chart_error.ChartError.TheVariants as chart
 use Rattle.sx_forest.specs.declared.judged.Judged.{Judged}
 use Rattle.sx_forest.specs.declared.judged.Judged.TheVariants as judged
+use Rattle.sx_forest.specs.declared.found.Found.{Found}
+use Rattle.sx_forest.specs.declared.found.Found.TheVariants as found
 use Rattle.sx_forest.specs.declared.read_error.ReadError.{ReadError}
 use Rattle.sx_forest.specs.declared.read_error.ReadError.TheVariants.{Memory, TooHard, NoReading, TooDeep, Ambiguous}
 use Rattle.sx_forest.specs.Readings.{plain_reading}
@@ -39,3 +41,8 @@ IsRefusal labels texts g tokens start (TooDeep depth) = IsAnswer g tokens start 
 IsRefusal labels texts g tokens start (Ambiguous one other) =
     IsAnswer g tokens start (ambiguous (plain_reading one) (plain_reading other)) ×
     IsNotAfter (tree_text labels texts (plain_reading one)) (tree_text labels texts (plain_reading other))
+
+-- the only reading is the answer, or two readings are
+abbrev pub IsFound : Grammar → List Token → ℕ → Found → Type 0
+IsFound g tokens start (found.Only r) = IsAnswer g tokens start (only (plain_reading r))
+IsFound g tokens start (found.Two one other) = IsAnswer g tokens start (ambiguous (plain_reading one) (plain_reading other))

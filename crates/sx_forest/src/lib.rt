@@ -7,6 +7,7 @@
 //! - Within: `ways` counts readings, none, one or more, with their greatest depth.
 #![tactic(auto)]
 
+mod all_tokens;
 mod building;
 mod choosing;
 mod entries;
@@ -15,6 +16,7 @@ mod first_entries;
 mod forest;
 mod fork;
 mod forking;
+mod found;
 mod full;
 mod in_order;
 mod judge;
@@ -24,7 +26,9 @@ mod opened;
 mod ordered;
 mod part_ways;
 mod place;
+mod ranked;
 mod read_error;
+mod read_shown;
 mod reading;
 mod row;
 mod span_rows;
@@ -34,6 +38,7 @@ mod stripping;
 mod symbol_ways;
 #[cfg(test)]
 mod tests;
+mod text_order;
 mod ways;
 mod writing;
 
