@@ -9,6 +9,9 @@ pub mod Answering
 pub mod Emptying
 pub mod Filing
 pub mod Stepping
+pub mod Places
+pub mod Settling
+pub mod Ranking
 pub mod Linking
 pub mod Searching
 pub mod FirstLaws
@@ -21,3 +24,4 @@ pub mod NumberLaws
 pub mod MixedLaws
 pub mod LevelLaws
 pub mod MakeLaws
+pub mod LimitLaws

@@ -9,7 +9,7 @@ use Rattle.sx_grammar.specs.declared.numbered.NumberedSymbol.TheVariants.{Part}
 use Rattle.sx_grammar.specs.Cycles.{list_at, unmarked, IsOpen, IsTarget, HasStep}
 
 -- the same element at a place
-same_at : {X : Type 0} (xs : List X) (i j : ℕ) (x y : X) → i ≡ j → slice_get xs i ≡ Some x → slice_get xs j ≡ Some y → x ≡ y
+pub same_at : {X : Type 0} (xs : List X) (i j : ℕ) (x y : X) → i ≡ j → slice_get xs i ≡ Some x → slice_get xs j ≡ Some y → x ≡ y
 same_at xs i j x y e at there =
     let alike : Some x ≡ Some y = sym at ∙ ap (slice_get xs) e ∙ there in
     cc

@@ -1,9 +1,11 @@
 -- The search for sorts that derive themselves.
-use Rattle.std.specs.Prelude.{◌≡◌, ℕ, zero, suc, ◌<◌, ◌↔◌, Bool, false, not, List, [], ◌∷◌, Some, slice_get, slice_index_or, count_by, Contains, IsTrue}
+use Rattle.std.specs.Prelude.{◌≡◌, ℕ, zero, suc, ◌<◌, ◌↔◌, Bool, false, not, Option, None, Some, List, [], ◌∷◌, length, slice_get, slice_index_or, count_by, Contains, IsTrue}
 use Rattle.std.specs.Global.{Vec}
 use Rattle.sx_grammar.specs.declared.numbered.NumberedSymbol.{NumberedSymbol}
 use Rattle.sx_grammar.specs.declared.numbered.NumberedSymbol.TheVariants.{Lit, Lex, Part}
 use Rattle.sx_grammar.specs.declared.numbered.NumberedProduction.{NumberedProduction}
+use Rattle.sx_grammar.specs.declared.rule.Rule.{Rule}
+use Rattle.sx_grammar.specs.Ranks.{rank_in}
 use Rattle.sx_grammar.specs.Grammar.{Symbol, literal, lexical, part, Production, Grammar}
 use Rattle.sx_grammar.specs.Cyclic.{Vanishes, StepsTo}
 
@@ -65,3 +67,32 @@ AreStepsOf g lists = (sort other : ℕ) → Contains (list_at lists sort) other 
 -- the sorts of the parts are below the bound
 abbrev pub HavePartsBelow : ℕ → List NumberedProduction → Type 0
 HavePartsBelow bound ps = (label : ℕ) (p : NumberedProduction) (k sort least : ℕ) → slice_get ps label ≡ Some p → slice_get p.symbols.items k ≡ Some (Part sort least) → sort < bound
+
+-- the symbols are parts of these sorts
+abbrev pub ArePartsOf : List NumberedSymbol → List ℕ → Type 0
+ArePartsOf [] [] = Unit {0}
+ArePartsOf (Part sort least ∷ symbols) (other ∷ sorts) = (sort ≡ other) × ArePartsOf symbols sorts
+ArePartsOf _ _ = ⊥
+
+-- the rule says that the sort of the production derives the empty list where those of its parts do
+abbrev pub IsRuleOf : NumberedProduction → Rule → Type 0
+IsRuleOf p r = (r.head ≡ p.sort) × ArePartsOf p.symbols.items r.needs.items
+
+-- the rules of the first n productions, of those that are of parts alone
+pub record AreRulesOf (ps : List NumberedProduction) (n : ℕ) (rules : List Rule) : Type 0 where
+  pub only : (i : ℕ) (r : Rule) → slice_get rules i ≡ Some r → (label : ℕ) × (p : NumberedProduction) × (slice_get ps label ≡ Some p) × IsRuleOf p r
+  pub all : (label : ℕ) (p : NumberedProduction) (sorts : List ℕ) → label < n → slice_get ps label ≡ Some p → ArePartsOf p.symbols.items sorts →
+      (i : ℕ) × (r : Rule) × (slice_get rules i ≡ Some r) × IsRuleOf p r
+
+-- a rule for each of the first n sorts: it needs those to which the sort steps
+pub record AreStepRules (lists : List (Vec ℕ)) (n : ℕ) (rules : List Rule) : Type 0 where
+  pub size : length rules ≡ n
+  pub each : (i : ℕ) (r : Rule) → slice_get rules i ≡ Some r → (r.head ≡ i) × (r.needs.items ≡ list_at lists i)
+
+-- the sorts of the steps are below the bound
+abbrev pub AreStepsBelow : ℕ → List (Vec ℕ) → Type 0
+AreStepsBelow bound lists = (sort other : ℕ) → Contains (list_at lists sort) other → other < bound
+
+-- one of the numbers has no rank
+abbrev pub LacksRank : List (Option ℕ) → Type 0
+LacksRank ranks = (x : ℕ) × (x < length ranks) × (rank_in ranks x ≡ None)

@@ -18,3 +18,7 @@ pub mod Tables
 pub mod Told
 pub mod Known
 pub mod Levels
+pub mod Ranks
+pub mod Settled
+pub mod Sorting
+pub mod High

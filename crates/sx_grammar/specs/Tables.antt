@@ -9,6 +9,7 @@ use Rattle.sx_grammar.specs.Grammar.{Text, Brackets}
 use Rattle.sx_grammar.specs.Parts.{Line, Parts, names, literals, numbered, numbered_sort}
 use Rattle.sx_grammar.specs.Numbered.{production}
 use Rattle.sx_grammar.specs.Distinct.{distinct}
+use Rattle.sx_grammar.specs.Order.{AreRanks}
 use Rattle.sx_grammar.specs.Print.{BracketsWhereAsked}
 use Rattle.sx_grammar.specs.Made.{IsGrammar, IsRefused}
 
@@ -54,7 +55,7 @@ pub record IsWithinLimits (p : Parts) : Type 0 where
   pub levels : HasGoodLevels p
 
 -- the parts are those of a grammar, and the tables are theirs
-pub record IsTabled (p : Parts) (base : ℕ) (texts : List Text) (productions : List NumberedProduction) (brackets : List (Option (ℕ × ℕ))) (sorts known : List Text) : Type 0 where
+pub record IsTabled (p : Parts) (base : ℕ) (texts : List Text) (productions : List NumberedProduction) (brackets : List (Option (ℕ × ℕ))) (sorts known : List Text) (ranks : List ℕ) : Type 0 where
   pub is_grammar : IsGrammar p
   pub limits : IsWithinLimits p
   pub based : base ≤ length p.productions
@@ -64,6 +65,7 @@ pub record IsTabled (p : Parts) (base : ℕ) (texts : List Text) (productions : 
   pub has_brackets : AreNumberedPairs texts p.sorts brackets
   pub has_sorts : sorts ≡ names p
   pub has_known : known ≡ texts
+  pub ranked : AreRanks (numbered p) ranks
 
 -- the grammar is of these parts, all of its productions are base, and the parts are those of a grammar; or why they are not
 abbrev pub IsMade : Parts → Result GrammarData GrammarError → Type 0

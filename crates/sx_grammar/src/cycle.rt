@@ -3,12 +3,9 @@
 ghost use Rattle.std.specs.Prelude.{◌≡◌, ℕ, ◌+◌, ◌*◌, ◌<◌, ◌≤◌, ◌⊎◌, ◌↔◌, length, slice_index_or, count_by, not, false, Contains, IsTrue, IfOk, OnOk, MatchOption};
 ghost use Rattle.sx_grammar.specs.Grammar.{Grammar};
 ghost use Rattle.sx_grammar.specs.Cyclic.{IsCyclic, IsNotCyclic};
-ghost use Rattle.sx_grammar.specs.Numbered.{AreOf};
-ghost use Rattle.sx_grammar.specs.Cycles.{list_at, AreStepsOf, HaveSortsBelow, HavePartsBelow};
+ghost use Rattle.sx_grammar.specs.Cycles.{list_at, AreStepsOf, AreStepsBelow};
 
-use crate::empty_sorts::{empty_sorts, is_marked_sort, no_marks};
-use crate::numbered::NumberedProduction;
-use crate::steps::steps;
+use crate::empty_sorts::{is_marked_sort, no_marks};
 use std::alloc::{AllocError, Global};
 
 /// Marks the sorts, and puts each that was not marked on the stack.
@@ -33,7 +30,7 @@ fn visit(sorts: &[usize], marks: &mut [bool], stack: &mut Vec<usize>) -> Result<
 }
 
 /// The list at the place.
-fn list(lists: &[Vec<usize>], place: usize) -> &[usize]
+pub(crate) fn list(lists: &[Vec<usize>], place: usize) -> &[usize]
     requires { place < length lists.now }
     ensures { result.now ≡ list_at lists.now place }
 {
@@ -43,7 +40,7 @@ fn list(lists: &[Vec<usize>], place: usize) -> &[usize]
 /// Whether steps lead from the sort to itself.
 fn leads_back(alloc: Global, steps: &[Vec<usize>], sort: usize) -> Result<bool, AllocError>
     requires sort { sort < length steps.now }
-    requires below { (s t : ℕ) → Contains (list_at steps.now s) t → t < length steps.now }
+    requires below { AreStepsBelow (length steps.now) steps.now }
     ensures { IfOk result (λ r. (g : Grammar) → AreStepsOf g steps.now → IsTrue r ↔ IsCyclic g sort) }
 {
     let mut marks = no_marks(alloc, steps.len())?;
@@ -56,20 +53,13 @@ fn leads_back(alloc: Global, steps: &[Vec<usize>], sort: usize) -> Result<bool, 
 }
 
 /// The first sort that derives itself.
-pub(crate) fn first_cyclic(
-    alloc: Global,
-    productions: &[NumberedProduction],
-    sorts: usize,
-) -> Result<Option<usize>, AllocError>
-    requires heads { HaveSortsBelow sorts productions.now }
-    requires parts { HavePartsBelow sorts productions.now }
-    ensures { IfOk result (λ r. (g : Grammar) → AreOf g productions.now → MatchOption r (IsNotCyclic g)
-        (λ sort. (sort < sorts) × IsCyclic g sort × ((other : ℕ) → other < sort → ¬ (IsCyclic g other)))) }
+pub(crate) fn first_cyclic(alloc: Global, steps: &[Vec<usize>]) -> Result<Option<usize>, AllocError>
+    requires below { AreStepsBelow (length steps.now) steps.now }
+    ensures { IfOk result (λ r. (g : Grammar) → AreStepsOf g steps.now → MatchOption r (IsNotCyclic g)
+        (λ sort. (sort < length steps.now) × IsCyclic g sort × ((other : ℕ) → other < sort → ¬ (IsCyclic g other)))) }
 {
-    let empty = empty_sorts(alloc, productions, sorts)?;
-    let steps = steps(alloc, productions, &empty, sorts)?;
-    for sort in 0..sorts {
-        if leads_back(alloc, &steps, sort)? {
+    for sort in 0..steps.len() {
+        if leads_back(alloc, steps, sort)? {
             return Ok(Some(sort));
         }
     }

@@ -1,11 +1,13 @@
 //! The sorts that derive the empty list.
 
-ghost use Rattle.std.specs.Prelude.{◌≡◌, ℕ, ◌<◌, ◌≤◌, length, slice_index_or, count_by, not, false, IsFalse, IsTrue, IfOk};
+ghost use Rattle.std.specs.Prelude.{◌≡◌, ℕ, ◌<◌, length, slice_index_or, count_by, map, not, is_some, false, List, MatchOption, IsFalse, IfOk};
 ghost use Rattle.sx_grammar.specs.Grammar.{Grammar};
 ghost use Rattle.sx_grammar.specs.Numbered.{AreOf};
-ghost use Rattle.sx_grammar.specs.Cycles.{AreEmptySorts, IsClosed, is_marked, unmarked, HaveSortsBelow};
+ghost use Rattle.sx_grammar.specs.Cycles.{AreEmptySorts, IsClosed, is_marked, unmarked, ArePartsOf, AreRulesOf, HaveSortsBelow, HavePartsBelow};
 
+use crate::follow::follow;
 use crate::numbered::{NumberedProduction, NumberedSymbol};
+use crate::rule::Rule;
 use std::alloc::{AllocError, Global};
 
 /// Whether the sort is marked.
@@ -47,31 +49,43 @@ pub(crate) fn unmarked(marks: &[bool], symbols: &[NumberedSymbol]) -> usize
     count
 }
 
-/// Whether all symbols of the production are parts of marked sorts, and its own sort is not marked.
-fn is_due(production: &NumberedProduction, marks: &[bool]) -> bool
-    requires { production.now.sort < length marks.now }
-    ensures yes { IsTrue result → (unmarked marks.now production.now.symbols.items ≡ 0) × (slice_index_or marks.now production.now.sort false ≡ false) }
-    ensures no { IsFalse result → unmarked marks.now production.now.symbols.items ≡ 0 → IsTrue (slice_index_or marks.now production.now.sort false) }
+/// The sorts of the symbols, where all of these are parts.
+fn part_sorts(alloc: Global, symbols: &[NumberedSymbol]) -> Result<Option<Vec<usize>>, AllocError>
+    ensures { IfOk result (λ r. MatchOption r ((sorts : List ℕ) → ¬ (ArePartsOf symbols.now sorts)) (λ v. ArePartsOf symbols.now v.items)) }
 {
-    !is_marked_sort(marks, production.sort as usize) && unmarked(marks, &production.symbols) == 0
+    let mut sorts = Vec::new(alloc);
+    for symbol in symbols {
+        let NumberedSymbol::Part { sort, least: _ } = symbol else {
+            return Ok(None);
+        };
+        sorts.push(*sort as usize)?;
+    }
+    Ok(Some(sorts))
 }
 
-/// Marks the sort of each production all of whose symbols are parts of marked sorts. Answers whether a sort was not marked before.
-fn mark_round(productions: &[NumberedProduction], marks: &mut [bool]) -> bool
-    requires { HaveSortsBelow (length marks.old) productions.now }
-    ensures same { length marks.new ≡ length marks.old }
-    ensures empty { (g : Grammar) → AreOf g productions.now → AreEmptySorts g marks.old → AreEmptySorts g marks.new }
-    ensures closed { IsFalse result → (g : Grammar) → AreOf g productions.now → IsClosed g marks.new }
-    ensures fewer { IsTrue result → count_by not marks.new < count_by not marks.old }
+/// A rule for each production of parts alone: its sort derives the empty list where those of its parts do.
+fn empty_rules(alloc: Global, productions: &[NumberedProduction]) -> Result<Vec<Rule>, AllocError>
+    ensures { IfOk result (λ v. AreRulesOf productions.now (length productions.now) v.items) }
 {
-    let mut more = false;
+    let mut rules = Vec::new(alloc);
     for production in productions {
-        if is_due(production, marks) {
-            marks[production.sort as usize] = true;
-            more = true;
+        if let Some(needs) = part_sorts(alloc, &production.symbols)? {
+            let head = production.sort as usize;
+            rules.push(Rule { head, needs })?;
         }
     }
-    more
+    Ok(rules)
+}
+
+/// Marks the numbers that have ranks.
+fn marks(alloc: Global, ranks: &[Option<usize>]) -> Result<Vec<bool>, AllocError>
+    ensures { IfOk result (λ v. v.items ≡ map is_some ranks.now) }
+{
+    let mut out = Vec::new(alloc);
+    for rank in ranks {
+        out.push(rank.is_some())?;
+    }
+    Ok(out)
 }
 
 /// Marks exactly the sorts that derive the empty list.
@@ -80,11 +94,12 @@ pub(crate) fn empty_sorts(
     productions: &[NumberedProduction],
     sorts: usize,
 ) -> Result<Vec<bool>, AllocError>
-    requires { HaveSortsBelow sorts productions.now }
+    requires heads { HaveSortsBelow sorts productions.now }
+    requires parts { HavePartsBelow sorts productions.now }
     ensures empty { IfOk result (λ marks. (g : Grammar) → AreOf g productions.now → AreEmptySorts g marks.items) }
     ensures closed { IfOk result (λ marks. (g : Grammar) → AreOf g productions.now → IsClosed g marks.items) }
 {
-    let mut marks = no_marks(alloc, sorts)?;
-    while mark_round(productions, &mut marks) {}
-    Ok(marks)
+    let rules = empty_rules(alloc, productions)?;
+    let ranks = follow(alloc, &rules, sorts)?;
+    marks(alloc, &ranks)
 }

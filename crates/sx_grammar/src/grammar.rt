@@ -22,6 +22,8 @@ pub struct Grammar {
     pub(crate) sort_names: Names,
     /// The literals, to find their numbers.
     pub(crate) literal_names: Names,
+    /// The ranks of the sorts: each steps only to sorts of lower ranks.
+    pub(crate) ranks: Vec<u32>,
 }
 
 impl Model for Grammar {
@@ -32,5 +34,5 @@ impl Model for Grammar {
 
     ghost view = { λ g. record { parts = plain.parts g.parts; base = g.base } };
 
-    ghost invariant = { λ g. IsTabled (plain.parts g.parts) g.base g.literals.items g.productions.items g.brackets.items g.sort_names g.literal_names };
+    ghost invariant = { λ g. IsTabled (plain.parts g.parts) g.base g.literals.items g.productions.items g.brackets.items g.sort_names g.literal_names g.ranks.items };
 }

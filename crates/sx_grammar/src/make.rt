@@ -1,7 +1,8 @@
 //! Making a grammar.
 
 ghost use Rattle.std.specs.Prelude.{◌≡◌, ◌≤◌, ℕ, length, OnOk, IfOk, IfErr};
-ghost use Rattle.sx_grammar.specs.Parts.{parts, literals, names, texts};
+ghost use Rattle.sx_grammar.specs.Parts.{parts, literals, names, numbered, texts};
+ghost use Rattle.sx_grammar.specs.Order.{AreRanks};
 ghost use Rattle.sx_grammar.specs.Tables.{literals_of, AreNumbered, HaveLiteralsBelow, IsWithinLimits, IsTabled, IsMade};
 ghost use Rattle.sx_grammar.specs.Made.{HasLabels, IsGrammar, IsRefused};
 
@@ -34,39 +35,40 @@ fn names_of(alloc: Global, from: &GrammarParts) -> Result<(Vec<&Text>, Names), G
     Ok((texts, sorts))
 }
 
-/// The productions with numbers; or a plain production with a typed part, a sort without brackets or a cyclic sort.
+/// The productions with numbers, and the ranks of the sorts; or a plain production with a typed part, a sort without brackets or a cyclic sort.
 fn productions_of(
     alloc: Global,
     from: &GrammarParts,
     sorts: &Names,
     literals: &Names,
-) -> Result<Vec<NumberedProduction>, GrammarError>
+) -> Result<(Vec<NumberedProduction>, Vec<u32>), GrammarError>
     requires labels { HasLabels (parts from.now) }
     requires sorts { sorts.now ≡ names (parts from.now) }
     requires literals { literals.now ≡ literals_of (parts from.now) }
     requires limits { IsWithinLimits (parts from.now) }
     ensures good { OnOk result (IsGrammar (parts from.now)) }
-    ensures same { IfOk result (λ v. AreNumbered (parts from.now) v.items) }
-    ensures below { IfOk result (λ v. HaveLiteralsBelow (length literals.now) v.items) }
+    ensures same { IfOk result (λ r. AreNumbered (parts from.now) r.0.items) }
+    ensures below { IfOk result (λ r. HaveLiteralsBelow (length literals.now) r.0.items) }
+    ensures ranking { IfOk result (λ r. AreRanks (numbered (parts from.now)) r.1.items) }
     ensures refused { IfErr result (IsRefused (parts from.now)) }
 {
     let productions = number_productions(alloc, sorts, literals, &from.productions)?;
     keeps_sorts(alloc, from, &productions)?;
     has_brackets(alloc, from, &productions)?;
-    not_cyclic(alloc, from, &productions)?;
-    Ok(productions)
+    let ranks = not_cyclic(alloc, from, &productions)?;
+    Ok((productions, ranks))
 }
 
 /// The tables of the parts, or why these are no grammar.
 fn tables(alloc: Global, from: &GrammarParts) -> Result<Tables, GrammarError>
     requires { IsWithinLimits (parts from.now) }
     ensures tables { IfOk result (λ t. (base : ℕ) → base ≤ length (parts from.now).productions
-        → IsTabled (parts from.now) base t.literals.items t.productions.items t.brackets.items t.sort_names t.literal_names) }
+        → IsTabled (parts from.now) base t.literals.items t.productions.items t.brackets.items t.sort_names t.literal_names t.ranks.items) }
     ensures refused { IfErr result (IsRefused (parts from.now)) }
 {
     let (texts, sort_names) = names_of(alloc, from)?;
     let (literals, literal_names) = distinct(alloc, &texts)?;
-    let productions = productions_of(alloc, from, &sort_names, &literal_names)?;
+    let (productions, ranks) = productions_of(alloc, from, &sort_names, &literal_names)?;
     let brackets = number_brackets(alloc, &literal_names, &from.sorts)?;
     Ok(Tables {
         literals,
@@ -74,6 +76,7 @@ fn tables(alloc: Global, from: &GrammarParts) -> Result<Tables, GrammarError>
         brackets,
         sort_names,
         literal_names,
+        ranks,
     })
 }
 
@@ -93,6 +96,7 @@ impl Grammar {
                 brackets: made.brackets,
                 sort_names: made.sort_names,
                 literal_names: made.literal_names,
+                ranks: made.ranks,
             }),
             Err(e) => Err(e),
         }

@@ -17,4 +17,6 @@ pub(crate) struct Tables {
     pub(crate) sort_names: Names,
     /// The literals, to find their numbers.
     pub(crate) literal_names: Names,
+    /// The ranks of the sorts: each steps only to sorts of lower ranks.
+    pub(crate) ranks: Vec<u32>,
 }

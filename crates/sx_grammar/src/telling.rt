@@ -9,6 +9,7 @@ ghost use Rattle.sx_grammar.specs.Grammar.{pair_of, HasLevels};
 ghost use Rattle.sx_grammar.specs.Parts.{parts, names, numbered};
 ghost use Rattle.sx_grammar.specs.Print.{BracketsWhereAsked};
 ghost use Rattle.sx_grammar.specs.Cyclic.{IsNotCyclic};
+ghost use Rattle.sx_grammar.specs.Order.{IsRanking, rank_at};
 ghost use Rattle.sx_grammar.specs.Cycles.{HaveSortsBelow, HavePartsBelow};
 ghost use Rattle.sx_grammar.specs.Made.{IsGrammar};
 ghost use Rattle.sx_grammar.specs.Tables.{literals_of, AreNumbered, HaveLiteralsBelow, IsNumberedPair, IsWithinLimits};
@@ -91,6 +92,15 @@ impl Grammar {
             return self.brackets[i];
         }
         None
+    }
+
+    /// The ranks of the sorts by their numbers. A production of a sort whose other symbols derive the empty list
+    /// has as its one further part only one of a sort of a lower rank.
+    pub fn ranks(&self) -> &[u32]
+        ensures ranking { IsRanking (numbered self.now.parts) (rank_at result.now) }
+        ensures low { (sort : ℕ) → rank_at result.now sort < 2 ^ 32 }
+    {
+        &self.ranks
     }
 
     /// The number of the sort with this name, or None where no sort has it.

@@ -31,7 +31,7 @@ pub fn print(
     requires depth { depth_of (tree term.now) ≤ 1000 }
     requires printable { IsPrintable (numbered grammar.now.parts) (length vars.now) least (tree term.now) }
 
-    // What is appended are the printed tokens; of a place only the marks of variables depend.
+    // The printed tokens are appended. Their text is the same at each place: a place decides only how variables are marked.
     ensures text { OnOk result ((place : Stem) →
         into.new.items ≡ into.old.items ++ text_of (plain.print (numbered grammar.now.parts) vars.now (tree term.now) place least)) }
     ensures utf8 { OnOk result ((place : Stem) →

@@ -35,4 +35,5 @@ returns-clause-tables c =
           (subst (λ ss. AreNumberedPairs c.in_ok-literals.literal_names ss c.in_ok-brackets.brackets.items) c.deref-2.ensures.value c.in_ok-brackets.ensures);
       has_sorts = c.in_ok-texts.ensures.names;
       has_known = same;
+      ranked = c.in_ok-productions.ensures.ranking;
     }

@@ -1,8 +1,13 @@
 use Rattle.std.proofs.Common.{refl, sym, subst, length}
 use Rattle.sx_grammar.specs.Parts.{parts}
 use Rattle.sx_grammar.specs.Cycles.{HaveSortsBelow, HavePartsBelow}
+use Rattle.sx_grammar.specs.Tables.{AreNumbered}
 use Rattle.sx_grammar.proofs.LevelLaws.{sorts_below, parts_below}
 use Rattle.sx_grammar.proofs.grammar.Grammar.productions.Goals as goal
+
+pub returns-clause-same : goal.returns-clause-same
+returns-clause-same c =
+    subst (λ d. AreNumbered d.parts c.deref.result.now) c.self.view_is (subst (AreNumbered (parts c.self.inside.parts)) (sym c.deref.ensures.value) c.self.invariant.has_productions)
 
 pub returns-clause-sorts : goal.returns-clause-sorts
 returns-clause-sorts c =
