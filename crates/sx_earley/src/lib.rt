@@ -2,6 +2,7 @@
 #![tactic(auto)]
 
 mod all_items;
+mod all_known;
 mod ask;
 mod chart_error;
 mod charting;
@@ -18,6 +19,7 @@ mod stems;
 mod symbols;
 mod table;
 
+pub use all_known::first_unknown;
 pub use chart_error::ChartError;
 pub use charting::{chart, chart_of, number_of};
 pub use completed::Chart;

@@ -1,11 +1,12 @@
 //! What the tokens of a text show.
 
-ghost use Rattle.std.specs.Prelude.{◌≡◌, ℕ, List, IfOk, map};
+ghost use Rattle.std.specs.Prelude.{◌≡◌, ℕ, List, IfOk, IsTrue, false, map};
 ghost use Rattle.std.specs.HashMap.{get_by};
 ghost use Rattle.std.specs.Str.{bytes_eq};
 ghost use Rattle.sx_term.specs.declared.sort.Sort.{Sort};
 ghost use Rattle.sx_earley.specs.Tokens.{without_digits, stem_of, sort_of};
 ghost use Rattle.sx_earley.specs.Showing.{IsStems, show, shown_stem};
+ghost use Rattle.sx_earley.specs.Unknown.{HasStem, IsUnknown};
 
 use crate::metas::Metas;
 use crate::shown::Shown;
@@ -16,12 +17,12 @@ use sx_token::Token;
 
 /// The sort of each stem.
 #[derive(Drop)]
-struct Stems<'a> {
+pub(crate) struct Stems<'a> {
     sorts: HashMap<&'a [u8], Sort>,
 }
 
 /// The stems by their bytes, from the last to the first, so that of equal stems the first counts.
-fn stem_table<'a>(alloc: Global, metas: &'a Metas) -> Result<Stems<'a>, AllocError>
+pub(crate) fn stem_table<'a>(alloc: Global, metas: &'a Metas) -> Result<Stems<'a>, AllocError>
     ensures { IfOk result (λ s. IsStems metas.entry.now.stems.items s) }
 {
     let mut sorts = HashMap::new(alloc);
@@ -77,6 +78,17 @@ impl<'a> Stems<'a> {
         ensures { (stems : List (List ℕ × Sort)) → IsStems stems self.now → result ≡ sort_of stems stem.now }
     {
         self.sorts.get(stem).copied()
+    }
+
+    /// Whether the token is no metavariable, or its stem has a sort.
+    pub(crate) fn knows(&self, token: &Token) -> bool
+        ensures yes { (stems : List (List ℕ × Sort)) → IsStems stems self.now → IsTrue result → HasStem stems token.now }
+        ensures not { (stems : List (List ℕ × Sort)) → IsStems stems self.now → result ≡ false → IsUnknown stems token.now }
+    {
+        match token.mark {
+            Mark::Meta => self.sort_of(stem_of(token.text.bytes())).is_some(),
+            _ => true,
+        }
     }
 
     /// What the token shows.

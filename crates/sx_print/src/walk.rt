@@ -29,7 +29,7 @@ fn pair_for(grammar: &Grammar, production: &NumberedProduction, least: u8) -> Op
 
 /// Appends the tokens of the term, each with a blank behind it, or a front of them where memory is lacking.
 #[cycle(put)]
-pub(crate) fn put_term(
+pub fn put_term(
     grammar: &Grammar,
     term: &Term,
     least: u8,

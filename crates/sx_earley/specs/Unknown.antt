@@ -1,0 +1,19 @@
+-- Metavariables whose stems are unknown.
+use Rattle.std.specs.Prelude.{◌≡◌, ℕ, true, List, Option, Some, None, slice_get, is_some, take}
+use Rattle.std.specs.List.{AllByRecursion}
+use Rattle.sx_term.specs.declared.mark.Mark.TheVariants.{Meta}
+use Rattle.sx_token.specs.declared.token.Token.{Token}
+use Rattle.sx_earley.specs.Tokens.{Stems, sort_of, stem_of}
+
+-- the token is a metavariable, and its stem has no sort
+abbrev pub IsUnknown : Stems → Token → Type 0
+IsUnknown stems t = (t.mark ≡ Meta) × (sort_of stems (stem_of t.text) ≡ None)
+
+-- if the token is a metavariable, its stem has a sort
+abbrev pub HasStem : Stems → Token → Type 0
+HasStem stems t = t.mark ≡ Meta → is_some (sort_of stems (stem_of t.text)) ≡ true
+
+-- the token at the place is the first that is unknown, or none is
+abbrev pub IsFirstUnknown : Stems → List Token → Option ℕ → Type 0
+IsFirstUnknown stems ts None = AllByRecursion (HasStem stems) ts
+IsFirstUnknown stems ts (Some n) = AllByRecursion (HasStem stems) (take n ts) × ((t : Token) × (slice_get ts n ≡ Some t) × IsUnknown stems t)

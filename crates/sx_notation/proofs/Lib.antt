@@ -1,0 +1,6 @@
+pub mod Placing
+pub mod Filling
+pub mod Fitting
+pub mod Growing
+pub mod RuleGrammars
+pub mod Numbers

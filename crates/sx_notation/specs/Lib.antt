@@ -1,0 +1,5 @@
+pub mod GoalText
+pub mod Forms
+pub mod Placed
+pub mod RuleParts
+pub mod RuleLaws

@@ -1,0 +1,146 @@
+//! The parts of the grammar by which rules are read.
+
+ghost use Rattle.std.specs.Prelude.{◌≡◌, ◌++◌, ◌∷◌, [], IfOk, OnOk, map, codes};
+ghost use Rattle.std.specs.Str.{IsUtf8};
+ghost use Rattle.sx_grammar.specs.Parts.{line, parts};
+ghost use Rattle.sx_notation.specs.RuleParts.{symbol_for, judgement_sort, form_line, kind_name, apart_line, apart_lines, rule_parts};
+
+use crate::copying::{copy_productions, copy_sorts};
+use crate::form_line::FormLine;
+use crate::form_symbol::FormSymbol;
+use crate::spelled_sort::SpelledSort;
+use std::alloc::Global;
+use sx_grammar::{GrammarParts, Production, SortLine, Symbol};
+use sx_term::{LexKind, NoMemory, Text, TextError};
+
+/// The text with these bytes.
+fn text_of(alloc: Global, bytes: &[u8]) -> Result<Text, NoMemory>
+    requires { IsUtf8 bytes.now }
+    ensures { IfOk result (λ t. t ≡ bytes.now) }
+{
+    match Text::make(alloc, bytes) {
+        Ok(text) => Ok(text),
+        Err(TextError::Memory) => Err(NoMemory::Memory),
+        Err(TextError::NotUtf8(_)) => unreachable!(),
+    }
+}
+
+/// The text `form ` with the name behind it.
+fn form_label(alloc: Global, name: &Text) -> Result<Text, NoMemory>
+    ensures { IfOk result (λ t. t ≡ codes "form " ++ name.now) }
+{
+    let mut label = Vec::from_slice(alloc, b"form ")?;
+    label.extend_from_slice(name.bytes())?;
+    text_of(alloc, &label)
+}
+
+/// The symbol of a production that the symbol of a form is.
+fn symbol_for(alloc: Global, symbol: &FormSymbol) -> Result<Symbol, NoMemory>
+    ensures { IfOk result (λ s. s ≡ symbol_for symbol.now) }
+{
+    match symbol {
+        FormSymbol::Lit(text) => Ok(Symbol::Lit(text.copy(alloc)?)),
+        FormSymbol::Place { role: _, sort } => match sort {
+            SpelledSort::Lex(kind) => Ok(Symbol::Lex(*kind)),
+            SpelledSort::Named { sort, least } => Ok(Symbol::Part {
+                sort: sort.copy(alloc)?,
+                least: *least,
+            }),
+        },
+    }
+}
+
+/// The production that the form is.
+fn form_production(alloc: Global, form: &FormLine) -> Result<Production, NoMemory>
+    ensures { IfOk result (λ p. line p ≡ form_line form.now) }
+{
+    let mut symbols = Vec::with_capacity(alloc, form.symbols.len())?;
+    for i in 0..form.symbols.len() {
+        let symbol = &form.symbols[i];
+        symbols.push(symbol_for(alloc, symbol)?)?;
+    }
+    Ok(Production {
+        label: form_label(alloc, &form.name)?,
+        sort: text_of(alloc, b"a judgement")?,
+        level: 0,
+        symbols,
+    })
+}
+
+/// The label of the production of two lexemes of the kind that are to be apart.
+fn apart_label(kind: LexKind) -> &'static [u8]
+    ensures same { result.now ≡ codes "apart " ++ kind_name kind }
+    ensures utf8 { IsUtf8 result.now }
+{
+    match kind {
+        LexKind::Id => b"apart id",
+        LexKind::Num => b"apart num",
+        LexKind::Str => b"apart str",
+    }
+}
+
+/// The production of two lexemes of the kind with `!=` between them.
+fn apart_production(alloc: Global, kind: LexKind) -> Result<Production, NoMemory>
+    ensures { IfOk result (λ p. line p ≡ apart_line kind) }
+{
+    let mut symbols = Vec::with_capacity(alloc, 3)?;
+    symbols.push(Symbol::Lex(kind))?;
+    symbols.push(Symbol::Lit(text_of(alloc, b"!=")?))?;
+    symbols.push(Symbol::Lex(kind))?;
+    Ok(Production {
+        label: text_of(alloc, apart_label(kind))?,
+        sort: text_of(alloc, b"a judgement")?,
+        level: 0,
+        symbols,
+    })
+}
+
+/// Adds the productions of the forms.
+fn add_forms(alloc: Global, forms: &[FormLine], into: &mut Vec<Production>) -> Result<(), NoMemory>
+    ensures { OnOk result (map line into.new.items ≡ map line into.old.items ++ map form_line forms.now) }
+{
+    for i in 0..forms.len() {
+        let form = &forms[i];
+        into.push(form_production(alloc, form)?)?;
+    }
+    Ok(())
+}
+
+/// Adds the productions of lexemes that are to be apart.
+fn add_aparts(alloc: Global, into: &mut Vec<Production>) -> Result<(), NoMemory>
+    ensures { OnOk result (map line into.new.items ≡ map line into.old.items ++ apart_lines) }
+{
+    into.push(apart_production(alloc, LexKind::Id)?)?;
+    into.push(apart_production(alloc, LexKind::Num)?)?;
+    into.push(apart_production(alloc, LexKind::Str)?)?;
+    Ok(())
+}
+
+/// The sort of judgements.
+fn judgement_sort(alloc: Global) -> Result<SortLine, NoMemory>
+    ensures { IfOk result (λ s. s ≡ judgement_sort) }
+{
+    Ok(SortLine {
+        name: text_of(alloc, b"a judgement")?,
+        typed: true,
+        brackets: None,
+    })
+}
+
+/// The parts of the grammar by which rules are read: those of the language's grammar, a sort of judgements, one production for each form,
+/// and for each lexical kind one of two lexemes with `!=` between them. The names of the sort and of these productions have a blank, so
+/// no sort and no production of a language file has them.
+pub fn rule_parts(
+    alloc: Global,
+    from: &GrammarParts,
+    forms: &[FormLine],
+) -> Result<GrammarParts, NoMemory>
+    ensures { IfOk result (λ r. parts r ≡ rule_parts (parts from.now) forms.now) }
+{
+    let mut sorts = copy_sorts(alloc, &from.sorts)?;
+    sorts.push(judgement_sort(alloc)?)?;
+    let mut productions = copy_productions(alloc, &from.productions)?;
+    add_forms(alloc, forms, &mut productions)?;
+    add_aparts(alloc, &mut productions)?;
+    Ok(GrammarParts { sorts, productions })
+}
