@@ -1,7 +1,7 @@
 //! Reading tokens by a grammar whose sorts have ranks.
 
 ghost use Rattle.std.specs.Prelude.{◌≤◌, IfOk, IfErr, length};
-ghost use Rattle.sx_grammar.specs.Order.{IsRanking};
+ghost use Rattle.sx_grammar.specs.Order.{IsRanking, rank_at};
 ghost use Rattle.sx_grammar.specs.Parts.{labels};
 ghost use Rattle.sx_grammar.specs.ReadOne.{IsAnswer, only};
 ghost use Rattle.sx_earley.specs.Shown as grammars;
@@ -9,7 +9,6 @@ ghost use Rattle.sx_earley.specs.Shown.{plain};
 ghost use Rattle.sx_earley.specs.Tokens.{plain_tokens, AreKnown};
 ghost use Rattle.sx_earley.specs.Completed.{IsSort, number_of};
 ghost use Rattle.sx_forest.specs.Readings.{plain_reading};
-ghost use Rattle.sx_forest.specs.Ordering.{rank_at};
 ghost use Rattle.sx_forest.specs.Text.{texts};
 ghost use Rattle.sx_forest.specs.Verdict.{IsRefusal};
 

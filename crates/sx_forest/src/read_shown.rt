@@ -1,9 +1,8 @@
 //! Reading what is shown.
 
 ghost use Rattle.std.specs.Prelude.{◌≡◌, ◌≤◌, List, ℕ, IfOk, IfErr, length};
-ghost use Rattle.sx_grammar.specs.Order.{IsRanking};
+ghost use Rattle.sx_grammar.specs.Order.{IsRanking, rank_at};
 ghost use Rattle.sx_earley.specs.Shown.{plain, texts, tokens_of, AreBelow};
-ghost use Rattle.sx_forest.specs.Ordering.{rank_at};
 ghost use Rattle.sx_forest.specs.Verdict.{IsFound, IsRefusal};
 
 use crate::all_tokens::{first_reading, two_readings};
