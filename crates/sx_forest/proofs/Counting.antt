@@ -30,7 +30,7 @@ makes_is g head sort least h = let p = there_is (production_of g head) sort leas
 pub of_sort_is : (g : Grammar) (head : Head) (sort least : ℕ) → Makes g head sort least → IsOfSort (production_of g head) sort least
 of_sort_is g head sort least m = subst (λ o. IsOfSort o sort least) (sym m.is) (m.same_sort, m.reaches)
 
-makes_low : (g : Grammar) (head : Head) (sort least : ℕ) → Makes g head sort least → Makes g head sort 0
+pub makes_low : (g : Grammar) (head : Head) (sort least : ℕ) → Makes g head sort least → Makes g head sort 0
 makes_low g head sort least m = record { production = m.production; is = m.is; same_sort = m.same_sort; reaches = omega arith }
 
 module _ (g : Grammar) (tokens : List Token) where
@@ -39,11 +39,11 @@ module _ (g : Grammar) (tokens : List Token) where
   KidOf (Variable other) sort least place to r = (other ≡ sort) × IsVariableAt tokens sort place to r
   KidOf (By head) sort least place to r = ReadsAt g tokens sort least place to head r
 
-  kid_reads : (m : Maker) (sort least place to : ℕ) (r : Reading) → KidOf m sort least place to r → Reads g tokens sort least place to r
+  pub kid_reads : (m : Maker) (sort least place to : ℕ) (r : Reading) → KidOf m sort least place to r → Reads g tokens sort least place to r
   kid_reads (Variable other) sort least place to r k = rw (k.1.2, k.1.1) (by_variable k.1.0)
   kid_reads (By head) sort least place to r k = raised g tokens sort least place to head r k
 
-  kid_fits : (m : Maker) (sort least place to : ℕ) (r : Reading) → KidOf m sort least place to r → FitsPart g m sort least
+  pub kid_fits : (m : Maker) (sort least place to : ℕ) (r : Reading) → KidOf m sort least place to r → FitsPart g m sort least
   kid_fits (Variable other) sort least place to r k = k.0
   kid_fits (By head) sort least place to r k = of_sort_is g head sort least k.0
 
@@ -52,7 +52,7 @@ module _ (g : Grammar) (tokens : List Token) where
   no_head sort least place to n (Bracketed s) k = let e = k.1.0.1 in cc
 
   -- a kid is of one maker, and has one end
-  one_kid : (m m' : Maker) (sort least place to to' : ℕ) (r : Reading) → KidOf m sort least place to r → KidOf m' sort least place to' r → (m ≡ m') × (to ≡ to')
+  pub one_kid : (m m' : Maker) (sort least place to to' : ℕ) (r : Reading) → KidOf m sort least place to r → KidOf m' sort least place to' r → (m ≡ m') × (to ≡ to')
   one_kid (Variable a) (Variable b) sort least place to to' r k l = (ap Variable (k.0 ∙ sym l.0), k.1.1 ∙ sym l.1.1)
   one_kid (Variable a) (By h) sort least place to to' r k l =
       absurd (no_head sort least place to' place h (subst (λ x. ReadsAt g tokens sort least place to' h x) k.1.2 l))
@@ -62,7 +62,7 @@ module _ (g : Grammar) (tokens : List Token) where
       let same : to ≡ to' = sym (ends g tokens k.1.1) ∙ ends g tokens l.1.1 in
       (ap By (one_head g tokens sort least place to' h i r (subst (λ x. ReadsAt g tokens sort least place x h r) same k) l), same)
 
-  kid_tally : (start : ℕ) (m : Maker) (sort least place to : ℕ) (t : Tally) → IsSoundBy g tokens start m place to t → FitsPart g m sort least →
+  pub kid_tally : (start : ℕ) (m : Maker) (sort least place to : ℕ) (t : Tally) → IsSoundBy g tokens start m place to t → FitsPart g m sort least →
       IsTally (KidOf m sort least place to) reading_depth t
   kid_tally start (Variable other) sort least place to t s fits =
       let marked : Marked tokens place (is_variable (of_sort sort)) = subst (λ x. Marked tokens place (is_variable (of_sort x))) fits s.0 in

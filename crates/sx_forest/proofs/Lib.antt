@@ -17,3 +17,11 @@ pub mod Whole
 pub mod Judging
 pub mod Retelling
 pub mod Afterness
+pub mod Usable
+pub mod Following
+pub mod Making
+pub mod Stepwise
+pub mod Parting
+pub mod Growing
+pub mod Branching
+pub mod AllTokens

@@ -3,6 +3,10 @@ use Rattle.std.proofs.Common.{◌≡◌, ℕ, List, [], ◌∷◌, length, refl,
 use Rattle.sx_grammar.specs.Grammar.{Symbol, Grammar, Token, is_lexeme, is_variable, of_kind, of_sort}
 use Rattle.sx_grammar.specs.Reading.{Reading, Readings, Reads, by_production, by_brackets, by_variable, ReadsAll, all_read, by_literal, by_lexeme, by_lexical_variable, by_part, ReadsWhole}
 use Rattle.sx_grammar.specs.ReadOne.{ReadAnswer, IsAnswer, only, too_hard, no_reading, too_deep, ambiguous}
+use Rattle.sx_forest.specs.Readings.{plain_reading}
+use Rattle.sx_forest.specs.declared.read_error.ReadError.{ReadError}
+use Rattle.sx_forest.specs.declared.read_error.ReadError.TheVariants.{Memory, TooHard, NoReading, TooDeep, Ambiguous}
+use Rattle.sx_forest.specs.Verdict.{IsRefusal}
 use Rattle.sx_earley.proofs.Sameness.{AllSame, turned, literal_same, marked_same, more_same, reach_same}
 
 as_long : (xs ys : List Token) → AllSame xs ys → length xs ≡ length ys
@@ -59,3 +63,13 @@ answer_same xs ys same g start (ambiguous one other) h = (
   whole_same xs ys same g start other h.3,
   h.4,
 )
+
+-- so it is of refusals
+pub refusal_same : (xs ys : List Token) → AllSame xs ys → (g : Grammar) (start : ℕ) (labels texts : List (List ℕ)) (e : ReadError) →
+    IsRefusal labels texts g xs start e → IsRefusal labels texts g ys start e
+refusal_same xs ys same g start labels texts Memory h = h
+refusal_same xs ys same g start labels texts TooHard h = answer_same xs ys same g start too_hard h
+refusal_same xs ys same g start labels texts (NoReading end) h = answer_same xs ys same g start (no_reading end) h
+refusal_same xs ys same g start labels texts (TooDeep depth) h = answer_same xs ys same g start (too_deep depth) h
+refusal_same xs ys same g start labels texts (Ambiguous one other) h =
+    (answer_same xs ys same g start (ambiguous (plain_reading one) (plain_reading other)) h.0, h.1)

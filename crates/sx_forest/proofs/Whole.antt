@@ -17,7 +17,8 @@ use Rattle.sx_forest.proofs.Rows.{last_at, kid_span}
 use Rattle.sx_forest.proofs.Spans.{single_tally}
 
 module _ (g : Grammar) (tokens : List Token) (start : ℕ) (levels : HasLevels g) (lists : List (Vec Entry)) (full : IsFull g tokens start lists) where
-  covered : (middle : ℕ) (kid : Reading) → Reads g tokens start 0 0 middle kid →
+  -- each reading of all tokens is by an entry
+  pub covered : (middle : ℕ) (kid : Reading) → Reads g tokens start 0 0 middle kid →
       (i : ℕ) × (e : Entry) × (slice_get (list_at lists 0) i ≡ Some e) × KidOf g tokens e.maker start 0 0 middle kid × (e.to ≡ middle)
   covered middle kid reads = by_case (by_kind g tokens reads (omega arith))
     where

@@ -8,4 +8,4 @@ pub mod Rows
 pub mod Table
 pub mod Ordering
 pub mod Verdict
-pub mod Stepping
+pub mod Forests

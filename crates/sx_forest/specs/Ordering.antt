@@ -17,14 +17,6 @@ abbrev pub sort_in : Option Production → ℕ
 sort_in None = 0
 sort_in (Some p) = p.sort
 
-abbrev pub number_in : Option ℕ → ℕ
-number_in None = 0
-number_in (Some n) = n
-
--- a sort's rank in a list of ranks
-abbrev pub rank_at : List ℕ → ℕ → ℕ
-rank_at ranks sort = number_in (slice_get ranks sort)
-
 -- the span has its width, and the rank of the sort that its head makes
 abbrev pub IsOrdered : Grammar → (ℕ → ℕ) → Ordered → Type 0
 IsOrdered g rank o = (o.width ≡ o.span.to - o.span.from) × (o.rank ≡ rank (sort_in (production_of g (head_of o.span.of))))

@@ -1,14 +1,13 @@
 //! The table of all complete spans.
 
 ghost use Rattle.std.specs.Prelude.{◌≡◌, ◌≤◌, ◌<◌, OnOk, IfOk, Err, length};
-ghost use Rattle.sx_grammar.specs.Order.{IsRanking};
+ghost use Rattle.sx_grammar.specs.Order.{IsRanking, rank_at};
 ghost use Rattle.sx_grammar.specs.Tally.{EachOnce};
 ghost use Rattle.sx_grammar.specs.ReadOne.{MoreHold, IsGreatestEnd};
 ghost use Rattle.sx_earley.specs.Shown.{plain, texts, tokens_of, AreBelow};
 ghost use Rattle.sx_earley.specs.Completed.{IsChart};
 ghost use Rattle.sx_forest.specs.Rows.{AllLater};
 ghost use Rattle.sx_forest.specs.Table.{IsAdded, IsFull};
-ghost use Rattle.sx_forest.specs.Ordering.{rank_at};
 
 use crate::entries::Entries;
 use crate::entry::{Entry, Maker};

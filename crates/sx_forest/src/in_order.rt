@@ -3,11 +3,12 @@
 ghost use Rattle.std.specs.Prelude.{◌≡◌, ◌≤◌, ℕ, Some, IfOk, OnOk, Contains};
 ghost use Rattle.std.specs.List.Sorted.{IsPermutation};
 ghost use Rattle.sx_grammar.specs.Grammar.{production_of};
+ghost use Rattle.sx_grammar.specs.Order.{rank_at};
 ghost use Rattle.sx_grammar.specs.Tally.{EachOnce};
 ghost use Rattle.sx_earley.specs.Completed.{head_of};
 ghost use Rattle.sx_earley.specs.Shown.{plain};
 ghost use Rattle.sx_earley.specs.declared.span.Span.{Span};
-ghost use Rattle.sx_forest.specs.Ordering.{sort_in, rank_at, IsOrdered, IsInOrder, AreOrdered};
+ghost use Rattle.sx_forest.specs.Ordering.{sort_in, IsOrdered, IsInOrder, AreOrdered};
 
 use crate::ordered::Ordered;
 use std::alloc::Global;

@@ -1,5 +1,6 @@
 //! The only reading of tokens by a grammar.
 //!
+//! - `read_one`: the only reading of tokens as a sort, or why there is none: too hard, no reading, too deep, or two of more.
 //! - `Reading`: a node, a bracket pair, a lexeme or a metavariable; contracts see it as the plain reading of sx_grammar.
 //! - `write_tree`: its tree text. `strip`: its term, without brackets. `place_of`: where a part of the term begins.
 //! - `readings_fit`: what reads tokens by a grammar meets the conditions of these calls. `paths_leave_together`: `place_of` has no
@@ -7,23 +8,34 @@
 //! - Within: `ways` counts readings, none, one or more, with their greatest depth.
 #![tactic(auto)]
 
+mod all_tokens;
+mod answer;
+mod building;
+mod choosing;
 mod entries;
 mod entry;
 mod first_entries;
+mod forest;
+mod fork;
+mod forking;
 mod found;
 mod full;
 mod in_order;
 mod judge;
 mod judged;
 mod laws;
+mod opened;
 mod ordered;
 mod part_ways;
 mod place;
+mod ranked;
 mod read_error;
+mod read_shown;
 mod reading;
 mod row;
 mod span_rows;
 mod step;
+mod stepping;
 mod stripping;
 mod symbol_ways;
 #[cfg(test)]
@@ -32,6 +44,7 @@ mod text_order;
 mod ways;
 mod writing;
 
+pub use answer::read_one;
 pub use laws::{paths_leave_together, readings_fit};
 pub use place::place_of;
 pub use read_error::ReadError;

@@ -6,7 +6,8 @@ use Rattle.sx_grammar.specs.Parts.{numbered_line, names}
 use Rattle.sx_earley.specs.Completed.{head_of}
 use Rattle.sx_earley.specs.Shown.{plain, texts, token_of, tokens_of}
 use Rattle.sx_forest.specs.Table.{IsFirstTable}
-use Rattle.sx_forest.specs.Ordering.{AreOrdered, rank_at}
+use Rattle.sx_forest.specs.Ordering.{AreOrdered}
+use Rattle.sx_grammar.specs.Order.{rank_at}
 use Rattle.sx_forest.proofs.Rows.{span_forward, span_within}
 use Rattle.sx_forest.proofs.Tabling.{no_ordered, chart_forward, span_at, so_far_on, so_far_first, full_is, all_later}
 use Rattle.sx_forest.proofs.full.fill.Goals as goal

@@ -1,7 +1,8 @@
 use Rattle.std.proofs.Common.{◌<◌, length, get_or, arith}
 use Rattle.std.proofs.lemmas.List.Elements.{Contains-get_or}
 use Rattle.sx_earley.specs.Shown.{plain}
-use Rattle.sx_forest.specs.Ordering.{IsOrdered, rank_at}
+use Rattle.sx_forest.specs.Ordering.{IsOrdered}
+use Rattle.sx_grammar.specs.Order.{rank_at}
 use Rattle.sx_forest.proofs.Filling.{no_span, only_on, spans_on}
 use Rattle.sx_forest.proofs.Sorting.{are_ordered}
 use Rattle.sx_forest.proofs.in_order.in_order.Goals as goal

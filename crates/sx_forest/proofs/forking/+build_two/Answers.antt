@@ -1,0 +1,164 @@
+use Rattle.std.proofs.Common.{rules, ◌≡◌, ◌≤◌, ◌<◌, ◌+◌, ◌*◌, refl, sym, subst, ap, ◌∙◌, length, arith, add-one}
+use Rattle.std.proofs.lemmas.Option.{slice_get_within}
+use Rattle.sx_grammar.specs.Grammar.{production_of, part}
+use Rattle.sx_forest.specs.Readings.{plain_reading, plain_readings}
+use Rattle.sx_forest.specs.Tallies.{tally_of}
+use Rattle.sx_forest.specs.Forests.{grammar_in, tokens_in, lists_in, symbols_of, depth_in, one_of, other_of, IsMore, IsApart, IsShallow, IsParting, IsReadTo, HasKids, IsMadeOf}
+use Rattle.sx_forest.proofs.Stepwise.{count_long}
+use Rattle.sx_forest.proofs.Making.{made_same}
+use Rattle.sx_forest.proofs.Growing.{place_low, begun, kids_are, made_as}
+use Rattle.sx_forest.proofs.Branching.{both_ok, more_first, more_last, fork_parting, there_less, over_there, rows_apart}
+use Rattle.sx_forest.proofs.Parting.{pair_apart, one_variable}
+use Rattle.sx_forest.proofs.forking.+build_two.Goals as goal
+
+pub build_two-kids_apart-requires : goal.build_two-kids_apart-requires
+build_two-kids_apart-requires t c =
+    let o = c.in_ok-opened-in-By.opened in
+    let opened = c.in_ok-opened-in-By.ensures.opened in
+    let same = c.in_ok-opened-in-By.ensures.same in
+    let more : IsMore (tally_of o.ways) = subst (λ w. IsMore (tally_of w)) (sym same.3) c.requires.more in
+    let deep : depth_in (tally_of o.ways) ≡ depth_in (tally_of c.args.entry.ways) = ap (λ w. depth_in (tally_of w)) same.3 in
+    let forest = c.requires.forest in
+    let none = c.new-one.ensures.items in
+    let nothing = c.new-other.ensures.items in
+    search rules
+
+pub build_two-unreachable-requires : goal.build_two-unreachable-requires
+build_two-unreachable-requires t c =
+    let F = c.args.forest in
+    one_variable (grammar_in F) (tokens_in F) F.start c.args.from c.args.entry.to _ c.args.entry.maker (tally_of c.args.entry.ways) c.in-Variable.is c.requires.entry.sound c.requires.more
+
+pub build_two-wrap-requires : goal.build_two-wrap-requires
+build_two-wrap-requires t c =
+    let o = c.in_ok-opened-in-By.opened in
+    subst (λ h. HasKids h (plain_readings c.kids_apart.new.one.items)) c.in_ok-opened-in-By.ensures.same.0
+    (kids_are c.args.forest c.requires.forest o c.in_ok-opened-in-By.ensures.opened (plain_readings c.kids_apart.new.one.items) c.in_ok-kids_apart-in-By.ensures.one_read)
+
+pub build_two-wrap-requires-in-By : goal.build_two-wrap-requires-in-By
+build_two-wrap-requires-in-By t c =
+    let o = c.in_ok-opened-in-By.opened in
+    subst (λ h. HasKids h (plain_readings c.kids_apart.new.other.items)) c.in_ok-opened-in-By.ensures.same.0
+    (kids_are c.args.forest c.requires.forest o c.in_ok-opened-in-By.ensures.opened (plain_readings c.kids_apart.new.other.items) c.in_ok-kids_apart-in-By.ensures.other_read)
+
+pub build_two-returns-clause-one : goal.build_two-returns-clause-one
+build_two-returns-clause-one t c =
+    let o = c.in_ok-opened-in-By.opened in let same = c.in_ok-opened-in-By.ensures.same in
+    made_as c.args.forest c.requires.forest o c.in_ok-opened-in-By.ensures.opened c.in-By.head c.args.from c.args.entry.to c.args.entry.maker same.0 same.1 same.2 c.in-By.is
+    (plain_readings c.kids_apart.new.one.items) (plain_reading c.in_ok-first-in-By.first) c.in_ok-kids_apart-in-By.ensures.one_read c.in_ok-first-in-By.ensures
+
+pub build_two-returns-clause-other : goal.build_two-returns-clause-other
+build_two-returns-clause-other t c =
+    let o = c.in_ok-opened-in-By.opened in let same = c.in_ok-opened-in-By.ensures.same in
+    made_as c.args.forest c.requires.forest o c.in_ok-opened-in-By.ensures.opened c.in-By.head c.args.from c.args.entry.to c.args.entry.maker same.0 same.1 same.2 c.in-By.is
+    (plain_readings c.kids_apart.new.other.items) (plain_reading c.in_ok-second-in-By.second) c.in_ok-kids_apart-in-By.ensures.other_read c.in_ok-second-in-By.ensures
+
+pub build_two-returns-clause-apart : goal.build_two-returns-clause-apart
+build_two-returns-clause-apart t c = λ same.
+    let ks = plain_readings c.kids_apart.new.one.items in let ls = plain_readings c.kids_apart.new.other.items in
+    c.in_ok-kids_apart-in-By.ensures.apart
+    (made_same c.in-By.head ks ls c.args.from c.args.entry.to (plain_reading c.in_ok-second-in-By.second)
+    (subst (λ r. IsMadeOf c.in-By.head ks c.args.from c.args.entry.to r) same c.in_ok-first-in-By.ensures) c.in_ok-second-in-By.ensures)
+
+pub kids_apart-loop-dot-init : goal.kids_apart-loop-dot-init
+kids_apart-loop-dot-init t c =
+    let F = c.args.forest in let o = c.args.opened.now in
+    let first = begun F c.requires.forest o c.requires.opened in
+    record {
+      one = subst (λ k. IsReadTo (grammar_in F) (tokens_in F) F.start o 0 o.from k) (sym (ap plain_readings c.requires.one)) first;
+      other = subst (λ k. IsReadTo (grammar_in F) (tokens_in F) F.start o 0 o.from k) (sym (ap plain_readings c.requires.other)) first;
+      more = more_first F c.requires.forest o c.requires.opened c.requires.more first.at;
+      within = omega arith;
+    }
+
+pub kids_apart-loop-dot-preserved : goal.kids_apart-loop-dot-preserved
+kids_apart-loop-dot-preserved t c =
+    let F = c.args.forest in let o = c.args.opened.now in
+    let count = count_long (production_of (grammar_in F) o.head) in
+    record {
+      one = rw (c.end-place.ensures, add-one c.loop-dot.dot) c.in_ok-go_over.ensures.read;
+      other = rw (c.end-place.ensures, add-one c.loop-dot.dot) c.in_ok-go_over-2.ensures.read;
+      more = rw (c.end-place.ensures, add-one c.loop-dot.dot) (c.fork_at.ensures.on c.in_default.is c.loop-dot.invariant.more);
+      within = (let h = c.symbol_count-dot-end.ensures in omega (arith, c.loop-dot-test.true, h, count));
+    }
+
+pub kids_apart-unreachable-requires : goal.kids_apart-unreachable-requires
+kids_apart-unreachable-requires t c =
+    let F = c.args.forest in let o = c.args.opened.now in
+    let count = count_long (production_of (grammar_in F) o.head) in
+    let h = c.symbol_count-dot-end.ensures in
+    let w = c.loop-dot.invariant.within in
+    let end : c.loop-dot.dot ≡ length (symbols_of (grammar_in F) o.head) = omega (arith, c.loop-dot-test.false, h, count, w) in
+    more_last F c.requires.forest o c.requires.opened c.loop-dot.dot c.loop-dot.place end c.loop-dot.invariant.one.at c.loop-dot.invariant.more
+
+pub kids_apart-end-place-requires : goal.kids_apart-end-place-requires
+kids_apart-end-place-requires t c = place_low c.args.forest c.requires.forest c.args.opened.now c.requires.opened c.loop-dot.dot c.loop-dot.place c.loop-dot.invariant.one.at
+
+pub kids_apart-part-requires : goal.kids_apart-part-requires
+kids_apart-part-requires t c =
+    let forest = c.requires.forest in
+    let opened = c.requires.opened in
+    let one = c.loop-dot.invariant.one in
+    let other = c.loop-dot.invariant.other in
+    let fork = c.in-Some.ensures.fork in
+    search rules
+
+pub part-pair_at-requires : goal.part-pair_at-requires
+part-pair_at-requires t c =
+    let F = c.args.forest in let o = c.args.opened.now in let k = c.requires.fork in
+    let forest = c.requires.forest in
+    let parting = fork_parting F c.requires.forest o c.requires.opened c.args.dot c.args.place c.args.fork (plain_readings c.args.one.now.items) c.requires.one k in
+    let less = there_less F c.requires.forest o c.requires.opened c.args.dot c.args.place k.sort k.least (one_of c.args.fork) (plain_readings c.args.one.now.items) k.symbol k.one c.requires.one in
+    search rules
+
+pub part-extend-requires : goal.part-extend-requires
+part-extend-requires t c =
+    let F = c.args.forest in let o = c.args.opened.now in let k = c.requires.fork in
+    let low = slice_get_within (symbols_of (grammar_in F) o.head) c.args.dot (part k.sort k.least) k.symbol in
+    record {
+      forest = c.requires.forest;
+      opened = c.requires.opened;
+      read = rw (ap (λ e. e.to) c.one.ensures, add-one c.args.dot)
+          (over_there F c.requires.forest o c.requires.opened c.args.dot c.args.place k.sort k.least (one_of c.args.fork) c.args.one.now.items c.push.new.self.items c.in_ok-first.first
+          k.symbol k.one c.requires.one c.in_ok-first.ensures.one c.in_ok-push.ensures.items);
+      within = omega (arith, low);
+    }
+
+pub part-extend-requires-2-clause-read : goal.part-extend-requires-2-clause-read
+part-extend-requires-2-clause-read t c =
+    let F = c.args.forest in let o = c.args.opened.now in let k = c.requires.fork in
+    rw (ap (λ e. e.to) c.other.ensures, add-one c.args.dot)
+    (over_there F c.requires.forest o c.requires.opened c.args.dot c.args.place k.sort k.least (other_of c.args.fork) c.args.other.now.items c.push-2.new.self.items c.in_ok-first.second
+    k.symbol k.other c.requires.other c.in_ok-first.ensures.other c.in_ok-push-2.ensures.items)
+
+pub part-extend-requires-2-clause-within : goal.part-extend-requires-2-clause-within
+part-extend-requires-2-clause-within t c =
+    let k = c.requires.fork in
+    let low = slice_get_within (symbols_of (grammar_in c.args.forest) c.args.opened.now.head) c.args.dot (part k.sort k.least) k.symbol in
+    omega (arith, low)
+
+pub part-returns : goal.part-returns
+part-returns t c =
+    let F = c.args.forest in let o = c.args.opened.now in
+    both_ok c.extend-2.result
+    (λ read behind. record {
+      one_read = c.in_ok-extend.ensures.read;
+      other_read = read;
+      apart = rows_apart F c.requires.forest o c.requires.opened c.args.dot c.args.place c.args.one.now.items c.args.other.now.items c.in_ok-first.first c.in_ok-first.second
+          c.push.new.self.items c.push-2.new.self.items c.extend.new.kids.items c.extend-2.new.kids.items c.requires.one c.requires.other c.in_ok-first.ensures.apart
+          c.in_ok-push.ensures.items c.in_ok-push-2.ensures.items c.in_ok-extend.ensures.behind behind;
+    }) c.extend-2.ensures.read c.extend-2.ensures.behind
+
+pub pair_at-build_two-requires : goal.pair_at-build_two-requires
+pair_at-build_two-requires t c =
+    let F = c.args.forest in
+    let forest = c.requires.forest in
+    let shallow : IsShallow (grammar_in F) (tokens_in F) F.start c.args.place c.in-Inside.entry = subst (λ k. IsShallow (grammar_in F) (tokens_in F) F.start c.args.place (one_of k)) c.in-Inside.is c.requires.parting.one in
+    let more : IsMore (tally_of c.in-Inside.entry.ways) = subst (λ k. IsApart k) c.in-Inside.is c.requires.parting.apart in
+    let deep : depth_in (tally_of (one_of c.args.fork).ways) ≡ depth_in (tally_of c.in-Inside.entry.ways) = ap (λ k. depth_in (tally_of (one_of k).ways)) c.in-Inside.is in
+    search rules
+
+pub pair_at-returns-in_ok-second-in-Apart-clause-apart : goal.pair_at-returns-in_ok-second-in-Apart-clause-apart
+pair_at-returns-in_ok-second-in-Apart-clause-apart t c =
+    let F = c.args.forest in
+    pair_apart (grammar_in F) (tokens_in F) F.start c.args.place c.in-Apart.one c.in-Apart.other (plain_reading c.in_ok-first-in-Apart.first) (plain_reading c.in_ok-second-in-Apart.second)
+    (subst (λ k. IsParting (grammar_in F) (tokens_in F) F.start c.args.place k) c.in-Apart.is c.requires.parting) c.in_ok-first-in-Apart.ensures c.in_ok-second-in-Apart.ensures

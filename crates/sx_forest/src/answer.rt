@@ -1,0 +1,39 @@
+//! Reading tokens by a grammar.
+
+ghost use Rattle.std.specs.Prelude.{◌≤◌, IfOk, IfErr, length};
+ghost use Rattle.sx_grammar.specs.Parts.{labels};
+ghost use Rattle.sx_grammar.specs.ReadOne.{IsAnswer, only};
+ghost use Rattle.sx_earley.specs.Shown as grammars;
+ghost use Rattle.sx_earley.specs.Shown.{plain};
+ghost use Rattle.sx_earley.specs.Tokens.{plain_tokens, AreKnown};
+ghost use Rattle.sx_earley.specs.Completed.{IsSort, number_of};
+ghost use Rattle.sx_forest.specs.Readings.{plain_reading};
+ghost use Rattle.sx_forest.specs.Text.{texts};
+ghost use Rattle.sx_forest.specs.Verdict.{IsRefusal};
+
+use crate::ranked::read_ranked;
+use crate::read_error::ReadError;
+use crate::reading::Reading;
+use std::alloc::Global;
+use sx_earley::Metas;
+use sx_grammar::Grammar;
+use sx_term::Sort;
+use sx_token::Token;
+
+/// The only reading of the tokens as the start sort. It is an error where more than 2,000,000 items hold, where there is no reading,
+/// where a reading is deeper than 1,000 (brackets count as 1, variables as 0), and where there are two.
+pub fn read_one(
+    alloc: Global,
+    grammar: &Grammar,
+    start: Sort,
+    metas: &Metas,
+    tokens: &[Token],
+) -> Result<Reading, ReadError>
+    requires short { length tokens.now ≤ 10000 }
+    requires start { IsSort grammar.now.parts start }
+    requires known { AreKnown (grammars.texts grammar.now) metas.now.stems.items tokens.now }
+    ensures only { IfOk result (λ r. IsAnswer (plain grammar.now) (plain_tokens metas.now.stems.items tokens.now) (number_of start) (only (plain_reading r))) }
+    ensures refused { IfErr result (IsRefusal (labels grammar.now.parts) (texts tokens.now) (plain grammar.now) (plain_tokens metas.now.stems.items tokens.now) (number_of start)) }
+{
+    read_ranked(alloc, grammar, grammar.ranks(), start, metas, tokens)
+}

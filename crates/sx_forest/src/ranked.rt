@@ -1,0 +1,50 @@
+//! Reading tokens by a grammar whose sorts have ranks.
+
+ghost use Rattle.std.specs.Prelude.{◌≤◌, IfOk, IfErr, length};
+ghost use Rattle.sx_grammar.specs.Order.{IsRanking, rank_at};
+ghost use Rattle.sx_grammar.specs.Parts.{labels};
+ghost use Rattle.sx_grammar.specs.ReadOne.{IsAnswer, only};
+ghost use Rattle.sx_earley.specs.Shown as grammars;
+ghost use Rattle.sx_earley.specs.Shown.{plain};
+ghost use Rattle.sx_earley.specs.Tokens.{plain_tokens, AreKnown};
+ghost use Rattle.sx_earley.specs.Completed.{IsSort, number_of};
+ghost use Rattle.sx_forest.specs.Readings.{plain_reading};
+ghost use Rattle.sx_forest.specs.Text.{texts};
+ghost use Rattle.sx_forest.specs.Verdict.{IsRefusal};
+
+use crate::found::Found;
+use crate::read_error::ReadError;
+use crate::read_shown::read_shown;
+use crate::reading::Reading;
+use crate::text_order::in_text_order;
+use std::alloc::Global;
+use sx_earley::{Metas, number_of, show_all};
+use sx_grammar::Grammar;
+use sx_term::Sort;
+use sx_token::Token;
+
+/// The only reading of the tokens as the start sort, where the sorts have these ranks.
+pub(crate) fn read_ranked(
+    alloc: Global,
+    grammar: &Grammar,
+    ranks: &[u32],
+    start: Sort,
+    metas: &Metas,
+    tokens: &[Token],
+) -> Result<Reading, ReadError>
+    requires short { length tokens.now ≤ 10000 }
+    requires start { IsSort grammar.now.parts start }
+    requires known { AreKnown (grammars.texts grammar.now) metas.now.stems.items tokens.now }
+    requires ranking { IsRanking (plain grammar.now) (rank_at ranks.now) }
+    ensures only { IfOk result (λ r. IsAnswer (plain grammar.now) (plain_tokens metas.now.stems.items tokens.now) (number_of start) (only (plain_reading r))) }
+    ensures refused { IfErr result (IsRefusal (labels grammar.now.parts) (texts tokens.now) (plain grammar.now) (plain_tokens metas.now.stems.items tokens.now) (number_of start)) }
+{
+    let shown = show_all(alloc, metas, tokens)?;
+    match read_shown(alloc, grammar, ranks, number_of(start), &shown)? {
+        Found::Only(reading) => Ok(reading),
+        Found::Two(one, other) => {
+            let (one, other) = in_text_order(alloc, grammar, tokens, one, other)?;
+            Err(ReadError::Ambiguous(one, other))
+        }
+    }
+}

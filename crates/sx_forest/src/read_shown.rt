@@ -1,0 +1,54 @@
+//! Reading what is shown.
+
+ghost use Rattle.std.specs.Prelude.{◌≡◌, ◌≤◌, List, ℕ, IfOk, IfErr, length};
+ghost use Rattle.sx_grammar.specs.Order.{IsRanking, rank_at};
+ghost use Rattle.sx_earley.specs.Shown.{plain, texts, tokens_of, AreBelow};
+ghost use Rattle.sx_forest.specs.Verdict.{IsFound, IsRefusal};
+
+use crate::all_tokens::{first_reading, two_readings};
+use crate::forest::Forest;
+use crate::found::Found;
+use crate::full::make_table;
+use crate::judge::{judge, whole_ways};
+use crate::judged::Judged;
+use crate::read_error::ReadError;
+use crate::row::last_row;
+use std::alloc::Global;
+use sx_earley::Shown;
+use sx_grammar::Grammar;
+
+/// The only reading of what is shown, or two of more.
+pub(crate) fn read_shown(
+    alloc: Global,
+    grammar: &Grammar,
+    ranks: &[u32],
+    start: u32,
+    shown: &[Shown],
+) -> Result<Found, ReadError>
+    requires short { length shown.now ≤ 10000 }
+    requires below { AreBelow (length (texts grammar.now)) shown.now }
+    requires ranking { IsRanking (plain grammar.now) (rank_at ranks.now) }
+    ensures found { IfOk result (IsFound (plain grammar.now) (tokens_of grammar.now shown.now) start) }
+    ensures refused { IfErr result (λ e. (labels texts : List (List ℕ)) → IsRefusal labels texts (plain grammar.now) (tokens_of grammar.now shown.now) start e) }
+{
+    grammar.facts();
+    let tabled = make_table(alloc, grammar, ranks, start, shown)?;
+    let count = shown.len() as u32;
+    let row = last_row(alloc, 0, count)?;
+    let ways = whole_ways(alloc, grammar, start, count, &tabled.table)?;
+    let forest = Forest {
+        grammar,
+        shown,
+        table: &tabled.table,
+        start,
+    };
+    match judge(ways, tabled.reach) {
+        Judged::Nothing(end) => Err(ReadError::NoReading(end)),
+        Judged::TooDeep(depth) => Err(ReadError::TooDeep(depth)),
+        Judged::One => Ok(Found::Only(first_reading(alloc, forest, &row)?)),
+        Judged::More => {
+            let (one, other) = two_readings(alloc, forest, &row)?;
+            Ok(Found::Two(one, other))
+        }
+    }
+}
