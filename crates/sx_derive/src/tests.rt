@@ -1,6 +1,6 @@
 //! Each answer of `derive` once, on goals that are worked out by hand.
 
-ghost use Rattle.std.specs.Prelude.{◌≡◌, ◌≤◌, ◌<◌, [], IfOk, map};
+ghost use Rattle.std.specs.Prelude.{◌≡◌, ◌≤◌, ◌<◌, [], IfOk, MatchOption, map};
 ghost use Rattle.sx_term.specs.Tree.{depth_of};
 ghost use Rattle.sx_term.specs.Term.{tree};
 ghost use Rattle.sx_rules.specs.Deep.{AreShallow, RuleIsShallow, RulesAreShallow};
@@ -118,6 +118,57 @@ fn rules(alloc: Global) -> Result<RuleSet, Fail> {
     Ok(RuleSet::make(alloc, &shapes(alloc)?, forms(alloc)?, rules)?)
 }
 
+/// What has a type has it: a rule that leads back to its own goal.
+fn loop_rule(alloc: Global) -> Result<Rule, Fail>
+    ensures { IfOk result (λ r. RuleIsShallow (rule r)) }
+{
+    let mut premises = Vec::new(alloc);
+    premises.push(Premise::Holds(judgement(alloc, "?0", "?1")?))?;
+    Ok(Rule {
+        name: Text::make(alloc, b"L")?,
+        vars: Vec::from_slice(alloc, &[T, P])?,
+        premises,
+        conclusion: judgement(alloc, "?0", "?1")?,
+    })
+}
+
+/// The loop comes before each other rule.
+fn looping_rules(alloc: Global) -> Result<RuleSet, Fail> {
+    let z = axiom(alloc, "Z", "(0)", "(4)")?;
+    let rules = three(alloc, loop_rule(alloc)?, z, pair_rule(alloc)?)?;
+    Ok(RuleSet::make(alloc, &shapes(alloc)?, forms(alloc)?, rules)?)
+}
+
+/// z has the first type, and then the second, and pairs.
+fn rules_of_two_types(alloc: Global, first: &str, second: &str) -> Result<RuleSet, Fail> {
+    let first = axiom(alloc, "First", "(0)", first)?;
+    let second = axiom(alloc, "Second", "(0)", second)?;
+    let rules = three(alloc, first, second, pair_rule(alloc)?)?;
+    Ok(RuleSet::make(alloc, &shapes(alloc)?, forms(alloc)?, rules)?)
+}
+
+/// The subject has the type a, where the two lexemes are apart.
+fn apart_rule(alloc: Global, subject: &str, left: &str, right: &str) -> Result<Rule, Fail>
+    ensures { IfOk result (λ r. RuleIsShallow (rule r)) }
+{
+    let mut premises = Vec::new(alloc);
+    premises.push(Premise::Apart(read(alloc, left)?, read(alloc, right)?))?;
+    Ok(Rule {
+        name: Text::make(alloc, subject.as_bytes())?,
+        vars: Vec::new(alloc),
+        premises,
+        conclusion: judgement(alloc, subject, "(4)")?,
+    })
+}
+
+/// z has the type a where x and y are apart, and w where x and x are.
+fn rules_with_apart(alloc: Global) -> Result<RuleSet, Fail> {
+    let z = apart_rule(alloc, "(0)", "i1:x", "i1:y")?;
+    let w = apart_rule(alloc, "(1)", "i1:x", "i1:x")?;
+    let rules = three(alloc, pair_rule(alloc)?, z, w)?;
+    Ok(RuleSet::make(alloc, &shapes(alloc)?, forms(alloc)?, rules)?)
+}
+
 /// The label of a node.
 fn label(term: &Term) -> u32 {
     match term {
@@ -138,6 +189,32 @@ fn rule_of(proof: &Proof) -> u32 {
     }
 }
 
+/// The label of the first of the terms.
+fn first_label(terms: &[Term]) -> u64 {
+    match terms.get(0) {
+        Some(term) => u64::from(label(term)),
+        None => 9,
+    }
+}
+
+/// The cause in short: 1 where no rule matches; 2 where the first premise of the third rule finds equal terms; the label of
+/// the output that the first premise of the third rule got; 30 and the label of the output that is not the wanted one; or else 3.
+fn short_cause(cause: &Cause) -> u64 {
+    match cause {
+        Cause::NoRule => 1,
+        Cause::Equal {
+            rule: 2,
+            premise: 0,
+        } => 2,
+        Cause::Mismatch {
+            by: Some((2, 0)),
+            got,
+        } => first_label(got),
+        Cause::Mismatch { by: None, got } => first_label(got).saturating_add(30),
+        _ => 3,
+    }
+}
+
 /// The label of the stuck goal's subject, the path, and the cause in short.
 fn stuck(blame: &Blame) -> (u32, usize, usize, u64) {
     let subject = match blame.goal.inputs.get(0) {
@@ -148,22 +225,12 @@ fn stuck(blame: &Blame) -> (u32, usize, usize, u64) {
         Some(step) => *step,
         None => 9,
     };
-    let cause = match &blame.cause {
-        Cause::NoRule => 1,
-        Cause::Equal {
-            rule: _,
-            premise: _,
-        } => 2,
-        Cause::Mismatch {
-            by: Some((2, 0)),
-            got,
-        } => match got.get(0) {
-            Some(term) => u64::from(label(term)),
-            None => 9,
-        },
-        Cause::Mismatch { by: _, got: _ } => 3,
-    };
-    (subject, blame.path.steps.len(), step, cause)
+    (
+        subject,
+        blame.path.steps.len(),
+        step,
+        short_cause(&blame.cause),
+    )
 }
 
 /// No hypotheses.
@@ -186,13 +253,24 @@ fn goal(alloc: Global, subject: &str) -> Result<Goal, Fail>
     Ok(Goal { form: 0, inputs })
 }
 
-/// The answer in numbers: 0 and the rule of the derivation; 1 and what is stuck; 2 and the tries that are spent; or else 3.
+/// These outputs.
+fn outputs(alloc: Global, output: &str) -> Result<Vec<Term>, Fail>
+    ensures { IfOk result (λ w. AreShallow (map tree w.items)) }
+{
+    let mut outputs = Vec::new(alloc);
+    outputs.push(read(alloc, output)?)?;
+    Ok(outputs)
+}
+
+/// The answer in numbers: 0 and the rule of the derivation; 1 and what is stuck; 2 and the tries that are spent; 3 and the depth
+/// that is spent; or else 4.
 fn told(answered: Result<Derived, DeriveError>) -> (u32, (u32, usize, usize, u64)) {
     match answered {
         Ok(it) => (0, (rule_of(&it.proof), 0, 0, 0)),
         Err(DeriveError::Underivable(blame)) => (1, stuck(&blame)),
         Err(DeriveError::BudgetSpent(tries)) => (2, (0, 0, 0, tries)),
-        Err(_) => (3, (0, 0, 0, 0)),
+        Err(DeriveError::DepthSpent(depth)) => (3, (depth, 0, 0, 0)),
+        Err(_) => (4, (0, 0, 0, 0)),
     }
 }
 
@@ -201,6 +279,7 @@ fn derive_with<L: Ledger>(
     rules: &RuleSet,
     given: &Hyps,
     goal: &Goal,
+    wanted: Option<&Vec<Term>>,
     budget: u64,
     blank: Blank,
 ) -> (u32, (u32, usize, usize, u64))
@@ -210,9 +289,25 @@ fn derive_with<L: Ledger>(
     requires holds { given.now.holds.items ≡ [] }
     requires apart { given.now.apart.items ≡ [] }
     requires goal { AreShallow (goal_of goal.now).terms }
+    requires wanted { MatchOption wanted Unit (λ w. AreShallow (map tree w.now.items)) }
 {
     let mut steps = Steps::<L>::new(blank);
-    told(derive(alloc, rules, given, goal, None, budget, &mut steps))
+    told(derive(alloc, rules, given, goal, wanted, budget, &mut steps))
+}
+
+/// What `derive` answers by the rules for the subject's type, in numbers.
+fn answer_by(
+    alloc: Global,
+    rules: &RuleSet,
+    subject: &str,
+    wanted: Option<&Vec<Term>>,
+    budget: u64,
+) -> Result<(u32, (u32, usize, usize, u64)), Fail>
+    requires wanted { MatchOption wanted Unit (λ w. AreShallow (map tree w.now.items)) }
+{
+    let given = no_hypotheses(alloc);
+    let goal = goal(alloc, subject)?;
+    Ok(derive_with::<Brand>(alloc, rules, &given, &goal, wanted, budget, Blank::new(1)))
 }
 
 /// What `derive` answers for the subject's type, in numbers.
@@ -221,10 +316,23 @@ fn answer(
     subject: &str,
     budget: u64,
 ) -> Result<(u32, (u32, usize, usize, u64)), Fail> {
-    let rules = rules(alloc)?;
-    let given = no_hypotheses(alloc);
-    let goal = goal(alloc, subject)?;
-    Ok(derive_with::<Brand>(alloc, &rules, &given, &goal, budget, Blank::new(1)))
+    answer_by(alloc, &rules(alloc)?, subject, None, budget)
+}
+
+/// What `derive` answers where z is to have this type, by the rules that give it the types a and b.
+fn answer_wanted(
+    alloc: Global,
+    output: &str,
+    budget: u64,
+) -> Result<(u32, (u32, usize, usize, u64)), Fail> {
+    let wanted = outputs(alloc, output)?;
+    answer_by(
+        alloc,
+        &rules_of_two_types(alloc, "(4)", "(5)")?,
+        "(0)",
+        Some(&wanted),
+        budget,
+    )
 }
 
 #[test]
@@ -246,6 +354,60 @@ fn tells_the_stuck_goal(rt: HostRuntime) -> Result<(), Fail> {
 fn spends_the_tries(rt: HostRuntime) -> Result<(), Fail> {
     let alloc = rt.alloc();
     assert_eq!(rt; answer(alloc, "(3 (0) (1))", 5)?, (2, (0, 0, 0, 5)));
+    Ok(())
+}
+
+#[test]
+fn spends_the_depth(rt: HostRuntime) -> Result<(), Fail> {
+    let alloc = rt.alloc();
+    let rules = looping_rules(alloc)?;
+    assert_eq!(rt;
+        answer_by(alloc, &rules, "(0)", None, 3000)?,
+        (3, (3000, 0, 0, 0))
+    );
+    assert_eq!(rt;
+        answer_by(alloc, &rules, "(0)", None, 2999)?,
+        (2, (0, 0, 0, 2999))
+    );
+    Ok(())
+}
+
+#[test]
+fn finds_the_wanted_output(rt: HostRuntime) -> Result<(), Fail> {
+    let alloc = rt.alloc();
+    assert_eq!(rt; answer_wanted(alloc, "(4)", 9)?, (0, (0, 0, 0, 0)));
+    assert_eq!(rt; answer_wanted(alloc, "(5)", 9)?, (0, (1, 0, 0, 0)));
+    assert_eq!(rt; answer_wanted(alloc, "(0)", 9)?, (1, (0, 0, 9, 34)));
+    Ok(())
+}
+
+#[test]
+fn goes_back_to_another_output(rt: HostRuntime) -> Result<(), Fail> {
+    let alloc = rt.alloc();
+    let rules = rules_of_two_types(alloc, "(5)", "(4)")?;
+    assert_eq!(rt;
+        answer_by(alloc, &rules, "(3 (0) (0))", None, 6)?,
+        (0, (2, 0, 0, 0))
+    );
+    assert_eq!(rt;
+        answer_by(alloc, &rules, "(3 (0) (0))", None, 5)?,
+        (2, (0, 0, 0, 5))
+    );
+    Ok(())
+}
+
+#[test]
+fn tells_what_is_not_apart(rt: HostRuntime) -> Result<(), Fail> {
+    let alloc = rt.alloc();
+    let rules = rules_with_apart(alloc)?;
+    assert_eq!(rt;
+        answer_by(alloc, &rules, "(0)", None, 9)?,
+        (0, (1, 0, 0, 0))
+    );
+    assert_eq!(rt;
+        answer_by(alloc, &rules, "(1)", None, 9)?,
+        (1, (1, 0, 9, 2))
+    );
     Ok(())
 }
 
