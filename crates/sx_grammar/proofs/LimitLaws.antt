@@ -1,5 +1,5 @@
 -- Levels of at most 99.
-use Rattle.std.proofs.Common.{◌≡◌, ℕ, zero, suc, ◌<◌, ◌≤◌, ◌^◌, List, [], ◌∷◌, Some, None, Bool, true, false, ◌||◌, ◌&&◌, not, ap, refl, sym, subst, ◌∙◌, ◌↔◌, length, map, arith, Contains, IsTrue}
+use Rattle.std.proofs.Common.{◌≡◌, ℕ, zero, suc, ◌<◌, ◌≤◌, ◌^◌, List, [], ◌∷◌, Some, None, Bool, true, false, ◌||◌, ◌&&◌, not, ap, refl, sym, subst, ◌∙◌, ◌↔◌, length, map, arith, Contains}
 use Rattle.std.specs.Prelude.{slice_get, option_map}
 use Rattle.std.specs.List.{list_any}
 use Rattle.std.proofs.lemmas.Bool.{ltb-false, le-ltb}

@@ -1,5 +1,5 @@
 -- Ranks of the sorts that derive the empty list, and of all sorts.
-use Rattle.std.proofs.Common.{◌≡◌, ℕ, zero, suc, ◌+◌, ◌^◌, ◌<◌, ◌≤◌, List, [], ◌∷◌, ◌++◌, ◌⊎◌, inl, inr, ⊎_elim, Some, None, Option, ap, refl, sym, subst, ◌∙◌, length, map, get_or, Vec, Bool, true, false, eqb, arith, Contains, IsTrue, ◌≢◌}
+use Rattle.std.proofs.Common.{◌≡◌, ℕ, zero, suc, ◌+◌, ◌^◌, ◌<◌, List, [], ◌∷◌, ◌++◌, ◌⊎◌, inl, inr, ⊎_elim, Some, None, Option, ap, refl, sym, subst, ◌∙◌, length, map, Vec, Bool, true, false, eqb, arith, Contains, IsTrue, ◌≢◌}
 use Rattle.std.specs.declared.alloc.Global.{Global}
 use Rattle.std.specs.Prelude.{slice_get, slice_index_or, is_some, option_map, MatchOption}
 use Rattle.std.proofs.lemmas.List.{length-map}
@@ -13,11 +13,11 @@ use Rattle.sx_grammar.specs.declared.rule.Rule.{Rule}
 use Rattle.sx_grammar.specs.declared.numbered.NumberedSymbol.{NumberedSymbol}
 use Rattle.sx_grammar.specs.declared.numbered.NumberedSymbol.TheVariants.{Lit, Lex, Part}
 use Rattle.sx_grammar.specs.declared.numbered.NumberedProduction.{NumberedProduction}
-use Rattle.sx_grammar.specs.Grammar.{Text, Symbol, literal, lexical, part, Production, Grammar}
+use Rattle.sx_grammar.specs.Grammar.{Text, Grammar}
 use Rattle.sx_grammar.specs.Cyclic.{Vanishes, no_symbols, empty_part, StepsTo, LeadsTo, one_step, step_after, IsNotCyclic}
 use Rattle.sx_grammar.specs.Order.{IsRanking, AreRanks, rank_at}
 use Rattle.sx_grammar.specs.Numbered.{symbol, production, AreOf}
-use Rattle.sx_grammar.specs.Ranks.{rank_in, HasRank, AreRankedTo, IsFounded, IsComplete, HasRanksBelow, AreRulesBelow}
+use Rattle.sx_grammar.specs.Ranks.{rank_in, HasRank, IsFounded, IsComplete, HasRanksBelow, AreRulesBelow}
 use Rattle.sx_grammar.specs.Cycles.{list_at, IsEmptySort, AreEmptySorts, AllMarked, IsClosed, ArePartsOf, IsRuleOf, AreRulesOf, AreStepsOf, AreStepRules, AreStepsBelow, LacksRank, HasStep, HaveSortsBelow, HavePartsBelow}
 use Rattle.sx_grammar.proofs.Emptying.{numbered_at}
 use Rattle.sx_grammar.proofs.Places.{got_push, got_kept, got_last}

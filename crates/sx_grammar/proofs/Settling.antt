@@ -10,7 +10,7 @@ use Rattle.std.proofs.lemmas.Option.{slice_get_within, slice_get-get_or, get_or_
 use Rattle.sx_grammar.specs.declared.rule.Rule.{Rule}
 use Rattle.sx_grammar.specs.declared.progress.Waiting.{Waiting}
 use Rattle.sx_grammar.specs.declared.progress.Progress.{Progress}
-use Rattle.sx_grammar.specs.Ranks.{rank_in, HasRank, AreRankedTo, IsFounded, IsComplete, HasRanksBelow, waiting_at, IsBlank, IsLearnt, IsSameBut, IsPut, IsTaken}
+use Rattle.sx_grammar.specs.Ranks.{rank_in, HasRank, AreRankedTo, IsComplete, HasRanksBelow, waiting_at, IsBlank, IsLearnt, IsPut, IsTaken}
 use Rattle.sx_grammar.specs.Settled.{IsWaiting, IsSound, IsSoundAt, IsSettled, Keeps, Settles, SettlesTo, Goes}
 use Rattle.sx_grammar.proofs.Stepping.{same_at}
 use Rattle.sx_grammar.proofs.Places.{got_push, got_kept, got_last}

@@ -1,5 +1,5 @@
 -- The ranks of the numbers that follow from rules.
-use Rattle.std.specs.Prelude.{◌≡◌, ℕ, zero, suc, ◌<◌, ◌⊎◌, Option, None, Some, List, [], ◌∷◌, ◌++◌, slice_get, slice_index_or, set, length, Contains}
+use Rattle.std.specs.Prelude.{◌≡◌, ℕ, zero, suc, ◌<◌, ◌⊎◌, Option, None, Some, List, [], ◌∷◌, ◌++◌, slice_get, slice_index_or, set, length}
 use Rattle.std.specs.Global.{Vec}
 use Rattle.sx_grammar.specs.declared.rule.Rule.{Rule}
 use Rattle.sx_grammar.specs.declared.progress.Waiting.{Waiting}

@@ -1,4 +1,4 @@
-use Rattle.std.proofs.Common.{refl, sym, subst, ap, ◌+◌, length, List, ℕ}
+use Rattle.std.proofs.Common.{refl, sym, subst, ◌+◌, length, List, ℕ}
 use Rattle.std.specs.Prelude.{MatchOption}
 use Rattle.std.proofs.lemmas.Option.{slice_get_read}
 use Rattle.sx_grammar.specs.Cycles.{ArePartsOf, AreRulesOf}

@@ -1,4 +1,4 @@
-use Rattle.std.proofs.Common.{refl, length, arith, subst, ap, ◌∙◌, sym, ◌<◌, ◌≡◌}
+use Rattle.std.proofs.Common.{refl, length, arith, subst}
 use Rattle.std.proofs.lemmas.Option.{slice_get_read}
 use Rattle.sx_grammar.specs.Ranks.{HasRanksBelow}
 use Rattle.sx_grammar.proofs.Settling.{settles_first, follows_first, follows_more, complete_from, ranks_below}

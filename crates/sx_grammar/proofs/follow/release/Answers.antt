@@ -1,6 +1,4 @@
-use Rattle.std.proofs.Common.{arith, ap, sym, subst, ◌∙◌, length, Some, None}
 use Rattle.std.proofs.lemmas.Option.{slice_get_within}
-use Rattle.sx_grammar.specs.Ranks.{IsTaken, AreRulesBelow}
 use Rattle.sx_grammar.proofs.Settling.{goes_first, goes_more, goes_last, fewer_wait, taken_sound, taken_waits, taken_place}
 use Rattle.sx_grammar.proofs.follow.release.Goals as goal
 

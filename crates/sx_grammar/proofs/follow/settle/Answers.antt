@@ -1,8 +1,7 @@
-use Rattle.std.proofs.Common.{refl, length, arith, sym, ap, subst, ◌∙◌, Some, get_or, ◌<◌, ◌≡◌}
-use Rattle.std.specs.Prelude.{slice_get}
+use Rattle.std.proofs.Common.{refl, length, arith, sym, subst}
 use Rattle.std.proofs.lemmas.Option.{slice_get_read, get_or_from_slice_get}
 use Rattle.std.proofs.lemmas.Result.{on_ok_weaker}
-use Rattle.sx_grammar.specs.Ranks.{AreRankedTo, HasRank}
+use Rattle.sx_grammar.specs.Ranks.{HasRank}
 use Rattle.sx_grammar.proofs.Settling.{learn_settles, put_settles, found_in, none_in}
 use Rattle.sx_grammar.proofs.follow.settle.Goals as goal
 

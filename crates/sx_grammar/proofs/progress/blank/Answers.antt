@@ -1,4 +1,4 @@
-use Rattle.std.proofs.Common.{ℕ, sym, subst, ap, ◌≡◌, ◌∙◌, ◌∷◌, [], arith, length, length-append, None}
+use Rattle.std.proofs.Common.{ℕ, sym, subst, ap, ◌≡◌, ◌∷◌, [], arith, length, length-append, None}
 use Rattle.sx_grammar.specs.Ranks.{rank_in, waiting_at}
 use Rattle.sx_grammar.proofs.Places.{rank_in-push, waiting_at-push}
 use Rattle.sx_grammar.proofs.progress.blank.Goals as goal

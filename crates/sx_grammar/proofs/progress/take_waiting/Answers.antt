@@ -1,4 +1,4 @@
-use Rattle.std.proofs.Common.{refl, sym, ap, ◌∙◌, ◌++◌, length, arith, ◌<◌}
+use Rattle.std.proofs.Common.{refl, sym, ap, ◌∙◌, ◌++◌, length, arith}
 use Rattle.std.specs.Prelude.{option_to_list}
 use Rattle.std.proofs.lemmas.List.{length-set}
 use Rattle.sx_grammar.proofs.Places.{waiting_at-is, waiting_at-set_same, waiting_at-set_other, popped}

@@ -1,4 +1,4 @@
-use Rattle.std.proofs.Common.{refl, sym, ap, ◌∙◌, ◌∷◌, ◌++◌, [], length}
+use Rattle.std.proofs.Common.{refl, sym, ap, ◌∙◌, ◌∷◌, ◌++◌, []}
 use Rattle.std.proofs.lemmas.List.{length-set}
 use Rattle.sx_grammar.proofs.Places.{waiting_at-is, waiting_at-set_same, waiting_at-set_other}
 use Rattle.sx_grammar.proofs.progress.wait.Goals as goal

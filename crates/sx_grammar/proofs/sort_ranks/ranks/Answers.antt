@@ -1,4 +1,4 @@
-use Rattle.std.proofs.Common.{◌≡◌, sym, subst, ap, ◌∙◌, length, map, Some}
+use Rattle.std.proofs.Common.{◌≡◌, sym, subst, length, map, Some}
 use Rattle.std.specs.Prelude.{MatchOption}
 use Rattle.std.proofs.lemmas.Result.{IfOk-weaker}
 use Rattle.sx_grammar.specs.Grammar.{Grammar}

@@ -1,4 +1,4 @@
-use Rattle.std.proofs.Common.{refl, ap, sym, subst, ◌∙◌, true, ◌<◌, ◌^◌}
+use Rattle.std.proofs.Common.{refl, ap, subst, ◌∙◌, true, ◌<◌, ◌^◌}
 use Rattle.std.specs.List.{list_any}
 use Rattle.sx_grammar.specs.High.{is_high}
 use Rattle.sx_grammar.proofs.LimitLaws.{within_exactly}
