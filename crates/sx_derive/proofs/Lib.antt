@@ -19,6 +19,7 @@ pub mod Tasked
 pub mod Turned
 pub mod Walking
 pub mod Proved
+pub mod HeadLists
 pub mod Searching
 pub mod Quiet
 pub mod FirstFound

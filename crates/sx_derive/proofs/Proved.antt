@@ -16,14 +16,10 @@ use Rattle.sx_derive.specs.declared.chains.Head.TheVariants.{Given, By}
 use Rattle.sx_derive.specs.declared.chains.Kid.{Kid}
 use Rattle.sx_arena.specs.Binds.{env_at}
 use Rattle.sx_derive.specs.Chains.{kids_at, head_proof, kid_step, HeadFits, KidFits, kids_of, AreKids}
+use Rattle.sx_derive.specs.Listing.{head_kids}
 use Rattle.sx_arena.proofs.Growing.{extends-length, extends-same, grown-at}
 use Rattle.sx_derive.proofs.Chained.{kids_stay_at, head_stays}
 use Rattle.sx_derive.proofs.Stepped.{joined-assoc, joined-none}
-
--- the chain of the kids of a proof
-abbrev pub head_kids : Head → ℕ
-head_kids (Given n) = 0
-head_kids (By n v env kids) = kids
 
 -- the cell at a number
 pub record KidRead (es : List Assignment) (ks : List Proofs) (here : ℕ) (c : Kid) : Type 0 where

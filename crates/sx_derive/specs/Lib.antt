@@ -21,4 +21,5 @@ pub mod Ways
 pub mod Descents
 pub mod Blames
 pub mod Deriving
+pub mod Listing
 pub mod Resumable

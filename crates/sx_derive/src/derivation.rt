@@ -19,12 +19,10 @@ ghost use Rattle.sx_derive.specs.Ways.{subjects_of};
 
 use crate::derive_error::DeriveError;
 use crate::derived::{Derived, export_answer};
+use crate::outcome::outcome;
 use crate::problem::{Searched, search};
-use crate::stuck_goal::stuck_goal;
-use crate::tasks::Ending;
 use std::alloc::Global;
 use std::sync::ledger::Ledger;
-use sx_arena::Limit;
 use sx_rules::{Goal, Hyps, RuleSet};
 use sx_term::{Steps, Term};
 
@@ -47,16 +45,9 @@ fn answer(
         IsDerived (modes_of rules.now) (subjects_of rules.now) (rules_of rules.now) (hypotheses given.now) (goal_of goal.now) wanted budget result }
 {
     let Searched { store, ending } = searched;
-    match ending {
-        Ending::Found { head, outputs } => Ok(export_answer(alloc, &store, head, &outputs)?),
-        Ending::Passed(Limit::TooDeep(depth)) => Err(DeriveError::TooDeep(depth)),
-        Ending::Passed(Limit::TooBig(size)) => Err(DeriveError::TooBig(size)),
-        Ending::DepthSpent => Err(DeriveError::DepthSpent(3000)),
-        Ending::Spent => Err(DeriveError::BudgetSpent(budget)),
-        Ending::Exhausted => {
-            let blame = stuck_goal(alloc, rules, given, goal, budget)?;
-            Err(DeriveError::Underivable(blame))
-        }
+    match outcome(alloc, rules, given, goal, budget, ending) {
+        Ok(found) => Ok(export_answer(alloc, &store, found.head, &found.outputs)?),
+        Err(e) => Err(e),
     }
 }
 

@@ -10,11 +10,15 @@ mod derivation;
 mod derive_error;
 mod derived;
 mod descent;
+mod export_list;
 mod export_proof;
 mod first;
 mod found;
 mod handing;
 mod laws;
+mod list_derivation;
+mod listed;
+mod outcome;
 mod premise_descent;
 mod premise_loop;
 mod problem;
@@ -44,6 +48,8 @@ pub use laws::{
     found_is_first, machine_makes_events, sample_is_found, stuck_goal_exists, stuck_goal_has_texts,
     stuck_goal_is_shallow, stuck_goal_is_unique, walk_decides,
 };
+pub use list_derivation::derive_list;
+pub use listed::Listed;
 pub use search::Search;
 pub use search_error::SearchError;
 pub use search_laws::searches_stay_stopped;

@@ -3,7 +3,8 @@ use Rattle.sx_arena.specs.Binds.{bind_step}
 use Rattle.sx_derive.specs.Chains.{HeadFits, kid_step}
 use Rattle.sx_derive.specs.Store.{store_trees, store_envs, store_kids}
 use Rattle.sx_arena.proofs.Growing.{grown-length}
-use Rattle.sx_derive.proofs.Proved.{head_kids, kid_read, proving_first, proving_more, proving_end}
+use Rattle.sx_derive.specs.Listing.{head_kids}
+use Rattle.sx_derive.proofs.Proved.{kid_read, proving_first, proving_more, proving_end}
 use Rattle.sx_derive.proofs.export_proof.+export_proof.Goals as goal
 
 pub export_binds-requires-clause-env : goal.export_binds-requires-clause-env

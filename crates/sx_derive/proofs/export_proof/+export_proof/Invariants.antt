@@ -1,5 +1,6 @@
 use Rattle.sx_derive.specs.Store.{store_kids}
-use Rattle.sx_derive.proofs.Proved.{head_kids, Proving}
+use Rattle.sx_derive.specs.Listing.{head_kids}
+use Rattle.sx_derive.proofs.Proved.{Proving}
 use Rattle.sx_derive.proofs.export_proof.+export_proof.Given as goal
 
 abbrev pub decreases-export_proof : goal.decreases-export_proof

@@ -5,10 +5,10 @@ use Rattle.sx_derive.specs.Search.{walk}
 use Rattle.sx_derive.specs.Tasks.{IsEnding}
 use Rattle.sx_derive.specs.Walk.{events}
 use Rattle.sx_derive.proofs.Told.{exhausted_quiet}
-use Rattle.sx_derive.proofs.derivation.answer.Goals as goal
+use Rattle.sx_derive.proofs.outcome.outcome.Goals as goal
 
 pub stuck_goal-requires-clause-quiet : goal.stuck_goal-requires-clause-quiet
 stuck_goal-requires-clause-quiet c =
     let es = events (modes_of c.args.rules.now) (rules_of c.args.rules.now) (hypotheses c.args.given.now) (goal_of c.args.goal.now) 1 in
     let x = c.requires.ending in
-    exhausted_quiet x.0 c.args.budget es (subst (λ e. IsEnding c.args.searched.store e (walk x.0 c.args.budget es)) c.in-Exhausted.is x.1)
+    exhausted_quiet x.1 c.args.budget es (subst (λ e. IsEnding x.0 e (walk x.1 c.args.budget es)) c.in-Exhausted.is x.2)

@@ -1,0 +1,88 @@
+//! The list of the first derivation of a goal.
+
+ghost use Rattle.std.specs.Prelude.{◌≡◌, ℕ, ◌^◌, ◌≤◌, ◌<◌, List, Option, IfOk, MatchOption, length, map};
+ghost use Rattle.std.specs.Option.{option_map};
+ghost use Rattle.sx_term.specs.Term.{tree};
+ghost use Rattle.sx_term.specs.Tree.{Tree};
+ghost use Rattle.sx_rules.specs.Deep.{AreShallow};
+ghost use Rattle.sx_rules.specs.Derivations.{ShallowJudgements};
+ghost use Rattle.sx_rules.specs.Views.{goal as goal_of, hypotheses};
+ghost use Rattle.sx_arena.specs.Entered.{ArePairsShallow};
+ghost use Rattle.sx_arena.specs.Views.{rules_of, modes_of};
+ghost use Rattle.sx_derive.specs.Deriving.{IsNone, AreCounted};
+ghost use Rattle.sx_derive.specs.Listing.{IsListed, ListsFirst};
+ghost use Rattle.sx_derive.specs.Search.{walk, tries_of};
+ghost use Rattle.sx_derive.specs.Store.{IsStore};
+ghost use Rattle.sx_derive.specs.Tasks.{IsEnding};
+ghost use Rattle.sx_derive.specs.Walk.{events};
+ghost use Rattle.sx_derive.specs.Ways.{subjects_of};
+
+use crate::derive_error::DeriveError;
+use crate::export_list::list_answer;
+use crate::listed::Listed;
+use crate::outcome::outcome;
+use crate::problem::{Searched, search};
+use std::alloc::Global;
+use std::sync::ledger::Ledger;
+use sx_rules::{Goal, Hyps, RuleSet};
+use sx_term::{Steps, Term};
+
+/// What is listed where a search has ended.
+fn answer_list(
+    alloc: Global,
+    rules: &RuleSet,
+    given: &Hyps,
+    goal: &Goal,
+    budget: u64,
+    searched: Searched,
+) -> Result<Listed, DeriveError>
+    requires few { length given.now.holds.items < 2 ^ 32 }
+    requires holds { ShallowJudgements (hypotheses given.now).judgements }
+    requires apart { ArePairsShallow (hypotheses given.now).pairs }
+    requires goal { AreShallow (goal_of goal.now).terms }
+    requires store { IsStore (modes_of rules.now) (rules_of rules.now) searched.store }
+    requires ending { (wanted : Option (List Tree)) × IsEnding searched.store searched.ending (walk wanted budget (events (modes_of rules.now) (rules_of rules.now) (hypotheses given.now) (goal_of goal.now) 1)) }
+    ensures { (wanted : Option (List Tree)) → IsEnding searched.store searched.ending (walk wanted budget (events (modes_of rules.now) (rules_of rules.now) (hypotheses given.now) (goal_of goal.now) 1)) →
+        IsListed (modes_of rules.now) (subjects_of rules.now) (rules_of rules.now) (hypotheses given.now) (goal_of goal.now) wanted budget result }
+{
+    let Searched { store, ending } = searched;
+    match outcome(alloc, rules, given, goal, budget, ending) {
+        Ok(found) => Ok(list_answer(alloc, &store, found.head, &found.outputs)?),
+        Err(e) => Err(e),
+    }
+}
+
+/// The entries of the first derivation of the goal from the hypotheses, with the wanted outputs where some are wanted, and its
+/// outputs. Each try is counted in `steps`, and at most `budget` are made. The derivation itself is never made as a value of its
+/// own, so that memory for its bindings is not taken.
+///
+/// - `Memory`: memory is lacking.
+/// - `Underivable`: no derivation with such outputs exists, of whatever depth and size.
+/// - `BudgetSpent`: the search needs more than `budget` tries.
+/// - `DepthSpent`: the search comes to a goal at depth 3,001.
+/// - `TooDeep`, `TooBig`: a term is made that is deeper than 1,000 or has more than 1,000,000 nodes.
+pub fn derive_list<L: Ledger>(
+    alloc: Global,
+    rules: &RuleSet,
+    given: &Hyps,
+    goal: &Goal,
+    wanted: Option<&Vec<Term>>,
+    budget: u64,
+    steps: &mut Steps<L>,
+) -> Result<Listed, DeriveError>
+    requires few { length given.now.holds.items < 2 ^ 32 }
+    requires holds { ShallowJudgements (hypotheses given.now).judgements }
+    requires apart { ArePairsShallow (hypotheses given.now).pairs }
+    requires goal { AreShallow (goal_of goal.now).terms }
+    requires wanted { MatchOption wanted Unit (λ w. AreShallow (map tree w.now.items)) }
+    ensures answer { IsListed (modes_of rules.now) (subjects_of rules.now) (rules_of rules.now) (hypotheses given.now) (goal_of goal.now) (option_map (λ w. map tree w.now.items) wanted.entry) budget result }
+    ensures first { IfOk result (λ l. ListsFirst (modes_of rules.now) (rules_of rules.now) (hypotheses given.now) (goal_of goal.now) (option_map (λ w. map tree w.now.items) wanted.entry) budget l) }
+    ensures none { IsNone (modes_of rules.now) (rules_of rules.now) (hypotheses given.now) (goal_of goal.now) (option_map (λ w. map tree w.now.items) wanted.entry) result }
+    ensures steps { AreCounted (tries_of (option_map (λ w. map tree w.now.items) wanted.entry) budget (events (modes_of rules.now) (rules_of rules.now) (hypotheses given.now) (goal_of goal.now) 1)) steps.old steps.new result }
+{
+    rules.facts();
+    match search(alloc, rules, given, goal, wanted, budget, steps) {
+        Ok(searched) => answer_list(alloc, rules, given, goal, budget, searched),
+        Err(_) => Err(DeriveError::Memory),
+    }
+}
