@@ -21,7 +21,6 @@ use Rattle.sx_rules.specs.EntryView.{entry, entries}
 use Rattle.sx_rules.specs.ListText.{IsEntry, entry_line, list_lines}
 use Rattle.sx_core.specs.Problem.{Problem, problem}
 use Rattle.sx_core.specs.declared.problem.CoreProblem.{CoreProblem}
-use Rattle.sx_derive.specs.Deriving.{answer_of}
 use Rattle.sx_top.specs.CoreTexts.{list_text, entry_text, entry_lines, rule_name}
 use Rattle.sx_top.specs.FindFirst.{no_hypotheses, rules_of}
 
