@@ -1,22 +1,18 @@
 -- What was built is verified.
-use Rattle.std.proofs.Common.{◌≡◌, ◌≢◌, ℕ, ◌+◌, ◌≤◌, List, [], ◌∷◌, ◌++◌, map, length, codes, get_or, refl, sym, ap, ◌∙◌, subst, arith}
-use Rattle.std.specs.Prelude.{Ok, Some, None}
+use Rattle.std.proofs.Common.{◌≡◌, ◌≢◌, ℕ, List, length, codes, get_or, refl, sym, ap, ◌∙◌, subst, arith}
+use Rattle.std.specs.Prelude.{Ok, None}
 use Rattle.std.proofs.lemmas.List.{length-map}
-use Rattle.sx_outside.specs.Files.{Files, after}
-use Rattle.sx_term.specs.Tree.{Tree}
-use Rattle.sx_rules.specs.Views.{NamedRule, modes_of}
+use Rattle.sx_rules.specs.Views.{modes_of}
 use Rattle.sx_rules.specs.Derivations.{nodes_of}
-use Rattle.sx_rules.specs.First.{Answer}
 use Rattle.sx_rules.specs.Orders.{Entry, order_of}
-use Rattle.sx_core.specs.Problem.{Problem}
-use Rattle.sx_derive.specs.Search.{found, walk}
+use Rattle.sx_derive.specs.Search.{walk}
 use Rattle.sx_derive.proofs.FewNodes.{few_nodes}
 use Rattle.sx_replay.specs.Fronts.{whole}
 use Rattle.sx_replay.specs.Replay.{IsWithin}
 use Rattle.sx_top.specs.CoreTexts.{subject_text, list_text, term_lines}
 use Rattle.sx_top.specs.FindFirst.{no_hypotheses, rules_of}
 use Rattle.sx_top.specs.Search.{goal_events}
-use Rattle.sx_top.specs.ReadCore.{core_file, base_file, list_file, interface_file, rule_names}
+use Rattle.sx_top.specs.ReadCore.{core_file}
 use Rattle.sx_top.specs.BuildCore.{core_plan}
 use Rattle.sx_top.specs.VerifyCore.{verified_plan}
 use Rattle.sx_top.specs.VerifyLaws.{BuiltIsVerified}

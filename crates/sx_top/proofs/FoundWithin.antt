@@ -1,18 +1,16 @@
 -- What a walk finds is replayed within the limits: the walk measured each term that its derivation makes.
-use Rattle.std.proofs.Common.{◌≡◌, ℕ, zero, suc, ◌+◌, ◌-◌, ◌<◌, ◌≤◌, ◌&&◌, Bool, true, false, List, [], ◌∷◌, ◌++◌, ◌⊎◌, inl, inr, map, length, Option, Some, None, refl, sym, ap, ◌∙◌, subst, arith}
+use Rattle.std.proofs.Common.{◌≡◌, ℕ, zero, suc, ◌+◌, ◌-◌, ◌<◌, ◌&&◌, Bool, true, false, List, [], ◌∷◌, ◌++◌, ◌⊎◌, inl, inr, length, Option, Some, None, refl, sym, ap, ◌∙◌, subst, arith}
 use Rattle.std.specs.Prelude.{slice_get, nat_eq, nat_lt}
 use Rattle.sx_term.specs.Tree.{Tree, depth_of, size_of}
 use Rattle.sx_rules.specs.Instances.{instance, StandsAmong, bound_by}
 use Rattle.sx_rules.specs.Rules.{Judgement, Premise, holds, apart, Rule, Hypotheses, judgement_instance, judgements_of}
 use Rattle.sx_rules.specs.Modes.{Modes, inputs_of, outputs_of, Goal, goal_of, AreModed, IsModed, AllModed}
-use Rattle.sx_rules.specs.Derivations.{Proofs, by, given, height_of, AreShallow, ShallowJudgements}
-use Rattle.sx_rules.specs.Orders.{order_of}
+use Rattle.sx_rules.specs.Derivations.{Proofs, by, given, height_of}
 use Rattle.sx_arena.specs.Matching.{same_all, Assignment, unbound, match_all, filled, IsBound, Extends, Agrees}
 use Rattle.sx_derive.specs.Walk.{Cause, Event, try, give, stop, Answer, then_each, when_matched, term_limit, first_cause, limit_passed, unless_passed, are_apart, put_first, after_kid, premise_events, first_values, conclude, after_match, rule_events, rules_events, given_event, given_events, goal_events, events}
 use Rattle.sx_derive.specs.Search.{DerivesGoal, EachGiven, Ending, found, are_wanted, found_when, walk}
 use Rattle.sx_replay.specs.Limits.{first_of, first_deep, first_big}
-use Rattle.sx_replay.specs.Fronts.{asked_of, concluded_of, whole, made_in, made_below}
-use Rattle.sx_replay.specs.Replay.{IsWithin}
+use Rattle.sx_replay.specs.Fronts.{asked_of, concluded_of, made_in, made_below}
 use Rattle.sx_arena.proofs.Matchings.{match_all-matches, stays-bound, stays-agreed}
 use Rattle.sx_arena.proofs.Filled.{filled-inputs, filled-outputs, first_values-at}
 use Rattle.sx_arena.specs.Matching.{value_or}

@@ -1,19 +1,18 @@
 -- The text of a derivation's list: it is read again, and it is short.
-use Rattle.std.proofs.Common.{◌≡◌, ℕ, zero, suc, ◌+◌, ◌*◌, ◌<◌, ◌≤◌, ◌&&◌, Bool, true, false, List, [], ◌∷◌, ◌++◌, map, length, codes, Option, Some, None, refl, sym, ap, ◌∙◌, subst, append_assoc, arith}
-use Rattle.std.specs.Prelude.{slice_get, slice_index_or, nat_le, Ok}
+use Rattle.std.proofs.Common.{◌≡◌, ℕ, zero, suc, ◌+◌, ◌*◌, ◌<◌, ◌≤◌, ◌&&◌, Bool, true, false, List, [], ◌∷◌, ◌++◌, map, length, codes, Some, refl, sym, ap, ◌∙◌, subst, append_assoc, arith}
+use Rattle.std.specs.Prelude.{slice_get, slice_index_or, nat_le}
 use Rattle.std.specs.List.{AllByRecursion, list_all}
 use Rattle.std.specs.Char.{is_ascii_alphabetic}
 use Rattle.std.proofs.lemmas.Bool.{leb-true}
 use Rattle.std.proofs.lemmas.List.{length-append, length-map}
 use Rattle.std.proofs.lemmas.Option.{slice_get_within}
-use Rattle.sx_term.specs.Tree.{Tree}
 use Rattle.sx_lines.specs.Lines.{lines_from, texts}
 use Rattle.sx_lines.specs.Reading.{written}
 use Rattle.sx_lines.specs.Words.{is_name, is_name_byte}
 use Rattle.sx_lines.proofs.ReadLaws.{numbered}
 use Rattle.sx_rules.specs.declared.entry.Entry.{Entry as EntryOf}
 use Rattle.sx_rules.specs.declared.entry.Entry.TheVariants.{Rule as RuleEntry, Given as GivenEntry}
-use Rattle.sx_rules.specs.Rules.{Judgement, Rule, Hypotheses, judgement_instance, judgements_of}
+use Rattle.sx_rules.specs.Rules.{Judgement, Rule, Hypotheses}
 use Rattle.sx_rules.specs.Derivations.{Proof, Proofs, by, given, no_more, ◌⊳◌, Derives, DeriveEach, nodes_of, nodes_of_all}
 use Rattle.sx_rules.specs.Orders.{Entry, of_given, of_rule, order_of, order_of_all}
 use Rattle.sx_rules.specs.EntryView.{entries}
@@ -21,7 +20,7 @@ use Rattle.sx_rules.specs.RuleNames.{AreNames, AreDistinct}
 use Rattle.sx_rules.specs.Views.{NamedRule}
 use Rattle.sx_rules.specs.ListText.{IsEntry, entry_line, list_lines, StatesList}
 use Rattle.sx_rules.proofs.ListLaws.{list_stated, list_round}
-use Rattle.sx_top.specs.CoreTexts.{rule_name, rule_name_or_none, entry_text, entry_lines, list_text}
+use Rattle.sx_top.specs.CoreTexts.{rule_name, entry_text, entry_lines, list_text}
 
 -- ---- entries
 
@@ -39,7 +38,7 @@ same_entries (of_rule n ∷ list) = ap (λ (x : List Entry). of_rule n ∷ x) (s
 same_entries (of_given n ∷ list) = ap (λ (x : List Entry). of_given n ∷ x) (same_entries list)
 
 -- each entry is a rule of so many
-abbrev AreOfRules : ℕ → List Entry → Type 0
+abbrev pub AreOfRules : ℕ → List Entry → Type 0
 AreOfRules n [] = Unit {0}
 AreOfRules n (of_rule r ∷ list) = (r < n) × AreOfRules n list
 AreOfRules n (of_given i ∷ list) = ⊥
@@ -82,7 +81,7 @@ mutual
 -- ---- the text
 
 -- the names of rules
-abbrev names_of : List NamedRule → List (List ℕ)
+abbrev pub names_of : List NamedRule → List (List ℕ)
 names_of rules = map (λ r. r.name) rules
 
 name_is : (rules : List NamedRule) (r : ℕ) → rule_name rules r ≡ slice_index_or (names_of rules) r []

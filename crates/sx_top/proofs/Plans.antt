@@ -1,6 +1,6 @@
 -- The plan of `build --core` by its parts.
 use Rattle.std.proofs.Common.{◌≡◌, ℕ, List, [], ◌∷◌, ◌++◌, map, ap, ◌∙◌, codes}
-use Rattle.std.specs.Prelude.{Result, Ok, Err, decimal}
+use Rattle.std.specs.Prelude.{Result, Ok, decimal}
 use Rattle.sx_outside.specs.Files.{Files, File}
 use Rattle.sx_rules.specs.Derivations.{nodes_of}
 use Rattle.sx_rules.specs.Orders.{order_of}

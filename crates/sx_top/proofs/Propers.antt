@@ -1,11 +1,10 @@
 -- What a core file gives the search and the texts.
-use Rattle.std.proofs.Common.{◌≡◌, ◌≢◌, ℕ, List, [], ◌∷◌, ◌++◌, map, true, inl, inr, ◌⊎◌, refl, sym, ap, subst}
-use Rattle.std.specs.Prelude.{Ok, IsTrue}
+use Rattle.std.proofs.Common.{◌≡◌, ◌≢◌, ℕ, List, [], ◌∷◌, ◌++◌, map, inl, inr, refl, sym, subst}
+use Rattle.std.specs.Prelude.{Ok}
 use Rattle.std.specs.List.{AllByRecursion}
 use Rattle.sx_term.specs.Tree.{Tree, Trees, node, lexeme, hole, none, ◌▹◌}
 use Rattle.sx_term.specs.Sorts.{Shape}
 use Rattle.sx_term.specs.Core.{HasCore, HaveCore, IsWritable, AreWritable}
-use Rattle.sx_lines.specs.Words.{is_name}
 use Rattle.sx_rules.specs.Rules.{Premise, holds, apart}
 use Rattle.sx_rules.specs.Views.{FormData, NamedRule, modes_of}
 use Rattle.sx_rules.specs.Modes.{AllModed}

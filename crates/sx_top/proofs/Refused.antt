@@ -1,6 +1,6 @@
 -- Stops of calls below are no faults of reading or writing.
 use Rattle.std.proofs.Common.{◌≡◌, ℕ, List, refl, sym, ap, ◌∙◌}
-use Rattle.std.specs.Prelude.{Result, Err, Some}
+use Rattle.std.specs.Prelude.{Err, Some}
 use Rattle.sx_rules.specs.declared.error.RuleError.{RuleError}
 use Rattle.sx_rules.specs.declared.error.RuleError.TheVariants as rule_error
 use Rattle.sx_core.specs.Problem.{Problem}

@@ -9,8 +9,8 @@ use Rattle.sx_rules.specs.First.{Answer}
 use Rattle.sx_rules.proofs.Texts.{outputs_have_texts}
 use Rattle.sx_core.specs.Problem.{Problem, problem}
 use Rattle.sx_core.specs.declared.problem.CoreProblem.{CoreProblem}
-use Rattle.sx_derive.specs.Walk.{Event, try, give, stop, events, depth_spent as passes_depth, too_deep as passes_terms, too_big as passes_size}
-use Rattle.sx_derive.specs.Search.{Ending, found, stopped, spent, exhausted, EachGiven, walk, tries_of, tries_unless, are_wanted}
+use Rattle.sx_derive.specs.Walk.{Event, try, give, stop, events}
+use Rattle.sx_derive.specs.Search.{Ending, found, exhausted, EachGiven, walk, tries_of, tries_unless, are_wanted}
 use Rattle.sx_derive.specs.Stuck.{Blame}
 use Rattle.sx_derive.specs.Blames.{blame_of}
 use Rattle.sx_derive.specs.BlameTerms.{got_in}
@@ -28,7 +28,7 @@ use Rattle.sx_top.specs.Stop.{RisesBy, RisesUpTo}
 use Rattle.sx_top.specs.FindFirst.{no_hypotheses, rules_of}
 use Rattle.sx_top.specs.CoreStops.{tries_spent, depth_spent, too_deep, too_big, underivable}
 use Rattle.sx_top.specs.LowerStops.{derive_stop}
-use Rattle.sx_top.specs.Search.{goal_events, IsStuckGoal, ComesTo, Searches, HasWalked}
+use Rattle.sx_top.specs.Search.{goal_events, IsStuckGoal, ComesTo, HasWalked}
 use Rattle.sx_top.specs.Terms.{AreTerms}
 use Rattle.sx_top.specs.Proper.{IsProper, IsGiven, HasTerms}
 use Rattle.sx_top.proofs.Propers.{terms_of}

@@ -1,5 +1,5 @@
 -- The lines of a text are no longer than the text, and no more than its bytes.
-use Rattle.std.proofs.Common.{ℕ, suc, ◌+◌, ◌≤◌, ◌&&◌, ◌==◌, Bool, true, false, List, [], ◌∷◌, length, arith}
+use Rattle.std.proofs.Common.{ℕ, ◌+◌, ◌≤◌, ◌&&◌, ◌==◌, Bool, true, false, List, [], ◌∷◌, length, arith}
 use Rattle.std.specs.Prelude.{if◌then◌else◌}
 use Rattle.sx_lines.specs.Bytes.{line_feed, carriage_return, is_skipped}
 use Rattle.sx_lines.specs.Lines.{Lines, over, line, ends_here, with_byte, lines_from, texts}

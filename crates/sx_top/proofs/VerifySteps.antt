@@ -1,6 +1,6 @@
 -- How `verify --core` goes through its steps.
-use Rattle.std.proofs.Common.{◌≡◌, ℕ, ◌+◌, ◌<◌, ◌≤◌, Bool, true, false, List, [], ◌∷◌, ◌++◌, map, length, Option, Some, None, refl, sym, ap, ◌∙◌, subst, arith}
-use Rattle.std.specs.Prelude.{Result, Ok, Err, ◌-◌, ◌^◌, nat_lt, slice_get}
+use Rattle.std.proofs.Common.{◌≡◌, ℕ, ◌<◌, ◌≤◌, Bool, true, false, List, [], ◌∷◌, ◌++◌, map, length, Option, Some, None, refl, sym, ap, ◌∙◌, subst, arith}
+use Rattle.std.specs.Prelude.{Result, Ok, ◌-◌, ◌^◌, nat_lt, slice_get}
 use Rattle.std.proofs.lemmas.Bool.{ltb-true, ltb-false}
 use Rattle.std.proofs.lemmas.List.{length-map}
 use Rattle.sx_outside.specs.Files.{Files}
@@ -9,7 +9,7 @@ use Rattle.sx_term.specs.Tree.{Tree, depth_of}
 use Rattle.sx_lines.specs.Lines.{lines_from, texts}
 use Rattle.sx_rules.specs.declared.entry.Entry.{Entry as EntryOf}
 use Rattle.sx_rules.specs.declared.rule.Rule.{Rule as RuleOf}
-use Rattle.sx_rules.specs.Rules.{Rule, Hypotheses, judgement_instance, judgements_of}
+use Rattle.sx_rules.specs.Rules.{Rule, Hypotheses}
 use Rattle.sx_rules.specs.Instances.{bound_by}
 use Rattle.sx_rules.specs.Views.{named, modes_of, rule as rule_of}
 use Rattle.sx_rules.specs.Modes.{outputs_of}
@@ -17,8 +17,7 @@ use Rattle.sx_rules.specs.Good.{names_of}
 use Rattle.sx_rules.specs.Derivations.{Proof, by, given, AreShallow}
 use Rattle.sx_rules.specs.First.{Answer, DerivesGoal}
 use Rattle.sx_rules.specs.Orders.{Entry, order_of}
-use Rattle.sx_rules.specs.EntryView.{entries}
-use Rattle.sx_rules.specs.ListText.{entry_line, list_lines, StatesList}
+use Rattle.sx_rules.specs.ListText.{entry_line, StatesList}
 use Rattle.sx_rules.proofs.Texts.{outputs_have_texts}
 use Rattle.sx_core.specs.Problem.{Problem, problem}
 use Rattle.sx_core.specs.declared.problem.CoreProblem.{CoreProblem}
@@ -28,8 +27,7 @@ use Rattle.sx_replay.specs.Replay.{IsWithin, IsReplayAnswer}
 use Rattle.sx_top.specs.FindFirst.{no_hypotheses, rules_of}
 use Rattle.sx_top.specs.Terms.{AreTerms}
 use Rattle.sx_top.specs.Proper.{IsProper}
-use Rattle.sx_top.specs.Stop.{IsStopped, IsNoFault, OnlyReads}
-use Rattle.sx_top.specs.declared.status.Status.TheVariants as statuses
+use Rattle.sx_top.specs.Stop.{IsNoFault, OnlyReads}
 use Rattle.sx_top.specs.declared.step_error.StepError.{StepError}
 use Rattle.sx_top.proofs.Propers.{terms_of}
 use Rattle.sx_top.proofs.ShortTexts.{lines_few}

@@ -1,5 +1,5 @@
 -- The steps of the commands on core files have one result each, read faults aside.
-use Rattle.std.proofs.Common.{◌≡◌, ℕ, ◌<◌, ◌≤◌, List, [], length, refl, ap, ◌∙◌, sym, subst, inl, inr, arith}
+use Rattle.std.proofs.Common.{◌≡◌, ℕ, ◌≤◌, List, [], length, refl, ap, ◌∙◌, sym, subst, inl, inr, arith}
 use Rattle.std.specs.Prelude.{Result, Ok, Err, Option, Some, None}
 use Rattle.sx_outside.specs.Files.{Files}
 use Rattle.sx_rules.specs.Views.{modes_of, subjects_in}
@@ -11,8 +11,8 @@ use Rattle.sx_derive.specs.Stuck.{Blame}
 use Rattle.sx_derive.proofs.BlamedOnce.{stuck_goal_is_unique}
 use Rattle.sx_top.specs.declared.stop.Stop.{Stop}
 use Rattle.sx_top.specs.declared.status.Status.TheVariants as statuses
-use Rattle.sx_top.specs.Refusal.{absent, read_fault, status_of}
-use Rattle.sx_top.specs.CoreStops.{too_long, differs, underivable}
+use Rattle.sx_top.specs.Refusal.{status_of}
+use Rattle.sx_top.specs.CoreStops.{underivable}
 use Rattle.sx_top.specs.FindFirst.{no_hypotheses, rules_of}
 use Rattle.sx_top.specs.Held.{Held, IsLong, most_bytes}
 use Rattle.sx_top.specs.Lower.{Lower}

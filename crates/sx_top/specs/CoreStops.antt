@@ -1,10 +1,9 @@
 -- The stops of the commands on core files.
 use Rattle.std.specs.Prelude.{ℕ, ◌+◌, List, ◌++◌, codes, decimal, Option, Some, None}
-use Rattle.sx_term.specs.Tree.{Tree}
 use Rattle.sx_rules.specs.declared.error.RuleError.{RuleError}
 use Rattle.sx_rules.specs.declared.error.RuleError.TheVariants as rule_error
 use Rattle.sx_words.specs.declared.place.Place.{Place}
-use Rattle.sx_words.specs.declared.place.Place.TheVariants.{Nowhere, Line, Rule}
+use Rattle.sx_words.specs.declared.place.Place.TheVariants.{Line, Rule}
 use Rattle.sx_words.specs.declared.file_defect.FileDefect.TheVariants as file_defect
 use Rattle.sx_words.specs.declared.text_defect.TextDefect.TheVariants as text_defect
 use Rattle.sx_words.specs.declared.rule_defect.RuleDefect.{RuleDefect}

@@ -197,6 +197,30 @@ fn a_derivation_that_is_too_deep(rt: HostRuntime) -> Result<(), Fail> {
     Ok(())
 }
 
+/// Whether building the pair of leaves with this option ends with this status and this line.
+fn is_bounded(alloc: Global, line: &str, code: u8, told: &[u8]) -> Result<bool, Fail> {
+    let core = join(alloc, &[SIGNATURE, LEAVES, PAIR, "goal f (1 (0) (0))\n"])?;
+    let mut shelf = shelf_with(alloc, "C.core", &core, &[])?;
+    let mut out = MemSink::new(alloc);
+    let status = run_words(alloc, line, &mut shelf, &mut out)?;
+    Ok(status == code && out.written() == told)
+}
+
+#[test]
+fn tries_that_are_spent(rt: HostRuntime) -> Result<(), Fail> {
+    let alloc = rt.alloc();
+    assert!(rt;
+        is_bounded(
+            alloc,
+            "build --core --tries=2 C",
+            6,
+            b"soundx: C.core: more than 2 tries\n"
+        )?
+    );
+    assert!(rt; is_bounded(alloc, "build --core --tries=99 C", 0, b"built C: 3 nodes\n")?);
+    Ok(())
+}
+
 #[test]
 fn files_that_are_refused(rt: HostRuntime) -> Result<(), Fail> {
     let alloc = rt.alloc();
@@ -268,7 +292,7 @@ fn words_that_are_no_command(rt: HostRuntime) -> Result<(), Fail> {
 }
 
 #[test]
-fn commands_that_are_not_there_yet(rt: HostRuntime) -> Result<(), Fail> {
+fn commands_that_there_are_none_of(rt: HostRuntime) -> Result<(), Fail> {
     let alloc = rt.alloc();
     assert!(rt; are_refused(alloc, "check One", b"soundx: words: word 1\n")?);
     assert!(rt; are_refused(alloc, "verify One", b"soundx: words: word 2\n")?);

@@ -6,7 +6,7 @@ use Rattle.sx_top.specs.Held.{Held, most_bytes}
 use Rattle.sx_top.specs.Lower.{Lower}
 use Rattle.sx_top.specs.LowerStops.{core_stop}
 use Rattle.sx_top.specs.Stop.{Gives}
-use Rattle.sx_top.proofs.StepsOn.{goes_next, stops_first, reads_on}
+use Rattle.sx_top.proofs.StepsOn.{goes_next, stops_first}
 use Rattle.sx_top.proofs.read_core.read_problem.Goals as goal
 
 pub returns-in-Ok-clause-step : goal.returns-in-Ok-clause-step

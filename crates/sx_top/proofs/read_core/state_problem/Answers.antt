@@ -1,5 +1,4 @@
 use Rattle.sx_top.proofs.Propers.{proper}
-use Rattle.sx_top.proofs.Refused.{core_quiet}
 use Rattle.sx_top.proofs.read_core.state_problem.Goals as goal
 
 pub returns-in-Ok-clause-proper : goal.returns-in-Ok-clause-proper

@@ -1,9 +1,6 @@
 use Rattle.std.specs.Prelude.{Ok, Err}
 use Rattle.sx_rules.specs.Views.{hypotheses}
 use Rattle.sx_core.specs.Problem.{problem}
-use Rattle.sx_derive.specs.Search.{walk}
-use Rattle.sx_top.specs.Search.{goal_events}
-use Rattle.sx_top.proofs.Refused.{search_quiet}
 use Rattle.sx_top.proofs.Searching.{told_plain, counted_plain, comes_answer, comes_stop, searches_given, told_terms, counts_answer, counts_stop, counts_short, counts_most}
 use Rattle.sx_top.proofs.search.find_first.Goals as goal
 

@@ -4,8 +4,6 @@ use Rattle.sx_top.specs.Held.{Held, most_bytes}
 use Rattle.sx_top.specs.Written.{Equals}
 use Rattle.sx_top.specs.Stop.{Gives}
 use Rattle.sx_top.proofs.StepsOn.{goes_next, stops_first}
-use Rattle.sx_top.proofs.WholeOnes.{searches_one}
-use Rattle.sx_top.proofs.VerifyPromise.{verify_promise}
 use Rattle.sx_top.proofs.written.compare.Goals as goal
 
 pub returns-in-Ok-clause-step : goal.returns-in-Ok-clause-step
