@@ -14,8 +14,9 @@ use Rattle.sx_derive.specs.Search.{Ending, found, exhausted, EachGiven, walk, tr
 use Rattle.sx_derive.specs.Stuck.{Blame}
 use Rattle.sx_derive.specs.Blames.{blame_of}
 use Rattle.sx_derive.specs.BlameTerms.{got_in}
-use Rattle.sx_derive.specs.Deriving.{IsTold, IsDerived, AreCounted}
-use Rattle.sx_derive.specs.declared.derived.Derived.{Derived}
+use Rattle.sx_derive.specs.Deriving.{IsToldBy, AreCounted}
+use Rattle.sx_derive.specs.Listing.{SaysList, IsListed}
+use Rattle.sx_derive.specs.declared.listed.Listed.{Listed}
 use Rattle.sx_derive.specs.declared.derive_error.DeriveError.{DeriveError}
 use Rattle.sx_derive.specs.declared.derive_error.DeriveError.TheVariants.{Memory, Underivable, BudgetSpent, DepthSpent, TooDeep, TooBig}
 use Rattle.sx_derive.proofs.Bounded.{answers_are_bounded}
@@ -45,11 +46,11 @@ module _ (p : CoreProblem) (hyps : Hypotheses) (none : hyps ≡ no_hypotheses) w
       subst (λ (h : Hypotheses). P (rules_of (problem p)) h) none (subst (λ (rs : List Rule). P rs hyps) (bare_rules p.rules.rules.items) holds)
 
   -- what a search answers is about the plain data of the problem
-  pub told_plain : (budget : ℕ) (r : Result Derived DeriveError) → IsDerived (modes_of (problem p).forms) (subjects_in (problem p).forms) (map rule p.rules.rules.items) hyps (goal p.goal) None budget r → IsDerived (modes_of (problem p).forms) (subjects_in (problem p).forms) (rules_of (problem p)) no_hypotheses (problem p).goal None budget r
+  pub told_plain : (budget : ℕ) (r : Result Listed DeriveError) → IsListed (modes_of (problem p).forms) (subjects_in (problem p).forms) (map rule p.rules.rules.items) hyps (goal p.goal) None budget r → IsListed (modes_of (problem p).forms) (subjects_in (problem p).forms) (rules_of (problem p)) no_hypotheses (problem p).goal None budget r
   told_plain budget r told =
-      plain (λ rs h. IsDerived (modes_of (problem p).forms) (subjects_in (problem p).forms) rs h (problem p).goal None budget r) told
+      plain (λ rs h. IsListed (modes_of (problem p).forms) (subjects_in (problem p).forms) rs h (problem p).goal None budget r) told
 
-  pub counted_plain : (budget before after : ℕ) (r : Result Derived DeriveError) → AreCounted (tries_of None budget (events (modes_of (problem p).forms) (map rule p.rules.rules.items) hyps (goal p.goal) 1)) before after r → AreCounted (tries_of None budget (goal_events (problem p))) before after r
+  pub counted_plain : (budget before after : ℕ) (r : Result Listed DeriveError) → AreCounted (tries_of None budget (events (modes_of (problem p).forms) (map rule p.rules.rules.items) hyps (goal p.goal) 1)) before after r → AreCounted (tries_of None budget (goal_events (problem p))) before after r
   counted_plain budget before after r counted =
       plain (λ rs h. AreCounted (tries_of None budget (events (modes_of (problem p).forms) rs h (problem p).goal 1)) before after r) counted
 
@@ -61,7 +62,7 @@ module _ (file : List ℕ) (p : Problem) (budget : ℕ) where
   comes_answer ending answer is = subst (λ (e : Ending). ComesTo file p budget e (Ok answer)) (sym is) refl
 
   -- so is why there is none
-  pub comes_stop : (ending : Ending) (e : DeriveError) (end : Stop) → IsTold (modes_of p.forms) (subjects_in p.forms) (rules_of p) no_hypotheses p.goal budget ending (Err e) → derive_stop file p e ≡ Some end → ComesTo file p budget ending (Err end)
+  pub comes_stop : (ending : Ending) (e : DeriveError) (end : Stop) → IsToldBy SaysList (modes_of p.forms) (subjects_in p.forms) (rules_of p) no_hypotheses p.goal budget ending (Err e) → derive_stop file p e ≡ Some end → ComesTo file p budget ending (Err end)
   comes_stop ending Memory end told is = absurd cc
   comes_stop ending (Underivable blame) end told is =
       let same : underivable file p (blame_of blame) ≡ end = cc in
@@ -104,7 +105,7 @@ module _ (p : Problem) (proper : IsProper p) where
       (terms_of blame.goal.terms texts.0 shallow.0, terms_of (got_in blame.reason) texts.1 shallow.1)
 
   -- the terms of a stuck goal can be written
-  pub told_terms : (budget : ℕ) (e : DeriveError) → IsDerived (modes_of p.forms) (subjects_in p.forms) (rules_of p) no_hypotheses p.goal None budget (Err e) → HasTerms e
+  pub told_terms : (budget : ℕ) (e : DeriveError) → IsListed (modes_of p.forms) (subjects_in p.forms) (rules_of p) no_hypotheses p.goal None budget (Err e) → HasTerms e
   told_terms budget Memory told = tt
   told_terms budget (Underivable blame) told = blame_terms budget (blame_of blame) told.0 told.1
   told_terms budget (BudgetSpent n) told = tt
@@ -127,11 +128,11 @@ tries_few wanted budget (give a ∷ es) = tries_few_unless (are_wanted wanted a.
 
 module _ (p : Problem) (budget before after : ℕ) where
   -- the tries of a walk that gave an answer
-  pub counts_answer : (d : Derived) → AreCounted (tries_of None budget (goal_events p)) before after (Ok d) → RisesBy (HasWalked budget p) before after
-  counts_answer d counted = (tries_of None budget (goal_events p), refl, counted)
+  pub counts_answer : (l : Listed) → AreCounted (tries_of None budget (goal_events p)) before after (Ok l) → RisesBy (HasWalked budget p) before after
+  counts_answer l counted = (tries_of None budget (goal_events p), refl, counted)
 
   -- those of one that was stopped
-  pub counts_stop : (file : List ℕ) (e : DeriveError) (end : Stop) → AreCounted (tries_of None budget (goal_events p)) before after (Err e) → derive_stop file p e ≡ Some end → RisesBy (HasWalked budget p) before after
+  pub counts_stop : (file : List ℕ) (e : DeriveError) (end : Stop) → AreCounted {X = Listed} (tries_of None budget (goal_events p)) before after (Err e) → derive_stop file p e ≡ Some end → RisesBy (HasWalked budget p) before after
   counts_stop file Memory end counted is = absurd cc
   counts_stop file (Underivable blame) end counted is = (tries_of None budget (goal_events p), refl, counted)
   counts_stop file (BudgetSpent n) end counted is = (tries_of None budget (goal_events p), refl, counted)
@@ -139,8 +140,8 @@ module _ (p : Problem) (budget before after : ℕ) where
   counts_stop file (TooDeep n) end counted is = (tries_of None budget (goal_events p), refl, counted)
   counts_stop file (TooBig n) end counted is = (tries_of None budget (goal_events p), refl, counted)
 
-  counted_most : (r : Result Derived DeriveError) → AreCounted (tries_of None budget (goal_events p)) before after r → (before ≤ after) × (after ≤ before + tries_of None budget (goal_events p))
-  counted_most (Ok d) counted = (omega arith, omega arith)
+  counted_most : (r : Result Listed DeriveError) → AreCounted (tries_of None budget (goal_events p)) before after r → (before ≤ after) × (after ≤ before + tries_of None budget (goal_events p))
+  counted_most (Ok l) counted = (omega arith, omega arith)
   counted_most (Err Memory) counted = counted
   counted_most (Err (Underivable blame)) counted = (omega arith, omega arith)
   counted_most (Err (BudgetSpent n)) counted = (omega arith, omega arith)
@@ -149,9 +150,9 @@ module _ (p : Problem) (budget before after : ℕ) where
   counted_most (Err (TooBig n)) counted = (omega arith, omega arith)
 
   -- where memory lacked, there were at most as many
-  pub counts_short : (r : Result Derived DeriveError) → AreCounted (tries_of None budget (goal_events p)) before after r → RisesUpTo (HasWalked budget p) before after
+  pub counts_short : (r : Result Listed DeriveError) → AreCounted (tries_of None budget (goal_events p)) before after r → RisesUpTo (HasWalked budget p) before after
   counts_short r counted = let most = counted_most r counted in (tries_of None budget (goal_events p), refl, most.0, most.1)
 
   -- and never more than the budget
-  pub counts_most : (r : Result Derived DeriveError) → AreCounted (tries_of None budget (goal_events p)) before after r → (before ≤ after) × (after ≤ before + budget)
+  pub counts_most : (r : Result Listed DeriveError) → AreCounted (tries_of None budget (goal_events p)) before after r → (before ≤ after) × (after ≤ before + budget)
   counts_most r counted = let most = counted_most r counted in let few = tries_few None budget (goal_events p) in (most.0, let h = most.1 in omega arith)

@@ -4,7 +4,7 @@ use Rattle.std.specs.Prelude.{Result, Ok, Err, Option}
 use Rattle.sx_outside.specs.Files.{Files}
 use Rattle.sx_top.specs.declared.stop.Stop.{Stop}
 use Rattle.sx_top.specs.Steps.{Then, Goes}
-use Rattle.sx_top.specs.Stop.{Gives, OnlyReads, IsNoFault, RisesBy, RisesUpTo, Counts, Tried}
+use Rattle.sx_top.specs.Stop.{Gives, GivesFor, OnlyReads, IsNoFault, RisesBy, RisesUpTo, Counts, Tried}
 use Rattle.sx_top.specs.declared.step_error.StepError.{StepError}
 use Rattle.sx_top.specs.declared.step_error.StepError.TheVariants as errors
 
@@ -12,6 +12,11 @@ use Rattle.sx_top.specs.declared.step_error.StepError.TheVariants as errors
 pub stops_first : {X Y A B : Type 0} (view : X → A) (seen : Y → B) (first : Result A Stop → Type 0) (next : A → Result B Stop → Type 0) (e : StepError) → Gives view first (Err e) → Gives seen (Then first next) (Err e)
 stops_first view seen first next errors.Memory here = tt
 stops_first view seen first next (errors.Stopped stop) here = record { given = Err stop; begins = here; goes = refl }
+
+-- so where its value is about one of the step's
+pub stops_for : {X Y A B : Type 0} (Is : X → A → Type 0) (seen : Y → B) (first : Result A Stop → Type 0) (next : A → Result B Stop → Type 0) (e : StepError) → GivesFor Is first (Err e) → Gives seen (Then first next) (Err e)
+stops_for Is seen first next errors.Memory here = tt
+stops_for Is seen first next (errors.Stopped stop) here = record { given = Err stop; begins = here; goes = refl }
 
 -- where the first step gives something, the next one goes on
 pub goes_next : {Y A B : Type 0} (seen : Y → B) (first : Result A Stop → Type 0) (next : A → Result B Stop → Type 0) (given : A) (result : Result Y StepError) → first (Ok given) → Gives seen (next given) result → Gives seen (Then first next) result

@@ -9,8 +9,10 @@ use Rattle.sx_rules.specs.First.{Answer, DerivesGoal}
 use Rattle.sx_core.specs.Problem.{Problem}
 use Rattle.sx_derive.specs.Blames.{blame_of}
 use Rattle.sx_derive.specs.BlameTerms.{got_in}
+use Rattle.sx_derive.specs.Listing.{Lists}
 use Rattle.sx_derive.specs.declared.derive_error.DeriveError.{DeriveError}
 use Rattle.sx_derive.specs.declared.derive_error.DeriveError.TheVariants.{Memory, Underivable, BudgetSpent, DepthSpent, TooDeep, TooBig}
+use Rattle.sx_derive.specs.declared.listed.Listed.{Listed}
 use Rattle.sx_top.specs.FindFirst.{no_hypotheses, rules_of}
 use Rattle.sx_top.specs.ReadCore.{rule_names}
 use Rattle.sx_top.specs.Terms.{AreTerms}
@@ -30,6 +32,11 @@ pub record IsGiven (problem : Problem) (answer : Answer) : Type 0 where
   pub derives : DerivesGoal (modes_of problem.forms) (rules_of problem) no_hypotheses problem.goal answer
   pub height : height_of answer.0 ≤ 3000
   pub outputs : AreTerms answer.1
+
+-- the list is that of such an answer
+pub record ListsGiven (problem : Problem) (listed : Listed) (answer : Answer) : Type 0 where
+  pub lists : Lists listed answer
+  pub given : IsGiven problem answer
 
 -- the terms of a stuck goal can be written
 abbrev pub HasTerms : DeriveError → Type 0

@@ -15,6 +15,12 @@ Gives view step (Ok x) = step (Ok (view x))
 Gives view step (Err errors.Memory) = Unit {0}
 Gives view step (Err (errors.Stopped stop)) = step (Err stop)
 
+-- the result is about one of the step's, unless memory lacked
+abbrev pub GivesFor : {X A : Type 0} → (X → A → Type 0) → (Result A Stop → Type 0) → Result X StepError → Type 0
+GivesFor {A = A} Is step (Ok x) = (a : A) × Is x a × step (Ok a)
+GivesFor Is step (Err errors.Memory) = Unit {0}
+GivesFor Is step (Err (errors.Stopped stop)) = step (Err stop)
+
 -- a stop with this status
 abbrev pub IsStopped : {X : Type 0} → Status → Result X StepError → Type 0
 IsStopped status (Ok x) = ⊥

@@ -3,11 +3,12 @@
 ghost use Rattle.std.specs.Prelude.{◌≡◌, ◌++◌, IfOk, [], ◌∷◌, map};
 ghost use Rattle.sx_outside.specs.Told.{WhereTold};
 ghost use Rattle.sx_term.specs.Term.{tree};
+ghost use Rattle.sx_rules.specs.First.{Answer};
 ghost use Rattle.sx_core.specs.Problem.{problem as problem_data};
-ghost use Rattle.sx_derive.specs.Deriving.{answer_of};
+ghost use Rattle.sx_derive.specs.Listing.{Lists};
 ghost use Rattle.sx_top.specs.BuildCore.{core_plan, BuildsGoal, BuildsFrom, BuildsWhole, FileTries, WholeTries};
 ghost use Rattle.sx_top.specs.Ending.{RisesWithin};
-ghost use Rattle.sx_top.specs.Proper.{IsProper, IsGiven};
+ghost use Rattle.sx_top.specs.Proper.{IsProper, ListsGiven};
 ghost use Rattle.sx_top.specs.Search.{HasWalked};
 ghost use Rattle.sx_top.specs.Stop.{Gives, OnlyReads, IsNoFault, Counts, Tried};
 ghost use Rattle.sx_top.specs.Terms.{AreTerms};
@@ -22,9 +23,8 @@ use crate::work::{Output, Work};
 use std::alloc::Global;
 use std::sync::ledger::Ledger;
 use sx_core::CoreProblem;
-use sx_derive::Derived;
+use sx_derive::Listed;
 use sx_outside::Shelf;
-use sx_rules::preorder;
 use sx_term::{NoMemory, Steps, Text};
 
 /// A file to write, under the name with a suffix.
@@ -56,16 +56,16 @@ fn make_work(
     alloc: Global,
     name: &Text,
     problem: &CoreProblem,
-    derived: &Derived,
+    listed: &Listed,
 ) -> Result<Work, NoMemory>
     requires goal { AreTerms (map tree problem.now.goal.inputs.items) }
-    requires given { IsGiven (problem_data problem.now) (answer_of derived.now) }
-    ensures { IfOk result (λ work. plan_of work ≡ core_plan name.now (problem_data problem.now) (answer_of derived.now)) }
+    requires given { (answer : Answer) × ListsGiven (problem_data problem.now) listed.now answer }
+    ensures { IfOk result (λ work. (answer : Answer) → Lists listed.now answer → plan_of work ≡ core_plan name.now (problem_data problem.now) answer) }
 {
-    let list = preorder(alloc, &derived.proof)?;
+    let list = &listed.entries;
     let base_bytes = base_text(alloc, problem.rules.forms(), &problem.goal)?;
-    let list_bytes = list_text(alloc, &problem.rules, &list)?;
-    let interface_bytes = interface_text(alloc, &derived.outputs)?;
+    let list_bytes = list_text(alloc, &problem.rules, list)?;
+    let interface_bytes = interface_text(alloc, &listed.outputs)?;
     let base = output(alloc, name, ".base", base_bytes)?;
     let entries = output(alloc, name, ".der", list_bytes)?;
     let interface = output(alloc, name, ".int", interface_bytes)?;
@@ -90,7 +90,7 @@ fn plan_goal<L: Ledger>(
     ensures most { RisesWithin budget steps.old steps.new }
 {
     match find_first(alloc, file, problem, budget, steps) {
-        Ok(derived) => match make_work(alloc, name, problem, &derived) {
+        Ok(listed) => match make_work(alloc, name, problem, &listed) {
             Ok(work) => Ok(work),
             Err(_) => Err(StepError::Memory),
         },

@@ -1,15 +1,14 @@
-//! The step that finds the first derivation of a core problem's goal.
+//! The step that finds the list of the first derivation of a core problem's goal.
 
 ghost use Rattle.std.specs.Prelude.{◌≡◌, ◌<◌, ◌^◌, Some, IfOk, length};
 ghost use Rattle.sx_core.specs.Problem.{problem as problem_data};
 ghost use Rattle.sx_rules.specs.Views.{hypotheses};
-ghost use Rattle.sx_derive.specs.Deriving.{answer_of};
 ghost use Rattle.sx_top.specs.Ending.{RisesWithin};
 ghost use Rattle.sx_top.specs.FindFirst.{no_hypotheses};
 ghost use Rattle.sx_top.specs.LowerStops.{derive_stop};
-ghost use Rattle.sx_top.specs.Proper.{IsProper, IsGiven, HasTerms};
+ghost use Rattle.sx_top.specs.Proper.{IsProper, ListsGiven, HasTerms};
 ghost use Rattle.sx_top.specs.Search.{Searches, HasWalked};
-ghost use Rattle.sx_top.specs.Stop.{Gives, IsNoFault, Counts};
+ghost use Rattle.sx_top.specs.Stop.{GivesFor, IsNoFault, Counts};
 
 use crate::goal_stops::stuck_goal;
 use crate::step_error::StepError;
@@ -17,7 +16,7 @@ use crate::stop::{Stop, about};
 use std::alloc::Global;
 use std::sync::ledger::Ledger;
 use sx_core::CoreProblem;
-use sx_derive::{DeriveError, Derived, derive};
+use sx_derive::{DeriveError, Listed, derive_list};
 use sx_rules::Hyps;
 use sx_term::{NoMemory, Steps, Text};
 use sx_words::{BudgetDefect, Defect, TextDefect};
@@ -54,23 +53,23 @@ fn no_answer(
     Ok(about(file.copy(alloc)?, defect))
 }
 
-/// The first derivation of the goal that the file states, or why there is none. At most `budget` tries are made.
+/// The list of the first derivation of the goal that the file states, and its outputs, or why there is none. At most `budget`
+/// tries are made.
 pub fn find_first<L: Ledger>(
     alloc: Global,
     file: &Text,
     problem: &CoreProblem,
     budget: u64,
     steps: &mut Steps<L>,
-) -> Result<Derived, StepError>
+) -> Result<Listed, StepError>
     requires { IsProper (problem_data problem.now) }
-    ensures step { Gives answer_of (Searches file.now budget (problem_data problem.now)) result }
-    ensures given { IfOk result (λ d. IsGiven (problem_data problem.now) (answer_of d)) }
+    ensures step { GivesFor (ListsGiven (problem_data problem.now)) (Searches file.now budget (problem_data problem.now)) result }
     ensures no_fault { IsNoFault result }
     ensures tries { Counts (HasWalked budget (problem_data problem.now)) result steps.old steps.new }
     ensures most { RisesWithin budget steps.old steps.new }
 {
     let given = nothing_given(alloc);
-    match derive(
+    match derive_list(
         alloc,
         &problem.rules,
         &given,
@@ -79,7 +78,7 @@ pub fn find_first<L: Ledger>(
         budget,
         steps,
     ) {
-        Ok(derived) => Ok(derived),
+        Ok(listed) => Ok(listed),
         Err(error) => match no_answer(alloc, file, problem, error) {
             Ok(stop) => Err(StepError::Stopped(stop)),
             Err(_) => Err(StepError::Memory),
