@@ -4,3 +4,5 @@ pub mod Fitting
 pub mod Growing
 pub mod RuleGrammars
 pub mod Numbers
+pub mod Copied
+pub mod TextReading

@@ -3,3 +3,4 @@ pub mod Forms
 pub mod Placed
 pub mod RuleParts
 pub mod RuleLaws
+pub mod ReadText

@@ -2,9 +2,11 @@
 //!
 //! - `print_goal` appends the text of a goal: the symbols of its form with the goal's inputs in their places, and its outputs as they
 //!   were got or as `_`.
-//! - `rule_parts`: the parts of the grammar by which rules are read. `forms_of`: the forms that lines spell, with the sorts of a grammar.
+//! - `rule_grammar`: the grammar by which rules are read, and `rule_parts`: its parts. `forms_of`: the forms that lines spell, with the
+//!   sorts of a grammar.
 //! - `rule_grammars_go_on`: productions keep their labels in the grammar of rules, and the forms follow them in order. `sorted_goals_fit`:
 //!   a goal that is well sorted by the language's grammar meets the conditions of `print_goal`.
+//! - `read_text`: the term of a line's only reading by a grammar, or why the line is refused.
 #![tactic(auto)]
 
 mod content;
@@ -13,13 +15,19 @@ mod goal_printing;
 mod language;
 mod laws;
 mod main_form;
+mod names;
+mod notation_error;
 mod resolving;
 mod rule_productions;
+mod text_reading;
 mod walk;
 
 pub use goal_printing::print_goal;
 pub use language::Language;
 pub use laws::{rule_grammars_go_on, sorted_goals_fit};
 pub use main_form::MainForm;
+pub use notation_error::NotationError;
 pub use resolving::forms_of;
-pub use rule_productions::rule_parts;
+pub use rule_productions::{rule_grammar, rule_parts};
+pub use sx_core::Kind;
+pub use text_reading::read_text;

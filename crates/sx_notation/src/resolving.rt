@@ -6,8 +6,8 @@ ghost use Rattle.sx_grammar.specs.Told as told;
 ghost use Rattle.sx_rules.specs.Views as view;
 ghost use Rattle.sx_notation.specs.RuleLaws.{sort_of, places_of, form_of, IsSortOf, HasSortOf, HaveSortsOf};
 
-use sx_directives::{FormLine, FormSymbol, SpelledSort};
 use std::alloc::Global;
+use sx_directives::{FormLine, FormSymbol, SpelledSort};
 use sx_grammar::Grammar;
 use sx_rules::{Form, Place};
 use sx_term::{NoMemory, Sort};

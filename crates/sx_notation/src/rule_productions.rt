@@ -1,14 +1,15 @@
-//! The parts of the grammar by which rules are read.
+//! The grammar by which rules are read.
 
 ghost use Rattle.std.specs.Prelude.{◌≡◌, ◌++◌, ◌∷◌, [], IfOk, OnOk, map, codes};
 ghost use Rattle.std.specs.Str.{IsUtf8};
 ghost use Rattle.sx_grammar.specs.Parts.{line, parts};
+ghost use Rattle.sx_grammar.specs.Tables.{IsWithinLimits, IsMade};
 ghost use Rattle.sx_notation.specs.RuleParts.{symbol_for, judgement_sort, form_line, kind_name, apart_line, apart_lines, rule_parts};
 
 use crate::copying::{copy_productions, copy_sorts};
-use sx_directives::{FormLine, FormSymbol, SpelledSort};
 use std::alloc::Global;
-use sx_grammar::{GrammarParts, Production, SortLine, Symbol};
+use sx_directives::{FormLine, FormSymbol, SpelledSort};
+use sx_grammar::{Grammar, GrammarError, GrammarParts, Production, SortLine, Symbol};
 use sx_term::{LexKind, NoMemory, Text, TextError};
 
 /// The text with these bytes.
@@ -141,4 +142,17 @@ pub fn rule_parts(
     add_forms(alloc, forms, &mut productions)?;
     add_aparts(alloc, &mut productions)?;
     Ok(GrammarParts { sorts, productions })
+}
+
+/// The grammar by which rules are read, whose parts are those of `rule_parts`, or the first refusal that holds of these parts.
+pub fn rule_grammar(
+    alloc: Global,
+    grammar: &Grammar,
+    forms: &[FormLine],
+) -> Result<Grammar, GrammarError>
+    requires { IsWithinLimits (rule_parts grammar.now.parts forms.now) }
+    ensures { IsMade (rule_parts grammar.now.parts forms.now) result }
+{
+    let parts = rule_parts(alloc, grammar.parts(), forms)?;
+    Grammar::make(alloc, parts)
 }

@@ -1,0 +1,100 @@
+-- The tokens that a line is cut into can be read, and their only reading can be stripped.
+use Rattle.std.proofs.Common.{◌≡◌, ℕ, zero, suc, ◌+◌, ◌<◌, ◌≤◌, ◌^◌, Bool, List, [], ◌∷◌, ◌++◌, Contains, length, ap, ◌∙◌, sym, subst, arith}
+use Rattle.std.specs.Prelude.{Result, Ok, Err, IfErr}
+use Rattle.std.specs.Result.{IsErrAnd}
+use Rattle.std.specs.List.{AllByRecursion}
+use Rattle.std.proofs.lemmas.List.{length-map, append-nil}
+use Rattle.sx_term.specs.declared.mark.Mark.{Mark}
+use Rattle.sx_term.specs.declared.mark.Mark.TheVariants.{Lit, Lex, Meta}
+use Rattle.sx_term.specs.declared.sort.Sort.{Sort}
+use Rattle.sx_term.specs.Tree.{Tree}
+use Rattle.sx_term.specs.Cutting.{Piece, Stands, Cuts, done, skip, piece}
+use Rattle.sx_token.specs.declared.token.Token.{Token}
+use Rattle.sx_token.specs.Tokens.{piece_of, pieces}
+use Rattle.sx_grammar.specs.Grammar.{Text}
+use Rattle.sx_grammar.specs.Parts.{Parts, numbered}
+use Rattle.sx_grammar.specs.Tables.{literals_of}
+use Rattle.sx_grammar.specs.Reading.{Reading}
+use Rattle.sx_grammar.specs.ReadOne.{IsAnswer, only}
+use Rattle.sx_grammar.specs.Print.{term_of}
+use Rattle.sx_earley.specs.Tokens.{Stems, shown, plain_tokens, AreKnown}
+use Rattle.sx_earley.specs.Unknown.{HasStem}
+use Rattle.sx_earley.specs.Completed.{number_of}
+use Rattle.sx_earley.proofs.Known.{cut_known}
+use Rattle.sx_forest.specs.Fitting.{HaveNames}
+use Rattle.sx_forest.specs.Names.{IsMarked, names_in, AddsEach}
+use Rattle.sx_forest.proofs.Fits.{readings_marked, readings_few}
+use Rattle.sx_forest.proofs.Naming.{each_long}
+use Rattle.sx_notation.specs.ReadText.{IsKnownCut, IsRead}
+
+-- what follows of an error that is passed on
+pub err_if : {T E : Type 0} (r : Result T E) (P Q : E → Type 0) → IsErrAnd r P → ((e : E) → P e → Q e) → IfErr r Q
+err_if (Ok x) P Q h f = tt
+err_if (Err e) P Q h f = f e h
+
+-- a metavariable is `~` and a name
+named_mark : (literals : List Text) (metas : Bool) (m : Mark) (text rest : Text) → Stands literals metas m text rest → m ≡ Meta → (name : Text) × (text ≡ 126 ∷ name)
+named_mark literals metas (Lit n) text rest h e = cc
+named_mark literals metas (Lex kind) text rest h e = cc
+named_mark literals metas Meta text rest h e = (h.1.0, h.1.1)
+
+named_pieces : {literals : List Text} {metas : Bool} {size : ℕ} {text rest : Text} {ps : List Piece} → Cuts literals metas size text ps rest → AllByRecursion (λ p. p.mark ≡ Meta → (name : Text) × (p.text ≡ 126 ∷ name)) ps
+named_pieces done = tt
+named_pieces (skip blank more) = named_pieces more
+named_pieces {literals = literals} {metas = metas} (piece {more = more} {t = t} at rest) = (named_mark literals metas t.mark t.text more at.stands, named_pieces rest)
+
+named_tokens : (ts : List Token) → AllByRecursion (λ p. p.mark ≡ Meta → (name : Text) × (p.text ≡ 126 ∷ name)) (pieces ts) → HaveNames ts
+named_tokens [] h = tt
+named_tokens (t ∷ ts) h = (h.0, named_tokens ts h.1)
+
+stem_at : (stems : Stems) (ts : List Token) (t : Token) → AllByRecursion (HasStem stems) ts → Contains ts t → HasStem stems t
+stem_at stems [] t all h = absurd (omega (arith, h.1))
+stem_at stems (u ∷ us) t all (zero, h, e) = subst (HasStem stems) e all.0
+stem_at stems (u ∷ us) t all (suc k, h, e) = stem_at stems us t all.1 (k, omega (arith, h), e)
+
+pub as_many_tokens : (ts : List Token) (n : ℕ) → length (pieces ts) ≤ n → length ts ≤ n
+as_many_tokens ts n h = omega (arith, h, length-map ts piece_of)
+
+-- the same of equal tokens
+pub known_at : (p : Parts) (stems : Stems) (line : Text) (items ts : List Token) → ts ≡ items → IsKnownCut p stems line items → IsKnownCut p stems line ts
+known_at p stems line items ts same known = subst (IsKnownCut p stems line) (sym same) known
+
+pub answer_at : (p : Parts) (stems : Stems) (sort : Sort) (r : Reading) (items here ts : List Token) → here ≡ items → ts ≡ items →
+    IsAnswer (numbered p) (plain_tokens stems here) (number_of sort) (only r) → IsAnswer (numbered p) (plain_tokens stems ts) (number_of sort) (only r)
+answer_at p stems sort r items here ts was same answer = subst (λ l. IsAnswer (numbered p) (plain_tokens stems l) (number_of sort) (only r)) (was ∙ sym same) answer
+
+module _ (p : Parts) (stems : Stems) (line : Text) (ts : List Token) (known : IsKnownCut p stems line ts) where
+  pub few_tokens : length ts ≤ 10000
+  few_tokens = as_many_tokens ts 10000 known.0.1
+
+  pub known_tokens : AreKnown (literals_of p) stems ts
+  known_tokens = cut_known stems ts known.0.2 (λ t there. stem_at stems ts t known.1 there)
+
+  module _ (sort : Sort) (r : Reading) (answer : IsAnswer (numbered p) (plain_tokens stems ts) (number_of sort) (only r)) where
+    pub is_marked : IsMarked ts r
+    is_marked = readings_marked (numbered p) stems ts (number_of sort) 0 0 (length (plain_tokens stems ts)) r (named_tokens ts (named_pieces known.0.2)) answer.1.0
+
+    few_names : length (names_in ts r) ≤ 10000
+    few_names =
+        let few : 0 + length (names_in ts r) ≤ length (plain_tokens stems ts) = readings_few (numbered p) (plain_tokens stems ts) ts (number_of sort) 0 0 (length (plain_tokens stems ts)) r answer.1.0 in
+        let same : length (plain_tokens stems ts) ≡ length ts = length-map ts (λ t. shown stems t.mark t.text) in
+        omega (arith, few, same, few_tokens)
+
+    -- there is room for the names
+    pub has_room : (old now : List Text) → now ≡ old → length old + 10000 < 2 ^ 32 → length now + length (names_in ts r) < 2 ^ 32
+    has_room old now same room = omega (arith, room, few_names, ap length same)
+
+    module _ (old now new : List Text) (same : now ≡ old) (names : AddsEach now (names_in ts r) new) where
+      pub grown : length new ≤ length old + 10000
+      grown = omega (arith, each_long now (names_in ts r) new names, few_names, ap length same)
+
+      -- the term of the reading is that of the line
+      pub is_read : (t : Tree) → t ≡ term_of (plain_tokens stems ts) (new ++ []) r → IsRead p stems sort line old new t
+      is_read t is = record {
+        tokens = ts;
+        known = known;
+        reading = r;
+        answer = answer;
+        names = subst (λ l. AddsEach l (names_in ts r) new) same names;
+        term = is ∙ ap (λ l. term_of (plain_tokens stems ts) l r) (append-nil new);
+      }

@@ -1,0 +1,74 @@
+-- The term that a line of text spells.
+use Rattle.std.specs.Prelude.{◌≡◌, ℕ, true, List, Some, None, Err, IfSome}
+use Rattle.sx_term.specs.declared.sort.Sort.{Sort}
+use Rattle.sx_term.specs.Cutting.{IsOutcome, tokens}
+use Rattle.sx_term.specs.Tree.{Tree}
+use Rattle.sx_token.specs.declared.token.Token.{Token}
+use Rattle.sx_token.specs.declared.token_error.TokenError.{TokenError}
+use Rattle.sx_token.specs.declared.token_error.TokenError.TheVariants as token
+use Rattle.sx_token.specs.Tokens.{pieces, outcome_of}
+use Rattle.sx_grammar.specs.Grammar.{Text}
+use Rattle.sx_grammar.specs.Parts.{Parts, labels, numbered}
+use Rattle.sx_grammar.specs.Tables.{literals_of}
+use Rattle.sx_grammar.specs.Reading.{Reading}
+use Rattle.sx_grammar.specs.ReadOne.{IsAnswer, only}
+use Rattle.sx_grammar.specs.Print.{term_of}
+use Rattle.sx_earley.specs.Tokens.{Stems, plain_tokens}
+use Rattle.sx_earley.specs.Unknown.{IsFirstUnknown}
+use Rattle.sx_earley.specs.Completed.{number_of}
+use Rattle.sx_forest.specs.declared.read_error.ReadError.{ReadError}
+use Rattle.sx_forest.specs.declared.read_error.ReadError.TheVariants as read
+use Rattle.sx_forest.specs.Names.{names_in, AddsEach}
+use Rattle.sx_forest.specs.Text.{texts}
+use Rattle.sx_forest.specs.Verdict.{IsRefusal}
+use Rattle.sx_core.specs.declared.kind.Kind.TheVariants.{Variable}
+use Rattle.sx_notation.specs.declared.notation_error.NotationError.{NotationError}
+use Rattle.sx_notation.specs.declared.notation_error.NotationError.TheVariants.{Memory, Notation, Token as BadTokens, Read}
+
+-- the line is cut into the tokens, by the literals of the grammar; metavariables may stand in it
+abbrev pub IsCut : Parts → (line : Text) → List Token → Type 0
+IsCut p line ts = IsOutcome (literals_of p) true line (tokens (pieces ts))
+
+-- and the stem of each metavariable is known
+abbrev pub IsKnownCut : Parts → Stems → (line : Text) → List Token → Type 0
+IsKnownCut p stems line ts = IsCut p line ts × IsFirstUnknown stems ts None
+
+-- the tree is that of the line's only reading as the sort; names that the old list lacks are added to it in order of standing
+pub record IsRead (p : Parts) (stems : Stems) (sort : Sort) (line : Text) (old new : List Text) (t : Tree) : Type 0 where
+  pub tokens : List Token
+  pub known : IsKnownCut p stems line tokens
+  pub reading : Reading
+  pub answer : IsAnswer (numbered p) (plain_tokens stems tokens) (number_of sort) (only reading)
+  pub names : AddsEach old (names_in tokens reading) new
+  pub term : t ≡ term_of (plain_tokens stems tokens) new reading
+
+-- the line has this first defect
+abbrev pub HasDefect : Parts → (line : Text) → TokenError → Type 0
+HasDefect p line token.Memory = ⊥
+HasDefect p line e = IfSome (outcome_of (Err e)) (IsOutcome (literals_of p) true line)
+
+-- a metavariable among the tokens of the line has an unknown stem
+abbrev pub HasUnknown : Parts → Stems → (line : Text) → Type 0
+HasUnknown p stems line = (ts : List Token) × (place : ℕ) × IsCut p line ts × IsFirstUnknown stems ts (Some place)
+
+-- why the tokens have not one reading
+abbrev pub IsUnread : Parts → Stems → Sort → List Token → ReadError → Type 0
+IsUnread p stems sort ts read.Memory = ⊥
+IsUnread p stems sort ts e = IsRefusal (labels p) (texts ts) (numbered p) (plain_tokens stems ts) (number_of sort) e
+
+-- why the line with this number is refused, want of memory aside
+abbrev pub IsRefused : Parts → Stems → Sort → (line : Text) → (number : ℕ) → NotationError → Type 0
+IsRefused p stems sort line number Memory = Unit {0}
+IsRefused p stems sort line number (BadTokens at e) = (at ≡ number) × HasDefect p line e
+IsRefused p stems sort line number (Notation at kind) = (at ≡ number) × (kind ≡ Variable) × HasUnknown p stems line
+IsRefused p stems sort line number (Read at e) = (at ≡ number) × ((ts : List Token) × IsKnownCut p stems line ts × IsUnread p stems sort ts e)
+
+-- a defect as a refusal of the line with this number
+abbrev pub of_token_error : (number : ℕ) → TokenError → NotationError
+of_token_error number token.Memory = Memory
+of_token_error number e = BadTokens number e
+
+-- the same of tokens that have not one reading
+abbrev pub of_read_error : (number : ℕ) → ReadError → NotationError
+of_read_error number read.Memory = Memory
+of_read_error number e = Read number e
