@@ -32,12 +32,7 @@ fn takes(expected: NumberedSymbol, shown: Shown) -> bool
 }
 
 /// Whether the symbol reads by itself what is shown at the place.
-pub fn reads(
-    grammar: &Grammar,
-    expected: NumberedSymbol,
-    shown: &[Shown],
-    place: u32,
-) -> bool
+pub fn reads(grammar: &Grammar, expected: NumberedSymbol, shown: &[Shown], place: u32) -> bool
     requires expected { IsBelow (length (texts grammar.now)) expected }
     requires shown { AreBelow (length (texts grammar.now)) shown.now }
     ensures { IsTrue result ↔ ReadsToken (tokens_of grammar.now shown.now) (symbol (texts grammar.now) expected) place }

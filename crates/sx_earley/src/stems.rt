@@ -104,11 +104,7 @@ impl<'a> Stems<'a> {
 }
 
 /// What the tokens show.
-pub fn show_all(
-    alloc: Global,
-    metas: &Metas,
-    tokens: &[Token],
-) -> Result<Vec<Shown>, AllocError>
+pub fn show_all(alloc: Global, metas: &Metas, tokens: &[Token]) -> Result<Vec<Shown>, AllocError>
     ensures { IfOk result (λ v. v.items ≡ map (λ t. show metas.now.stems.items t.mark t.text) tokens.now) }
 {
     let stems = stem_table(alloc, metas)?;
