@@ -1,14 +1,12 @@
 -- Where there is more than one reading of a span.
-use Rattle.std.proofs.Common.{◌≡◌, ◌≢◌, ℕ, suc, ◌+◌, ◌-◌, ◌<◌, ◌≤◌, List, [], ◌∷◌, ◌++◌, ◌⊎◌, inl, inr, Some, refl, sym, subst, ap, ◌∙◌, length, take, arith}
+use Rattle.std.proofs.Common.{◌≡◌, ℕ, suc, ◌-◌, ◌<◌, List, [], ◌∷◌, ◌++◌, ◌⊎◌, inl, inr, Some, refl, sym, subst, ap, ◌∙◌, length, arith}
 use Rattle.std.specs.Prelude.{None, Option, IfSome, Result, Ok, Err, OnOk}
 use Rattle.std.specs.List.{slice_get}
-use Rattle.std.proofs.lemmas.Bool.{cases_lt}
 use Rattle.std.proofs.lemmas.Option.{same_Some, none-some}
 use Rattle.sx_term.specs.declared.lex_kind.LexKind.{LexKind}
 use Rattle.sx_grammar.specs.Grammar.{Symbol, literal, lexical, part}
-use Rattle.sx_grammar.specs.Reading as plain
 use Rattle.sx_grammar.specs.Reading.{Readings, done, ◌▸◌, ReadsAll, ReadsBy, reading_depth, readings_depth}
-use Rattle.sx_grammar.specs.Tally.{Tally, no_way, one_way, more_ways, times, deeper, IsTally}
+use Rattle.sx_grammar.specs.Tally.{Tally, no_way, one_way, more_ways, deeper, IsTally}
 use Rattle.sx_grammar.proofs.Completeness.{from_start}
 use Rattle.sx_forest.specs.declared.entry.Entry.{Entry}
 use Rattle.sx_forest.specs.declared.ways.Ways.{Ways}
@@ -19,15 +17,14 @@ use Rattle.sx_forest.specs.declared.reading.Reading.{Reading}
 use Rattle.sx_forest.specs.declared.step.Step.{Step}
 use Rattle.sx_forest.specs.declared.step.Step.TheVariants as steps
 use Rattle.sx_forest.specs.Readings.{plain_reading, plain_readings}
-use Rattle.sx_forest.specs.Rows.{IsPlace, list_at, row_at}
+use Rattle.sx_forest.specs.Rows.{IsPlace, list_at}
 use Rattle.sx_forest.specs.Tallies.{tally_of, ways_at}
-use Rattle.sx_forest.specs.Forests.{grammar_in, tokens_in, lists_in, symbols_in, symbols_of, row_from, depth_in, IsMore, IsForest, IsShallow, IsOpened, IsAt, IsReadTo, IsStep, IsOver, IsBy, IsForkOf, IsThere, IsForkAt, IsMoreAt, IsParting, IsFirstUsable, AreKidsApart, end_of, one_of, other_of, followed}
+use Rattle.sx_forest.specs.Forests.{grammar_in, tokens_in, lists_in, symbols_in, symbols_of, row_from, depth_in, IsMore, IsForest, IsOpened, IsAt, IsReadTo, IsStep, IsOver, IsBy, IsForkOf, IsThere, IsForkAt, IsMoreAt, IsParting, IsFirstUsable, end_of, one_of, other_of, followed}
 use Rattle.sx_forest.proofs.Usable.{more_times, goes_on}
 use Rattle.sx_forest.proofs.Following.{same_behind, followed_twice, first_in, one_more_kid}
-use Rattle.sx_forest.proofs.Rows.{past_row, item_forward}
 use Rattle.sx_forest.proofs.Spans.{head_tally}
-use Rattle.sx_forest.proofs.Stepwise.{IsPartAt, part_of, place_is, kid_shallow, kid_depth, right, read_part, at_the_end}
-use Rattle.sx_forest.proofs.Parting.{AreBoth, are_both, they_part}
+use Rattle.sx_forest.proofs.Stepwise.{part_of, place_is, kid_shallow, kid_depth, right, read_part, at_the_end}
+use Rattle.sx_forest.proofs.Parting.{are_both, they_part}
 use Rattle.sx_forest.proofs.Growing.{Behind}
 
 pub both_ok : {T E P Q R : Type 0} (r : Result T E) → (P → Q → R) → OnOk r P → OnOk r Q → OnOk r R

@@ -1,5 +1,5 @@
 -- Readings behind others.
-use Rattle.std.proofs.Common.{◌≡◌, ◌≢◌, ℕ, List, [], ◌∷◌, ◌++◌, refl, ap, ◌∙◌, max, ◌≤◌, arith}
+use Rattle.std.proofs.Common.{◌≡◌, ℕ, List, [], ◌∷◌, ◌++◌, refl, ap, ◌∙◌, ◌≤◌, arith}
 use Rattle.sx_grammar.specs.Grammar.{Symbol, Grammar, Token}
 use Rattle.sx_grammar.specs.Reading as plain
 use Rattle.sx_grammar.specs.Reading.{Readings, leaf, done, ◌▸◌, ReadsAll, all_read, by_literal, by_lexeme, by_lexical_variable, by_part, reading_depth, readings_depth}

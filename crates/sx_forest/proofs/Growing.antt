@@ -1,15 +1,15 @@
 -- How the kids of a span grow.
-use Rattle.std.proofs.Common.{◌≡◌, ◌≢◌, ℕ, suc, ◌+◌, ◌*◌, ◌-◌, ◌<◌, ◌≤◌, List, [], ◌∷◌, ◌++◌, Some, refl, sym, subst, ap, ◌∙◌, length, map, arith}
+use Rattle.std.proofs.Common.{◌≡◌, ℕ, suc, ◌<◌, ◌≤◌, List, [], ◌∷◌, ◌++◌, sym, subst, ap, ◌∙◌, length, arith}
 use Rattle.std.proofs.lemmas.List.{length-map}
 use Rattle.std.proofs.lemmas.Option.{same_Some}
 use Rattle.sx_term.specs.declared.lex_kind.LexKind.{LexKind}
-use Rattle.sx_grammar.specs.Grammar.{Symbol, lexical, production_of}
+use Rattle.sx_grammar.specs.Grammar.{lexical}
 use Rattle.sx_grammar.specs.declared.head.Head.{Head}
 use Rattle.sx_grammar.specs.Reading as plain
 use Rattle.sx_grammar.specs.Reading.{Readings, done, ◌▸◌, ReadsAll}
-use Rattle.sx_grammar.specs.Items.{ReadsToken, Makes}
+use Rattle.sx_grammar.specs.Items.{ReadsToken}
 use Rattle.sx_grammar.specs.Tally.{IsLeafAt}
-use Rattle.sx_earley.specs.Shown.{texts, token_of, tokens_of}
+use Rattle.sx_earley.specs.Shown.{texts, token_of}
 use Rattle.sx_forest.specs.declared.entry.Entry.{Entry}
 use Rattle.sx_forest.specs.declared.entry.Maker.{Maker}
 use Rattle.sx_forest.specs.declared.entry.Maker.TheVariants.{By}
@@ -19,13 +19,12 @@ use Rattle.sx_forest.specs.declared.reading.Reading.{Reading}
 use Rattle.sx_forest.specs.declared.step.Step.{Step}
 use Rattle.sx_forest.specs.declared.step.Step.TheVariants as steps
 use Rattle.sx_forest.specs.Readings.{plain_reading, plain_readings}
-use Rattle.sx_forest.specs.Rows.{count_of}
 use Rattle.sx_forest.specs.Tallies.{tally_of}
-use Rattle.sx_forest.specs.Forests.{grammar_in, tokens_in, lists_in, symbols_in, symbols_of, depth_in, IsForest, IsShallow, IsOpened, IsAt, IsReadTo, IsStep, IsBy, HasKids, IsMadeOf, end_of, followed}
+use Rattle.sx_forest.specs.Forests.{grammar_in, tokens_in, lists_in, symbols_of, depth_in, IsForest, IsShallow, IsOpened, IsAt, IsReadTo, IsStep, IsBy, HasKids, IsMadeOf, end_of, followed}
 use Rattle.sx_forest.proofs.Following.{one_more_kid, followed_none, followed_twice}
 use Rattle.sx_forest.proofs.Making.{are_kids, made_reads}
 use Rattle.sx_forest.proofs.Rows.{item_within}
-use Rattle.sx_forest.proofs.Stepwise.{part_of, kid_shallow, kid_depth, read_literal, read_token, read_part, none_read, all_is_read, kids_of_all, count_long}
+use Rattle.sx_forest.proofs.Stepwise.{part_of, kid_shallow, kid_depth, read_literal, read_token, read_part, none_read, all_is_read, kids_of_all}
 
 -- some more are behind the old ones
 abbrev pub Behind : (old new : List Reading) → Type 0

@@ -25,3 +25,4 @@ pub mod Parting
 pub mod Growing
 pub mod Branching
 pub mod AllTokens
+pub mod Answering

@@ -1,8 +1,8 @@
 -- Readings by a head, of the readings of its symbols.
-use Rattle.std.proofs.Common.{◌≡◌, ℕ, suc, ◌+◌, ◌≤◌, List, [], ◌∷◌, Some, refl, sym, subst, ap, ◌∙◌, arith}
+use Rattle.std.proofs.Common.{◌≡◌, ℕ, suc, ◌+◌, List, [], ◌∷◌, Some, refl, sym, subst, ap, ◌∙◌, arith}
 use Rattle.sx_grammar.specs.declared.head.Head.{Head}
 use Rattle.sx_grammar.specs.declared.head.Head.TheVariants.{Labelled, Bracketed}
-use Rattle.sx_grammar.specs.Grammar.{Symbol, literal, part, Production, Grammar, Token, production_of, pair_of}
+use Rattle.sx_grammar.specs.Grammar.{literal, part, Production, Grammar, Token, production_of, pair_of}
 use Rattle.sx_grammar.specs.Reading.{IsLiteral, Reading, Readings, branch, bracket, done, ◌▸◌, Reads, by_production, by_brackets, ReadsAll, all_read, by_literal, by_part, reading_depth, readings_depth, ReadsBy}
 use Rattle.sx_grammar.proofs.Soundness.{bracket_head}
 use Rattle.sx_forest.specs.Forests.{IsMadeOf, HasKids}

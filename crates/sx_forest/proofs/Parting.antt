@@ -1,12 +1,12 @@
 -- Where two readings part.
-use Rattle.std.proofs.Common.{◌≡◌, ◌≢◌, ℕ, suc, ◌-◌, ◌<◌, ◌≤◌, List, ◌⊎◌, inl, inr, Some, refl, sym, subst, ap, ◌∙◌, length, arith}
+use Rattle.std.proofs.Common.{◌≡◌, ℕ, ◌-◌, ◌<◌, ◌≤◌, List, ◌⊎◌, inl, inr, Some, refl, sym, subst, ap, ◌∙◌, length, arith}
 use Rattle.std.specs.Prelude.{None}
 use Rattle.std.specs.Global.{Vec}
 use Rattle.std.specs.List.{slice_get}
 use Rattle.std.proofs.lemmas.Bool.{cases_lt}
-use Rattle.std.proofs.lemmas.Option.{slice_get_within, same_Some}
+use Rattle.std.proofs.lemmas.Option.{same_Some}
 use Rattle.sx_grammar.specs.Grammar.{Grammar, Token, HasLevels}
-use Rattle.sx_grammar.specs.Reading.{Reading, Readings, done, ◌▸◌, Reads, ReadsAll, ReadsWhole, reading_depth}
+use Rattle.sx_grammar.specs.Reading.{Reading, Reads, ReadsWhole, reading_depth}
 use Rattle.sx_grammar.specs.Tally.{Tally, no_way, one_way, more_ways, times, IsTally}
 use Rattle.sx_forest.specs.declared.ways.Ways.{Ways}
 use Rattle.sx_forest.specs.declared.entry.Entry.{Entry}
@@ -14,16 +14,14 @@ use Rattle.sx_forest.specs.declared.entry.Maker.{Maker}
 use Rattle.sx_forest.specs.declared.entry.Maker.TheVariants.{Variable}
 use Rattle.sx_forest.specs.declared.fork.Fork.{Fork}
 use Rattle.sx_forest.specs.declared.fork.Fork.TheVariants.{Apart, Inside}
-use Rattle.sx_forest.specs.declared.opened.Opened.{Opened}
 use Rattle.sx_forest.specs.Tallies.{tally_of, ways_at, IsLastRow}
 use Rattle.sx_forest.specs.Rows.{list_at}
 use Rattle.sx_forest.specs.Table.{IsTable, IsFull, IsSoundBy}
-use Rattle.sx_forest.specs.Forests.{IsMore, IsBy, IsShallow, IsUsable, IsFirstUsable, IsForkOf, IsApart, IsParting, one_of, other_of, followed, symbols_of, AreKidsApart}
+use Rattle.sx_forest.specs.Forests.{IsMore, IsBy, IsShallow, IsUsable, IsFirstUsable, IsForkOf, IsApart, IsParting, one_of, other_of}
 use Rattle.sx_forest.proofs.Counting.{KidOf, kid_reads, kid_fits, kid_tally, one_kid}
 use Rattle.sx_forest.proofs.Rows.{past_row}
 use Rattle.sx_forest.proofs.Whole.{covered}
-use Rattle.sx_forest.proofs.Usable.{none_or, deepest_of, only_usable}
-use Rattle.sx_forest.proofs.Following.{same_behind, followed_twice, first_in}
+use Rattle.sx_forest.proofs.Usable.{deepest_of, only_usable}
 use Rattle.sx_forest.proofs.Stepwise.{is_kid}
 
 -- the entries of a fork are two usable ones, or one that has more readings than one

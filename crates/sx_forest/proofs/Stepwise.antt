@@ -1,5 +1,5 @@
 -- The steps of a reading of a span of the table.
-use Rattle.std.proofs.Common.{◌≡◌, ◌≢◌, ℕ, zero, suc, ◌+◌, ◌-◌, ◌<◌, ◌≤◌, List, [], ◌∷◌, ◌++◌, ◌⊎◌, inl, inr, Some, refl, sym, subst, ap, ◌∙◌, length, take, get_or, arith}
+use Rattle.std.proofs.Common.{◌≡◌, ℕ, zero, suc, ◌+◌, ◌-◌, ◌<◌, ◌≤◌, List, [], ◌∷◌, ◌++◌, ◌⊎◌, inl, inr, Some, refl, sym, subst, ap, ◌∙◌, length, take, get_or, arith}
 use Rattle.std.specs.Prelude.{None, Option}
 use Rattle.std.specs.Global.{Vec}
 use Rattle.std.specs.List.{slice_get}
@@ -8,12 +8,11 @@ use Rattle.std.proofs.lemmas.List.{take_all}
 use Rattle.std.proofs.lemmas.Option.{slice_get_within, slice_get-get_or, same_Some, none-some}
 use Rattle.sx_term.specs.declared.lex_kind.LexKind.{LexKind}
 use Rattle.sx_grammar.specs.Grammar.{Symbol, literal, lexical, part, Production, Grammar, Token, production_of, is_variable, of_sort, HasLevels}
-use Rattle.sx_grammar.specs.declared.head.Head.{Head}
-use Rattle.sx_grammar.specs.Reading.{Marked, Reading, Readings, done, ◌▸◌, Reads, ReadsAll, all_read, by_literal, by_lexeme, by_lexical_variable, by_part, reading_depth, readings_depth, ReadsBy}
+use Rattle.sx_grammar.specs.Reading.{Marked, Reading, Readings, done, ◌▸◌, ReadsAll, all_read, by_literal, by_lexeme, by_lexical_variable, by_part, reading_depth, readings_depth, ReadsBy}
 use Rattle.sx_grammar.specs.Items.{ReadsToken, Makes, NextIs, Item, scanned, completed}
 use Rattle.sx_grammar.specs.Order.{IsRanking}
 use Rattle.sx_grammar.specs.Tally.{Tally, no_way, one_way, times, IsTally, IsLeafAt}
-use Rattle.sx_grammar.proofs.Completeness.{Left, from_start, later, past, left_first, begins}
+use Rattle.sx_grammar.proofs.Completeness.{Left, from_start, later, past, begins}
 use Rattle.sx_grammar.proofs.Soundness.{items_read, whole_of}
 use Rattle.sx_earley.specs.Chart.{next_symbol, symbol_after}
 use Rattle.sx_forest.specs.declared.ways.Ways.{Ways}
@@ -24,9 +23,9 @@ use Rattle.sx_forest.specs.declared.opened.Opened.{Opened}
 use Rattle.sx_forest.specs.declared.step.Step.{Step}
 use Rattle.sx_forest.specs.declared.step.Step.TheVariants as steps
 use Rattle.sx_forest.specs.Tallies.{tally_of, ways_at}
-use Rattle.sx_forest.specs.Rows.{FitsPart, IsPlace, IsNext, IsRow, AreRows, AreSpanRows, SumTo, count_of, row_at, list_at}
-use Rattle.sx_forest.specs.Table.{IsSoundBy, IsFull, IsRight, HasBefore}
-use Rattle.sx_forest.specs.Forests.{symbols_in, symbols_of, depth_in, IsMore, IsBy, IsShallow, IsOpened, row_from, IsAt, IsReadTo, IsUsable, IsFirstUsable, IsOver, IsStep, IsMadeOf, end_of, followed}
+use Rattle.sx_forest.specs.Rows.{FitsPart, IsPlace, IsRow, AreRows, count_of, row_at, list_at}
+use Rattle.sx_forest.specs.Table.{IsSoundBy, IsFull, IsRight}
+use Rattle.sx_forest.specs.Forests.{symbols_in, symbols_of, depth_in, IsMore, IsBy, IsShallow, IsOpened, row_from, IsAt, IsReadTo, IsUsable, IsFirstUsable, IsOver, IsStep, followed}
 use Rattle.sx_forest.proofs.Counting.{makes_is, KidOf, kid_reads, kid_tally, makes_low}
 use Rattle.sx_forest.proofs.Rows.{past_row, item_forward, span_forward}
 use Rattle.sx_forest.proofs.Spans.{rows_right}

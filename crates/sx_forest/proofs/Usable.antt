@@ -1,5 +1,5 @@
 -- Entries by which readings go over a part.
-use Rattle.std.proofs.Common.{◌≡◌, ◌≢◌, ℕ, suc, ◌-◌, ◌<◌, ◌≤◌, List, ◌⊎◌, inl, inr, Some, refl, sym, subst, ap, ◌∙◌, length, arith}
+use Rattle.std.proofs.Common.{◌≡◌, ℕ, suc, ◌-◌, ◌<◌, ◌≤◌, List, ◌⊎◌, inl, inr, Some, refl, sym, subst, ap, ◌∙◌, length, arith}
 use Rattle.std.specs.Prelude.{None}
 use Rattle.std.specs.List.{slice_get}
 use Rattle.std.proofs.lemmas.Bool.{cases_lt}
@@ -9,7 +9,7 @@ use Rattle.sx_grammar.specs.Tally.{Tally, no_way, one_way, more_ways, plus, time
 use Rattle.sx_forest.specs.declared.ways.Ways.{Ways}
 use Rattle.sx_forest.specs.declared.entry.Entry.{Entry}
 use Rattle.sx_forest.specs.Tallies.{tally_of, ways_at}
-use Rattle.sx_forest.specs.Rows.{FitsPart, IsEntryTally, SumTo, sum_none, sum_more}
+use Rattle.sx_forest.specs.Rows.{IsEntryTally, SumTo, sum_none, sum_more}
 use Rattle.sx_forest.specs.Forests.{depth_in, IsMore, IsUsable, IsFirstUsable, IsForkOf}
 
 abbrev IsSome : Tally → Type 0

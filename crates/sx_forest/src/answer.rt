@@ -21,7 +21,8 @@ use sx_term::Sort;
 use sx_token::Token;
 
 /// The only reading of the tokens as the start sort. It is an error where more than 2,000,000 items hold, where there is no reading,
-/// where a reading is deeper than 1,000 (brackets count as 1, variables as 0), and where there are two.
+/// where a reading is deeper than 1,000 (the depth of a lexeme and of a variable is 1, and each node and each bracket pair adds 1),
+/// and where there are two.
 pub fn read_one(
     alloc: Global,
     grammar: &Grammar,

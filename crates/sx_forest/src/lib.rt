@@ -10,6 +10,8 @@
 
 mod all_tokens;
 mod answer;
+#[cfg(test)]
+mod answer_tests;
 mod building;
 mod choosing;
 mod entries;

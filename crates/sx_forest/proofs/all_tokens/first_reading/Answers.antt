@@ -1,4 +1,4 @@
-use Rattle.std.proofs.Common.{◌≡◌, subst, sym, length, map, Some, arith}
+use Rattle.std.proofs.Common.{◌≡◌, subst, sym, length, Some, arith}
 use Rattle.std.specs.Prelude.{None}
 use Rattle.std.proofs.lemmas.List.{length-map}
 use Rattle.sx_grammar.specs.Reading.{ReadsWhole}
@@ -7,8 +7,8 @@ use Rattle.sx_earley.proofs.Sameness.{ok_if}
 use Rattle.sx_forest.specs.Readings.{plain_reading}
 use Rattle.sx_forest.specs.Tallies.{IsLastRow}
 use Rattle.sx_forest.specs.Rows.{list_at}
-use Rattle.sx_forest.specs.Forests.{grammar_in, tokens_in, lists_in, one_of, other_of, IsBy, IsFirstUsable, IsForkOf}
-use Rattle.sx_forest.proofs.AllTokens.{by_used, of_used, used_shallow, not_parted, parted, both_used}
+use Rattle.sx_forest.specs.Forests.{grammar_in, tokens_in, lists_in, IsBy, IsFirstUsable}
+use Rattle.sx_forest.proofs.AllTokens.{by_used, of_used, used_shallow}
 use Rattle.sx_forest.proofs.all_tokens.first_reading.Goals as goal
 
 pub build-requires-clause-entry : goal.build-requires-clause-entry

@@ -1,11 +1,10 @@
-use Rattle.std.proofs.Common.{rules, ◌≡◌, ◌≤◌, ◌<◌, ◌+◌, ◌*◌, refl, sym, subst, ap, ◌∙◌, length, arith, add-one}
+use Rattle.std.proofs.Common.{rules, ◌≡◌, sym, subst, ap, length, arith, add-one}
 use Rattle.std.proofs.lemmas.Result.{IfOk-weaker}
 use Rattle.sx_grammar.specs.Grammar.{production_of}
-use Rattle.sx_grammar.specs.Reading.{ReadsAll}
 use Rattle.sx_forest.specs.declared.step.Step.TheVariants as steps
 use Rattle.sx_forest.specs.Readings.{plain_reading, plain_readings}
 use Rattle.sx_forest.specs.Tallies.{tally_of}
-use Rattle.sx_forest.specs.Forests.{grammar_in, tokens_in, lists_in, symbols_of, depth_in, IsReadTo, IsStep, HasKids, IsBy, IsMadeOf, end_of}
+use Rattle.sx_forest.specs.Forests.{grammar_in, tokens_in, lists_in, symbols_of, depth_in, IsReadTo, IsStep, HasKids, IsBy, IsMadeOf}
 use Rattle.sx_forest.proofs.Stepwise.{count_long}
 use Rattle.sx_forest.proofs.Growing.{none_behind, one_behind, twice_behind, place_low, entry_shallow, entry_less, over_literal, over_token, over_part, begun, finished, kids_are, made_as}
 use Rattle.sx_forest.proofs.building.+build.Goals as goal

@@ -1,4 +1,4 @@
-use Rattle.std.proofs.Common.{◌≡◌, ◌+◌, ◌*◌, ◌≤◌, ℕ, length}
+use Rattle.std.proofs.Common.{◌≡◌, ◌+◌, ◌*◌, ◌≤◌, length}
 use Rattle.sx_grammar.specs.Reading.{Readings}
 use Rattle.sx_forest.specs.Readings.{plain_readings}
 use Rattle.sx_forest.specs.Tallies.{tally_of}

@@ -1,8 +1,7 @@
-use Rattle.std.proofs.Common.{sym, subst, ap, ◌∙◌, ◌≡◌, ◌++◌, ◌∷◌, []}
-use Rattle.sx_grammar.specs.declared.head.Head.TheVariants.{Bracketed}
+use Rattle.std.proofs.Common.{sym, subst, ap, ◌≡◌, ◌++◌, ◌∷◌, []}
 use Rattle.sx_grammar.specs.Reading.{bracket, done, ◌▸◌}
 use Rattle.sx_forest.specs.Readings.{plain_reading, plain_readings}
-use Rattle.sx_forest.specs.Forests.{HasKids, IsMadeOf}
+use Rattle.sx_forest.specs.Forests.{HasKids}
 use Rattle.sx_forest.proofs.Following.{last_kid}
 use Rattle.sx_forest.proofs.building.wrap.Goals as goal
 

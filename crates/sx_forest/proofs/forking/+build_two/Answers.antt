@@ -1,9 +1,9 @@
-use Rattle.std.proofs.Common.{rules, ◌≡◌, ◌≤◌, ◌<◌, ◌+◌, ◌*◌, refl, sym, subst, ap, ◌∙◌, length, arith, add-one}
+use Rattle.std.proofs.Common.{rules, ◌≡◌, sym, subst, ap, length, arith, add-one}
 use Rattle.std.proofs.lemmas.Option.{slice_get_within}
 use Rattle.sx_grammar.specs.Grammar.{production_of, part}
 use Rattle.sx_forest.specs.Readings.{plain_reading, plain_readings}
 use Rattle.sx_forest.specs.Tallies.{tally_of}
-use Rattle.sx_forest.specs.Forests.{grammar_in, tokens_in, lists_in, symbols_of, depth_in, one_of, other_of, IsMore, IsApart, IsShallow, IsParting, IsReadTo, HasKids, IsMadeOf}
+use Rattle.sx_forest.specs.Forests.{grammar_in, tokens_in, symbols_of, depth_in, one_of, other_of, IsMore, IsApart, IsShallow, IsParting, IsReadTo, HasKids, IsMadeOf}
 use Rattle.sx_forest.proofs.Stepwise.{count_long}
 use Rattle.sx_forest.proofs.Making.{made_same}
 use Rattle.sx_forest.proofs.Growing.{place_low, begun, kids_are, made_as}

@@ -1,4 +1,4 @@
-use Rattle.std.proofs.Common.{◌≡◌, ◌+◌, ◌*◌, ◌≤◌, ℕ, length}
+use Rattle.std.proofs.Common.{◌+◌, ◌*◌, ◌≤◌, length}
 use Rattle.sx_forest.specs.Readings.{plain_readings}
 use Rattle.sx_forest.specs.Tallies.{tally_of}
 use Rattle.sx_forest.specs.Forests.{grammar_in, tokens_in, symbols_of, depth_in, one_of, IsReadTo, IsMoreAt}

@@ -1,7 +1,6 @@
-use Rattle.std.proofs.Common.{◌≤◌, length, arith, subst}
+use Rattle.std.proofs.Common.{arith, subst}
 use Rattle.std.proofs.lemmas.List.{length-map}
 use Rattle.sx_earley.specs.Shown.{texts, token_of}
-use Rattle.sx_forest.specs.declared.opened.Opened.{Opened}
 use Rattle.sx_forest.specs.Tallies.{tally_of}
 use Rattle.sx_forest.specs.Table.{IsSoundBy}
 use Rattle.sx_forest.specs.Forests.{grammar_in, tokens_in, lists_in}

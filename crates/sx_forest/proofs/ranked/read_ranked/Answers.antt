@@ -1,4 +1,4 @@
-use Rattle.std.proofs.Common.{◌≡◌, ◌∙◌, sym, subst, map, length, List, ⊎_elim, ap}
+use Rattle.std.proofs.Common.{◌≡◌, ◌∙◌, sym, subst, map, length, ⊎_elim}
 use Rattle.std.proofs.lemmas.List.{length-map}
 use Rattle.sx_grammar.specs.Parts.{labels}
 use Rattle.sx_grammar.specs.ReadOne.{IsAnswer, only, ambiguous}
