@@ -3,4 +3,5 @@ pub mod Forms
 pub mod Placed
 pub mod RuleParts
 pub mod RuleLaws
+pub mod Language
 pub mod ReadText

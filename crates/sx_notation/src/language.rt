@@ -1,8 +1,8 @@
 //! Languages.
 
-use crate::main_form::MainForm;
 use sx_earley::Metas;
 use sx_grammar::Grammar;
+use sx_outline::MainForm;
 use sx_rules::RuleSet;
 use sx_term::{Text, Vars};
 
