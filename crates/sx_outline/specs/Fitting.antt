@@ -16,12 +16,11 @@ use Rattle.sx_directives.specs.declared.spelled.SpelledSort.{SpelledSort}
 use Rattle.sx_directives.specs.declared.spelled.SpelledSort.TheVariants.{Lex as Lexical, Named}
 use Rattle.sx_directives.specs.declared.spelled.FormSymbol.{FormSymbol}
 use Rattle.sx_directives.specs.declared.spelled.FormSymbol.TheVariants.{Lit as FormLit, Place}
-use Rattle.sx_directives.specs.declared.rows.FormLine.{FormLine}
 use Rattle.sx_directives.specs.declared.rows.MainLine.{MainLine}
 use Rattle.sx_directives.specs.declared.row.Row.{Row}
 use Rattle.sx_directives.specs.declared.row.Row.TheVariants.{Language, Sort, Prod, Var, Form, Main, Rule, Bar, End}
 use Rattle.sx_outline.specs.declared.main_form.MainForm.{MainForm}
-use Rattle.sx_outline.specs.Declared.{Declared, parts_of}
+use Rattle.sx_outline.specs.Declared.{Declared, FormData, parts_of}
 
 -- the names of the sorts, the stems, and the names of the forms
 abbrev pub sort_names : Declared → List (List ℕ)
@@ -103,20 +102,20 @@ pub record IsConstructor (d : Declared) (label : List ℕ) (number : ℕ) (sort 
   pub kids_are : flat_map kid_of line.symbols ≡ kids
 
 -- the one place with this role has this sort, at any level
-pub record HasOneAt (f : FormLine) (role : Role) (sort : List ℕ) : Type 0 where
+pub record HasOneAt (f : FormData) (role : Role) (sort : List ℕ) : Type 0 where
   pub least : ℕ
-  pub is : sorts_at role f.symbols.items ≡ Named sort least ∷ []
+  pub is : sorts_at role f.symbols ≡ Named sort least ∷ []
 
 -- The form has one input, for an environment, one subject and one output, for a signature, whose sort is plain. The empty constructor has no
 -- parts. The other one has an environment, a name and a signature as parts. Both make environments.
 pub record IsMainOf (d : Declared) (m : MainLine) (main : MainForm) : Type 0 where
-  pub form : FormLine
+  pub form : FormData
   pub form_is : slice_get d.forms main.form ≡ Some form
   pub form_first : main.form ≡ number_of (form_names d) m.form
   pub environment : List ℕ
   pub input : HasOneAt form In environment
   pub subject_sort : SpelledSort
-  pub subject : sorts_at Sub form.symbols.items ≡ subject_sort ∷ []
+  pub subject : sorts_at Sub form.symbols ≡ subject_sort ∷ []
   pub signature : List ℕ
   pub output : HasOneAt form Out signature
   pub signature_line : SortLine
