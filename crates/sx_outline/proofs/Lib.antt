@@ -1,0 +1,5 @@
+pub mod PlaceLaws
+pub mod LineLaws
+pub mod PassLaws
+pub mod FindLaws
+pub mod RoleLaws

@@ -1,21 +1,11 @@
 -- What a language file states line by line, and its first bad line.
-use Rattle.std.specs.Prelude.{◌≡◌, ℕ, ◌⊎◌, List, [], ◌∷◌, ◌++◌, map, Result, Ok, Err}
-use Rattle.std.specs.Str.{IsUtf8, bytes_eq}
-use Rattle.sx_lines.specs.Lines.{Lines, over, line, lines_from}
-use Rattle.sx_grammar.specs.Parts.{parts}
-use Rattle.sx_directives.specs.Parts.{parts_of}
-use Rattle.sx_directives.specs.Rows.{IsRow, HasWord}
+use Rattle.std.specs.Prelude.{◌≡◌, ℕ, List, [], map}
 use Rattle.sx_directives.specs.declared.rows.MainLine.{MainLine}
 use Rattle.sx_directives.specs.declared.row.Row.{Row}
-use Rattle.sx_directives.specs.declared.row.Row.TheVariants.{Language, Sort, Prod, Var, Form, Main, Rule, Bar, End}
-use Rattle.sx_core.specs.declared.kind.Kind.{Kind}
-use Rattle.sx_core.specs.declared.kind.Kind.TheVariants as kind
-use Rattle.sx_outline.specs.declared.main_form.MainForm.{MainForm}
+use Rattle.sx_directives.specs.declared.row.Row.TheVariants.{Sort, Prod, Var, Form, Main, Rule, End}
 use Rattle.sx_outline.specs.declared.rule_lines.RuleLine.{RuleLine}
 use Rattle.sx_outline.specs.declared.rule_lines.RuleLines.{RuleLines}
-use Rattle.sx_outline.specs.declared.outline.Outline.{Outline}
-use Rattle.sx_outline.specs.Declared.{Declared, nothing, declare} as declared
-use Rattle.sx_outline.specs.Fitting.{Fits, IsMainOf}
+use Rattle.sx_outline.specs.Declarations.{Declared, nothing}
 
 -- a line with its number
 pub record Numbered : Type 0 where
