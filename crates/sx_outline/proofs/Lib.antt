@@ -3,3 +3,12 @@ pub mod LineLaws
 pub mod PassLaws
 pub mod FindLaws
 pub mod RoleLaws
+pub mod SameRows
+pub mod SameLaws
+pub mod StepLaws
+pub mod AheadLaws
+pub mod ReadLaws
+pub mod OutcomeLaws
+pub mod WeightLaws
+pub mod FitLaws
+pub mod EndLaws

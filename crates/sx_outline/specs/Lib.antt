@@ -4,4 +4,7 @@ pub mod Fitting
 pub mod MainSorts
 pub mod Tables
 pub mod View
+pub mod Stages
 pub mod Outlined
+pub mod Sized
+pub mod Reading

@@ -2,6 +2,7 @@
 #![tactic(auto)]
 
 mod declared_rows;
+mod finish;
 mod first_pass;
 mod fitting;
 mod kept;
@@ -9,12 +10,22 @@ mod kids;
 mod known;
 mod main_finding;
 mod main_form;
+mod next_line;
 mod outline;
+mod outline_error;
 mod places;
+mod read;
+mod reader;
 mod role_places;
+mod row_taking;
 mod rule_lines;
+mod stage;
 mod tables;
+#[cfg(test)]
+mod tests;
 
 pub use main_form::MainForm;
 pub use outline::Outline;
+pub use outline_error::OutlineError;
+pub use read::read_outline;
 pub use rule_lines::{RuleLine, RuleLines};
