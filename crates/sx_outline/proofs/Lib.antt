@@ -3,3 +3,5 @@ pub mod LineLaws
 pub mod PassLaws
 pub mod FindLaws
 pub mod RoleLaws
+pub mod SpelledOnce
+pub mod SameRows
