@@ -3,6 +3,7 @@ pub mod LineLaws
 pub mod PassLaws
 pub mod FindLaws
 pub mod RoleLaws
+pub mod SpelledOnce
 pub mod SameRows
 pub mod SameLaws
 pub mod StepLaws
