@@ -13,3 +13,4 @@ pub mod OutcomeLaws
 pub mod WeightLaws
 pub mod FitLaws
 pub mod EndLaws
+pub mod LinesLaws

@@ -8,3 +8,5 @@ pub mod Stages
 pub mod Outlined
 pub mod Sized
 pub mod Reading
+pub mod Structure
+pub mod Laws

@@ -8,6 +8,7 @@ mod fitting;
 mod kept;
 mod kids;
 mod known;
+mod laws;
 mod main_finding;
 mod main_form;
 mod next_line;
@@ -24,6 +25,7 @@ mod tables;
 #[cfg(test)]
 mod tests;
 
+pub use laws::outlines_have_lines;
 pub use main_form::MainForm;
 pub use outline::Outline;
 pub use outline_error::OutlineError;

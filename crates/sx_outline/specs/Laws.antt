@@ -1,0 +1,10 @@
+-- What holds of language files.
+use Rattle.std.specs.Prelude.{ℕ, List, Ok}
+use Rattle.sx_lines.specs.Lines.{lines_from}
+use Rattle.sx_outline.specs.Known.{kept_lines}
+use Rattle.sx_outline.specs.Outlined.{OutlineData, IsOutlineAnswer}
+use Rattle.sx_outline.specs.Structure.{numbered_lines, AreOutlineLines}
+
+-- the lines that a file with an outline keeps are the first line, those of the declarations, and those of the rules
+abbrev pub OutlinesHaveLines : Type 0
+OutlinesHaveLines = (name bytes : List ℕ) (o : OutlineData) → IsOutlineAnswer name bytes (Ok o) → AreOutlineLines name (numbered_lines (kept_lines (lines_from 1 bytes))) o

@@ -1,0 +1,8 @@
+//! What holds of language files.
+
+ghost use Rattle.sx_outline.specs.Laws.{OutlinesHaveLines};
+
+/// The lines that a file with an outline keeps are the first line, those of the declarations, and those of the rules.
+pub fn outlines_have_lines()
+    ensures { OutlinesHaveLines }
+{}
