@@ -5,3 +5,4 @@ pub mod FindLaws
 pub mod RoleLaws
 pub mod SpelledOnce
 pub mod SameRows
+pub mod ByteLaws
