@@ -38,18 +38,38 @@ pub(crate) fn has_no_kid(symbols: &[Symbol]) -> bool
     next_kid(symbols).is_none()
 }
 
+/// Whether the symbol is a part of this sort.
+fn is_of_sort(symbol: &Symbol, sort: &Text) -> bool
+    ensures { IsTrue result ↔ IsKid symbol.now (of_sort sort.now) }
+{
+    match symbol {
+        Symbol::Lit(_) | Symbol::Lex(_) => false,
+        Symbol::Part {
+            sort: named,
+            least: _,
+        } => named.same(sort),
+    }
+}
+
+/// Whether the symbol is an identifier.
+fn is_id(symbol: &Symbol) -> bool
+    ensures { IsTrue result ↔ IsKid symbol.now (of_kind kinds.Id) }
+{
+    matches!(symbol, Symbol::Lex(LexKind::Id))
+}
+
 /// The symbols after the first part, where that is of this sort.
 fn after_sort<'a>(symbols: &'a [Symbol], sort: &Text) -> Option<&'a [Symbol]>
     ensures { MatchOption result ((kids : List Kid) → kids_of symbols.entry.now ≡ of_sort sort.now ∷ kids → ⊥) (λ rest. kids_of symbols.entry.now ≡ of_sort sort.now ∷ kids_of rest.now) }
 {
     match next_kid(symbols) {
-        Some((Symbol::Part { sort: named, least: _ }, rest)) => {
-            if named.same(sort) {
+        Some((kid, rest)) => {
+            if is_of_sort(kid, sort) {
                 return Some(rest);
             }
             None
         }
-        _ => None,
+        None => None,
     }
 }
 
@@ -58,8 +78,13 @@ fn after_id(symbols: &[Symbol]) -> Option<&[Symbol]>
     ensures { MatchOption result ((kids : List Kid) → kids_of symbols.now ≡ of_kind kinds.Id ∷ kids → ⊥) (λ rest. kids_of symbols.now ≡ of_kind kinds.Id ∷ kids_of rest.now) }
 {
     match next_kid(symbols) {
-        Some((Symbol::Lex(LexKind::Id), rest)) => Some(rest),
-        _ => None,
+        Some((kid, rest)) => {
+            if is_id(kid) {
+                return Some(rest);
+            }
+            None
+        }
+        None => None,
     }
 }
 

@@ -102,7 +102,12 @@ impl Known {
     }
 
     /// The numbers of the empty constructor that the row names and of the one that adds, where they are such.
-    fn constructors(&self, row: &MainLine, environment: &Text, signature: &Text) -> Option<(u32, u32)>
+    fn constructors(
+        &self,
+        row: &MainLine,
+        environment: &Text,
+        signature: &Text,
+    ) -> Option<(u32, u32)>
         ensures { MatchOption result ((empty add : ℕ) → AreConstructors (known self.now) row.now environment.now signature.now empty add → ⊥)
             (λ x. AreConstructors (known self.now) row.now environment.now signature.now x.0 x.1) }
     {
