@@ -14,3 +14,4 @@ pub mod WeightLaws
 pub mod FitLaws
 pub mod EndLaws
 pub mod LinesLaws
+pub mod OneOutline
