@@ -1,14 +1,13 @@
 -- What is declared before a line and after it.
-use Rattle.std.proofs.Common.{◌≡◌, ℕ, List, [], ◌∷◌, ◌++◌, refl, sym, ap, subst, ◌∙◌, inl, inr, append_assoc, append-nil}
+use Rattle.std.proofs.Common.{◌≡◌, ℕ, List, [], ◌∷◌, sym, ap, subst, ◌∙◌, inl, inr, append_assoc, append-nil}
 use Rattle.sx_lines.specs.Lines.{Lines, over, line}
 use Rattle.sx_directives.specs.Parts.{parts_of}
 use Rattle.sx_directives.specs.Rows.{IsRow}
-use Rattle.sx_directives.specs.declared.rows.VarLine.{VarLine}
 use Rattle.sx_directives.specs.declared.row.Row.{Row}
 use Rattle.sx_directives.specs.declared.row.Row.TheVariants.{Language, Sort, Prod, Var, Form, Main, Rule, Bar, End}
-use Rattle.sx_outline.specs.Declarations.{Declared, FormData, form, nothing, declare}
+use Rattle.sx_outline.specs.Declarations.{Declared, form, nothing, declare}
 use Rattle.sx_outline.specs.Known.{Declares, GoesOn}
-use Rattle.sx_outline.specs.Stages.{RuleData, Stage, at_start, at_declarations, at_rules, at_premises, at_conclusion, at_end, State, Steps, StepsAt, StepsByRow, IsGoodRow, MayStandAt, after, ended, at as to}
+use Rattle.sx_outline.specs.Stages.{RuleData, Stage, at_start, at_declarations, at_rules, at_premises, at_conclusion, at_end, State, Steps, StepsAt, MayStandAt, after}
 use Rattle.sx_outline.specs.Outlined.{IsWhole}
 use Rattle.sx_outline.specs.Reading.{IsFront, IsAhead}
 use Rattle.sx_outline.proofs.SameRows.{same_row}

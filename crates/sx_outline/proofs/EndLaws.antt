@@ -1,5 +1,5 @@
 -- The outline at the end of the lines.
-use Rattle.std.proofs.Common.{◌≡◌, ℕ, List, [], ◌∷◌, Option, Some, refl, sym, ap, subst, ◌∙◌}
+use Rattle.std.proofs.Common.{◌≡◌, List, [], ◌∷◌, Some, refl, sym, ap, subst, ◌∙◌}
 use Rattle.sx_grammar.specs.Parts.{Parts, Line}
 use Rattle.sx_grammar.specs.declared.sort_line.SortLine.{SortLine}
 use Rattle.sx_directives.specs.declared.rows.VarLine.{VarLine}
@@ -7,7 +7,7 @@ use Rattle.sx_directives.specs.declared.rows.MainLine.{MainLine}
 use Rattle.sx_outline.specs.declared.main_form.MainForm.{MainForm}
 use Rattle.sx_outline.specs.Declarations.{Declared, FormData, parts_of}
 use Rattle.sx_outline.specs.Fitting.{IsMainOf}
-use Rattle.sx_outline.specs.Stages.{RuleData, State}
+use Rattle.sx_outline.specs.Stages.{State}
 use Rattle.sx_outline.specs.Outlined.{OutlineData, declared_by, IsOutlineOf}
 use Rattle.sx_outline.specs.Reading.{IsMainRead}
 
@@ -32,7 +32,7 @@ finished known s o e main parts vars forms rules =
     record {
       line = one.0;
       declared = e ∙ all_same known (declared_by o one.0) (sym (ap (λ (p : Parts). p.sorts) parts)) (sym (ap (λ (p : Parts). p.productions) parts)) (sym vars) (sym forms)
-        (ap (λ (x : Declared). x.mains) (sym e) ∙ one.1);
+          (ap (λ (x : Declared). x.mains) (sym e) ∙ one.1);
       main = subst (λ x. IsMainOf x one.0 o.main) (sym e) one.2;
       rules = sym rules;
     }

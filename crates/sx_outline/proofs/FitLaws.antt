@@ -1,5 +1,5 @@
 -- The rows of an outline fit, and it is no larger than its file.
-use Rattle.std.proofs.Common.{◌≡◌, ℕ, zero, suc, ◌+◌, ◌≤◌, ◌<◌, List, [], ◌∷◌, ◌++◌, length, map, Result, Ok, Err, refl, sym, ap, subst, ◌∙◌, inl, inr, arith}
+use Rattle.std.proofs.Common.{◌≡◌, ℕ, suc, ◌+◌, ◌≤◌, List, [], ◌∷◌, ◌++◌, length, Result, Ok, Err, sym, ap, subst, ◌∙◌, inl, inr, arith}
 use Rattle.std.specs.Prelude.{Contains, IfOk, ◌⊎◌}
 use Rattle.std.specs.List.{AllByRecursion}
 use Rattle.std.proofs.lemmas.List.{length-append, map-append}
@@ -15,11 +15,11 @@ use Rattle.sx_directives.specs.declared.row.Row.{Row}
 use Rattle.sx_directives.specs.declared.row.Row.TheVariants.{Language, Sort, Prod, Var, Form, Main, Rule, Bar, End}
 use Rattle.sx_outline.specs.declared.outline.Outline.{Outline}
 use Rattle.sx_outline.specs.declared.outline_error.OutlineError.{OutlineError}
-use Rattle.sx_outline.specs.Declarations.{Declared, FormData, form, nothing, declare, parts_of}
+use Rattle.sx_outline.specs.Declarations.{Declared, FormData, form, nothing, declare}
 use Rattle.sx_outline.specs.Fitting.{Fits, IsKnownSort, SymbolFits, HasOneSubject, IsMainOf, stems, form_names}
 use Rattle.sx_outline.specs.Known.{kept_lines, Declares}
-use Rattle.sx_outline.specs.Stages.{Numbered, RuleData, Begun, Stage, at_start, at_declarations, at_rules, at_premises, at_conclusion, at_end, State, start, Steps, StepsAt, IsGoodRow, MayStandAt, after, at as to, with_premise, concluded}
-use Rattle.sx_outline.specs.Outlined.{OutlineData, outline, declared_by, IsOutcome, IsOutlineOf, IsOutlined, IsReadAs, IsWhole}
+use Rattle.sx_outline.specs.Stages.{Numbered, RuleData, Stage, at_start, at_declarations, at_rules, at_premises, at_conclusion, at_end, State, start, Steps, StepsAt, IsGoodRow, MayStandAt, after}
+use Rattle.sx_outline.specs.Outlined.{OutlineData, outline, declared_by, IsOutlined, IsReadAs}
 use Rattle.sx_outline.specs.Sized.{HasShortLines, IsSized, AreDistinct, IsFit}
 use Rattle.sx_outline.specs.Reading.{IsAhead}
 use Rattle.sx_outline.proofs.AheadLaws.{ahead_next, whole_known}
@@ -75,7 +75,12 @@ pub record AreFitting (known d : Declared) : Type 0 where
 fitting_row : (known d : Declared) (row : Row) → Fits known d row → AreFitting known d → AreFitting known (declare d row)
 fitting_row known d (Language name) fits h = h
 fitting_row known d (Sort s) fits h = record {
-  sorts = all_push (λ (s : SortLine). NotLexical s.name) d.sorts s h.sorts fits; stems_once = h.stems_once; vars = h.vars; forms_once = h.forms_once; places = h.places; subjects = h.subjects;
+  sorts = all_push (λ (s : SortLine). NotLexical s.name) d.sorts s h.sorts fits;
+  stems_once = h.stems_once;
+  vars = h.vars;
+  forms_once = h.forms_once;
+  places = h.places;
+  subjects = h.subjects;
 }
 fitting_row known d (Prod p) fits h = record { sorts = h.sorts; stems_once = h.stems_once; vars = h.vars; forms_once = h.forms_once; places = h.places; subjects = h.subjects }
 fitting_row known d (Var v) fits h = record {
@@ -186,11 +191,11 @@ kept_on size known name s n text after more t steps h =
     let e : bytes_in (line n text after more) ≡ length text + bytes_in more = bytes_line n text after more in
     let w : weight s.declared + bytes_in (line n text after more) ≤ size = h.weighs in
     let row : IsKeptRow size known t.declared (bytes_in more) =
-      steps_declared (λ d. IsKeptRow size known d (bytes_in more)) s.stage known name s.declared s.rules n text t
-        (λ row good. kept_row size known s.declared text (bytes_in more) (bytes_in (line n text after more)) row good.spelled good.fits e h.weighs h.good h.fitting)
-        (record { weighs = omega arith; good = h.good; fitting = h.fitting }) steps in
+    steps_declared (λ d. IsKeptRow size known d (bytes_in more)) s.stage known name s.declared s.rules n text t
+    (λ row good. kept_row size known s.declared text (bytes_in more) (bytes_in (line n text after more)) row good.spelled good.fits e h.weighs h.good h.fitting)
+    (record { weighs = omega arith; good = h.good; fitting = h.fitting }) steps in
     let short : HasShort size (bytes_in more) t =
-      short_steps size (bytes_in more) (bytes_in (line n text after more)) s.stage known name s.declared s.rules n text t h.full.0 e (omega arith) h.stage h.rules steps in
+    short_steps size (bytes_in more) (bytes_in (line n text after more)) s.stage known name s.declared s.rules n text t h.full.0 e (omega arith) h.stage h.rules steps in
     record {
       full = h.full.1;
       weighs = row.weighs;
@@ -252,7 +257,7 @@ fit_outline name bytes o h =
     let by = known_by name bytes o h in
     let good : AreGood (declared_by o last.is.line) = subst AreGood last.is.declared last.holds.good in
     let fitting : AreFitting (declared_by o last.is.line) (declared_by o last.is.line) =
-      subst (λ k. AreFitting k (declared_by o last.is.line)) by.1 (subst (λ d. AreFitting h.known d) last.is.declared last.holds.fitting) in
+    subst (λ k. AreFitting k (declared_by o last.is.line)) by.1 (subst (λ d. AreFitting h.known d) last.is.declared last.holds.fitting) in
     record {
       line = last.is.line;
       main = by.2;

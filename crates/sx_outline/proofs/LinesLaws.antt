@@ -4,18 +4,17 @@ use Rattle.std.specs.List.{AllByRecursion}
 use Rattle.sx_lines.specs.Lines.{Lines, over, line, lines_from}
 use Rattle.sx_directives.specs.Parts.{parts_of}
 use Rattle.sx_directives.specs.Rows.{IsRow}
-use Rattle.sx_directives.specs.declared.rows.MainLine.{MainLine}
 use Rattle.sx_directives.specs.declared.row.Row.{Row}
 use Rattle.sx_directives.specs.declared.row.Row.TheVariants.{Language, Sort, Prod, Var, Form, Main, Rule, Bar, End}
 use Rattle.sx_core.specs.declared.kind.Kind.{Kind}
 use Rattle.sx_outline.specs.declared.outline_error.OutlineError.{OutlineError}
 use Rattle.sx_outline.specs.declared.outline_error.OutlineError.TheVariants.{Notation}
 use Rattle.sx_outline.specs.Declarations.{Declared, nothing, declare}
-use Rattle.sx_outline.specs.Fitting.{Fits, IsMainOf}
+use Rattle.sx_outline.specs.Fitting.{Fits}
 use Rattle.sx_outline.specs.Known.{kept_lines}
-use Rattle.sx_outline.specs.Stages.{Numbered, RuleData, Begun, Stage, at_start, at_declarations, at_rules, at_premises, at_conclusion, at_end, State, start, Steps, StepsAt, IsGoodRow, IsBar, MayStandAt, after, at as to, with_premise, concluded}
-use Rattle.sx_outline.specs.Outlined.{OutlineData, declared_by, IsOutcome, IsEnd, IsWhole, IsOutlineOf, IsReadAs}
-use Rattle.sx_outline.specs.Structure.{numbered_lines, IsDeclaring, AreDeclarations, AreRuleLines, AreRules, AreOutlineLines}
+use Rattle.sx_outline.specs.Stages.{Numbered, RuleData, Begun, Stage, at_start, at_declarations, at_rules, at_premises, at_conclusion, at_end, State, start, StepsAt, IsBar, MayStandAt, after, with_premise, concluded}
+use Rattle.sx_outline.specs.Outlined.{OutlineData, IsOutcome, IsWhole, IsReadAs}
+use Rattle.sx_outline.specs.Structure.{numbered_lines, IsDeclaring, AreDeclarations, AreRules, AreOutlineLines}
 use Rattle.sx_outline.specs.Reading.{IsAhead}
 use Rattle.sx_outline.proofs.AheadLaws.{ahead_next, whole_known}
 use Rattle.sx_outline.proofs.FitLaws.{known_by}
@@ -102,7 +101,13 @@ none_left : (known : Declared) (name : List ℕ) (at : Stage) (d : Declared) (ru
     → IsLeft known name at d rules o []
 none_left known name at_start d rules o n ahead whole e = absurd whole
 none_left known name at_declarations d rules o n ahead whole e = record {
-  declarations = []; rule_lines = []; lines_are = refl; declared = whole_known at_declarations d known n ahead whole; more = []; rules_are = sym e ∙ sym (append-nil rules); are = refl;
+  declarations = [];
+  rule_lines = [];
+  lines_are = refl;
+  declared = whole_known at_declarations d known n ahead whole;
+  more = [];
+  rules_are = sym e ∙ sym (append-nil rules);
+  are = refl;
 }
 none_left known name at_rules d rules o n ahead whole e = record { declared = whole_known at_rules d known n ahead whole; more = []; rules_are = sym e ∙ sym (append-nil rules); are = refl }
 none_left known name (at_premises b) d rules o n ahead whole e = absurd whole
@@ -120,7 +125,10 @@ begun_rule known d rules o n text name lines spelled h =
       declared = h.declared;
       more = h.rule ∷ h.more;
       rules_are = h.rules_are;
-      are = (l ∷ h.front, h.back, ap (λ (x : List Numbered). l ∷ x) h.lines_are,
+      are = (
+        l ∷ h.front,
+        h.back,
+        ap (λ (x : List Numbered). l ∷ x) h.lines_are,
         record {
           first = l;
           bar = h.left.bar;
@@ -132,7 +140,8 @@ begun_rule known d rules o n text name lines spelled h =
           divides = h.left.divides;
           ends = h.left.ends;
         },
-        h.are);
+        h.are,
+      );
     }
 
 -- a declaration
@@ -251,10 +260,10 @@ left_before known name (at_premises b) d rules o n text lines t (inl steps) h =
     in_rule (LeftConclusion b) (LeftPremises b) known d rules o (record { number = n; text = text }) lines (left_bar b (record { number = n; text = text }) steps.0) (subst (LeftAt known name o lines) steps.1 h)
 left_before known name (at_premises b) d rules o n text lines t (inr steps) h =
     in_rule (LeftPremises (with_premise b (record { number = n; text = text }))) (LeftPremises b) known d rules o (record { number = n; text = text }) lines
-      (left_premise b (record { number = n; text = text }) steps.0) (subst (LeftAt known name o lines) steps.1 h)
+    (left_premise b (record { number = n; text = text }) steps.0) (subst (LeftAt known name o lines) steps.1 h)
 left_before known name (at_conclusion b) d rules o n text lines t steps h =
     in_rule (LeftEnd (concluded b (record { number = n; text = text }))) (LeftConclusion b) known d rules o (record { number = n; text = text }) lines
-      (left_conclusion b (record { number = n; text = text })) (subst (LeftAt known name o lines) steps h)
+    (left_conclusion b (record { number = n; text = text })) (subst (LeftAt known name o lines) steps h)
 left_before known name (at_end r) d rules o n text lines t (row, good, e) h = end_row known name r d rules o n text row lines good.spelled good.stands (subst (LeftAt known name o lines) e h)
 
 no_error : (o : OutlineData) (n : ℕ) (kind : Kind) (r : Result OutlineData OutlineError) → r ≡ Ok o → r ≡ Err (Notation n kind) → ⊥
@@ -265,7 +274,7 @@ left_of : (known : Declared) (name : List ℕ) (s : State) (left : Lines) (o : O
 left_of known name s (over n) o ahead h = none_left known name s.stage s.declared s.rules o n ahead h.0 h.1.rules
 left_of known name s (line n text after more) o ahead (inl h) =
     left_before known name s.stage s.declared s.rules o n text (numbered_lines more) h.0 h.1
-      (left_of known name h.0 more o (ahead_next name s n text after more known h.0 h.1 ahead) h.2)
+    (left_of known name h.0 more o (ahead_next name s n text after more known h.0 h.1 ahead) h.2)
 left_of known name s (line n text after more) o ahead (inr h) = absurd (no_error o n h.0 (Ok o) refl h.2)
 
 -- ---- the file
@@ -273,7 +282,7 @@ left_of known name s (line n text after more) o ahead (inr h) = absurd (no_error
 pub outline_lines : (name bytes : List ℕ) (o : OutlineData) → IsReadAs name bytes (Ok o) → AreOutlineLines name (numbered_lines (kept_lines (lines_from 1 bytes))) o
 outline_lines name bytes o h =
     let left : IsFile h.known name nothing [] o (numbered_lines (kept_lines (lines_from 1 bytes))) =
-      left_of h.known name start (kept_lines (lines_from 1 bytes)) o h.declares h.outcome in
+    left_of h.known name start (kept_lines (lines_from 1 bytes)) o h.declares h.outcome in
     let by = known_by name bytes o h in
     record {
       first = left.first;

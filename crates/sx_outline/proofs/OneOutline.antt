@@ -1,11 +1,9 @@
 -- A language file has one answer.
 use Rattle.std.proofs.Common.{◌≡◌, ◌≢◌, ℕ, List, [], ◌∷◌, Result, Ok, Err, refl, sym, ap, subst, ◌∙◌, inl, inr}
 use Rattle.sx_lines.specs.Lines.{Lines, over, line, lines_from}
-use Rattle.sx_grammar.specs.Parts.{Parts, Line, labels, number_of}
-use Rattle.sx_grammar.specs.declared.sort_line.SortLine.{SortLine}
+use Rattle.sx_grammar.specs.Parts.{labels, number_of}
 use Rattle.sx_directives.specs.Parts as directives
 use Rattle.sx_directives.specs.Rows.{IsRow, HasWord}
-use Rattle.sx_directives.specs.declared.rows.VarLine.{VarLine}
 use Rattle.sx_directives.specs.declared.rows.MainLine.{MainLine}
 use Rattle.sx_directives.specs.declared.row.Row.{Row}
 use Rattle.sx_directives.specs.declared.row.Row.TheVariants.{Language, Sort, Prod, Var, Form, Main, Rule, Bar, End}
@@ -14,10 +12,10 @@ use Rattle.sx_core.specs.declared.kind.Kind.TheVariants.{Head, Directive, Shape,
 use Rattle.sx_outline.specs.declared.main_form.MainForm.{MainForm}
 use Rattle.sx_outline.specs.declared.outline_error.OutlineError.{OutlineError}
 use Rattle.sx_outline.specs.declared.outline_error.OutlineError.TheVariants.{Memory, NotUtf8, Notation}
-use Rattle.sx_outline.specs.Declarations.{Declared, FormData, nothing, declare, parts_of}
-use Rattle.sx_outline.specs.Fitting.{Fits, IsMainOf, form_names}
+use Rattle.sx_outline.specs.Declarations.{Declared, nothing, declare, parts_of}
+use Rattle.sx_outline.specs.Fitting.{IsMainOf, form_names}
 use Rattle.sx_outline.specs.Known.{Declares, GoesOn, kept_lines}
-use Rattle.sx_outline.specs.Stages.{RuleData, Stage, at_start, at_declarations, at_rules, at_premises, at_conclusion, at_end, State, start, IsDue, MayStand, IsGoodRow, Steps, StepsAt, StepsByRow, IsBad, after, at as to}
+use Rattle.sx_outline.specs.Stages.{RuleData, Stage, at_start, at_declarations, at_rules, at_premises, at_conclusion, at_end, State, start, IsDue, MayStand, Steps, StepsAt, StepsByRow, IsBad, after}
 use Rattle.sx_outline.specs.Outlined.{OutlineData, declared_by, IsOutcome, IsEnd, IsMissing, IsInside, IsWhole, IsOutlineOf, IsReadAs, IsOutlineAnswer}
 use Rattle.sx_outline.proofs.SameRows.{SameRow, same_row}
 use Rattle.sx_outline.proofs.SameLaws.{has_word, same_declare, same_stands, same_main, same_goes}
@@ -40,7 +38,7 @@ one_known : (d : Declared) (left : Lines) (a b : Declared) → Declares d left a
 one_known d (over n) a b h k = h ∙ sym k
 one_known d (line n text after more) a b (inl h) (inl k) =
     goes_once d k.0 a b (λ next. Declares next more a) (λ next. Declares next more b) (λ next x y. one_known next more a b x y)
-      (same_goes d h.0 k.0 a (λ next. Declares next more a) (same_row (directives.parts_of text) h.0 k.0 h.1 k.1) h.2) k.2
+    (same_goes d h.0 k.0 a (λ next. Declares next more a) (same_row (directives.parts_of text) h.0 k.0 h.1 k.1) h.2) k.2
 one_known d (line n text after more) a b (inl h) (inr k) = absurd (k.0 h.0 h.1)
 one_known d (line n text after more) a b (inr h) (inl k) = absurd (h.0 k.0 k.1)
 one_known d (line n text after more) a b (inr h) (inr k) = one_known d more a b h.1 k.1

@@ -1,5 +1,5 @@
 -- What holds of the state in which the lines of a file with an outline end.
-use Rattle.std.proofs.Common.{◌≡◌, ℕ, ◌+◌, ◌≤◌, Bool, true, false, List, [], ◌∷◌, length, Result, Ok, Err, refl, sym, ap, subst, ◌∙◌, inl, inr, arith, is_some}
+use Rattle.std.proofs.Common.{◌≡◌, ℕ, ◌+◌, ◌≤◌, Bool, true, false, List, [], ◌∷◌, length, Result, Ok, Err, refl, inl, inr, arith}
 use Rattle.std.specs.Prelude.{if◌then◌else◌, ◌==◌, ◌&&◌}
 use Rattle.sx_lines.specs.Bytes.{is_blank, line_feed, carriage_return}
 use Rattle.sx_lines.specs.Lines.{Lines, over, line, lines_from, ends_here}
@@ -146,7 +146,7 @@ unfolding lines_from
 lines_few n [] = none_there n
 lines_few n (b ∷ bytes) =
     let h : bytes_in (lines_from n (b ∷ bytes)) ≤ length bytes + 1 =
-      first_test n b bytes (lines_from (n + 1) bytes) (lines_from n bytes) (length bytes) (b == line_feed) (b == carriage_return && ends_here bytes) (lines_few (n + 1) bytes) (lines_few n bytes) in
+    first_test n b bytes (lines_from (n + 1) bytes) (lines_from n bytes) (length bytes) (b == line_feed) (b == carriage_return && ends_here bytes) (lines_few (n + 1) bytes) (lines_few n bytes) in
     omega arith
 
 -- the lines of a text have no more bytes than the text

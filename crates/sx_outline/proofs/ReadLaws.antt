@@ -1,6 +1,5 @@
 -- Reading all lines.
-use Rattle.std.proofs.Common.{◌≡◌, ℕ, ◌+◌, ◌≤◌, ◌<◌, ◌^◌, List, [], ◌∷◌, length, map, Option, None, Result, Ok, Err, refl, sym, ap, subst, ◌∙◌, inl, inr, arith}
-use Rattle.std.specs.Prelude.{MatchResult}
+use Rattle.std.proofs.Common.{◌≡◌, ℕ, ◌+◌, ◌≤◌, ◌<◌, ◌^◌, List, [], length, map, None, Result, Ok, Err, refl, sym, ap, subst, inl, inr, arith}
 use Rattle.std.specs.Str.{IsUtf8}
 use Rattle.sx_lines.specs.Lines.{Lines, over, line, lines_from}
 use Rattle.sx_core.specs.declared.kind.Kind.{Kind}
@@ -13,9 +12,9 @@ use Rattle.sx_outline.specs.declared.reader.Reader.{Reader}
 use Rattle.sx_outline.specs.declared.stage.Stage.TheVariants as stages
 use Rattle.sx_outline.specs.Declarations.{Declared, nothing}
 use Rattle.sx_outline.specs.Known.{Declares, kept_lines}
-use Rattle.sx_outline.specs.Stages.{Stage, at_start, at_declarations, at_rules, at_premises, at_conclusion, at_end, State, start, rule_data}
-use Rattle.sx_outline.specs.Outlined.{OutlineData, outline, IsOutcome, IsEnd, IsOutlined, IsWhole}
-use Rattle.sx_outline.specs.Reading.{IsReader, IsMainRead, IsAhead, IsCounted, GrowsByOne, IsLineRead, IsLineRefused, IsEndRead, AreLinesRead}
+use Rattle.sx_outline.specs.Stages.{State, start, rule_data}
+use Rattle.sx_outline.specs.Outlined.{OutlineData, outline, IsOutcome, IsOutlined, IsWhole}
+use Rattle.sx_outline.specs.Reading.{IsReader, IsAhead, IsCounted, GrowsByOne, IsLineRead, IsLineRefused, IsEndRead, AreLinesRead}
 use Rattle.sx_outline.proofs.AheadLaws.{ahead_front, ahead_next, whole_known}
 
 -- The reader stands for a state of the reading of these bytes, of which lines are left, and the bytes of these. What comes of the state comes of
@@ -84,8 +83,8 @@ pub reading_refused : (known : Declared) (name bytes : List ℕ) (reader : Reade
 reading_refused known name bytes reader lines rest n text after more e is read h =
     let ahead : IsAhead h.state.stage h.state.declared (line n text after more) known = subst (λ x. IsAhead h.state.stage h.state.declared x known) is h.ahead in
     refused_line known name h.state n text after more (kept_lines (lines_from 1 bytes)) e
-      (λ result k. h.leads result (subst (λ x. IsOutcome known name h.state x result) (sym is) k))
-      (read h.state h.stands (ahead_front h.state.stage h.state.declared (line n text after more) known ahead))
+    (λ result k. h.leads result (subst (λ x. IsOutcome known name h.state x result) (sym is) k))
+    (read h.state h.stands (ahead_front h.state.stage h.state.declared (line n text after more) known ahead))
 
 -- ---- the end
 
@@ -102,8 +101,8 @@ pub reading_ended : (known : Declared) (name bytes : List ℕ) (reader : Reader)
     → IsReading known name bytes reader lines rest → AreLinesRead known name (kept_lines (lines_from 1 bytes)) result
 reading_ended known name bytes reader lines rest n result is finished h =
     ended_lines known name h.state n (kept_lines (lines_from 1 bytes)) result
-      (λ given k. h.leads given (subst (λ x. IsOutcome known name h.state x given) (sym is) k))
-      (finished h.state h.stands (whole_known h.state.stage h.state.declared known n (subst (λ x. IsAhead h.state.stage h.state.declared x known) is h.ahead)))
+    (λ given k. h.leads given (subst (λ x. IsOutcome known name h.state x given) (sym is) k))
+    (finished h.state h.stands (whole_known h.state.stage h.state.declared known n (subst (λ x. IsAhead h.state.stage h.state.declared x known) is h.ahead)))
 
 -- ---- the answer
 

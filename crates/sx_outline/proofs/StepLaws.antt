@@ -1,14 +1,13 @@
 -- What reading a line comes to.
-use Rattle.std.proofs.Common.{◌≡◌, ℕ, ◌+◌, ◌≤◌, Bool, true, false, IsTrue, ◌↔◌, List, [], ◌∷◌, ◌++◌, length, take, drop, Option, Some, None, Result, Ok, Err, refl, sym, ap, subst, ◌∙◌, inl, inr, arith}
-use Rattle.std.specs.Prelude.{codes, MatchResult}
+use Rattle.std.proofs.Common.{◌≡◌, ℕ, Bool, IsTrue, ◌↔◌, List, [], ◌∷◌, length, take, Option, Some, None, Result, Ok, Err, refl, sym, ap, subst, ◌∙◌, inl, inr}
+use Rattle.std.specs.Prelude.{codes}
 use Rattle.std.proofs.Math.Seq.{take-append_seam}
 use Rattle.sx_directives.specs.Parts.{parts_of}
 use Rattle.sx_directives.specs.Rows.{IsRow, IsRowRead, HasWord}
 use Rattle.sx_directives.specs.declared.row.Row.{Row}
-use Rattle.sx_directives.specs.declared.row.Row.TheVariants.{Language, Sort, Prod, Var, Form, Main, Rule, Bar, End}
+use Rattle.sx_directives.specs.declared.row.Row.TheVariants.{Language, Bar}
 use Rattle.sx_directives.specs.declared.row_error.RowError.{RowError}
 use Rattle.sx_directives.specs.declared.row_error.RowError.TheVariants.{Shape as BadRow}
-use Rattle.sx_core.specs.declared.kind.Kind.{Kind}
 use Rattle.sx_core.specs.declared.kind.Kind.TheVariants.{Head, Directive, Shape, Order, Unfinished, Main as NoMain, Variable}
 use Rattle.sx_outline.specs.declared.outline_error.OutlineError.{OutlineError}
 use Rattle.sx_outline.specs.declared.outline_error.OutlineError.TheVariants.{Memory, NotUtf8, Notation}
@@ -18,7 +17,7 @@ use Rattle.sx_outline.specs.declared.stage.Stage.{Stage as StageOf}
 use Rattle.sx_outline.specs.declared.stage.Stage.TheVariants as stages
 use Rattle.sx_outline.specs.Declarations.{Declared}
 use Rattle.sx_outline.specs.Fitting.{Fits}
-use Rattle.sx_outline.specs.Stages.{Stage, at_start, at_declarations, at_rules, at_premises, at_conclusion, at_end, concluded, State, MayStand, IsDue, IsBad, IsBar, StepsAt, StepsByRow, with_premise, after, at as to}
+use Rattle.sx_outline.specs.Stages.{Stage, at_start, at_declarations, at_rules, at_premises, at_conclusion, at_end, concluded, State, MayStand, IsDue, StepsAt, StepsByRow, with_premise, after, at as to}
 use Rattle.sx_outline.specs.Reading.{stage, begun, IsReader, IsMainRead, IsFront, IsRowRefused, IsRowTaken, IsLineRefused, IsLineRead, IsHeadRefused, AddsPremise}
 use Rattle.sx_outline.proofs.SameRows.{same_row}
 use Rattle.sx_outline.proofs.SameLaws.{has_word, same_fits}
@@ -52,8 +51,8 @@ pub fits_from : (known before : Declared) (forms vars : ℕ) (b : Bool) (row : R
     → IsFront before known → forms ≡ length before.forms → vars ≡ length before.vars → IsTrue b ↔ Fits known before row
 fits_from known before forms vars b row h front ef ev =
     h before
-      (sym (ap (λ n. take n known.forms) ef ∙ ap (take (length before.forms)) front.forms ∙ take-append_seam before.forms front.more.forms))
-      (sym (ap (λ n. take n known.vars) ev ∙ ap (take (length before.vars)) front.vars ∙ take-append_seam before.vars front.more.vars))
+    (sym (ap (λ n. take n known.forms) ef ∙ ap (take (length before.forms)) front.forms ∙ take-append_seam before.forms front.more.forms))
+    (sym (ap (λ n. take n known.vars) ev ∙ ap (take (length before.vars)) front.vars ∙ take-append_seam before.vars front.more.vars))
 
 due_of : (known : Declared) (r : Reader) (s : State) → IsDue (stage r.stage) → IsReader known r s → IsDue s.stage
 due_of known r s due is = subst IsDue is.stage_is due
@@ -61,15 +60,20 @@ due_of known r s due is = subst IsDue is.stage_is due
 pub unfit_row : (known : Declared) (name : List ℕ) (r : Reader) (s : State) (number : ℕ) (text : List ℕ) (row : Row) (e : OutlineError) → e ≡ Notation number Shape
     → IsDue (stage r.stage) → IsReader known r s → IsRow (parts_of text) row → (Fits known s.declared row → ⊥) → IsLineRefused known name s number text e
 unfit_row known name r s number text row e is due reader spelled n =
-    subst (IsLineRefused known name s number text) (sym is)
-      (refl, (due_of known r s due reader, has_word (parts_of text) row spelled,
-        λ other spells fits. n (same_fits known s.declared other row (same_row (parts_of text) other row spells spelled) fits)))
+    subst (IsLineRefused known name s number text) (sym is) (
+      refl,
+      (
+        due_of known r s due reader,
+        has_word (parts_of text) row spelled,
+        λ other spells fits. n (same_fits known s.declared other row (same_row (parts_of text) other row spells spelled) fits),
+      ),
+    )
 
 pub no_row : (known : Declared) (name : List ℕ) (r : Reader) (s : State) (number : ℕ) (text : List ℕ) (e : OutlineError) → e ≡ Notation number Shape
     → IsDue (stage r.stage) → IsReader known r s → HasWord (parts_of text) × ((row : Row) → IsRow (parts_of text) row → ⊥) → IsLineRefused known name s number text e
 no_row known name r s number text e is due reader n =
     subst (IsLineRefused known name s number text) (sym is)
-      (refl, (due_of known r s due reader, n.0, λ row spells fits. n.1 row spells))
+    (refl, (due_of known r s due reader, n.0, λ row spells fits. n.1 row spells))
 
 due_steps : (at : Stage) (known : Declared) (name : List ℕ) (s : State) (number : ℕ) (text : List ℕ) (t : State) → IsDue at → StepsByRow known s number text t → StepsAt at known name s number text t
 due_steps at_start known name s number text t due h = absurd due
@@ -94,11 +98,12 @@ row_refused known name s number text row (Notation l Variable) due spelled fits 
 pub row_taken : (known : Declared) (name : List ℕ) (r : Reader) (number : ℕ) (text : List ℕ) (row : Row) (result : Result Reader OutlineError) → IsDue (stage r.stage) → IsRow (parts_of text) row
     → ((s : State) → IsReader known r s → IsFront s.declared known → Fits known s.declared row) → IsRowTaken known r number row result → IsLineRead known name r number text result
 row_taken known name r number text row (Ok next) due spelled fits taken = λ s reader front.
-    let h = taken s reader in
-    (after s number row,
+    let h = taken s reader in (
+      after s number row,
       due_steps s.stage known name s number text (after s number row) (due_of known r s due reader)
-        (row, record { spelled = spelled; fits = fits s reader front; stands = h.0; main = h.1 }, refl),
-      h.2)
+          (row, record { spelled = spelled; fits = fits s reader front; stands = h.0; main = h.1 }, refl),
+      h.2,
+    )
 row_taken known name r number text row (Err e) due spelled fits taken = λ s reader front.
     row_refused known name s number text row e (due_of known r s due reader) spelled (fits s reader front) (taken s reader)
 
@@ -123,9 +128,11 @@ steps_at known name r s at number text t e reader h = subst (λ x. StepsAt x kno
 
 pub started : (known : Declared) (name : List ℕ) (r : Reader) (s : State) (number : ℕ) (text : List ℕ) (next : StageOf) → r.stage ≡ stages.Start → IsRow (parts_of text) (Language name) → next ≡ stages.Declarations
     → IsReader known r s → (t : State) × StepsAt s.stage known name s number text t × IsReader known (with_stage r next) t
-started known name r s number text next is head e reader =
-    (to s at_declarations, steps_at known name r s at_start number text (to s at_declarations) (ap stage is) reader (head, refl),
-      moved known r s (to s at_declarations) next (ap stage e) refl refl reader)
+started known name r s number text next is head e reader = (
+  to s at_declarations,
+  steps_at known name r s at_start number text (to s at_declarations) (ap stage is) reader (head, refl),
+  moved known r s (to s at_declarations) next (ap stage e) refl refl reader,
+)
 
 pub premised : (known : Declared) (name : List ℕ) (r : Reader) (s : State) (number : ℕ) (text : List ℕ) (b : BegunOf) (next : StageOf) → r.stage ≡ stages.Premises b
     → AddsPremise (begun b) number text (stage next) → IsReader known r s → (t : State) × StepsAt s.stage known name s number text t × IsReader known (with_stage r next) t

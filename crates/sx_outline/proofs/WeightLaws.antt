@@ -1,20 +1,17 @@
 -- How much rows declare.
-use Rattle.std.proofs.Common.{◌≡◌, ℕ, zero, suc, ◌+◌, ◌≤◌, ◌<◌, ◌^◌, List, [], ◌∷◌, ◌++◌, length, Option, Some, None, refl, sym, ap, subst, ◌∙◌, inl, inr, arith}
+use Rattle.std.proofs.Common.{◌≡◌, ℕ, zero, suc, ◌+◌, ◌≤◌, List, [], ◌∷◌, ◌++◌, length, Option, Some, None, refl, ap, subst, ◌∙◌, inl, inr, arith}
 use Rattle.std.specs.Prelude.{flat_map, Contains}
 use Rattle.std.specs.List.{AllByRecursion}
-use Rattle.std.proofs.lemmas.Grind.{flat_map-append}
 use Rattle.std.proofs.lemmas.List.{length-append}
 use Rattle.sx_lines.specs.Words.{number_within}
 use Rattle.sx_lines.proofs.DecimalLaws.{number_spelled}
-use Rattle.sx_rules.specs.declared.rule.Role.{Role}
-use Rattle.sx_grammar.specs.Parts.{Line, Parts, line, literals, bracket_literals, symbol_literals}
+use Rattle.sx_grammar.specs.Parts.{Line, line, literals, bracket_literals, symbol_literals}
 use Rattle.sx_grammar.specs.Tables.{HasGoodLevels}
 use Rattle.sx_grammar.specs.declared.sort_line.SortLine.{SortLine}
 use Rattle.sx_grammar.specs.declared.symbol.Symbol.{Symbol}
 use Rattle.sx_grammar.specs.declared.symbol.Symbol.TheVariants.{Lit, Lex, Part}
-use Rattle.sx_directives.specs.Spelling.{IsName, Spells, SpellsSort, SpellsForm, EachSpelled, IsAlone, IsAtLevel}
-use Rattle.sx_directives.specs.Rows.{IsRow, IsSortRow, IsProdRow, IsFormRow, AreBrackets, keyword_text, word_of}
-use Rattle.sx_directives.specs.declared.spelled.SpelledSort.{SpelledSort}
+use Rattle.sx_directives.specs.Spelling.{IsName, Spells, SpellsSort, SpellsForm, EachSpelled}
+use Rattle.sx_directives.specs.Rows.{IsRow, IsSortRow, IsProdRow, AreBrackets}
 use Rattle.sx_directives.specs.declared.spelled.SpelledSort.TheVariants.{Lex as Lexical, Named}
 use Rattle.sx_directives.specs.declared.spelled.FormSymbol.{FormSymbol}
 use Rattle.sx_directives.specs.declared.spelled.FormSymbol.TheVariants.{Lit as FormLit, Place}
@@ -42,7 +39,7 @@ pushed : {X : Type 0} (xs : List X) (x : X) → length (xs ++ x ∷ []) ≡ leng
 pushed xs x = length-append xs (x ∷ [])
 
 flat_pushed : {X A : Type 0} (f : X → List A) (xs : List X) (x : X) → length (flat_map f (xs ++ x ∷ [])) ≡ length (flat_map f xs) + length (f x)
-flat_pushed f [] x = length-append (f x) []  ∙ zero_off (length (f x))
+flat_pushed f [] x = length-append (f x) [] ∙ zero_off (length (f x))
   where
     zero_off : (n : ℕ) → n + 0 ≡ 0 + n
     zero_off n = omega arith

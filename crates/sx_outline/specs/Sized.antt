@@ -1,5 +1,5 @@
 -- What holds of each outline.
-use Rattle.std.specs.Prelude.{◌≡◌, ℕ, ◌+◌, ◌≤◌, List, [], ◌∷◌, length, flat_map, Contains}
+use Rattle.std.specs.Prelude.{ℕ, ◌+◌, ◌≤◌, List, [], ◌∷◌, length, flat_map, Contains}
 use Rattle.std.specs.List.{AllByRecursion}
 use Rattle.sx_grammar.specs.Parts.{literals}
 use Rattle.sx_grammar.specs.Tables.{HasGoodLevels}
@@ -9,7 +9,7 @@ use Rattle.sx_directives.specs.declared.spelled.SpelledSort.TheVariants.{Lex, Na
 use Rattle.sx_directives.specs.declared.spelled.FormSymbol.{FormSymbol}
 use Rattle.sx_directives.specs.declared.spelled.FormSymbol.TheVariants.{Lit, Place}
 use Rattle.sx_directives.specs.declared.rows.MainLine.{MainLine}
-use Rattle.sx_outline.specs.Declarations.{Declared, FormData}
+use Rattle.sx_outline.specs.Declarations.{FormData}
 use Rattle.sx_outline.specs.Fitting.{IsKnownSort, SymbolFits, HasOneSubject, IsMainOf, stems, form_names}
 use Rattle.sx_outline.specs.Stages.{RuleData}
 use Rattle.sx_outline.specs.Outlined.{OutlineData, declared_by}

@@ -1,7 +1,7 @@
 //! The end of the reading of a language file.
 
 ghost use Rattle.std.specs.Prelude.{◌≡◌, map};
-ghost use Rattle.sx_outline.specs.Stages.{State, IsDue, rule_data};
+ghost use Rattle.sx_outline.specs.Stages.{State, rule_data};
 ghost use Rattle.sx_outline.specs.Outlined.{IsWhole};
 ghost use Rattle.sx_outline.specs.Reading.{IsReader, IsMainRead, IsEndRead};
 ghost use Rattle.sx_outline.specs.View as view;

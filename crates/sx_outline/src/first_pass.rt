@@ -1,6 +1,6 @@
 //! The first reading of a language file: what its lines declare.
 
-ghost use Rattle.std.specs.Prelude.{◌≡◌, ◌↔◌, IsTrue, ◌+◌, ◌<◌, ◌^◌, length, IfOk, OnOk};
+ghost use Rattle.std.specs.Prelude.{◌↔◌, IsTrue, ◌+◌, ◌<◌, ◌^◌, length, IfOk, OnOk};
 ghost use Rattle.sx_lines.specs.Lines.{lines_from};
 ghost use Rattle.sx_outline.specs.Declarations.{nothing};
 ghost use Rattle.sx_outline.specs.Known.{kept_lines, Declares};

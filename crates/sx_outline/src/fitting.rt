@@ -1,6 +1,6 @@
 //! Whether rows fit what a file declares.
 
-ghost use Rattle.std.specs.Prelude.{◌≡◌, ◌↔◌, IsTrue, map, take, Contains, option_map};
+ghost use Rattle.std.specs.Prelude.{◌≡◌, ◌↔◌, IsTrue, take, Contains, option_map};
 ghost use Rattle.std.specs.List.{AllByRecursion};
 ghost use Rattle.sx_term.specs.declared.lex_kind.LexKind.{LexKind as KindOf};
 ghost use Rattle.sx_rules.specs.Views as view;

@@ -1,11 +1,10 @@
 //! Reading the next line of a language file.
 
-ghost use Rattle.std.specs.Prelude.{◌≡◌, ◌↔◌, ◌⊎◌, List, ℕ, IsTrue, IfOk, MatchResult};
+ghost use Rattle.std.specs.Prelude.{◌≡◌, ◌↔◌, List, ℕ, IsTrue, IfOk, MatchResult};
 ghost use Rattle.std.specs.Str.{IsUtf8};
 ghost use Rattle.sx_directives.specs.Parts.{parts_of};
 ghost use Rattle.sx_directives.specs.Rows.{IsRow};
 ghost use Rattle.sx_directives.specs.declared.row.Row.TheVariants as rows;
-ghost use Rattle.sx_core.specs.declared.kind.Kind.TheVariants as kinds;
 ghost use Rattle.sx_outline.specs.declared.outline_error.OutlineError.TheVariants as errors;
 ghost use Rattle.sx_outline.specs.Declarations.{Declared};
 ghost use Rattle.sx_outline.specs.Stages.{IsDue, IsBar, at_end, concluded, numbered};
@@ -102,12 +101,7 @@ fn first_line(alloc: Global, name: &Text, number: u32, text: &[u8]) -> Result<()
 }
 
 /// Reads a line among the premises of a rule.
-fn premise_line(
-    alloc: Global,
-    begun: Begun,
-    number: u32,
-    text: &[u8],
-) -> Result<Stage, NoMemory>
+fn premise_line(alloc: Global, begun: Begun, number: u32, text: &[u8]) -> Result<Stage, NoMemory>
     requires { IsUtf8 text.now }
     ensures { IfOk result (λ next. AddsPremise (begun_of begun) number text.now (stage_of next)) }
 {
@@ -128,12 +122,7 @@ fn premise_line(
 }
 
 /// Reads the conclusion of a rule.
-fn conclusion_line(
-    alloc: Global,
-    begun: Begun,
-    number: u32,
-    text: &[u8],
-) -> Result<Stage, NoMemory>
+fn conclusion_line(alloc: Global, begun: Begun, number: u32, text: &[u8]) -> Result<Stage, NoMemory>
     requires { IsUtf8 text.now }
     ensures { IfOk result (λ next. stage_of next ≡ at_end (concluded (begun_of begun) (record { number = number; text = text.now }))) }
 {

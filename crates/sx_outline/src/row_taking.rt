@@ -1,6 +1,6 @@
 //! Taking the rows of a language file.
 
-ghost use Rattle.std.specs.Prelude.{◌≡◌, ◌≤◌, ◌⊎◌, [], ◌∷◌, IfOk};
+ghost use Rattle.std.specs.Prelude.{◌≡◌, ◌≤◌, IfOk};
 ghost use Rattle.sx_directives.specs.declared.row.Row.{Row as RowOf};
 ghost use Rattle.sx_directives.specs.declared.row.Row.TheVariants as rows;
 ghost use Rattle.sx_core.specs.declared.kind.Kind.TheVariants as kinds;

@@ -1,6 +1,6 @@
 //! The tables of the names that a file declares.
 
-ghost use Rattle.std.specs.Prelude.{◌≡◌, map, IfOk};
+ghost use Rattle.std.specs.Prelude.{map, IfOk};
 ghost use Rattle.sx_grammar.specs.Parts.{line};
 ghost use Rattle.sx_outline.specs.Declarations.{form};
 ghost use Rattle.sx_outline.specs.Tables.{ArePlaces, AreTables, declared_in};

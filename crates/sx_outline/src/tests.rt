@@ -46,7 +46,14 @@ fn what_a_language_declares(rt: HostRuntime) {
             assert_eq!(rt; o.parts.productions.len(), 16);
             assert_eq!(rt; o.vars.len(), 7);
             assert_eq!(rt; o.forms.len(), 2);
-            assert!(rt; o.main == MainForm { form: 0, empty: 0, add: 1 });
+            assert!(rt;
+                o.main
+                    == MainForm {
+                        form: 0,
+                        empty: 0,
+                        add: 1
+                    }
+            );
             assert_eq!(rt; o.rules.len(), 12);
             assert_eq!(rt; premises_of(&o.rules), 13);
         }
@@ -66,7 +73,10 @@ fn the_lines_of_a_rule(rt: HostRuntime) {
             assert_eq!(rt; rule.premises[1].number, 37);
             assert_eq!(rt; rule.premises[1].text.bytes(), b"~C @ ~x : ~T1".as_slice());
             assert_eq!(rt; rule.conclusion.number, 39);
-            assert_eq!(rt; rule.conclusion.text.bytes(), b"~C , ~y : ~T2 @ ~x : ~T1".as_slice());
+            assert_eq!(rt;
+                rule.conclusion.text.bytes(),
+                b"~C , ~y : ~T2 @ ~x : ~T1".as_slice()
+            );
         }
         Err(_) => assert!(rt; false, "the file is not read"),
     }
@@ -80,7 +90,14 @@ const MIXED: &[u8] =
 fn blanks_and_comments(rt: HostRuntime) {
     match read(rt.alloc(), MIXED) {
         Ok(o) => {
-            assert!(rt; o.main == MainForm { form: 0, empty: 1, add: 0 });
+            assert!(rt;
+                o.main
+                    == MainForm {
+                        form: 0,
+                        empty: 1,
+                        add: 0
+                    }
+            );
             assert_eq!(rt; o.rules.len(), 1);
             let rule = &o.rules[0];
             assert_eq!(rt; rule.number, 12);
@@ -108,7 +125,14 @@ fn declarations(rt: HostRuntime) {
     assert!(rt; is_bad(&rt, b"language Lam\nsort Exp\n", 2, Kind::Shape));
     assert!(rt; is_bad(&rt, b"language Lam\nsort num plain\n", 2, Kind::Shape));
     assert!(rt; is_bad(&rt, b"language Lam\nvar e : Exp\n", 2, Kind::Shape));
-    assert!(rt; is_bad(&rt, b"language Lam\nvar e : id\nvar e : id\n", 3, Kind::Shape));
+    assert!(rt;
+        is_bad(
+            &rt,
+            b"language Lam\nvar e : id\nvar e : id\n",
+            3,
+            Kind::Shape
+        )
+    );
     assert!(rt; is_bad(&rt, b"language Lam\n---\n", 2, Kind::Order));
     assert!(rt; is_bad(&rt, b"language Lam\nmain f a b\n", 2, Kind::Main));
     assert!(rt; is_bad(&rt, b"language Lam\nsort Exp typed", 3, Kind::Main));

@@ -10,9 +10,9 @@ returns-in_ok-known-in-Ok-clause-answer c =
 pub returns-in_ok-known-in-Ok-clause-sized : goal.returns-in_ok-known-in-Ok-clause-sized
 returns-in_ok-known-in-Ok-clause-sized c =
     sized_answer c.args.name.now c.args.bytes.now c.read_lines.result
-      (answered (view.known c.in_ok-known-in-Ok.known) c.args.name.now c.args.bytes.now c.read_lines.result c.in-Ok.ensures.cases.1 c.in_ok-known-in-Ok.ensures c.read_lines.ensures)
+    (answered (view.known c.in_ok-known-in-Ok.known) c.args.name.now c.args.bytes.now c.read_lines.result c.in-Ok.ensures.cases.1 c.in_ok-known-in-Ok.ensures c.read_lines.ensures)
 
 pub returns-in_ok-known-in-Ok-clause-fit : goal.returns-in_ok-known-in-Ok-clause-fit
 returns-in_ok-known-in-Ok-clause-fit c =
     fit_answer c.args.name.now c.args.bytes.now c.read_lines.result
-      (answered (view.known c.in_ok-known-in-Ok.known) c.args.name.now c.args.bytes.now c.read_lines.result c.in-Ok.ensures.cases.1 c.in_ok-known-in-Ok.ensures c.read_lines.ensures)
+    (answered (view.known c.in_ok-known-in-Ok.known) c.args.name.now c.args.bytes.now c.read_lines.result c.in-Ok.ensures.cases.1 c.in_ok-known-in-Ok.ensures c.read_lines.ensures)
