@@ -13,7 +13,7 @@ use sx_earley::makes;
 use sx_grammar::Grammar;
 
 /// Whether there is no way.
-fn is_nothing(ways: Ways) -> bool
+pub(crate) fn is_nothing(ways: Ways) -> bool
     ensures { IsTrue result ↔ (tally_of ways ≡ no_way) }
 {
     matches!(ways, Ways::Nothing)

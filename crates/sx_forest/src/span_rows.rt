@@ -1,13 +1,15 @@
 //! The rows of a span.
 
-ghost use Rattle.std.specs.Prelude.{◌≡◌, ◌≤◌, ◌<◌, IfOk, IfSome, length, option_map};
+ghost use Rattle.std.specs.Prelude.{◌≡◌, ◌≤◌, ◌<◌, [], IsTrue, IfOk, IfSome, length, option_map};
 ghost use Rattle.sx_grammar.specs.Numbered.{symbol};
 ghost use Rattle.sx_grammar.specs.Grammar.{production_of};
+ghost use Rattle.sx_grammar.specs.Tally.{no_way};
 ghost use Rattle.sx_earley.specs.Shown.{plain, texts, tokens_of, IsBelow, AreBelow};
 ghost use Rattle.sx_forest.specs.Tallies.{tally_of, ways_of};
 ghost use Rattle.sx_forest.specs.Rows.{AllLater, IsRow, count_of, row_at, AreSpanRows, IsSpanWays};
 
 use crate::entries::Entries;
+use crate::part_ways::is_nothing;
 use crate::row::{Row, at, last_row};
 use crate::spreading::{stretch_of, stretches};
 use crate::stretch::{Stretch, clipped};
@@ -18,7 +20,14 @@ use sx_earley::{Shown, production_at, symbol_of};
 use sx_grammar::{Grammar, Head, NumberedSymbol};
 use sx_term::NoMemory;
 
-/// The row before the symbol, where `next` is that after it: the ways from the places of the stretch on.
+/// Whether a row has no ways yet, and gets none here.
+fn is_idle(ways: &[Ways], here: Ways) -> bool
+    ensures { IsTrue result → (ways.now ≡ []) × (tally_of here ≡ no_way) }
+{
+    ways.is_empty() && is_nothing(here)
+}
+
+/// The row before the symbol, where `next` is that after it: the ways from the places of the stretch, from the first that has any on.
 fn row_before(
     alloc: Global,
     grammar: &Grammar,
@@ -37,12 +46,17 @@ fn row_before(
     ensures { IfOk result (λ r. IsRow (plain grammar.now) (tokens_of grammar.now shown.now) table.now.lists.items (option_map (symbol (texts grammar.now)) expected) from to stretch (ways_of next.now) (ways_of r)) }
 {
     let places = clipped(stretch, from, to);
+    let mut skipped = places.first - from;
     let mut ways = Vec::new(alloc);
     for place in places.first..places.end {
         let entries = table.from(place);
-        ways.push(next_ways(grammar, shown, entries, expected, next, from, place))?;
+        let here = next_ways(grammar, shown, entries, expected, next, from, place);
+        if is_idle(&ways, here) {
+            skipped += 1;
+        } else {
+            ways.push(here)?;
+        }
     }
-    let skipped = places.first - from;
     Ok(Row { skipped, ways })
 }
 

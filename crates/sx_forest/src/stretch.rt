@@ -16,17 +16,14 @@ pub(crate) fn with(stretch: Stretch, place: u32) -> Stretch
     ensures here { IsIn result place }
     ensures kept { (p : ℕ) → IsIn stretch p → IsIn result p }
 {
-    let first = if place < stretch.first {
-        place
-    } else {
-        stretch.first
-    };
-    let end = if stretch.end <= place {
-        place + 1
-    } else {
-        stretch.end
-    };
-    Stretch { first, end }
+    let mut grown = stretch;
+    if place < stretch.first {
+        grown.first = place;
+    }
+    if stretch.end <= place {
+        grown.end = place + 1;
+    }
+    grown
 }
 
 /// The places of the stretch that are those of a span.
@@ -36,15 +33,12 @@ pub(crate) fn clipped(stretch: Stretch, from: u32, to: u32) -> Stretch
     ensures end { result.end ≤ to + 1 }
     ensures same { (p : ℕ) → from ≤ p → p ≤ to → IsIn stretch p ↔ IsIn result p }
 {
-    let first = if stretch.first < from {
-        from
-    } else {
-        stretch.first
-    };
-    let end = if to < stretch.end {
-        to + 1
-    } else {
-        stretch.end
-    };
-    Stretch { first, end }
+    let mut own = stretch;
+    if stretch.first < from {
+        own.first = from;
+    }
+    if to < stretch.end {
+        own.end = to + 1;
+    }
+    own
 }
