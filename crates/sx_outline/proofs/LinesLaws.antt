@@ -1,14 +1,11 @@
 -- The lines of a file with an outline.
-use Rattle.std.proofs.Common.{◌≡◌, ℕ, List, [], ◌∷◌, ◌++◌, Result, Ok, Err, refl, sym, ap, subst, ◌∙◌, inl, inr, append_assoc, append-nil}
+use Rattle.std.proofs.Common.{◌≡◌, ℕ, List, [], ◌∷◌, ◌++◌, Ok, refl, sym, ap, subst, ◌∙◌, inl, inr, append_assoc, append-nil}
 use Rattle.std.specs.List.{AllByRecursion}
 use Rattle.sx_lines.specs.Lines.{Lines, over, line, lines_from}
 use Rattle.sx_directives.specs.Parts.{parts_of}
 use Rattle.sx_directives.specs.Rows.{IsRow}
 use Rattle.sx_directives.specs.declared.row.Row.{Row}
 use Rattle.sx_directives.specs.declared.row.Row.TheVariants.{Language, Sort, Prod, Var, Form, Main, Rule, Bar, End}
-use Rattle.sx_core.specs.declared.kind.Kind.{Kind}
-use Rattle.sx_outline.specs.declared.outline_error.OutlineError.{OutlineError}
-use Rattle.sx_outline.specs.declared.outline_error.OutlineError.TheVariants.{Notation}
 use Rattle.sx_outline.specs.Declarations.{Declared, nothing, declare}
 use Rattle.sx_outline.specs.Fitting.{Fits}
 use Rattle.sx_outline.specs.Known.{kept_lines}
@@ -17,6 +14,7 @@ use Rattle.sx_outline.specs.Outlined.{OutlineData, IsOutcome, IsWhole, IsReadAs}
 use Rattle.sx_outline.specs.Structure.{numbered_lines, IsDeclaring, AreDeclarations, AreRules, AreOutlineLines}
 use Rattle.sx_outline.specs.Reading.{IsAhead}
 use Rattle.sx_outline.proofs.AheadLaws.{ahead_next, whole_known}
+use Rattle.sx_outline.proofs.OutcomeLaws.{no_error}
 use Rattle.sx_outline.proofs.FitLaws.{known_by}
 use Rattle.sx_outline.proofs.LeftLines.{IsRest, IsInRule, LeftPremises, LeftConclusion, LeftEnd, IsRestOfFile, IsFile, IsLeft, LeftAt}
 
@@ -190,9 +188,6 @@ left_before known name (at_conclusion b) d rules o n text lines t steps h =
     in_rule (LeftEnd (concluded b (record { number = n; text = text }))) (LeftConclusion b) known d rules o (record { number = n; text = text }) lines
     (left_conclusion b (record { number = n; text = text })) (subst (LeftAt known name o lines) steps h)
 left_before known name (at_end r) d rules o n text lines t (row, good, e) h = end_row known name r d rules o n text row lines good.spelled good.stands (subst (LeftAt known name o lines) e h)
-
-no_error : (o : OutlineData) (n : ℕ) (kind : Kind) (r : Result OutlineData OutlineError) → r ≡ Ok o → r ≡ Err (Notation n kind) → ⊥
-no_error o n kind r e f = cc
 
 left_of : (known : Declared) (name : List ℕ) (s : State) (left : Lines) (o : OutlineData) → IsAhead s.stage s.declared left known → IsOutcome known name s left (Ok o)
     → LeftAt known name o (numbered_lines left) s
