@@ -13,5 +13,7 @@ pub mod OutcomeLaws
 pub mod WeightLaws
 pub mod FitLaws
 pub mod EndLaws
+pub mod LeftLines
 pub mod LinesLaws
+pub mod LinesOutlined
 pub mod OneOutline

@@ -1,14 +1,11 @@
 -- The lines of a file with an outline.
-use Rattle.std.proofs.Common.{◌≡◌, ℕ, List, [], ◌∷◌, ◌++◌, Result, Ok, Err, refl, sym, ap, subst, ◌∙◌, inl, inr, append_assoc, append-nil}
+use Rattle.std.proofs.Common.{◌≡◌, ℕ, List, [], ◌∷◌, ◌++◌, Ok, refl, sym, ap, subst, ◌∙◌, inl, inr, append_assoc, append-nil}
 use Rattle.std.specs.List.{AllByRecursion}
 use Rattle.sx_lines.specs.Lines.{Lines, over, line, lines_from}
 use Rattle.sx_directives.specs.Parts.{parts_of}
 use Rattle.sx_directives.specs.Rows.{IsRow}
 use Rattle.sx_directives.specs.declared.row.Row.{Row}
 use Rattle.sx_directives.specs.declared.row.Row.TheVariants.{Language, Sort, Prod, Var, Form, Main, Rule, Bar, End}
-use Rattle.sx_core.specs.declared.kind.Kind.{Kind}
-use Rattle.sx_outline.specs.declared.outline_error.OutlineError.{OutlineError}
-use Rattle.sx_outline.specs.declared.outline_error.OutlineError.TheVariants.{Notation}
 use Rattle.sx_outline.specs.Declarations.{Declared, nothing, declare}
 use Rattle.sx_outline.specs.Fitting.{Fits}
 use Rattle.sx_outline.specs.Known.{kept_lines}
@@ -17,83 +14,9 @@ use Rattle.sx_outline.specs.Outlined.{OutlineData, IsOutcome, IsWhole, IsReadAs}
 use Rattle.sx_outline.specs.Structure.{numbered_lines, IsDeclaring, AreDeclarations, AreRules, AreOutlineLines}
 use Rattle.sx_outline.specs.Reading.{IsAhead}
 use Rattle.sx_outline.proofs.AheadLaws.{ahead_next, whole_known}
+use Rattle.sx_outline.proofs.OutcomeLaws.{no_error}
 use Rattle.sx_outline.proofs.FitLaws.{known_by}
-
--- ---- what the lines that are left are
-
--- between rules: the lines of more rules
-record IsRest (known d : Declared) (rules : List RuleData) (o : OutlineData) (lines : List Numbered) : Type 0 where
-  declared : d ≡ known
-  more : List RuleData
-  rules_are : o.rules ≡ rules ++ more
-  are : AreRules lines more
-
--- within a rule: what is left of its lines, and the lines of more rules
-record IsInRule (Left : List Numbered → RuleData → Type 0) (known d : Declared) (rules : List RuleData) (o : OutlineData) (lines : List Numbered) : Type 0 where
-  rule : RuleData
-  front : List Numbered
-  back : List Numbered
-  lines_are : lines ≡ front ++ back
-  left : Left front rule
-  declared : d ≡ known
-  more : List RuleData
-  rules_are : o.rules ≡ rules ++ rule ∷ more
-  are : AreRules back more
-
-record LeftPremises (b : Begun) (front : List Numbered) (r : RuleData) : Type 0 where
-  premises : List Numbered
-  bar : Numbered
-  last : Numbered
-  front_is : front ≡ premises ++ bar ∷ r.conclusion ∷ last ∷ []
-  plain : AllByRecursion (λ l. IsBar l.text → ⊥) premises
-  divides : IsBar bar.text
-  ends : IsRow (parts_of last.text) End
-  number : b.number ≡ r.number
-  name : b.name ≡ r.name
-  premises_are : r.premises ≡ b.premises ++ premises
-
-record LeftConclusion (b : Begun) (front : List Numbered) (r : RuleData) : Type 0 where
-  last : Numbered
-  front_is : front ≡ r.conclusion ∷ last ∷ []
-  ends : IsRow (parts_of last.text) End
-  number : b.number ≡ r.number
-  name : b.name ≡ r.name
-  premises_are : r.premises ≡ b.premises
-
-record LeftEnd (given : RuleData) (front : List Numbered) (r : RuleData) : Type 0 where
-  last : Numbered
-  front_is : front ≡ last ∷ []
-  ends : IsRow (parts_of last.text) End
-  is : given ≡ r
-
--- among the declarations: the lines of more declarations and of rules
-record IsRestOfFile (known d : Declared) (rules : List RuleData) (o : OutlineData) (lines : List Numbered) : Type 0 where
-  declarations : List Numbered
-  rule_lines : List Numbered
-  lines_are : lines ≡ declarations ++ rule_lines
-  declared : AreDeclarations known d declarations known
-  more : List RuleData
-  rules_are : o.rules ≡ rules ++ more
-  are : AreRules rule_lines more
-
--- before the first line
-record IsFile (known : Declared) (name : List ℕ) (d : Declared) (rules : List RuleData) (o : OutlineData) (lines : List Numbered) : Type 0 where
-  first : Numbered
-  others : List Numbered
-  lines_are : lines ≡ first ∷ others
-  named : IsRow (parts_of first.text) (Language name)
-  rest : IsRestOfFile known d rules o others
-
-abbrev IsLeft : Declared → List ℕ → Stage → Declared → List RuleData → OutlineData → List Numbered → Type 0
-IsLeft known name at_start d rules o lines = IsFile known name d rules o lines
-IsLeft known name at_declarations d rules o lines = IsRestOfFile known d rules o lines
-IsLeft known name at_rules d rules o lines = IsRest known d rules o lines
-IsLeft known name (at_premises b) d rules o lines = IsInRule (LeftPremises b) known d rules o lines
-IsLeft known name (at_conclusion b) d rules o lines = IsInRule (LeftConclusion b) known d rules o lines
-IsLeft known name (at_end r) d rules o lines = IsInRule (LeftEnd r) known d rules o lines
-
-abbrev LeftAt : Declared → List ℕ → OutlineData → List Numbered → State → Type 0
-LeftAt known name o lines s = IsLeft known name s.stage s.declared s.rules o lines
+use Rattle.sx_outline.proofs.LeftLines.{IsRest, IsInRule, LeftPremises, LeftConclusion, LeftEnd, IsRestOfFile, IsFile, IsLeft, LeftAt}
 
 -- ---- the end
 
@@ -265,9 +188,6 @@ left_before known name (at_conclusion b) d rules o n text lines t steps h =
     in_rule (LeftEnd (concluded b (record { number = n; text = text }))) (LeftConclusion b) known d rules o (record { number = n; text = text }) lines
     (left_conclusion b (record { number = n; text = text })) (subst (LeftAt known name o lines) steps h)
 left_before known name (at_end r) d rules o n text lines t (row, good, e) h = end_row known name r d rules o n text row lines good.spelled good.stands (subst (LeftAt known name o lines) e h)
-
-no_error : (o : OutlineData) (n : ℕ) (kind : Kind) (r : Result OutlineData OutlineError) → r ≡ Ok o → r ≡ Err (Notation n kind) → ⊥
-no_error o n kind r e f = cc
 
 left_of : (known : Declared) (name : List ℕ) (s : State) (left : Lines) (o : OutlineData) → IsAhead s.stage s.declared left known → IsOutcome known name s left (Ok o)
     → LeftAt known name o (numbered_lines left) s

@@ -23,7 +23,7 @@ pub record IsLast (Q : State → Lines → Type 0) (o : OutlineData) : Type 0 wh
   pub whole : IsWhole state.stage
   pub is : IsOutlineOf state o
 
-no_error : (o : OutlineData) (n : ℕ) (kind : Kind) (r : Result OutlineData OutlineError) → r ≡ Ok o → r ≡ Err (Notation n kind) → ⊥
+pub no_error : (o : OutlineData) (n : ℕ) (kind : Kind) (r : Result OutlineData OutlineError) → r ≡ Ok o → r ≡ Err (Notation n kind) → ⊥
 no_error o n kind r e f = cc
 
 -- what each line keeps holds in the end

@@ -25,7 +25,7 @@ mod tables;
 #[cfg(test)]
 mod tests;
 
-pub use laws::{one_outline_answer, outlines_have_lines};
+pub use laws::{lines_have_outlines, one_outline_answer, outlines_have_lines};
 pub use main_form::MainForm;
 pub use outline::Outline;
 pub use outline_error::OutlineError;

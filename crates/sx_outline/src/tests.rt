@@ -6,15 +6,20 @@ use std::test::*;
 use sx_core::Kind;
 use sx_term::Text;
 
-/// The outline of a file of the language `Lam`.
-fn read(alloc: Global, bytes: &[u8]) -> Result<Outline, OutlineError> {
+/// The outline of a file of the language with this name.
+fn read_named(alloc: Global, name: &[u8], bytes: &[u8]) -> Result<Outline, OutlineError> {
     if bytes.len() > 10_000 {
         return Err(OutlineError::Memory);
     }
-    match Text::make(alloc, b"Lam") {
+    match Text::make(alloc, name) {
         Ok(name) => read_outline(alloc, &name, bytes),
         Err(_) => Err(OutlineError::Memory),
     }
+}
+
+/// The outline of a file of the language `Lam`.
+fn read(alloc: Global, bytes: &[u8]) -> Result<Outline, OutlineError> {
+    read_named(alloc, b"Lam", bytes)
 }
 
 /// Whether the file is refused at this line for a bad line of this kind.
@@ -78,6 +83,36 @@ fn the_lines_of_a_rule(rt: HostRuntime) {
                 b"~C , ~y : ~T2 @ ~x : ~T1".as_slice()
             );
         }
+        Err(_) => assert!(rt; false, "the file is not read"),
+    }
+}
+
+/// A file with a rule whose premise is its conclusion.
+const LOOP: &[u8] =
+    b"language Loop\nsort Env plain\nsort Ty plain\nsort Exp typed\nprod nilenv Env 90 : \"[]\"\nprod bind Env 10 : Env@10 \",\" id \":\" Ty\nprod int Ty 90 : \"Int\"\nprod num Exp 90 : num\nvar C : Env\nvar T : Ty\nvar e : Exp\nvar n : num\nform typing : in:Env \"|-\" sub:Exp \":\" out:Ty\nmain typing nilenv bind\nrule T-Loop\n~C |- ~e : ~T\n---\n~C |- ~e : ~T\nend\nrule T-Num\n---\n~C |- ~n : Int\nend\n";
+
+/// A file of a language with sums that can be read in two ways.
+const AMB: &[u8] =
+    b"language Amb\nsort Env plain\nsort Ty plain\nsort Exp typed \"(\" \")\"\nprod nilenv Env 90 : \"[]\"\nprod bind Env 10 : Env@10 \",\" id \":\" Ty\nprod int Ty 90 : \"Int\"\nprod num Exp 90 : num\nprod plus Exp 50 : Exp \"+\" Exp\nvar C : Env\nvar T : Ty\nvar e : Exp\nvar n : num\nform typing : in:Env \"|-\" sub:Exp \":\" out:Ty\nmain typing nilenv bind\nrule T-Plus\n~C |- ~e1 : Int\n~C |- ~e2 : Int\n---\n~C |- ~e1 + ~e2 : Int\nend\nrule T-Num\n---\n~C |- ~n : Int\nend\n";
+
+/// How many productions, stems, rules and premises the outline has.
+fn sizes(o: &Outline) -> (usize, usize, usize, usize) {
+    (
+        o.parts.productions.len(),
+        o.vars.len(),
+        o.rules.len(),
+        premises_of(&o.rules),
+    )
+}
+
+#[test]
+fn other_languages(rt: HostRuntime) {
+    match read_named(rt.alloc(), b"Loop", LOOP) {
+        Ok(o) => assert!(rt; sizes(&o) == (4, 4, 2, 1)),
+        Err(_) => assert!(rt; false, "the file is not read"),
+    }
+    match read_named(rt.alloc(), b"Amb", AMB) {
+        Ok(o) => assert!(rt; sizes(&o) == (5, 4, 2, 2)),
         Err(_) => assert!(rt; false, "the file is not read"),
     }
 }
