@@ -1,7 +1,7 @@
 //! Why the notation of languages is refused.
 
 use crate::unread::Unread;
-use std::alloc::AllocError;
+use std::alloc::{AllocError, AllocFailed};
 use sx_core::Kind;
 use sx_grammar::GrammarError;
 use sx_rules::RuleError;
@@ -56,6 +56,17 @@ impl From<AllocError> for NotationError {
     ghost from_gives = { λ _ e. e ≡ Memory };
 
     fn from(_: AllocError) -> NotationError {
+        NotationError::Memory
+    }
+}
+
+impl<T: Drop> From<AllocFailed<T>> for NotationError {
+    ghost use Rattle.std.specs.Prelude.{◌≡◌};
+    ghost use Rattle.sx_notation.specs.declared.notation_error.NotationError.TheVariants.{Memory};
+
+    ghost from_gives = { λ _ e. e ≡ Memory };
+
+    fn from(_: AllocFailed<T>) -> NotationError {
         NotationError::Memory
     }
 }
