@@ -1,6 +1,7 @@
 pub mod Spots
 pub mod Source
 pub mod Body
+pub mod Unread
 pub mod Texts
 pub mod Unit
 pub mod Refused

@@ -1,6 +1,7 @@
 //! Modules: a body that is read, typed and printed.
 #![tactic(auto)]
 
+mod body;
 mod compiled;
 mod import;
 mod laws;
