@@ -1,0 +1,5 @@
+//! Compiling of modules.
+#![tactic(auto)]
+
+mod laws;
+mod spots;
