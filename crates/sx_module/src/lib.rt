@@ -1,5 +1,7 @@
 //! Compiling of modules.
 #![tactic(auto)]
 
-mod laws;
+mod goal_laws;
 mod spots;
+
+pub use goal_laws::{outputs_fit, stuck_goals_fit};

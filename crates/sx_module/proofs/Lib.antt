@@ -1,0 +1,3 @@
+pub mod Lexemes
+pub mod Ways
+pub mod SortedGoals
