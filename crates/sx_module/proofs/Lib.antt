@@ -1,3 +1,4 @@
 pub mod Lexemes
 pub mod Ways
 pub mod SortedGoals
+pub mod MainGoals

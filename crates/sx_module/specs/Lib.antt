@@ -1,3 +1,4 @@
 pub mod Spots
 pub mod RuleLexemes
 pub mod Outcomes
+pub mod MainGoals
