@@ -2,3 +2,4 @@ pub mod Lexemes
 pub mod Ways
 pub mod SortedGoals
 pub mod MainGoals
+pub mod Finding

@@ -2,6 +2,7 @@
 
 ghost use Rattle.sx_module.specs.Outcomes.{OutputsHaveLexemes, OutputsAreSorted, StuckGoalsFit};
 ghost use Rattle.sx_module.specs.MainGoals.{MainGoalsFit, MainGoalsHaveLexemes, MainGoalsAreShallow, PartsHavePlaces};
+ghost use Rattle.sx_module.specs.Searched.{FoundOutputsFit, ExhaustedGoalsFit};
 
 /// Where the lexemes of rules and of a goal are tokens, so are those of the outputs of each derivation of the goal. The outputs are well
 /// sorted where the goal is.
@@ -23,4 +24,10 @@ pub fn main_goals_fit()
     ensures lexemes { MainGoalsHaveLexemes }
     ensures shallow { MainGoalsAreShallow }
     ensures places { PartsHavePlaces }
+{}
+
+/// What is found for a well sorted goal can be printed, and so can what is told where nothing is found.
+pub fn searches_fit()
+    ensures found { FoundOutputsFit }
+    ensures exhausted { ExhaustedGoalsFit }
 {}

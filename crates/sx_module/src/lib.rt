@@ -4,4 +4,4 @@
 mod goal_laws;
 mod spots;
 
-pub use goal_laws::{main_goals_fit, outputs_fit, stuck_goals_fit};
+pub use goal_laws::{main_goals_fit, outputs_fit, searches_fit, stuck_goals_fit};
