@@ -1,1 +1,6 @@
 pub mod Bodies
+pub mod Lexemes
+pub mod Ways
+pub mod SortedGoals
+pub mod MainGoals
+pub mod Finding

@@ -5,3 +5,6 @@ pub mod Unread
 pub mod Texts
 pub mod Unit
 pub mod Refused
+pub mod Outcomes
+pub mod MainGoals
+pub mod Searched

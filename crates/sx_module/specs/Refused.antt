@@ -37,7 +37,8 @@ use Rattle.sx_module.specs.Spots.{line_at, column_at}
 use Rattle.sx_module.specs.Source.{Source, main_sort, bytes_before}
 use Rattle.sx_module.specs.Body.{IsCut, HasDefect, ReadsOnly}
 use Rattle.sx_module.specs.Texts.{printed, print_text, print_line, base_text, interface_text}
-use Rattle.sx_module.specs.Unit.{no_hypotheses, rules_of, goal, goal_events, IsBody, IsTyped, IsMade, unit_of}
+use Rattle.sx_module.specs.Outcomes.{no_hypotheses}
+use Rattle.sx_module.specs.Unit.{rules_of, goal, goal_events, IsBody, IsTyped, IsMade, unit_of}
 
 -- ---- the body
 

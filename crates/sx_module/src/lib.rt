@@ -3,6 +3,7 @@
 
 mod body;
 mod compiled;
+mod goal_laws;
 mod import;
 mod laws;
 mod module_error;
@@ -11,6 +12,7 @@ mod spots;
 mod stuck_text;
 
 pub use compiled::Compiled;
+pub use goal_laws::{main_goals_fit, outputs_fit, searches_fit, stuck_goals_fit};
 pub use import::Import;
 pub use laws::units_are_made;
 pub use module_error::ModuleError;
