@@ -4,3 +4,4 @@ pub mod Ways
 pub mod SortedGoals
 pub mod MainGoals
 pub mod Finding
+pub mod Entries

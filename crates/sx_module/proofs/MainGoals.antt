@@ -22,7 +22,7 @@ use Rattle.sx_rules.specs.Sets.{rules_in}
 use Rattle.sx_arena.specs.Views.{rules_of}
 use Rattle.sx_notation.specs.Language.{sort_when, sorts_with}
 use Rattle.sx_module.specs.Outcomes.{bare, LeadsTo}
-use Rattle.sx_module.specs.MainGoals.{term_at, main_terms, main_goal, MainGoalsFit, MainGoalsHaveLexemes, MainGoalsAreShallow, PartsHavePlaces}
+use Rattle.sx_module.specs.MainGoals.{input_at, main_terms, main_goal, MainGoalsFit, MainGoalsHaveLexemes, MainGoalsAreShallow, PartsHavePlaces}
 
 -- the rules of a set, with names and without
 bare_named : (rules : List RuleOf) → bare (map named rules) ≡ map rule rules
@@ -46,7 +46,7 @@ module _ (shapes : List Shape) (vars : List Sort) (environment subject : Tree) w
   sorted_place : (role : Role) (sort : Sort) (ins subs : List Sort) (bs : List Bool) (sorts : List Sort) (ts : List Tree) →
       EachHas environment (sort_when In role sort ++ ins) → EachHas subject (sort_when Sub role sort ++ subs) →
       (EachHas environment ins → EachHas subject subs → HaveSorts shapes vars ts (inputs bs sorts)) →
-      HaveSorts shapes vars (term_at role environment subject ++ ts) (inputs (is_out role ∷ bs) (sort ∷ sorts))
+      HaveSorts shapes vars (input_at environment subject role ++ ts) (inputs (is_out role ∷ bs) (sort ∷ sorts))
   sorted_place In sort ins subs bs sorts ts h k more = (h.0, more h.1 k)
   sorted_place Sub sort ins subs bs sorts ts h k more = (k.0, more h k.1)
   sorted_place Out sort ins subs bs sorts ts h k more = more h k
@@ -58,7 +58,7 @@ module _ (shapes : List Shape) (vars : List Sort) (environment subject : Tree) w
       sorted_place p.role p.sort (sorts_with In ps) (sorts_with Sub ps) (outs_of ps) (map (λ q. q.sort) ps) (main_terms ps environment subject) h k (terms_sorted ps)
 
   subject_place : (role : Role) (sort : Sort) (outs subs : List Bool) (ts : List Tree) (sorts : List Sort) → outputs (inputs outs subs) ts ≡ map (λ s. subject) sorts →
-      outputs (inputs (is_out role ∷ outs) (is_sub role ∷ subs)) (term_at role environment subject ++ ts) ≡ map (λ s. subject) (sort_when Sub role sort ++ sorts)
+      outputs (inputs (is_out role ∷ outs) (is_sub role ∷ subs)) (input_at environment subject role ++ ts) ≡ map (λ s. subject) (sort_when Sub role sort ++ sorts)
   subject_place In sort outs subs ts sorts e = e
   subject_place Sub sort outs subs ts sorts e = ap (λ (us : List Tree). subject ∷ us) e
   subject_place Out sort outs subs ts sorts e = e
@@ -115,7 +115,7 @@ main_goals_fit shapes forms vars number form input sort output environment subje
   main_output_sorted shapes forms vars number form is output outs,
 )
 
-has_place : (P : Tree → Type 0) (role : Role) (environment subject : Tree) (ts : List Tree) → P environment → P subject → AllByRecursion P ts → AllByRecursion P (term_at role environment subject ++ ts)
+has_place : (P : Tree → Type 0) (role : Role) (environment subject : Tree) (ts : List Tree) → P environment → P subject → AllByRecursion P ts → AllByRecursion P (input_at environment subject role ++ ts)
 has_place P In environment subject ts h k all = (h, all)
 has_place P Sub environment subject ts h k all = (k, all)
 has_place P Out environment subject ts h k all = all

@@ -1,5 +1,5 @@
 -- The goal by which a module is compiled: an environment at the input, a term at the subject.
-use Rattle.std.specs.Prelude.{◌≡◌, ℕ, ◌≤◌, List, [], ◌∷◌, ◌++◌, Some, slice_get}
+use Rattle.std.specs.Prelude.{◌≡◌, ℕ, ◌≤◌, List, [], ◌∷◌, flat_map, Some, slice_get}
 use Rattle.std.specs.List.{AllByRecursion}
 use Rattle.sx_term.specs.Tree.{Tree, depth_of, part_at}
 use Rattle.sx_term.specs.Sorts.{Shape, HasSort, HaveSorts}
@@ -19,15 +19,15 @@ use Rattle.sx_rules.specs.Views.{FormData, modes_of, sorts_of, places_at}
 use Rattle.sx_notation.specs.Language.{sorts_with}
 use Rattle.sx_module.specs.Outcomes.{LeadsTo}
 
--- what stands at a place with this role, and at the places that are no outputs
-abbrev pub term_at : Role → Tree → Tree → List Tree
-term_at In environment subject = environment ∷ []
-term_at Sub environment subject = subject ∷ []
-term_at Out environment subject = []
+-- the term that stands at a place with this role, where it is no output
+abbrev pub input_at : Tree → Tree → Role → List Tree
+input_at environment subject In = environment ∷ []
+input_at environment subject Sub = subject ∷ []
+input_at environment subject Out = []
 
+-- the terms of the goal in the order of the form's places
 abbrev pub main_terms : List Place → Tree → Tree → List Tree
-main_terms [] environment subject = []
-main_terms (p ∷ ps) environment subject = term_at p.role environment subject ++ main_terms ps environment subject
+main_terms places environment subject = flat_map (λ p. input_at environment subject p.role) places
 
 -- the goal of the form with this number
 abbrev pub main_goal : List FormData → ℕ → Tree → Tree → Goal

@@ -1,5 +1,5 @@
 -- What holds of what a search by a rule set tells, where no hypotheses are given.
-use Rattle.std.specs.Prelude.{◌≡◌, ℕ, List, [], Option, Some, slice_get}
+use Rattle.std.specs.Prelude.{◌≡◌, ℕ, List, [], map, length, Option, Some, slice_get}
 use Rattle.std.specs.List.{AllByRecursion}
 use Rattle.sx_term.specs.Tree.{Tree}
 use Rattle.sx_term.specs.Sorts.{Shape, HaveSorts}
@@ -7,11 +7,16 @@ use Rattle.sx_term.specs.declared.sort.Sort.{Sort}
 use Rattle.sx_grammar.specs.Grammar.{Text}
 use Rattle.sx_print.specs.Cut.{HasLexemes}
 use Rattle.sx_rules.specs.Deep.{AreShallow}
-use Rattle.sx_rules.specs.Modes.{outputs, Goal}
+use Rattle.sx_rules.specs.Modes.{Modes, outputs, Goal}
 use Rattle.sx_rules.specs.Sorts.{GoalIsSorted}
 use Rattle.sx_rules.specs.Views.{FormData, NamedRule, modes_of, subjects_in, sorts_of}
 use Rattle.sx_rules.specs.Good.{IsRuleSet}
-use Rattle.sx_rules.specs.First.{Answer}
+use Rattle.sx_rules.specs.First.{Answer, DerivesGoal}
+use Rattle.sx_rules.specs.Derivations.{nodes_of}
+use Rattle.sx_rules.specs.Orders.{order_of}
+use Rattle.sx_rules.specs.declared.entry.Entry.{Entry as EntryOf}
+use Rattle.sx_rules.specs.EntryView.{entries}
+use Rattle.sx_rules.specs.ListText.{IsEntry}
 use Rattle.sx_derive.specs.Walk.{events}
 use Rattle.sx_derive.specs.Search.{found, exhausted, walk}
 use Rattle.sx_derive.specs.Stuck.{Blame, IsStuck}
@@ -49,3 +54,9 @@ ExhaustedGoalsFit =
     (vars : List Sort) (top : Tree) (goal : Goal) → IsGoalFor literals shapes forms vars top goal →
     (wanted : Option (List Tree)) (budget : ℕ) (blame : Blame) → walk wanted budget (events (modes_of forms) (bare rules) no_hypotheses goal 1) ≡ exhausted →
     IsStuck (modes_of forms) (subjects_in forms) (bare rules) no_hypotheses 3000 goal [] blame → IsBlameIn shapes forms vars top blame × BlameIsShallow blame
+
+-- the list of a derivation has an entry for each node, and names rules that are there
+abbrev pub ListsFit : Type 0
+ListsFit =
+    (modes : Modes) (rules : List NamedRule) (goal : Goal) (a : Answer) (list : List EntryOf) → DerivesGoal modes (bare rules) no_hypotheses goal a → entries list ≡ order_of a.0 →
+    AllByRecursion (IsEntry (map (λ r. r.name) rules)) list × (length list ≡ nodes_of a.0)

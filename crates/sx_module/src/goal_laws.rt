@@ -2,7 +2,7 @@
 
 ghost use Rattle.sx_module.specs.Outcomes.{OutputsHaveLexemes, OutputsAreSorted, StuckGoalsFit};
 ghost use Rattle.sx_module.specs.MainGoals.{MainGoalsFit, MainGoalsHaveLexemes, MainGoalsAreShallow, PartsHavePlaces};
-ghost use Rattle.sx_module.specs.Searched.{FoundOutputsFit, ExhaustedGoalsFit};
+ghost use Rattle.sx_module.specs.Searched.{FoundOutputsFit, ExhaustedGoalsFit, ListsFit};
 
 /// Where the lexemes of rules and of a goal are tokens, so are those of the outputs of each derivation of the goal. The outputs are well
 /// sorted where the goal is.
@@ -26,8 +26,10 @@ pub fn main_goals_fit()
     ensures places { PartsHavePlaces }
 {}
 
-/// What is found for a well sorted goal can be printed, and so can what is told where nothing is found.
+/// What is found for a well sorted goal can be printed, and so can what is told where nothing is found. The list
+/// of a derivation can be written.
 pub fn searches_fit()
     ensures found { FoundOutputsFit }
     ensures exhausted { ExhaustedGoalsFit }
+    ensures lists { ListsFit }
 {}
