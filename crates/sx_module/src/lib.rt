@@ -3,13 +3,18 @@
 
 mod body;
 mod compiled;
+mod given;
 mod goal_laws;
 mod import;
 mod laws;
 mod module_error;
 mod print_limit;
+mod reading;
 mod spots;
 mod stuck_text;
+mod texts;
+mod typed;
+mod typing;
 
 pub use compiled::Compiled;
 pub use goal_laws::{main_goals_fit, outputs_fit, searches_fit, stuck_goals_fit};
