@@ -6,3 +6,6 @@ pub mod MainGoals
 pub mod Finding
 pub mod Entries
 pub mod ListTexts
+pub mod OneBody
+pub mod MainSorts
+pub mod MainForms
