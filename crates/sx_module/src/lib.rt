@@ -2,10 +2,12 @@
 #![tactic(auto)]
 
 mod compiled;
+mod counting;
 mod import;
 mod laws;
 mod module_error;
 mod print_limit;
+mod showing;
 mod spots;
 mod stuck_text;
 
