@@ -1,2 +1,4 @@
 pub mod Counted
 pub mod Shown
+pub mod Reread
+pub mod Refusing

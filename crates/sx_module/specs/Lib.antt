@@ -4,3 +4,4 @@ pub mod Body
 pub mod Texts
 pub mod Unit
 pub mod Refused
+pub mod PrintRefused

@@ -6,6 +6,7 @@ mod counting;
 mod import;
 mod laws;
 mod module_error;
+mod print_check;
 mod print_limit;
 mod showing;
 mod spots;
