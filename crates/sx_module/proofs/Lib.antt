@@ -9,3 +9,7 @@ pub mod ListTexts
 pub mod OneBody
 pub mod MainSorts
 pub mod MainForms
+pub mod Counted
+pub mod Shown
+pub mod Reread
+pub mod Refusing
