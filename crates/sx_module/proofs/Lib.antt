@@ -5,3 +5,4 @@ pub mod SortedGoals
 pub mod MainGoals
 pub mod Finding
 pub mod Entries
+pub mod TypeErrors

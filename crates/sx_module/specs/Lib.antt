@@ -8,3 +8,4 @@ pub mod Refused
 pub mod Outcomes
 pub mod MainGoals
 pub mod Searched
+pub mod TypeErrors

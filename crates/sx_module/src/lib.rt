@@ -9,7 +9,9 @@ mod laws;
 mod module_error;
 mod print_limit;
 mod spots;
+mod stuck_goal;
 mod stuck_text;
+mod type_error;
 
 pub use compiled::Compiled;
 pub use goal_laws::{main_goals_fit, outputs_fit, searches_fit, stuck_goals_fit};
