@@ -6,6 +6,7 @@ ghost use Rattle.sx_term.specs.Term.{tree};
 ghost use Rattle.sx_rules.specs.Sets.{forms_in, rules_in};
 ghost use Rattle.sx_rules.specs.Views.{goal as goal_of};
 ghost use Rattle.sx_derive.specs.Blames.{blame_of};
+ghost use Rattle.sx_derive.specs.Stuck.{mismatch};
 ghost use Rattle.sx_notation.specs.GoalText.{goal_text};
 ghost use Rattle.sx_notation.specs.Language.{language_data};
 ghost use Rattle.sx_module.specs.Refused as refused;
@@ -74,6 +75,32 @@ fn shown_goal(
     utf8_text(alloc, &bytes)
 }
 
+/// The text of a goal whose outputs got are not what the premise of a rule asks for, or else not the stated ones.
+fn mismatch_text(
+    alloc: Global,
+    language: &Language,
+    goal: &Goal,
+    by: Option<(u32, usize)>,
+    got: &Vec<Term>,
+) -> Result<StuckText, NoMemory>
+    requires { CanShow language.now.rule_grammar.parts (forms_in language.now.rules) (goal_of goal.now) (Some (map tree got.now.items)) }
+    ensures { IfOk result (λ text. text ≡ refused.stuck_text (language_data language.now) (goal_of goal.now) (mismatch by (map tree got.now.items))) }
+{
+    let goal = shown_goal(alloc, language, goal, Some(got))?;
+    match by {
+        Some((rule, premise)) => {
+            let rule = rule_name(alloc, &language.rules, rule)?;
+            let premise = premise_number(premise)?;
+            Ok(StuckText::Mismatch {
+                goal,
+                premise,
+                rule,
+            })
+        }
+        None => Ok(StuckText::NotStated { goal }),
+    }
+}
+
 /// The stuck goal's text, and why it is stuck.
 pub(crate) fn stuck_text(
     alloc: Global,
@@ -98,22 +125,6 @@ pub(crate) fn stuck_text(
                 rule,
             })
         }
-        Cause::Mismatch {
-            by: Some((rule, premise)),
-            got,
-        } => {
-            let goal = shown_goal(alloc, language, &blame.goal, Some(got))?;
-            let rule = rule_name(alloc, &language.rules, *rule)?;
-            let premise = premise_number(*premise)?;
-            Ok(StuckText::Mismatch {
-                goal,
-                premise,
-                rule,
-            })
-        }
-        Cause::Mismatch { by: None, got } => {
-            let goal = shown_goal(alloc, language, &blame.goal, Some(got))?;
-            Ok(StuckText::NotStated { goal })
-        }
+        Cause::Mismatch { by, got } => mismatch_text(alloc, language, &blame.goal, *by, got),
     }
 }
