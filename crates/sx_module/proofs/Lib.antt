@@ -6,3 +6,7 @@ pub mod MainGoals
 pub mod Finding
 pub mod Entries
 pub mod TypeErrors
+pub mod Counted
+pub mod Shown
+pub mod Reread
+pub mod Refusing

@@ -9,3 +9,4 @@ pub mod Outcomes
 pub mod MainGoals
 pub mod Searched
 pub mod TypeErrors
+pub mod PrintRefused

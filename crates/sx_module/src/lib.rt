@@ -3,11 +3,14 @@
 
 mod body;
 mod compiled;
+mod counting;
 mod goal_laws;
 mod import;
 mod laws;
 mod module_error;
+mod print_check;
 mod print_limit;
+mod showing;
 mod spots;
 mod stuck_goal;
 mod stuck_text;
