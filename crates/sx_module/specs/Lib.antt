@@ -5,6 +5,7 @@ pub mod Unread
 pub mod Texts
 pub mod Unit
 pub mod Refused
+pub mod Given
 pub mod Outcomes
 pub mod MainGoals
 pub mod Searched

@@ -4,17 +4,22 @@
 mod body;
 mod compiled;
 mod counting;
+mod given;
 mod goal_laws;
 mod import;
 mod laws;
 mod module_error;
 mod print_check;
 mod print_limit;
+mod reading;
 mod showing;
 mod spots;
 mod stuck_goal;
 mod stuck_text;
+mod texts;
 mod type_error;
+mod typed;
+mod typing;
 
 pub use compiled::Compiled;
 pub use goal_laws::{main_goals_fit, outputs_fit, searches_fit, stuck_goals_fit};
