@@ -9,6 +9,7 @@ pub mod ListTexts
 pub mod OneBody
 pub mod MainSorts
 pub mod MainForms
+pub mod TypeErrors
 pub mod Counted
 pub mod Shown
 pub mod Reread

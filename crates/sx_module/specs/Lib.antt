@@ -9,4 +9,5 @@ pub mod Given
 pub mod Outcomes
 pub mod MainGoals
 pub mod Searched
+pub mod TypeErrors
 pub mod PrintRefused

@@ -14,8 +14,10 @@ mod print_limit;
 mod reading;
 mod showing;
 mod spots;
+mod stuck_goal;
 mod stuck_text;
 mod texts;
+mod type_error;
 mod typed;
 mod typing;
 
