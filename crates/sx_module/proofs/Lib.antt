@@ -14,3 +14,5 @@ pub mod Counted
 pub mod Shown
 pub mod Reread
 pub mod Refusing
+pub mod ReadSorted
+pub mod TypedBodies
