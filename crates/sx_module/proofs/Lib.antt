@@ -16,3 +16,5 @@ pub mod Reread
 pub mod Refusing
 pub mod ReadSorted
 pub mod TypedBodies
+pub mod Units
+pub mod Tries
