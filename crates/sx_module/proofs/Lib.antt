@@ -11,3 +11,6 @@ pub mod Shown
 pub mod Reread
 pub mod Refusing
 pub mod ListTexts
+pub mod OneBody
+pub mod OnePrint
+pub mod OneUnit
