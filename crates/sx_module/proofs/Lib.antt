@@ -5,12 +5,15 @@ pub mod SortedGoals
 pub mod MainGoals
 pub mod Finding
 pub mod Entries
+pub mod ListTexts
+pub mod OneBody
+pub mod MainSorts
+pub mod MainForms
 pub mod TypeErrors
 pub mod Counted
 pub mod Shown
 pub mod Reread
 pub mod Refusing
-pub mod ListTexts
-pub mod OneBody
+pub mod OneAnswer
 pub mod OnePrint
 pub mod OneUnit

@@ -1,148 +1,89 @@
--- A text has one reading, or one reason why it has not, but for the two readings that it may show.
-use Rattle.std.proofs.Common.{◌≡◌, ℕ, false, List, [], ◌∷◌, ◌⊎◌, inl, inr, refl, sym, ap, ◌∙◌, subst}
-use Rattle.std.specs.Prelude.{Option, Some, None, Err}
+-- A text has one cutting, and what is read is not refused.
+use Rattle.std.proofs.Common.{◌≡◌, ℕ, zero, suc, ◌+◌, ◌≤◌, Bool, false, List, [], ◌∷◌, Option, Some, None, slice_get, length, map, refl, ap, ◌∙◌, sym, subst, arith}
+use Rattle.std.specs.List.{AllByRecursion}
 use Rattle.sx_term.specs.declared.sort.Sort.{Sort}
-use Rattle.sx_term.specs.Cutting.{Outcome, IsOutcome, tokens, not_utf8, bad_token, too_many, open_string}
-use Rattle.sx_term.specs.Tree.{Tree}
+use Rattle.sx_term.specs.Cutting.{Piece, Cuts, done, skip, piece, Outcome, tokens, not_utf8, bad_token, too_many, open_string, IsOutcome}
 use Rattle.sx_term.proofs.CutLaws.{IsOutcome-same}
 use Rattle.sx_token.specs.declared.token.Token.{Token}
 use Rattle.sx_token.specs.declared.token_error.TokenError.{TokenError}
 use Rattle.sx_token.specs.declared.token_error.TokenError.TheVariants as token
-use Rattle.sx_token.specs.Tokens.{piece_of, pieces, outcome_of}
+use Rattle.sx_token.specs.Tokens.{pieces}
 use Rattle.sx_grammar.specs.Grammar.{Text}
-use Rattle.sx_grammar.specs.Parts.{Parts, literals, numbered}
-use Rattle.sx_grammar.specs.Print.{term_of}
-use Rattle.sx_grammar.specs.Reading.{Reading}
-use Rattle.sx_grammar.specs.ReadOne.{ReadAnswer, IsAnswer, SameAnswer, only, too_hard, no_reading, too_deep, ambiguous}
+use Rattle.sx_grammar.specs.Parts.{Parts, numbered, literals}
 use Rattle.sx_grammar.specs.Tables.{literals_of}
-use Rattle.sx_grammar.proofs.Answering.{answers_agree}
+use Rattle.sx_grammar.specs.Reading.{Reading}
+use Rattle.sx_grammar.specs.ReadOne.{IsAnswer, only, too_hard, no_reading, too_deep, ambiguous}
 use Rattle.sx_grammar.proofs.Finding.{distinct_are}
+use Rattle.sx_grammar.proofs.Answering.{answers_agree}
 use Rattle.sx_earley.specs.Tokens.{plain_tokens}
 use Rattle.sx_earley.specs.Completed.{number_of}
 use Rattle.sx_notation.specs.declared.unread.Unread.{Unread}
-use Rattle.sx_notation.specs.declared.unread.Unread.TheVariants.{TooHard, NoReading, TooDeep, Ambiguous}
-use Rattle.sx_notation.specs.WhyUnread.{IsUnreadAs, place_in}
-use Rattle.sx_module.specs.Body.{IsCut, HasDefect, ReadsAs}
+use Rattle.sx_notation.specs.declared.unread.Unread.TheVariants as unread
+use Rattle.sx_notation.specs.WhyUnread.{begin_of, place_in, IsUnreadAs}
+use Rattle.sx_module.specs.Body.{IsCut, HasDefect}
+use Rattle.sx_module.specs.Refused.{unread_place}
 
--- tokens are the same where they are so as plain data
-same_tokens : (ts us : List Token) → pieces ts ≡ pieces us → ts ≡ us
-same_tokens [] [] e = refl
-same_tokens [] (u ∷ us) e = cc
-same_tokens (t ∷ ts) [] e = cc
-same_tokens (t ∷ ts) (u ∷ us) e =
-    let here : piece_of t ≡ piece_of u = cc in
-    let rest : pieces ts ≡ pieces us = cc in
-    let more = same_tokens ts us rest in
-    λ i. record { mark = (here i).mark; text = (here i).text; from = (here i).from; to = (here i).to } ∷ more i
+abbrev back : Piece → Token
+back p = record { mark = p.mark; text = p.text; from = p.from; to = p.to }
 
--- the defect that an outcome is
-abbrev defect_of : Option Outcome → TokenError
-defect_of None = token.Memory
-defect_of (Some (tokens ps)) = token.Memory
-defect_of (Some (not_utf8 place)) = token.NotUtf8 place
-defect_of (Some (bad_token place)) = token.BadToken place
-defect_of (Some too_many) = token.TooManyTokens
-defect_of (Some (open_string place)) = token.OpenString place
+again : (ts : List Token) → map back (pieces ts) ≡ ts
+again [] = refl
+again (t ∷ ts) = ap (λ (l : List Token). t ∷ l) (again ts)
+
+pieces_one : (ts us : List Token) → pieces ts ≡ pieces us → ts ≡ us
+pieces_one ts us e = sym (again ts) ∙ ap (map back) e ∙ again us
+
+abbrev pieces_in : Outcome → List Piece
+pieces_in (tokens ps) = ps
+pieces_in (not_utf8 place) = []
+pieces_in (bad_token place) = []
+pieces_in too_many = []
+pieces_in (open_string place) = []
 
 module _ (p : Parts) (text : Text) where
-  outcome_one : (a b : Outcome) → IsOutcome (literals_of p) false text a → IsOutcome (literals_of p) false text b → a ≡ b
-  outcome_one = IsOutcome-same (literals_of p) false text (distinct_are (literals p))
+  same : (one other : Outcome) → IsOutcome (literals_of p) false text one → IsOutcome (literals_of p) false text other → one ≡ other
+  same one other c d = IsOutcome-same (literals_of p) false text (distinct_are (literals p)) one other c d
 
-  pub cut_one : (ts us : List Token) → IsCut p text ts → IsCut p text us → ts ≡ us
-  cut_one ts us h k =
-      let same = outcome_one (tokens (pieces ts)) (tokens (pieces us)) h k in
-      let all : pieces ts ≡ pieces us = cc in
-      same_tokens ts us all
+  pub one_cut : (ts us : List Token) → IsCut p text ts → IsCut p text us → ts ≡ us
+  one_cut ts us c d = pieces_one ts us (ap pieces_in (same (tokens (pieces ts)) (tokens (pieces us)) c d))
 
-  -- a defect is an outcome
-  record IsTold (e : TokenError) : Type 0 where
-    outcome : Outcome
-    holds : IsOutcome (literals_of p) false text outcome
-    is : e ≡ defect_of (Some outcome)
-    no_tokens : (ts : List Token) → outcome ≡ tokens (pieces ts) → ⊥
+  -- a text with a defect is not cut
+  pub defect_or_cut : (e : TokenError) (ts : List Token) → HasDefect p text e → IsCut p text ts → ⊥
+  defect_or_cut token.Memory ts h c = h
+  defect_or_cut (token.NotUtf8 place) ts h c = let e : not_utf8 place ≡ tokens (pieces ts) = same (not_utf8 place) (tokens (pieces ts)) h c in cc
+  defect_or_cut (token.BadToken place) ts h c = let e : bad_token place ≡ tokens (pieces ts) = same (bad_token place) (tokens (pieces ts)) h c in cc
+  defect_or_cut token.TooManyTokens ts h c = let e : too_many ≡ tokens (pieces ts) = same too_many (tokens (pieces ts)) h c in cc
+  defect_or_cut (token.OpenString place) ts h c = let e : open_string place ≡ tokens (pieces ts) = same (open_string place) (tokens (pieces ts)) h c in cc
 
-  told : (e : TokenError) → HasDefect p text e → IsTold e
-  told token.Memory h = absurd h
-  told (token.NotUtf8 place) h = record { outcome = not_utf8 place; holds = h; is = refl; no_tokens = λ ts e. cc }
-  told (token.BadToken place) h = record { outcome = bad_token place; holds = h; is = refl; no_tokens = λ ts e. cc }
-  told token.TooManyTokens h = record { outcome = too_many; holds = h; is = refl; no_tokens = λ ts e. cc }
-  told (token.OpenString place) h = record { outcome = open_string place; holds = h; is = refl; no_tokens = λ ts e. cc }
+-- tokens that have not one reading have not one
+pub unread_or_read : (p : Parts) (sort : Sort) (ts : List Token) (size : ℕ) (u : Unread) (r : Reading) → IsUnreadAs p [] sort ts size u →
+    IsAnswer (numbered p) (plain_tokens [] ts) (number_of sort) (only r) → ⊥
+unread_or_read p sort ts size unread.TooHard r h k =
+    let e : too_hard ≡ only r = answers_agree (numbered p) (plain_tokens [] ts) (number_of sort) too_hard (only r) h k in cc
+unread_or_read p sort ts size (unread.NoReading place) r h k =
+    let e : no_reading h.0 ≡ only r = answers_agree (numbered p) (plain_tokens [] ts) (number_of sort) (no_reading h.0) (only r) h.1 k in cc
+unread_or_read p sort ts size (unread.TooDeep depth) r h k =
+    let e : too_deep depth ≡ only r = answers_agree (numbered p) (plain_tokens [] ts) (number_of sort) (too_deep depth) (only r) h k in cc
+unread_or_read p sort ts size (unread.Ambiguous one other) r h k =
+    let e : ambiguous h.0 h.1 ≡ only r = answers_agree (numbered p) (plain_tokens [] ts) (number_of sort) (ambiguous h.0 h.1) (only r) h.2 k in cc
 
-  pub defect_one : (e d : TokenError) → HasDefect p text e → HasDefect p text d → e ≡ d
-  defect_one e d h k =
-      let a = told e h in
-      let b = told d k in
-      a.is ∙ ap (λ o. defect_of (Some o)) (outcome_one a.outcome b.outcome a.holds b.holds) ∙ sym b.is
+-- ---- places
 
-  pub defect_uncut : (e : TokenError) (ts : List Token) → HasDefect p text e → IsCut p text ts → ⊥
-  defect_uncut e ts h k =
-      let a = told e h in
-      a.no_tokens ts (outcome_one a.outcome (tokens (pieces ts)) a.holds k)
+within : {literals : List Text} {metas : Bool} {size : ℕ} {text rest : Text} {ps : List Piece} → Cuts literals metas size text ps rest → AllByRecursion (λ p. p.from ≤ size) ps
+within done = tt
+within (skip blank more) = within more
+within (piece at rest) = (omega (arith, at.from), within rest)
 
--- both show two readings
-pub record ShowTwo (u v : Unread) : Type 0 where
-  pub one : List ℕ
-  pub other : List ℕ
-  pub some : List ℕ
-  pub more : List ℕ
-  pub first : u ≡ Ambiguous one other
-  pub second : v ≡ Ambiguous some more
+begins : (ts : List Token) (size n : ℕ) → AllByRecursion (λ p. p.from ≤ size) (pieces ts) → begin_of (slice_get ts n) size ≤ size
+begins [] size n all = omega arith
+begins (t ∷ ts) size zero all = all.0
+begins (t ∷ ts) size (suc n) all = begins ts size n all.1
 
-module _ (p : Parts) (sort : Sort) (text : Text) where
-  abbrev Answers : List Token → ReadAnswer → Type 0
-  Answers ts a = IsAnswer (numbered p) (plain_tokens [] ts) (number_of sort) a
+pub place_within : (p : Parts) (text : Text) (ts : List Token) (n : ℕ) → IsCut p text ts → place_in ts (length text) n ≤ length text
+place_within p text ts n cut = begins ts (length text) n (within cut.2)
 
-  pub answer_one : (ts us : List Token) (a b : ReadAnswer) → IsCut p text ts → IsCut p text us → Answers ts a → Answers us b → SameAnswer a b
-  answer_one ts us a b cut other h k =
-      answers_agree (numbered p) (plain_tokens [] us) (number_of sort) a b (subst (λ (l : List Token). Answers l a) (cut_one p text ts us cut other) h) k
-
-  pub record SameBody (ts us : List Token) (r q : Reading) (t u : Tree) : Type 0 where
-    pub tokens_same : ts ≡ us
-    pub reading_same : r ≡ q
-    pub term_same : t ≡ u
-
-  pub body_one : (ts us : List Token) (r q : Reading) (t u : Tree) → ReadsAs p sort text ts r t → ReadsAs p sort text us q u → SameBody ts us r q t u
-  body_one ts us r q t u h k =
-      let cut = cut_one p text ts us h.cut k.cut in
-      let answer = answer_one ts us (only r) (only q) h.cut k.cut h.answer k.answer in
-      let reading : r ≡ q = cc in
-      record {
-        tokens_same = cut;
-        reading_same = reading;
-        term_same = h.term ∙ (λ i. term_of (plain_tokens [] (cut i)) [] (reading i)) ∙ sym k.term;
-      }
-
-  -- what is not read is not read as a term
-  module _ (size : ℕ) (ts us : List Token) (cut : IsCut p text ts) (other : IsCut p text us) where
-    pub unread_unread : (u : Unread) (r : Reading) → IsUnreadAs p [] sort ts size u → Answers us (only r) → ⊥
-    unread_unread TooHard r h k = let e : too_hard ≡ only r = answer_one ts us too_hard (only r) cut other h k in cc
-    unread_unread (NoReading place) r h k = let e : no_reading h.0 ≡ only r = answer_one ts us (no_reading h.0) (only r) cut other h.1 k in cc
-    unread_unread (TooDeep depth) r h k = let e : too_deep depth ≡ only r = answer_one ts us (too_deep depth) (only r) cut other h k in cc
-    unread_unread (Ambiguous one more) r h k = let e : ambiguous h.0 h.1 ≡ only r = answer_one ts us (ambiguous h.0 h.1) (only r) cut other h.2 k in cc
-
-    same_tokens_here : ts ≡ us
-    same_tokens_here = cut_one p text ts us cut other
-
-    pub unread_one : (u v : Unread) → IsUnreadAs p [] sort ts size u → IsUnreadAs p [] sort us size v → (u ≡ v) ⊎ ShowTwo u v
-    unread_one TooHard TooHard h k = inl refl
-    unread_one TooHard (NoReading place) h k = let e : too_hard ≡ no_reading k.0 = answer_one ts us too_hard (no_reading k.0) cut other h k.1 in absurd (cc)
-    unread_one TooHard (TooDeep depth) h k = let e : too_hard ≡ too_deep depth = answer_one ts us too_hard (too_deep depth) cut other h k in absurd (cc)
-    unread_one TooHard (Ambiguous some more) h k = let e : too_hard ≡ ambiguous k.0 k.1 = answer_one ts us too_hard (ambiguous k.0 k.1) cut other h k.2 in absurd (cc)
-    unread_one (NoReading place) TooHard h k = let e : no_reading h.0 ≡ too_hard = answer_one ts us (no_reading h.0) too_hard cut other h.1 k in absurd (cc)
-    unread_one (NoReading place) (NoReading there) h k =
-        let e : no_reading h.0 ≡ no_reading k.0 = answer_one ts us (no_reading h.0) (no_reading k.0) cut other h.1 k.1 in
-        let ends : h.0 ≡ k.0 = cc in
-        inl (ap NoReading (h.2 ∙ (λ i. place_in (same_tokens_here i) size (ends i)) ∙ sym k.2))
-    unread_one (NoReading place) (TooDeep depth) h k = let e : no_reading h.0 ≡ too_deep depth = answer_one ts us (no_reading h.0) (too_deep depth) cut other h.1 k in absurd (cc)
-    unread_one (NoReading place) (Ambiguous some more) h k = let e : no_reading h.0 ≡ ambiguous k.0 k.1 = answer_one ts us (no_reading h.0) (ambiguous k.0 k.1) cut other h.1 k.2 in absurd (cc)
-    unread_one (TooDeep depth) TooHard h k = let e : too_deep depth ≡ too_hard = answer_one ts us (too_deep depth) too_hard cut other h k in absurd (cc)
-    unread_one (TooDeep depth) (NoReading place) h k = let e : too_deep depth ≡ no_reading k.0 = answer_one ts us (too_deep depth) (no_reading k.0) cut other h k.1 in absurd (cc)
-    unread_one (TooDeep depth) (TooDeep that) h k =
-        let e : too_deep depth ≡ too_deep that = answer_one ts us (too_deep depth) (too_deep that) cut other h k in
-        let same : depth ≡ that = cc in
-        inl (ap TooDeep same)
-    unread_one (TooDeep depth) (Ambiguous some more) h k = let e : too_deep depth ≡ ambiguous k.0 k.1 = answer_one ts us (too_deep depth) (ambiguous k.0 k.1) cut other h k.2 in absurd (cc)
-    unread_one (Ambiguous one two) TooHard h k = let e : ambiguous h.0 h.1 ≡ too_hard = answer_one ts us (ambiguous h.0 h.1) too_hard cut other h.2 k in absurd (cc)
-    unread_one (Ambiguous one two) (NoReading place) h k = let e : ambiguous h.0 h.1 ≡ no_reading k.0 = answer_one ts us (ambiguous h.0 h.1) (no_reading k.0) cut other h.2 k.1 in absurd (cc)
-    unread_one (Ambiguous one two) (TooDeep depth) h k = let e : ambiguous h.0 h.1 ≡ too_deep depth = answer_one ts us (ambiguous h.0 h.1) (too_deep depth) cut other h.2 k in absurd (cc)
-    unread_one (Ambiguous one two) (Ambiguous some more) h k = inr (record { one = one; other = two; some = some; more = more; first = refl; second = refl })
+pub unread_within : (p : Parts) (sort : Sort) (text : Text) (ts : List Token) (u : Unread) → IsCut p text ts → IsUnreadAs p [] sort ts (length text) u → unread_place u ≤ length text
+unread_within p sort text ts unread.TooHard cut h = omega arith
+unread_within p sort text ts (unread.NoReading place) cut h = let b = place_within p text ts h.0 cut in omega (arith, b, h.2)
+unread_within p sort text ts (unread.TooDeep depth) cut h = omega arith
+unread_within p sort text ts (unread.Ambiguous one other) cut h = omega arith

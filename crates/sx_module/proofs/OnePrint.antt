@@ -10,7 +10,7 @@ use Rattle.sx_module.specs.declared.print_limit.Limit.{Limit}
 use Rattle.sx_module.specs.declared.print_limit.Limit.TheVariants.{Bytes, Tokens, Items, Depth}
 use Rattle.sx_module.specs.Body.{IsCut, ReadsOnly}
 use Rattle.sx_module.specs.Refused.{IsLimit, IsAmbiguous}
-use Rattle.sx_module.proofs.OneBody.{answer_one}
+use Rattle.sx_module.proofs.OneAnswer.{answer_one}
 
 long_short : (n m : ℕ) → m < n → n ≤ m → ⊥
 long_short n m less most = omega arith

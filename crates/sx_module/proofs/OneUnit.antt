@@ -35,7 +35,8 @@ use Rattle.sx_module.specs.Refused.{IsSpot, defect_place, unread_place, stuck_te
 use Rattle.sx_module.specs.Source.{Source, main_sort}
 use Rattle.sx_module.specs.Texts.{base_text, interface_text, derivation_text, print_line, print_text}
 use Rattle.sx_module.specs.Unit.{UnitData, rules_of, goal, goal_events, IsTyped, IsWritten, IsMade}
-use Rattle.sx_module.proofs.OneBody.{ShowTwo, SameBody, body_one, cut_one, defect_one, defect_uncut, unread_one, unread_unread}
+use Rattle.sx_module.proofs.OneBody.{one_cut, defect_or_cut, unread_or_read}
+use Rattle.sx_module.proofs.OneAnswer.{ShowTwo, SameBody, body_one, defect_one, unread_one}
 use Rattle.sx_module.proofs.OnePrint.{limit_one, limit_two, limit_none, two_none}
 
 some_same : {A : Type 0} (x y : A) → Some x ≡ Some y → x ≡ y
@@ -76,7 +77,7 @@ module _ (s : Source) (tries : ℕ) where
       inl (h.is ∙ (λ i. BadTokens ((there.0 ∙ sym k.at.0) i) ((there.1 ∙ sym k.at.1) i) (same i)) ∙ sym k.is)
 
   uncut_unread : (e d : ModuleError) → IsUncut e → IsUnread d → ⊥
-  uncut_unread e d h k = defect_uncut s.language.parts s.header.body h.defect k.tokens h.has k.cut
+  uncut_unread e d h k = defect_or_cut s.language.parts s.header.body h.defect k.tokens h.has k.cut
 
   reads_alike : (u v : Unread) (e d : ModuleError) (line column row place : ℕ) → e ≡ Read line column u → d ≡ Read row place v →
       IsSpot s (unread_place u) line column → IsSpot s (unread_place v) row place → (u ≡ v) ⊎ ShowTwo u v → AreAlike e d
@@ -115,9 +116,11 @@ module _ (s : Source) (tries : ℕ) where
   unbodied_one e d (inr h) (inr k) = unreads_one e d h k
 
   unbodied_none : (e : ModuleError) → IsUnbodied e → HasBody s → ⊥
-  unbodied_none e (inl h) b = defect_uncut s.language.parts s.header.body h.defect b.tokens h.has b.read.cut
+  unbodied_none e (inl h) b = defect_or_cut s.language.parts s.header.body h.defect b.tokens h.has b.read.cut
   unbodied_none e (inr h) b =
-      unread_unread s.language.parts (main_sort s.language Sub) s.header.body (length s.header.body) h.tokens b.tokens h.cut b.read.cut h.why b.reading h.unread b.read.answer
+      let there = subst (λ (ts : List Token). IsUnreadAs s.language.parts [] (main_sort s.language Sub) ts (length s.header.body) h.why)
+          (one_cut s.language.parts s.header.body h.tokens b.tokens h.cut b.read.cut) h.unread in
+      unread_or_read s.language.parts (main_sort s.language Sub) b.tokens (length s.header.body) h.why b.reading there b.read.answer
 
   -- ---- what is printed
 

@@ -3,9 +3,9 @@
 
 mod body;
 mod compiled;
-mod counting;
 mod given;
 mod goal_laws;
+mod counting;
 mod import;
 mod laws;
 mod module_error;

@@ -5,9 +5,9 @@ ghost use Rattle.sx_term.specs.Term.{tree};
 ghost use Rattle.sx_rules.specs.declared.rule.Role.TheVariants.{Sub};
 ghost use Rattle.sx_rules.specs.Sets.{forms_in};
 ghost use Rattle.sx_forest.specs.Readings.{plain_reading};
-ghost use Rattle.sx_notation.specs.Language.{language_data};
+ghost use Rattle.sx_notation.specs.Language.{language_data, sorts_with};
 ghost use Rattle.sx_module.specs.declared.module_error.ModuleError.TheVariants.{Memory};
-ghost use Rattle.sx_module.specs.Source.{main_sort, bytes_before};
+ghost use Rattle.sx_module.specs.Source.{main_sort, only_sort};
 ghost use Rattle.sx_module.specs.Unread.{IsUnreadBody};
 ghost use Rattle.sx_module.specs.Unit.{IsBody};
 ghost use Rattle.sx_module.specs.Given.{source_of, CanCompile};
@@ -20,7 +20,7 @@ use crate::spots::{Spot, spot_of};
 use std::alloc::Global;
 use sx_interface::Header;
 use sx_notation::{Language, Unread};
-use sx_rules::Role;
+use sx_rules::{Place, Role};
 use sx_term::{LexKind, Sort};
 use sx_token::TokenError;
 
@@ -34,19 +34,29 @@ pub(crate) fn body_of<'a>(bytes: &'a [u8], header: &Header) -> &'a [u8]
     }
 }
 
+/// The sort of the first of the places that has this role.
+fn sort_with(places: &[Place], role: Role) -> Sort
+    ensures { result ≡ only_sort (sorts_with role places.now) }
+{
+    for i in 0..places.len() {
+        let place = &places[i];
+        match (role, place.role) {
+            (Role::In, Role::In) => return place.sort,
+            (Role::Sub, Role::Sub) => return place.sort,
+            (Role::Out, Role::Out) => return place.sort,
+            _ => {}
+        }
+    }
+    Sort::Lex(LexKind::Id)
+}
+
 /// The sort of the place of the main form with this role.
 pub(crate) fn main_sort(language: &Language, role: Role) -> Sort
     requires { language.now.main.form < length (forms_in language.now.rules) }
     ensures { result ≡ main_sort (language_data language.now) role }
 {
-    let places = &language.rules.forms()[language.main.form as usize].places;
-    for i in 0..places.len() {
-        let place = &places[i];
-        if place.role == role {
-            return place.sort;
-        }
-    }
-    Sort::Lex(LexKind::Id)
+    let form = language.main.form as usize;
+    sort_with(&language.rules.forms()[form].places, role)
 }
 
 /// The line and the column of a place in the body, in the module's file.
