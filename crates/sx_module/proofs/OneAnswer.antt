@@ -1,6 +1,6 @@
 -- A text has one reading, or one reason why it has not, but for the two readings that it may show.
-use Rattle.std.proofs.Common.{◌≡◌, ℕ, false, List, [], ◌∷◌, ◌⊎◌, inl, inr, refl, sym, ap, ◌∙◌, subst}
-use Rattle.std.specs.Prelude.{Option, Some, None, Err}
+use Rattle.std.proofs.Common.{◌≡◌, ℕ, false, List, [], ◌⊎◌, inl, inr, refl, sym, ap, ◌∙◌, subst}
+use Rattle.std.specs.Prelude.{Option, Some, None}
 use Rattle.sx_term.specs.declared.sort.Sort.{Sort}
 use Rattle.sx_term.specs.Cutting.{Outcome, IsOutcome, tokens, not_utf8, bad_token, too_many, open_string}
 use Rattle.sx_term.specs.Tree.{Tree}
@@ -8,7 +8,6 @@ use Rattle.sx_term.proofs.CutLaws.{IsOutcome-same}
 use Rattle.sx_token.specs.declared.token.Token.{Token}
 use Rattle.sx_token.specs.declared.token_error.TokenError.{TokenError}
 use Rattle.sx_token.specs.declared.token_error.TokenError.TheVariants as token
-use Rattle.sx_token.specs.Tokens.{piece_of, pieces, outcome_of}
 use Rattle.sx_grammar.specs.Grammar.{Text}
 use Rattle.sx_grammar.specs.Parts.{Parts, literals, numbered}
 use Rattle.sx_grammar.specs.Print.{term_of}

@@ -1,14 +1,13 @@
 -- A printed text has one reading, or passes one limit first, or has two readings.
-use Rattle.std.proofs.Common.{◌≡◌, ℕ, ◌<◌, ◌≤◌, List, [], length, refl, sym, ap, ◌∙◌, arith}
+use Rattle.std.proofs.Common.{◌≡◌, ℕ, ◌<◌, ◌≤◌, refl, sym, ap, ◌∙◌, arith}
 use Rattle.sx_term.specs.declared.sort.Sort.{Sort}
 use Rattle.sx_term.specs.Tree.{Tree}
-use Rattle.sx_token.specs.declared.token.Token.{Token}
 use Rattle.sx_grammar.specs.Grammar.{Text}
 use Rattle.sx_grammar.specs.Parts.{Parts}
 use Rattle.sx_grammar.specs.ReadOne.{only, too_hard, too_deep, ambiguous}
 use Rattle.sx_module.specs.declared.print_limit.Limit.{Limit}
 use Rattle.sx_module.specs.declared.print_limit.Limit.TheVariants.{Bytes, Tokens, Items, Depth}
-use Rattle.sx_module.specs.Body.{IsCut, ReadsOnly}
+use Rattle.sx_module.specs.Body.{ReadsOnly}
 use Rattle.sx_module.specs.Refused.{IsLimit, IsAmbiguous}
 use Rattle.sx_module.proofs.OneAnswer.{answer_one}
 

@@ -2,25 +2,19 @@
 use Rattle.std.proofs.Common.{◌≡◌, ◌≢◌, ℕ, ◌-◌, ◌^◌, ◌≤◌, List, [], ◌∷◌, ◌⊎◌, inl, inr, length, min, refl, sym, ap, ◌∙◌, subst}
 use Rattle.std.specs.Prelude.{Some, None}
 use Rattle.sx_term.specs.Tree.{Tree}
-use Rattle.sx_term.specs.declared.sort.Sort.{Sort}
 use Rattle.sx_token.specs.declared.token.Token.{Token}
 use Rattle.sx_token.specs.declared.token_error.TokenError.{TokenError}
 use Rattle.sx_grammar.specs.Grammar.{Text}
-use Rattle.sx_grammar.specs.Parts.{Parts}
 use Rattle.sx_grammar.specs.Reading.{Reading}
-use Rattle.sx_forest.specs.Places.{place_at}
 use Rattle.sx_rules.specs.declared.rule.Role.TheVariants.{Sub, Out}
-use Rattle.sx_rules.specs.Derivations.{nodes_of}
 use Rattle.sx_rules.specs.First.{Answer}
 use Rattle.sx_rules.specs.Modes.{AllModed}
-use Rattle.sx_rules.specs.Orders.{order_of, Entry}
 use Rattle.sx_rules.specs.Views.{modes_of, subjects_in}
 use Rattle.sx_derive.specs.Walk.{depth_spent, too_deep, too_big}
 use Rattle.sx_derive.specs.Search.{Ending, found, stopped, spent, exhausted, walk, tries_of}
 use Rattle.sx_derive.specs.Stuck.{Blame}
 use Rattle.sx_derive.proofs.BlamedOnce.{stuck_goal_is_unique}
 use Rattle.sx_notation.specs.declared.unread.Unread.{Unread}
-use Rattle.sx_notation.specs.declared.unread.Unread.TheVariants.{Ambiguous}
 use Rattle.sx_notation.specs.WhyUnread.{IsUnreadAs, place_in}
 use Rattle.sx_module.specs.declared.stuck_text.StuckText.{StuckText}
 use Rattle.sx_module.specs.declared.print_limit.Part.{Part}
@@ -119,7 +113,7 @@ module _ (s : Source) (tries : ℕ) where
   unbodied_none e (inl h) b = defect_or_cut s.language.parts s.header.body h.defect b.tokens h.has b.read.cut
   unbodied_none e (inr h) b =
       let there = subst (λ (ts : List Token). IsUnreadAs s.language.parts [] (main_sort s.language Sub) ts (length s.header.body) h.why)
-          (one_cut s.language.parts s.header.body h.tokens b.tokens h.cut b.read.cut) h.unread in
+      (one_cut s.language.parts s.header.body h.tokens b.tokens h.cut b.read.cut) h.unread in
       unread_or_read s.language.parts (main_sort s.language Sub) b.tokens (length s.header.body) h.why b.reading there b.read.answer
 
   -- ---- what is printed
