@@ -17,3 +17,5 @@ pub mod Refusing
 pub mod OneAnswer
 pub mod OnePrint
 pub mod OneUnit
+pub mod ReadSorted
+pub mod TypedBodies
