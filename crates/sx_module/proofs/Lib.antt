@@ -14,6 +14,9 @@ pub mod Counted
 pub mod Shown
 pub mod Reread
 pub mod Refusing
+pub mod OneAnswer
+pub mod OnePrint
+pub mod OneUnit
 pub mod ReadSorted
 pub mod TypedBodies
 pub mod Units

@@ -13,13 +13,15 @@ use Rattle.sx_term.specs.declared.sort.Sort.{Sort}
 use Rattle.sx_term.specs.Cutting.{Piece, Stands, Cuts, done, skip, piece, IsOutcome, tokens}
 use Rattle.sx_term.specs.Spaced.{AreBlanks}
 use Rattle.sx_term.specs.Tree.{Tree}
+use Rattle.sx_term.proofs.CutLaws.{Cuts-same, IsStuck-nil}
 use Rattle.sx_term.proofs.Firsts.{blank_low}
 use Rattle.sx_token.specs.declared.token.Token.{Token}
 use Rattle.sx_token.specs.Tokens.{piece_of, pieces}
 use Rattle.sx_grammar.specs.Grammar as plain
 use Rattle.sx_grammar.specs.Grammar.{Text, Grammar, Stem, of_sort}
-use Rattle.sx_grammar.specs.Parts.{Parts, numbered}
+use Rattle.sx_grammar.specs.Parts.{Parts, literals, numbered}
 use Rattle.sx_grammar.specs.Tables.{literals_of}
+use Rattle.sx_grammar.proofs.Finding.{distinct_are}
 use Rattle.sx_grammar.specs.Made.{IsGrammar}
 use Rattle.sx_grammar.specs.Reading.{Reading, ReadsWhole}
 use Rattle.sx_grammar.specs.ReadOne.{IsAnswer, only}
@@ -108,6 +110,15 @@ module _ (p : Parts) (sort : Sort) (t : Tree) (text blanks : List ℕ) (is : IsG
 
   pub print_outcome : length (printed p t) ≤ 10000 → (ps : List Piece) × IsOutcome (literals_of p) false text (tokens ps)
   print_outcome few = (cut_print.pieces, print_stands few)
+
+  -- and no tokens, where they are not
+  pub many_uncut : 10000 < length (printed p t) → (ts : List Token) → IsCut p text ts → ⊥
+  many_uncut many ts cut =
+      let here = subst (λ x. Cuts (literals_of p) false (length x) x cut_print.pieces []) (sym same) (cut_print.cut false blanks are) in
+      let alike = Cuts-same (distinct_are (literals p)) (IsStuck-nil (literals_of p) false) (IsStuck-nil (literals_of p) false) cut.2 here in
+      let shown_as : plain.Text → Stem = λ x. found_stem (sort_of [] (stem_of x)) in
+      let as_many : length (printed p t) ≡ length cut_print.pieces = ap length (sym (cut_print.show shown_as)) ∙ length-map cut_print.pieces (shown shown_as) in
+      omega (arith, many, cut.1, ap length alike.0, as_many)
 
   reading_at_zero : HasReading (numbered p) [] (printed p t) (number_of sort) 0 t
   reading_at_zero =

@@ -1,19 +1,24 @@
-use Rattle.std.proofs.Common.{ap, ◌∙◌, sym, subst}
+use Rattle.std.proofs.Common.{◌<◌, ap, ◌∙◌, sym, subst}
 use Rattle.sx_term.specs.Term.{tree}
 use Rattle.sx_token.specs.Tokens.{pieces}
 use Rattle.sx_notation.proofs.TextReading.{err_if}
 use Rattle.sx_module.specs.Body.{IsCut}
 use Rattle.sx_module.specs.PrintRefused.{IsPrintRefusal}
-use Rattle.sx_module.proofs.Reread.{exact_count, few_enough, print_outcome, print_reads, reads_only, cut_tokens_known}
+use Rattle.sx_module.proofs.Reread.{exact_count, few_enough, many_uncut, print_outcome, print_reads, reads_only, cut_tokens_known}
 use Rattle.sx_module.proofs.Refusing.{refused}
 use Rattle.sx_module.proofs.print_check.check_print.Goals as goal
 
 pub returns-then-count-gt-MOST_TOKENS-clause-err : goal.returns-then-count-gt-MOST_TOKENS-clause-err
-returns-then-count-gt-MOST_TOKENS-clause-err c = (
-  c.if-size-gt-MOST_BYTES.false,
-  c.if-count-gt-MOST_TOKENS.true,
-  exact_count c.args.grammar.now.parts (tree c.args.term.now) c.args.shown.now c.requires.text.0 c.args.size _ c.requires.text.2 c.requires.within c.if-size-gt-MOST_BYTES.false c.count_tokens-count.ensures,
-)
+returns-then-count-gt-MOST_TOKENS-clause-err c =
+    let p = c.args.grammar.now.parts in
+    let t = tree c.args.term.now in
+    let exact = exact_count p t c.args.shown.now c.requires.text.0 c.args.size _ c.requires.text.2 c.requires.within c.if-size-gt-MOST_BYTES.false c.count_tokens-count.ensures in
+    let many = subst (λ n. 10000 < n) exact c.if-count-gt-MOST_TOKENS.true in (
+      c.if-size-gt-MOST_BYTES.false,
+      c.if-count-gt-MOST_TOKENS.true,
+      exact,
+      many_uncut p c.args.sort t c.args.shown.now c.requires.text.0 c.facts.ensures.grammar c.facts.ensures.brackets c.requires.fits c.requires.lexemes c.requires.text.1 c.requires.text.2 c.requires.utf8 many,
+    )
 
 pub cut_print-requires-clause-cut : goal.cut_print-requires-clause-cut
 cut_print-requires-clause-cut c =
