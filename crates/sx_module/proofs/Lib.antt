@@ -14,3 +14,4 @@ pub mod Counted
 pub mod Shown
 pub mod Reread
 pub mod Refusing
+pub mod ModuleTexts

@@ -11,3 +11,4 @@ pub mod MainGoals
 pub mod Searched
 pub mod TypeErrors
 pub mod PrintRefused
+pub mod PrintedParts

@@ -9,6 +9,7 @@ mod counting;
 mod import;
 mod laws;
 mod module_error;
+mod module_writing;
 mod print_check;
 mod print_limit;
 mod reading;
