@@ -15,3 +15,5 @@ pub mod Shown
 pub mod Reread
 pub mod Refusing
 pub mod ModuleTexts
+pub mod ReadSorted
+pub mod TypedBodies

@@ -21,6 +21,7 @@ mod texts;
 mod type_error;
 mod typed;
 mod typing;
+mod typing_body;
 
 pub use compiled::Compiled;
 pub use goal_laws::{main_goals_fit, outputs_fit, searches_fit, stuck_goals_fit};
