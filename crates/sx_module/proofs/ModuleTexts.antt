@@ -1,5 +1,5 @@
 -- What is written of a module that is read and typed.
-use Rattle.std.proofs.Common.{Vec, vec_len, ◌≡◌, ◌≤◌, ◌+◌, ℕ, List, [], ◌∷◌, ◌++◌, map, length, refl, sym, ap, ◌∙◌, subst, arith, length-append}
+use Rattle.std.proofs.Common.{Vec, vec_len, ◌≡◌, ◌≤◌, ℕ, List, [], ◌∷◌, ◌++◌, map, length, sym, ap, ◌∙◌, subst, arith, length-append}
 use Rattle.std.specs.Prelude.{None, codes}
 use Rattle.std.specs.List.{AllByRecursion}
 use Rattle.std.specs.declared.alloc.Global.{Global}
@@ -23,7 +23,6 @@ use Rattle.sx_derive.proofs.Walked.{found_is_first}
 use Rattle.sx_earley.specs.Completed.{IsSort}
 use Rattle.sx_module.specs.declared.given.Given.{Given}
 use Rattle.sx_module.specs.declared.typed.Typed.{Typed}
-use Rattle.sx_module.specs.declared.print_check.PrintRefusal.{PrintRefusal}
 use Rattle.sx_module.specs.declared.print_check.PrintRefusal.TheVariants.{Memory, Limit, Ambiguous}
 use Rattle.sx_module.specs.declared.print_limit.Part.{Part}
 use Rattle.sx_module.specs.declared.print_limit.Part.TheVariants.{Body, Signature}
@@ -57,11 +56,24 @@ pub made : (s : Source) (tries : ℕ) (tokens : List Token) (reading : Reading) 
     → u.list ≡ entries t.list.items → u.derivation ≡ derivation_text s.language.rules (entries t.list.items) → u.nodes ≡ nodes_of b.answer.0
     → u.base_tokens ≡ length (printed s.language.parts subject) → u.source_tokens ≡ length tokens → IsMade s tries u
 made s tries tokens reading subject t u read b base interface list derivation nodes base_tokens source_tokens = record {
-  tokens = tokens; reading = reading; subject = subject; read = read; signature = tree t.signature; answer = b.answer; typed = b.typed;
+  tokens = tokens;
+  reading = reading;
+  subject = subject;
+  read = read;
+  signature = tree t.signature;
+  answer = b.answer;
+  typed = b.typed;
   written = record {
-    base = base.text; base_short = subst (λ (text : List ℕ). length text ≤ 262144) (sym base.text) base.short; body = base.read;
-    interface = interface.text; interface_short = subst (λ (text : List ℕ). length text ≤ 262144) (sym interface.text) interface.short; signature_read = interface.read;
-    list = list ∙ b.list; derivation = derivation ∙ ap (derivation_text s.language.rules) (sym list); nodes = nodes; base_tokens = base_tokens;
+    base = base.text;
+    base_short = subst (λ (text : List ℕ). length text ≤ 262144) (sym base.text) base.short;
+    body = base.read;
+    interface = interface.text;
+    interface_short = subst (λ (text : List ℕ). length text ≤ 262144) (sym interface.text) interface.short;
+    signature_read = interface.read;
+    list = list ∙ b.list;
+    derivation = derivation ∙ ap (derivation_text s.language.rules) (sym list);
+    nodes = nodes;
+    base_tokens = base_tokens;
   };
   source_tokens = source_tokens;
 }
@@ -140,6 +152,6 @@ signature_within it text e =
     let four : size (import_lines it.imports ++ last) ≤ size (rest (rest (rest all))) = rest_within (rest (rest (rest all))) in
     let behind : size last ≤ size (import_lines it.imports ++ last) = behind_lines (import_lines it.imports) last in
     let start : length it.signature ≤ size (rest (rest all)) = along (length it.signature) (size last) (size (rest (rest all))) (last_within it.signature)
-        (along (size last) (size (import_lines it.imports ++ last)) (size (rest (rest all))) behind (along (size (import_lines it.imports ++ last)) (size (rest (rest (rest all)))) (size (rest (rest all))) four three)) in
+    (along (size last) (size (import_lines it.imports ++ last)) (size (rest (rest all))) behind (along (size (import_lines it.imports ++ last)) (size (rest (rest (rest all)))) (size (rest (rest all))) four three)) in
     subst (λ (t : List ℕ). length it.signature ≤ length t) (sym e)
     (along (length it.signature) (size (rest (rest all))) (size all) start (along (size (rest (rest all))) (size (rest all)) (size all) two one))

@@ -130,7 +130,14 @@ fn put_signature(
     ensures refused { IfErr result (λ e. (subject : Tree) → base.now ≡ base_text (source_of given.now) subject → IsBadPart (source_of given.now) subject (tree signature.now) Part.Signature e) }
 {
     let shown = show_part(alloc, given, Part::Signature, signature)?;
-    let text = interface_text(alloc, given.header, given.digest, base, given.imports, &shown)?;
+    let text = interface_text(
+        alloc,
+        given.header,
+        given.digest,
+        base,
+        given.imports,
+        &shown,
+    )?;
     check_part(alloc, given, Part::Signature, text.len(), signature, &shown)?;
     Ok(text)
 }

@@ -9,7 +9,7 @@ use Rattle.sx_module.specs.declared.module_error.ModuleError.{ModuleError}
 use Rattle.sx_module.specs.declared.print_limit.Part.TheVariants.{Signature}
 use Rattle.sx_module.specs.Given.{source_of}
 use Rattle.sx_module.specs.PrintedParts.{IsBadPart}
-use Rattle.sx_module.specs.Texts.{print_text, base_text, interface_of}
+use Rattle.sx_module.specs.Texts.{base_text, interface_of}
 use Rattle.sx_module.proofs.ModuleTexts.{size_of, good_part, bad_part, signature_within}
 use Rattle.sx_module.proofs.module_writing.put_signature.Goals as goal
 
@@ -32,11 +32,11 @@ returns-in_err-check_part-clause-refused c =
     let P = λ (e : ModuleError). (subject : Tree) → c.args.base.now ≡ base_text s subject → IsBadPart s subject signature Signature e in
     let shown = c.in_ok-shown.ensures.0 in
     err_if c.from_residual-in_err-check_part.result _ P c.from_residual-in_err-check_part.ensures.1 (λ e is. subst P (sym is) (λ subject base.
-      bad_part s subject signature Signature c.in_ok-text.text.items c.deref-2.result.now c.len.result
-      (c.in_ok-text.ensures s.bytes
-      ∙ ap (λ (l : List ℕ). written (interface_lines (interface_of s.header s.digest (sha256 l) s.marks c.deref.result.now))) base
-      ∙ ap (λ (l : List ℕ). written (interface_lines (interface_of s.header s.digest (sha256 (base_text s subject)) s.marks l))) (c.deref.ensures.value ∙ shown))
-      (size_of c.in_ok-text.text c.len.result c.len.ensures) (c.deref-2.ensures.value ∙ shown) _ c.in_err-check_part.ensures.refused))
+    bad_part s subject signature Signature c.in_ok-text.text.items c.deref-2.result.now c.len.result
+    (c.in_ok-text.ensures s.bytes
+    ∙ ap (λ (l : List ℕ). written (interface_lines (interface_of s.header s.digest (sha256 l) s.marks c.deref.result.now))) base
+    ∙ ap (λ (l : List ℕ). written (interface_lines (interface_of s.header s.digest (sha256 (base_text s subject)) s.marks l))) (c.deref.ensures.value ∙ shown))
+    (size_of c.in_ok-text.text c.len.result c.len.ensures) (c.deref-2.ensures.value ∙ shown) _ c.in_err-check_part.ensures.refused))
 
 pub returns-clause-good : goal.returns-clause-good
 returns-clause-good c = λ subject base.

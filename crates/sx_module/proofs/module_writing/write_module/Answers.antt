@@ -1,4 +1,4 @@
-use Rattle.std.proofs.Common.{◌≡◌, ℕ, sym, subst, refl, ◌∙◌}
+use Rattle.std.proofs.Common.{ℕ, sym, subst, refl, ◌∙◌}
 use Rattle.sx_term.specs.Term.{tree}
 use Rattle.sx_forest.specs.Readings.{plain_reading}
 use Rattle.sx_notation.proofs.TextReading.{err_if}
@@ -17,7 +17,7 @@ returns-in_err-base-clause-refused c =
     let typed = c.args.typed in
     let P = λ (e : ModuleError). (tries : ℕ) → IsTypedBy s tries subject typed → IsBadModule s tries e in
     err_if c.from_residual.result _ P c.from_residual.ensures.1 (λ e is. subst P (sym is) (λ tries b.
-      refused s tries body.tokens.items (plain_reading body.reading) subject typed Body _ c.requires.body b tt (c.in_err-base.ensures.refused (tree typed.signature))))
+    refused s tries body.tokens.items (plain_reading body.reading) subject typed Body _ c.requires.body b tt (c.in_err-base.ensures.refused (tree typed.signature))))
 
 pub returns-in_err-interface-clause-refused : goal.returns-in_err-interface-clause-refused
 returns-in_err-interface-clause-refused c =
@@ -28,8 +28,8 @@ returns-in_err-interface-clause-refused c =
     let good = c.in_ok-base.ensures.good (tree typed.signature) in
     let P = λ (e : ModuleError). (tries : ℕ) → IsTypedBy s tries subject typed → IsBadModule s tries e in
     err_if c.from_residual-in_err-interface.result _ P c.from_residual-in_err-interface.ensures.1 (λ e is. subst P (sym is) (λ tries b.
-      refused s tries body.tokens.items (plain_reading body.reading) subject typed Signature _ c.requires.body b (good.short, good.read)
-      (c.in_err-interface.ensures.refused subject (c.deref.ensures.value ∙ good.text))))
+    refused s tries body.tokens.items (plain_reading body.reading) subject typed Signature _ c.requires.body b (good.short, good.read)
+    (c.in_err-interface.ensures.refused subject (c.deref.ensures.value ∙ good.text))))
 
 pub returns-clause-made : goal.returns-clause-made
 returns-clause-made c = λ tries b.
