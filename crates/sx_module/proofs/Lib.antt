@@ -17,6 +17,7 @@ pub mod Refusing
 pub mod OneAnswer
 pub mod OnePrint
 pub mod OneUnit
+pub mod ModuleTexts
 pub mod ReadSorted
 pub mod TypedBodies
 pub mod Units
