@@ -10,22 +10,22 @@ use Rattle.sx_words.specs.declared.refusal.Defect.TheVariants as defect
 use Rattle.sx_words.proofs.CommandLaws.{one_command}
 use Rattle.sx_outside.specs.Files.{Files, after}
 use Rattle.sx_outside.specs.Faults.{Rose}
-use Rattle.sx_top.specs.Work.{Plan, plan_of}
-use Rattle.sx_top.specs.Stop.{Gives, IsStopped, RisesBy, RisesUpTo, Tried}
+use Rattle.sx_steps.specs.Work.{Plan, plan_of}
+use Rattle.sx_steps.specs.Stop.{Gives, IsStopped, RisesBy, RisesUpTo, Tried}
 use Rattle.sx_top.specs.Commands.{by_now, Spelled}
 use Rattle.sx_top.specs.Outcome.{Outcome, Runs, Walks, Promises}
 use Rattle.sx_top.specs.Tries.{TriesOf}
 use Rattle.sx_top.specs.Performing.{Performs}
 use Rattle.sx_top.specs.Telling.{Sends, IsTold, IsStatusOf, error_status}
-use Rattle.sx_top.specs.declared.stop.Stop.{Stop}
-use Rattle.sx_top.specs.Refusal.{file_status, defect_status, status_of, line_of}
+use Rattle.sx_steps.specs.declared.stop.Stop.{Stop}
+use Rattle.sx_steps.specs.Refusal.{file_status, defect_status, status_of, line_of}
 use Rattle.sx_top.specs.Ending.{Ends, Tells, KeepsPromise, HasNoDefect, IsDoneOrShort, IsDone, IsCounted, HasWalks}
-use Rattle.sx_top.specs.declared.status.Status.{Status}
-use Rattle.sx_top.specs.declared.status.Status.TheVariants as statuses
-use Rattle.sx_top.specs.declared.step_error.StepError.{StepError}
-use Rattle.sx_top.specs.declared.step_error.StepError.TheVariants as errors
-use Rattle.sx_top.specs.declared.work.Work.{Work}
-use Rattle.sx_top.proofs.StepsOn.{went}
+use Rattle.sx_steps.specs.declared.status.Status.{Status}
+use Rattle.sx_steps.specs.declared.status.Status.TheVariants as statuses
+use Rattle.sx_steps.specs.declared.step_error.StepError.{StepError}
+use Rattle.sx_steps.specs.declared.step_error.StepError.TheVariants as errors
+use Rattle.sx_steps.specs.declared.work.Work.{Work}
+use Rattle.sx_steps.proofs.StepsOn.{went}
 use Rattle.sx_top.proofs.BuildPromise.{build_promise}
 use Rattle.sx_top.proofs.VerifyPromise.{verify_promise}
 use Rattle.sx_top.proofs.VerifySteps.{replayed_derives}
@@ -62,6 +62,7 @@ file_of_stop (file_defect.Notation kind) = tt
 file_of_stop file_defect.Header = tt
 file_of_stop (file_defect.Version number) = tt
 file_of_stop file_defect.BadList = tt
+file_of_stop file_defect.NotYet = tt
 
 defect_of_stop : (what : Defect) → IsOfStop (defect_status what)
 unfolding IsOfStop

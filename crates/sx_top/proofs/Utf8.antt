@@ -15,10 +15,6 @@ use Rattle.sx_term.specs.declared.lex_kind.LexKind.TheVariants.{Id, Num, Str}
 use Rattle.sx_top.specs.GoalTexts.{places_text}
 use Rattle.sx_top.specs.Terms.{AreTerms}
 
--- bytes that are UTF-8 are not refused
-pub not_refused : (bytes : List ℕ) (result : Result (List ℕ) TextError) (place : ℕ) → IsMade bytes result → result ≡ Err (NotUtf8 place) → IsUtf8 bytes → ⊥
-not_refused bytes result place made is utf8 = (subst (IsMade bytes) is made).0 utf8
-
 number_utf8 : (n : ℕ) → n < 2 ^ 64 → IsUtf8 (decimal n)
 number_utf8 n small = IsUtf8-from_ascii (decimal n) (IsAscii-decimal n small)
 

@@ -3,8 +3,8 @@ use Rattle.std.specs.Prelude.{◌≡◌, ℕ, ◌≤◌, true, List, Result, Ok,
 use Rattle.sx_words.specs.Commands.{Meant, builds, verifies, SpellsAt, IsMisfitAt}
 use Rattle.sx_words.specs.declared.stage.Stage.{Stage}
 use Rattle.sx_words.specs.declared.stage.Stage.TheVariants.{CoreFiles}
-use Rattle.sx_top.specs.declared.stop.Stop.{Stop}
-use Rattle.sx_top.specs.Refusal.{bad_word}
+use Rattle.sx_steps.specs.declared.stop.Stop.{Stop}
+use Rattle.sx_steps.specs.Refusal.{bad_word}
 
 -- the commands that there are by now: `build --core`, with `--tries`, and `verify --core`
 abbrev pub by_now : Stage

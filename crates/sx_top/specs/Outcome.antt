@@ -2,10 +2,10 @@
 use Rattle.std.specs.Prelude.{◌≡◌, List, ℕ, true, Result}
 use Rattle.sx_outside.specs.Files.{Files}
 use Rattle.sx_words.specs.Commands.{Meant, builds, verifies}
-use Rattle.sx_top.specs.declared.stop.Stop.{Stop}
-use Rattle.sx_top.specs.Steps.{Then}
+use Rattle.sx_steps.specs.declared.stop.Stop.{Stop}
+use Rattle.sx_steps.specs.Steps.{Then}
 use Rattle.sx_top.specs.Commands.{Commands}
-use Rattle.sx_top.specs.Work.{Plan}
+use Rattle.sx_steps.specs.Work.{Plan}
 use Rattle.sx_top.specs.BuildCore.{BuildsWhole, WholeTries, BuiltUnit}
 use Rattle.sx_top.specs.VerifyCore.{VerifiesWhole, VerifiedUnit}
 

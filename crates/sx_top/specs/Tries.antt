@@ -1,11 +1,11 @@
 -- What the steps of each command say of its tries.
 use Rattle.std.specs.Prelude.{◌≡◌, ℕ, true, Result}
 use Rattle.sx_outside.specs.Files.{Files}
-use Rattle.sx_top.specs.Stop.{Tried}
+use Rattle.sx_steps.specs.Stop.{Tried}
 use Rattle.sx_top.specs.BuildCore.{WholeTries}
 use Rattle.sx_words.specs.Commands.{Meant, builds, verifies}
-use Rattle.sx_top.specs.declared.step_error.StepError.{StepError}
-use Rattle.sx_top.specs.declared.work.Work.{Work}
+use Rattle.sx_steps.specs.declared.step_error.StepError.{StepError}
+use Rattle.sx_steps.specs.declared.work.Work.{Work}
 
 -- the steps rose by the tries of the command's walks, or not at all where something stopped them
 abbrev pub TriesOf : Meant → Files → Result Work StepError → ℕ → ℕ → Type 0

@@ -17,7 +17,7 @@ pub enum StepError {
 
 impl From<NoMemory> for StepError {
     ghost use Rattle.std.specs.Prelude.{◌≡◌};
-    ghost use Rattle.sx_top.specs.declared.step_error.StepError.TheVariants.{Memory};
+    ghost use Rattle.sx_steps.specs.declared.step_error.StepError.TheVariants.{Memory};
 
     ghost from_gives = { λ _ e. e ≡ Memory };
 

@@ -7,9 +7,9 @@ use Rattle.sx_words.specs.declared.file_defect.FileDefect.{FileDefect}
 use Rattle.sx_words.specs.declared.file_defect.FileDefect.TheVariants as file_defect
 use Rattle.sx_words.specs.declared.refusal.Defect.{Defect}
 use Rattle.sx_words.specs.declared.refusal.Defect.TheVariants as defect
-use Rattle.sx_top.specs.declared.stop.Stop.{Stop}
-use Rattle.sx_top.specs.declared.status.Status.{Status}
-use Rattle.sx_top.specs.declared.status.Status.TheVariants as statuses
+use Rattle.sx_steps.specs.declared.stop.Stop.{Stop}
+use Rattle.sx_steps.specs.declared.status.Status.{Status}
+use Rattle.sx_steps.specs.declared.status.Status.TheVariants as statuses
 
 -- ---- stops
 
@@ -47,6 +47,7 @@ file_status (file_defect.Notation kind) = statuses.Refused
 file_status file_defect.Header = statuses.Refused
 file_status (file_defect.Version number) = statuses.Refused
 file_status file_defect.BadList = statuses.Refused
+file_status file_defect.NotYet = statuses.Refused
 
 -- the status of a defect
 abbrev pub defect_status : Defect → Status

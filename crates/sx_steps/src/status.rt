@@ -1,7 +1,7 @@
 //! How a run ended.
 
 ghost use Rattle.std.specs.Prelude.{◌≡◌};
-ghost use Rattle.sx_top.specs.Status.{code_of};
+ghost use Rattle.sx_steps.specs.Status.{code_of};
 
 /// How a run ended.
 #[derive(Clone, Copy, PartialEq, Eq, Debug)]

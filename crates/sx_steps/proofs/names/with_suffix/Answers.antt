@@ -2,8 +2,8 @@ use Rattle.std.proofs.Common.{◌≡◌, ◌++◌, ap, ◌∙◌, sym, subst}
 use Rattle.std.specs.Prelude.{Err}
 use Rattle.std.specs.Str.{IsUtf8}
 use Rattle.std.proofs.lemmas.Str.{IsUtf8-append}
-use Rattle.sx_top.proofs.Utf8.{not_refused}
-use Rattle.sx_top.proofs.names.with_suffix.Goals as goal
+use Rattle.sx_steps.proofs.Texts.{not_refused}
+use Rattle.sx_steps.proofs.names.with_suffix.Goals as goal
 
 pub unreachable-requires : goal.unreachable-requires
 unreachable-requires c =

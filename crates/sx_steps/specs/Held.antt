@@ -1,9 +1,9 @@
 -- The step that reads a file from the shelf, with the most bytes that it may have.
 use Rattle.std.specs.Prelude.{◌≡◌, ◌⊎◌, ℕ, ◌<◌, ◌≤◌, List, length, Result, Ok, Err, Some, None}
 use Rattle.sx_outside.specs.Files.{Files}
-use Rattle.sx_top.specs.declared.stop.Stop.{Stop}
-use Rattle.sx_top.specs.Refusal.{absent, read_fault}
-use Rattle.sx_top.specs.CoreStops.{too_long}
+use Rattle.sx_steps.specs.declared.stop.Stop.{Stop}
+use Rattle.sx_steps.specs.Refusal.{absent, read_fault}
+use Rattle.sx_steps.specs.Stops.{too_long}
 
 -- more bytes than the limit are held under the name
 abbrev pub IsLong : ℕ → Files → List ℕ → Type 0

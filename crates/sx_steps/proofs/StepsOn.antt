@@ -2,11 +2,11 @@
 use Rattle.std.proofs.Common.{ℕ, refl, inl, inr}
 use Rattle.std.specs.Prelude.{Result, Ok, Err, Option}
 use Rattle.sx_outside.specs.Files.{Files}
-use Rattle.sx_top.specs.declared.stop.Stop.{Stop}
-use Rattle.sx_top.specs.Steps.{Then, Goes}
-use Rattle.sx_top.specs.Stop.{Gives, GivesFor, OnlyReads, IsNoFault, RisesBy, RisesUpTo, Counts, Tried}
-use Rattle.sx_top.specs.declared.step_error.StepError.{StepError}
-use Rattle.sx_top.specs.declared.step_error.StepError.TheVariants as errors
+use Rattle.sx_steps.specs.declared.stop.Stop.{Stop}
+use Rattle.sx_steps.specs.Steps.{Then, Goes}
+use Rattle.sx_steps.specs.Stop.{Gives, GivesFor, OnlyReads, IsNoFault, RisesBy, RisesUpTo, Counts, Tried}
+use Rattle.sx_steps.specs.declared.step_error.StepError.{StepError}
+use Rattle.sx_steps.specs.declared.step_error.StepError.TheVariants as errors
 
 -- where the first step stops, all of them do
 pub stops_first : {X Y A B : Type 0} (view : X → A) (seen : Y → B) (first : Result A Stop → Type 0) (next : A → Result B Stop → Type 0) (e : StepError) → Gives view first (Err e) → Gives seen (Then first next) (Err e)

@@ -18,6 +18,19 @@ pub fn with_suffix(alloc: Global, text: &Text, suffix: &str) -> Result<Text, NoM
     }
 }
 
+/// The two texts, one after the other.
+pub fn joined(alloc: Global, text: &Text, other: &Text) -> Result<Text, NoMemory>
+    ensures { IfOk result (λ t. t ≡ text.now ++ other.now) }
+{
+    let mut bytes = Vec::from_slice(alloc, text.bytes())?;
+    bytes.extend_from_slice(other.bytes())?;
+    match Text::make(alloc, &bytes) {
+        Ok(text) => Ok(text),
+        Err(TextError::Memory) => Err(NoMemory::Memory),
+        Err(TextError::NotUtf8(_)) => unreachable!(),
+    }
+}
+
 /// The text of these characters.
 pub fn text_of(alloc: Global, characters: &str) -> Result<Text, NoMemory>
     ensures { IfOk result (λ t. t ≡ characters.now) }

@@ -1,7 +1,7 @@
 //! Why a command ends early.
 
 ghost use Rattle.std.specs.Prelude.{◌≡◌, IfOk};
-ghost use Rattle.sx_top.specs.Refusal.{about as stop_about, file_status as status_of_file, defect_status as status_of_defect, status_of, line_of};
+ghost use Rattle.sx_steps.specs.Refusal.{about as stop_about, file_status as status_of_file, defect_status as status_of_defect, status_of, line_of};
 ghost use Rattle.sx_words.specs.Lines.{line_text};
 ghost use Rattle.sx_words.specs.RefusalText.{refusal_text};
 
@@ -53,7 +53,8 @@ fn file_status(defect: &FileDefect) -> Status
         | FileDefect::Notation(_)
         | FileDefect::Header
         | FileDefect::Version(_)
-        | FileDefect::BadList => Status::Refused,
+        | FileDefect::BadList
+        | FileDefect::NotYet => Status::Refused,
     }
 }
 

@@ -1,8 +1,8 @@
 -- What is left to do where no step stopped.
 use Rattle.std.specs.Prelude.{ℕ, List, map}
 use Rattle.sx_outside.specs.Files.{File}
-use Rattle.sx_top.specs.declared.work.Output.{Output}
-use Rattle.sx_top.specs.declared.work.Work.{Work}
+use Rattle.sx_steps.specs.declared.work.Output.{Output}
+use Rattle.sx_steps.specs.declared.work.Work.{Work}
 
 -- the files to write in order, and the lines for the sink
 pub record Plan : Type 0 where

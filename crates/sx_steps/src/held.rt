@@ -2,8 +2,8 @@
 
 ghost use Rattle.std.specs.Prelude.{◌≡◌, ◌≤◌, IfOk, length};
 ghost use Rattle.sx_outside.specs.Told.{WhereTold};
-ghost use Rattle.sx_top.specs.Held.{Held};
-ghost use Rattle.sx_top.specs.Stop.{Gives, OnlyReads};
+ghost use Rattle.sx_steps.specs.Held.{Held};
+ghost use Rattle.sx_steps.specs.Stop.{Gives, OnlyReads};
 
 use crate::step_error::StepError;
 use crate::stop::about;

@@ -2,12 +2,12 @@
 use Rattle.std.specs.Prelude.{◌≡◌, ◌⊎◌, ℕ, ◌+◌, ◌≤◌, Result, Ok, Err, Option}
 use Rattle.sx_outside.specs.Files.{Files}
 use Rattle.sx_outside.specs.Faults.{Rose}
-use Rattle.sx_top.specs.declared.stop.Stop.{Stop}
-use Rattle.sx_top.specs.declared.status.Status.{Status}
-use Rattle.sx_top.specs.declared.status.Status.TheVariants as statuses
-use Rattle.sx_top.specs.Refusal.{status_of}
-use Rattle.sx_top.specs.declared.step_error.StepError.{StepError}
-use Rattle.sx_top.specs.declared.step_error.StepError.TheVariants as errors
+use Rattle.sx_steps.specs.declared.stop.Stop.{Stop}
+use Rattle.sx_steps.specs.declared.status.Status.{Status}
+use Rattle.sx_steps.specs.declared.status.Status.TheVariants as statuses
+use Rattle.sx_steps.specs.Refusal.{status_of}
+use Rattle.sx_steps.specs.declared.step_error.StepError.{StepError}
+use Rattle.sx_steps.specs.declared.step_error.StepError.TheVariants as errors
 
 -- the result, seen by view, is one of the step's, unless memory lacked
 abbrev pub Gives : {X A : Type 0} → (X → A) → (Result A Stop → Type 0) → Result X StepError → Type 0
@@ -58,3 +58,7 @@ abbrev pub Tried : {X : Type 0} → (ℕ → Type 0) → Result X StepError → 
 Tried Walks (Ok x) before after = RisesBy Walks before after
 Tried Walks (Err errors.Memory) before after = (after ≡ before) ⊎ RisesUpTo Walks before after
 Tried Walks (Err (errors.Stopped stop)) before after = (after ≡ before) ⊎ RisesBy Walks before after
+
+-- the steps rose by at most so many
+abbrev pub RisesWithin : ℕ → ℕ → ℕ → Type 0
+RisesWithin most before after = (before ≤ after) × (after ≤ before + most)

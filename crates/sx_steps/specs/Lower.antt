@@ -1,6 +1,6 @@
 -- The answers of a call below, as those of a step.
 use Rattle.std.specs.Prelude.{◌≡◌, Result, Ok, Err, Option, Some}
-use Rattle.sx_top.specs.declared.stop.Stop.{Stop}
+use Rattle.sx_steps.specs.declared.stop.Stop.{Stop}
 
 -- the value that the call answers, or the stop of its refusal; a refusal for want of memory has none
 abbrev pub Lower : {A E : Type 0} → (E → Option Stop) → (Result A E → Type 0) → Result A Stop → Type 0

@@ -1,7 +1,7 @@
 -- The exit code of a status.
 use Rattle.std.specs.Prelude.{ℕ}
-use Rattle.sx_top.specs.declared.status.Status.{Status}
-use Rattle.sx_top.specs.declared.status.Status.TheVariants.{Done, Refused, Words, ReadFault, WriteFault, NoMemory, Spent}
+use Rattle.sx_steps.specs.declared.status.Status.{Status}
+use Rattle.sx_steps.specs.declared.status.Status.TheVariants.{Done, Refused, Words, ReadFault, WriteFault, NoMemory, Spent}
 
 -- the exit code
 abbrev pub code_of : Status → ℕ

@@ -1,6 +1,6 @@
 -- Steps one after another. A step leads to a stop, or to what the next step starts from.
 use Rattle.std.specs.Prelude.{◌≡◌, Result, Ok, Err}
-use Rattle.sx_top.specs.declared.stop.Stop.{Stop}
+use Rattle.sx_steps.specs.declared.stop.Stop.{Stop}
 
 -- the next step from what was given; a stop stays
 abbrev pub Goes : {A B : Type 0} → (A → Result B Stop → Type 0) → Result A Stop → Result B Stop → Type 0
