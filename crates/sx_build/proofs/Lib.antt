@@ -1,0 +1,4 @@
+mod Environments
+mod Sources
+mod FirstLines
+mod Agreeing
