@@ -6,3 +6,5 @@ pub mod RuleGrammars
 pub mod Numbers
 pub mod Copied
 pub mod TextReading
+pub mod TreeTexts
+pub mod ReadLexemes

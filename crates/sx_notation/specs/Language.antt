@@ -67,3 +67,14 @@ pub record IsLanguage (l : Language) : Type 0 where
   pub forms : forms_in l.rules ≡ map (form_of l.grammar.parts) lines
   pub lexemes : AllByRecursion (RuleHasLexemes (literals_of l.grammar.parts)) (rules_in l.rules)
   pub main : IsMain l.grammar.parts (forms_in l.rules) l.main
+
+-- a language without where it lies in memory: what compiling depends on
+pub record LanguageData : Type 0 where
+  pub parts : Parts
+  pub rule_parts : Parts
+  pub forms : List FormData
+  pub rules : List NamedRule
+  pub main : MainForm
+
+abbrev pub language_data : Language → LanguageData
+language_data l = record { parts = l.grammar.parts; rule_parts = l.rule_grammar.parts; forms = forms_in l.rules; rules = rules_in l.rules; main = l.main }

@@ -4,4 +4,6 @@ pub mod Placed
 pub mod RuleParts
 pub mod RuleLaws
 pub mod Language
+pub mod WhyUnread
 pub mod ReadText
+pub mod ReadLaws

@@ -1,5 +1,5 @@
 -- The term that a line of text spells.
-use Rattle.std.specs.Prelude.{◌≡◌, ℕ, true, List, Some, None, Err, IfSome}
+use Rattle.std.specs.Prelude.{◌≡◌, ℕ, true, List, length, Some, None, Err, IfSome}
 use Rattle.sx_term.specs.declared.sort.Sort.{Sort}
 use Rattle.sx_term.specs.Cutting.{IsOutcome, tokens}
 use Rattle.sx_term.specs.Tree.{Tree}
@@ -8,7 +8,7 @@ use Rattle.sx_token.specs.declared.token_error.TokenError.{TokenError}
 use Rattle.sx_token.specs.declared.token_error.TokenError.TheVariants as token
 use Rattle.sx_token.specs.Tokens.{pieces, outcome_of}
 use Rattle.sx_grammar.specs.Grammar.{Text}
-use Rattle.sx_grammar.specs.Parts.{Parts, labels, numbered}
+use Rattle.sx_grammar.specs.Parts.{Parts, numbered}
 use Rattle.sx_grammar.specs.Tables.{literals_of}
 use Rattle.sx_grammar.specs.Reading.{Reading}
 use Rattle.sx_grammar.specs.ReadOne.{IsAnswer, only}
@@ -16,12 +16,9 @@ use Rattle.sx_grammar.specs.Print.{term_of}
 use Rattle.sx_earley.specs.Tokens.{Stems, plain_tokens}
 use Rattle.sx_earley.specs.Unknown.{IsFirstUnknown}
 use Rattle.sx_earley.specs.Completed.{number_of}
-use Rattle.sx_forest.specs.declared.read_error.ReadError.{ReadError}
-use Rattle.sx_forest.specs.declared.read_error.ReadError.TheVariants as read
 use Rattle.sx_forest.specs.Names.{names_in, AddsEach}
-use Rattle.sx_forest.specs.Text.{texts}
-use Rattle.sx_forest.specs.Verdict.{IsRefusal}
 use Rattle.sx_core.specs.declared.kind.Kind.TheVariants.{Variable}
+use Rattle.sx_notation.specs.WhyUnread.{IsUnreadAs}
 use Rattle.sx_notation.specs.declared.notation_error.NotationError.{NotationError}
 use Rattle.sx_notation.specs.declared.notation_error.NotationError.TheVariants.{Memory, Notation, Token as BadTokens, Read}
 
@@ -51,24 +48,21 @@ HasDefect p line e = IfSome (outcome_of (Err e)) (IsOutcome (literals_of p) true
 abbrev pub HasUnknown : Parts → Stems → (line : Text) → Type 0
 HasUnknown p stems line = (ts : List Token) × (place : ℕ) × IsCut p line ts × IsFirstUnknown stems ts (Some place)
 
--- why the tokens have not one reading
-abbrev pub IsUnread : Parts → Stems → Sort → List Token → ReadError → Type 0
-IsUnread p stems sort ts read.Memory = ⊥
-IsUnread p stems sort ts e = IsRefusal (labels p) (texts ts) (numbered p) (plain_tokens stems ts) (number_of sort) e
-
 -- why the line with this number is refused, want of memory aside
 abbrev pub IsRefused : Parts → Stems → Sort → (line : Text) → (number : ℕ) → NotationError → Type 0
 IsRefused p stems sort line number Memory = Unit {0}
 IsRefused p stems sort line number (BadTokens at e) = (at ≡ number) × HasDefect p line e
 IsRefused p stems sort line number (Notation at kind) = (at ≡ number) × (kind ≡ Variable) × HasUnknown p stems line
-IsRefused p stems sort line number (Read at e) = (at ≡ number) × ((ts : List Token) × IsKnownCut p stems line ts × IsUnread p stems sort ts e)
+IsRefused p stems sort line number (Read at e) = (at ≡ number) × ((ts : List Token) × IsKnownCut p stems line ts × IsUnreadAs p stems sort ts (length line) e)
+IsRefused p stems sort line number _ = ⊥
+
+-- the tokens of a line of so many bytes have not one reading, want of memory aside
+abbrev pub IsUnreadLine : Parts → Stems → Sort → List Token → (size : ℕ) → (number : ℕ) → NotationError → Type 0
+IsUnreadLine p stems sort ts size number Memory = Unit {0}
+IsUnreadLine p stems sort ts size number (Read at e) = (at ≡ number) × IsUnreadAs p stems sort ts size e
+IsUnreadLine p stems sort ts size number _ = ⊥
 
 -- a defect as a refusal of the line with this number
 abbrev pub of_token_error : (number : ℕ) → TokenError → NotationError
 of_token_error number token.Memory = Memory
 of_token_error number e = BadTokens number e
-
--- the same of tokens that have not one reading
-abbrev pub of_read_error : (number : ℕ) → ReadError → NotationError
-of_read_error number read.Memory = Memory
-of_read_error number e = Read number e

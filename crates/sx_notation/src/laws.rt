@@ -1,6 +1,7 @@
-//! Laws of the grammar by which rules are read.
+//! Laws of the grammar by which rules are read, and of terms that are read.
 
 ghost use Rattle.sx_notation.specs.RuleLaws.{ProductionsStay, FormsFollow, SortedGoalsFit};
+ghost use Rattle.sx_notation.specs.ReadLaws.{ReadsHaveLexemes, ReadsAreShallow};
 
 /// The productions of a grammar keep their labels in the grammar by which rules are read. The forms follow them in order, each with parts
 /// of the sorts of its places, and then three productions for `!=`.
@@ -12,4 +13,11 @@ pub fn rule_grammars_go_on()
 /// A goal that is well sorted by a grammar, as its outputs are where they were got, fits the forms of the grammar by which rules are read.
 pub fn sorted_goals_fit()
     ensures { SortedGoalsFit }
+{}
+
+/// The lexemes of a term that `read_text` reads are tokens of their kinds and no literals of the grammar, and the term is at most 1,000
+/// deep.
+pub fn read_terms_are_usable()
+    ensures lexemes { ReadsHaveLexemes }
+    ensures shallow { ReadsAreShallow }
 {}

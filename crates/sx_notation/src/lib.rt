@@ -6,7 +6,8 @@
 //!   sorts of a grammar.
 //! - `rule_grammars_go_on`: productions keep their labels in the grammar of rules, and the forms follow them in order. `sorted_goals_fit`:
 //!   a goal that is well sorted by the language's grammar meets the conditions of `print_goal`.
-//! - `read_text`: the term of a line's only reading by a grammar, or why the line is refused.
+//! - `read_text`: the term of a line's only reading by a grammar, or why the line is refused. `why_unread`: why tokens have not one
+//!   reading, with places and texts in place of tokens and readings. `read_terms_are_usable`: lexemes and depth of what is read.
 #![tactic(auto)]
 
 mod content;
@@ -18,15 +19,19 @@ mod names;
 mod notation_error;
 mod resolving;
 mod rule_productions;
+mod telling;
 mod text_reading;
+mod unread;
 mod walk;
 
 pub use goal_printing::print_goal;
 pub use language::Language;
-pub use laws::{rule_grammars_go_on, sorted_goals_fit};
+pub use laws::{read_terms_are_usable, rule_grammars_go_on, sorted_goals_fit};
 pub use notation_error::NotationError;
 pub use resolving::forms_of;
 pub use rule_productions::{rule_grammar, rule_parts};
 pub use sx_core::Kind;
 pub use sx_outline::MainForm;
+pub use telling::why_unread;
 pub use text_reading::read_text;
+pub use unread::Unread;

@@ -1,27 +1,41 @@
 //! Why the notation of languages is refused.
 
-use std::alloc::AllocError;
+use crate::unread::Unread;
+use std::alloc::{AllocError, AllocFailed};
 use sx_core::Kind;
-use sx_forest::ReadError;
-use sx_term::NoMemory;
+use sx_grammar::GrammarError;
+use sx_rules::RuleError;
+use sx_term::{NoMemory, Text};
 use sx_token::TokenError;
 use thiserror::Error;
 
-/// Why a line is refused. Lines have the numbers that the caller gave them.
+/// Why a language file or a line is refused. Lines have the numbers that the caller gave them, and lines of a file count from 1.
 #[derive(Debug, Drop, Error)]
 pub enum NotationError {
     /// Memory is lacking.
     #[error("out of memory")]
     Memory,
+    /// The file is not UTF-8; as many bytes stand before the first bad sequence.
+    #[error("not UTF-8 at byte {0}")]
+    NotUtf8(usize),
     /// The line is bad, and what is bad about it.
     #[error("a bad line")]
     Notation { line: u32, kind: Kind },
     /// The line has no tokens, and its first defect.
     #[error("a line without tokens")]
     Token { line: u32, error: TokenError },
-    /// The tokens of the line have not one reading, and why.
+    /// The sorts, productions and forms are no grammar, and why.
+    #[error("no grammar")]
+    Grammar(GrammarError),
+    /// The tokens of the line have not one reading, and why. Places count the bytes of the line from 0.
     #[error("a line without one reading")]
-    Read { line: u32, error: ReadError },
+    Read { line: u32, error: Unread },
+    /// The rules are no rule set, and why; and the name of the variable that is not bound, exactly where that is why.
+    #[error("no rule set")]
+    Rules {
+        error: RuleError,
+        variable: Option<Text>,
+    },
 }
 
 impl From<NoMemory> for NotationError {
@@ -42,6 +56,17 @@ impl From<AllocError> for NotationError {
     ghost from_gives = { λ _ e. e ≡ Memory };
 
     fn from(_: AllocError) -> NotationError {
+        NotationError::Memory
+    }
+}
+
+impl<T: Drop> From<AllocFailed<T>> for NotationError {
+    ghost use Rattle.std.specs.Prelude.{◌≡◌};
+    ghost use Rattle.sx_notation.specs.declared.notation_error.NotationError.TheVariants.{Memory};
+
+    ghost from_gives = { λ _ e. e ≡ Memory };
+
+    fn from(_: AllocFailed<T>) -> NotationError {
         NotationError::Memory
     }
 }

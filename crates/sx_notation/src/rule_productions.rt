@@ -13,7 +13,7 @@ use sx_grammar::{Grammar, GrammarError, GrammarParts, Production, SortLine, Symb
 use sx_term::{LexKind, NoMemory, Text, TextError};
 
 /// The text with these bytes.
-fn text_of(alloc: Global, bytes: &[u8]) -> Result<Text, NoMemory>
+pub(crate) fn text_of(alloc: Global, bytes: &[u8]) -> Result<Text, NoMemory>
     requires { IsUtf8 bytes.now }
     ensures { IfOk result (λ t. t ≡ bytes.now) }
 {

@@ -9,16 +9,18 @@ ghost use Rattle.sx_earley.specs.Tokens.{Stems, plain_tokens};
 ghost use Rattle.sx_earley.specs.Unknown.{IsFirstUnknown};
 ghost use Rattle.sx_earley.specs.Completed.{IsSort, number_of};
 ghost use Rattle.sx_forest.specs.Readings.{plain_reading};
-ghost use Rattle.sx_notation.specs.ReadText.{IsCut, IsKnownCut, IsRead, IsRefused, of_token_error, of_read_error};
+ghost use Rattle.sx_notation.specs.WhyUnread.{IsReadError};
+ghost use Rattle.sx_notation.specs.ReadText.{IsCut, IsKnownCut, IsRead, IsRefused, IsUnreadLine, of_token_error};
 
 use crate::names::copy_names;
 use crate::notation_error::NotationError;
+use crate::telling::why_unread;
 use std::alloc::Global;
 use sx_core::Kind;
 use sx_earley::{Metas, first_unknown};
 use sx_forest::{ReadError, Reading, read_one, strip};
 use sx_grammar::Grammar;
-use sx_term::{Sort, Term, Vars};
+use sx_term::{NoMemory, Sort, Term, Vars};
 use sx_token::{Token, TokenError, tokens};
 
 /// The refusal of the line that has this defect.
@@ -31,13 +33,22 @@ fn token_error(line: u32, error: TokenError) -> NotationError
     }
 }
 
-/// The refusal of the line whose tokens have not one reading.
-fn read_error(line: u32, error: ReadError) -> NotationError
-    ensures { result ≡ of_read_error line error }
+/// The refusal of the line of so many bytes whose tokens have not one reading.
+fn read_error(
+    alloc: Global,
+    grammar: &Grammar,
+    tokens: &[Token],
+    size: usize,
+    line: u32,
+    error: ReadError,
+) -> NotationError
+    requires { (stems : Stems) × (sort : Sort) × IsReadError grammar.now.parts stems sort tokens.now error }
+    ensures { (stems : Stems) (sort : Sort) → IsReadError grammar.now.parts stems sort tokens.now error →
+        IsUnreadLine grammar.now.parts stems sort tokens.now size line result }
 {
-    match error {
-        ReadError::Memory => NotationError::Memory,
-        error => NotationError::Read { line, error },
+    match why_unread(alloc, grammar, tokens, size, error) {
+        Ok(error) => NotationError::Read { line, error },
+        Err(NoMemory::Memory) => NotationError::Memory,
     }
 }
 
@@ -81,24 +92,24 @@ fn known_tokens(
     }
 }
 
-/// The only reading of the tokens of a line with this number.
+/// The only reading of the tokens of a line with this number and so many bytes.
 fn reading_of(
     alloc: Global,
     grammar: &Grammar,
     sort: Sort,
     metas: &Metas,
     tokens: &[Token],
+    size: usize,
     number: u32,
 ) -> Result<Reading, NotationError>
     requires sort { IsSort grammar.now.parts sort }
     requires known { (line : List ℕ) × IsKnownCut grammar.now.parts metas.now.stems.items line tokens.now }
     ensures only { IfOk result (λ r. IsAnswer (numbered grammar.now.parts) (plain_tokens metas.now.stems.items tokens.now) (number_of sort) (only (plain_reading r))) }
-    ensures refused { IfErr result (λ e. (line : List ℕ) → IsKnownCut grammar.now.parts metas.now.stems.items line tokens.now →
-        IsRefused grammar.now.parts metas.now.stems.items sort line number e) }
+    ensures refused { IfErr result (IsUnreadLine grammar.now.parts metas.now.stems.items sort tokens.now size number) }
 {
     match read_one(alloc, grammar, sort, metas, tokens) {
         Ok(reading) => Ok(reading),
-        Err(error) => Err(read_error(number, error)),
+        Err(error) => Err(read_error(alloc, grammar, tokens, size, number, error)),
     }
 }
 
@@ -123,7 +134,7 @@ pub fn read_text(
     ensures grows { length vars.new ≤ length vars.old + 10000 }
 {
     let tokens = known_tokens(alloc, grammar, metas, line, number)?;
-    let reading = reading_of(alloc, grammar, sort, metas, &tokens, number)?;
+    let reading = reading_of(alloc, grammar, sort, metas, &tokens, line.len(), number)?;
     let mut names = copy_names(alloc, vars)?;
     let term = strip(alloc, &reading, &tokens, &mut names)?;
     *vars = names;

@@ -1,3 +1,0 @@
-pub mod Declared
-pub mod Fitting
-pub mod Outlined

@@ -1,0 +1,165 @@
+-- Why a module is not compiled.
+use Rattle.std.specs.Prelude.{◌≡◌, ◌⊎◌, ℕ, ◌+◌, ◌-◌, ◌^◌, ◌<◌, ◌≤◌, List, [], ◌∷◌, Option, Some, None, Result, Ok, Err, map, min, length, slice_index_or}
+use Rattle.sx_term.specs.declared.sort.Sort.{Sort}
+use Rattle.sx_term.specs.Tree.{Tree}
+use Rattle.sx_token.specs.declared.token.Token.{Token}
+use Rattle.sx_token.specs.declared.token_error.TokenError.{TokenError}
+use Rattle.sx_token.specs.declared.token_error.TokenError.TheVariants as token
+use Rattle.sx_grammar.specs.Grammar.{Text}
+use Rattle.sx_grammar.specs.Parts.{Parts, numbered}
+use Rattle.sx_grammar.specs.Reading.{Reading}
+use Rattle.sx_grammar.specs.ReadOne.{IsAnswer, too_hard, too_deep}
+use Rattle.sx_earley.specs.Tokens.{plain_tokens}
+use Rattle.sx_earley.specs.Completed.{number_of}
+use Rattle.sx_forest.specs.Places.{place_at}
+use Rattle.sx_rules.specs.declared.rule.Role.TheVariants.{Sub, Out}
+use Rattle.sx_rules.specs.First.{Answer}
+use Rattle.sx_rules.specs.Modes.{Goal}
+use Rattle.sx_rules.specs.Views.{NamedRule, modes_of, subjects_in}
+use Rattle.sx_derive.specs.Walk.{Cause, depth_spent, too_deep as passes_depth, too_big as passes_size}
+use Rattle.sx_derive.specs.Search.{found, stopped, spent, exhausted, walk, tries_of}
+use Rattle.sx_derive.specs.Stuck.{Blame, Reason, no_rule, unequal, mismatch, IsStuck}
+use Rattle.sx_notation.specs.declared.unread.Unread.{Unread}
+use Rattle.sx_notation.specs.declared.unread.Unread.TheVariants as unread
+use Rattle.sx_notation.specs.GoalText.{goal_text}
+use Rattle.sx_notation.specs.Language.{LanguageData}
+use Rattle.sx_notation.specs.WhyUnread.{IsUnreadAs, AreTwo, place_in}
+use Rattle.sx_module.specs.declared.compiled.Compiled.{Compiled}
+use Rattle.sx_module.specs.declared.stuck_text.StuckText.{StuckText}
+use Rattle.sx_module.specs.declared.stuck_text.StuckText.TheVariants as stuck
+use Rattle.sx_module.specs.declared.print_limit.Part.{Part}
+use Rattle.sx_module.specs.declared.print_limit.Part.TheVariants.{Body, Signature}
+use Rattle.sx_module.specs.declared.print_limit.Limit.{Limit}
+use Rattle.sx_module.specs.declared.print_limit.Limit.TheVariants.{Bytes, Tokens, Items, Depth}
+use Rattle.sx_module.specs.declared.module_error.ModuleError.{ModuleError}
+use Rattle.sx_module.specs.declared.module_error.ModuleError.TheVariants.{Memory, Token as BadTokens, Read, TypeError, BudgetSpent, DepthSpent, TooDeep, TooBig, PrintLimit, PrintAmbiguous}
+use Rattle.sx_module.specs.Spots.{line_at, column_at}
+use Rattle.sx_module.specs.Source.{Source, main_sort, bytes_before}
+use Rattle.sx_module.specs.Body.{IsCut, HasDefect, ReadsOnly}
+use Rattle.sx_module.specs.Texts.{printed, print_text, print_line, base_text, interface_text}
+use Rattle.sx_module.specs.Unit.{no_hypotheses, rules_of, goal, goal_events, IsBody, IsTyped, IsMade, unit_of}
+
+-- ---- the body
+
+-- line and column are those of this place in the body, in the module's file
+abbrev pub IsSpot : Source → (place line column : ℕ) → Type 0
+IsSpot s place line column = (line ≡ line_at s.bytes (bytes_before s + place)) × (column ≡ column_at s.bytes (bytes_before s + place))
+
+-- the place that a defect, or a text that is not read, tells; 0 where it tells none
+abbrev pub defect_place : TokenError → ℕ
+defect_place (token.NotUtf8 place) = place
+defect_place (token.BadToken place) = place
+defect_place (token.OpenString place) = place
+defect_place _ = 0
+
+abbrev pub unread_place : Unread → ℕ
+unread_place (unread.NoReading place) = place
+unread_place _ = 0
+
+-- ---- the goal
+
+-- the names of rules, and the texts of goals, as a type error shows them
+abbrev pub stuck_text : LanguageData → Goal → Reason → StuckText
+stuck_text d goal no_rule = stuck.NoRule (goal_text d.rule_parts [] d.forms goal None)
+stuck_text d goal (unequal rule premise) = stuck.Equal (goal_text d.rule_parts [] d.forms goal None) (premise + 1) (slice_index_or (map (λ r. r.name) d.rules) rule [])
+stuck_text d goal (mismatch (Some by) got) = stuck.Mismatch (goal_text d.rule_parts [] d.forms goal (Some got)) (by.1 + 1) (slice_index_or (map (λ r. r.name) d.rules) by.0 [])
+stuck_text d goal (mismatch None got) = stuck.NotStated (goal_text d.rule_parts [] d.forms goal (Some got))
+
+-- the stuck goal of the module's goal
+abbrev pub IsStuckGoal : Source → (subject : Tree) → Blame → Type 0
+IsStuckGoal s subject blame =
+    IsStuck (modes_of s.language.forms) (subjects_in s.language.forms) (rules_of s.language) no_hypotheses 3000 (goal s subject) [] blame
+
+-- the token at which the part begins that the stuck goal speaks of
+abbrev pub IsStuckAt : List Token → Reading → Blame → Source → (line column : ℕ) → Type 0
+IsStuckAt ts r blame s line column = (number : ℕ) × (place_at r blame.path ≡ Some number) × IsSpot s (place_in ts (length s.header.body) number) line column
+
+-- ---- what is printed
+
+-- of a file with so many bytes, in which the term is printed as the sort: which limit is passed first
+abbrev pub IsLimit : Parts → Sort → (size : ℕ) → (shown : List ℕ) → (t : Tree) → Limit → Type 0
+IsLimit p sort size shown t (Bytes n) = (262144 < size) × (n ≡ size)
+IsLimit p sort size shown t (Tokens n) = (size ≤ 262144) × (10000 < n) × (n ≡ length (printed p t))
+IsLimit p sort size shown t Items =
+    (size ≤ 262144) × ((ts : List Token) × IsCut p shown ts × IsAnswer (numbered p) (plain_tokens [] ts) (number_of sort) too_hard)
+IsLimit p sort size shown t (Depth n) =
+    (size ≤ 262144) × ((ts : List Token) × IsCut p shown ts × IsAnswer (numbered p) (plain_tokens [] ts) (number_of sort) (too_deep n))
+
+-- it has two readings, and these are the texts of two
+abbrev pub IsAmbiguous : Parts → Sort → (size : ℕ) → (shown : List ℕ) → (one other : Text) → Type 0
+IsAmbiguous p sort size shown one other = (size ≤ 262144) × ((ts : List Token) × IsCut p shown ts × AreTwo p [] sort ts one other)
+
+-- the file, the sort and the text of a printed part
+abbrev pub file_of : Source → (subject signature : Tree) → Part → List ℕ
+file_of s subject signature Body = base_text s subject
+file_of s subject signature Signature = interface_text s subject signature
+
+abbrev pub sort_of : Source → Part → Sort
+sort_of s Body = main_sort s.language Sub
+sort_of s Signature = main_sort s.language Out
+
+abbrev pub term_of : (subject signature : Tree) → Part → Tree
+term_of subject signature Body = subject
+term_of subject signature Signature = signature
+
+abbrev pub shown_of : Source → (subject signature : Tree) → Part → List ℕ
+shown_of s subject signature Body = print_line s.language.parts subject
+shown_of s subject signature Signature = print_text s.language.parts signature
+
+-- the body comes before the signature, and can be written where the signature is refused
+abbrev pub IsDue : Source → (subject : Tree) → Part → Type 0
+IsDue s subject Body = Unit {0}
+IsDue s subject Signature = (length (base_text s subject) ≤ 262144) × ReadsOnly s.language.parts (main_sort s.language Sub) (print_line s.language.parts subject) subject
+
+-- ---- all of it
+
+-- the body has only one reading
+pub record HasBody (s : Source) : Type 0 where
+  pub tokens : List Token
+  pub reading : Reading
+  pub subject : Tree
+  pub read : IsBody s tokens reading subject
+
+-- and its goal has an answer
+pub record Typed (s : Source) (tries : ℕ) : Type 0 where
+  pub body : HasBody s
+  pub signature : Tree
+  pub answer : Answer
+  pub typed : IsTyped s tries body.subject signature answer
+
+-- each refusal, with the conditions of those before it; want of memory is free
+abbrev pub IsBadModule : Source → (tries : ℕ) → ModuleError → Type 0
+IsBadModule s tries Memory = Unit {0}
+IsBadModule s tries (BadTokens line column e) = HasDefect s.language.parts s.header.body e × IsSpot s (defect_place e) line column
+IsBadModule s tries (Read line column u) =
+    ((ts : List Token) × IsCut s.language.parts s.header.body ts × IsUnreadAs s.language.parts [] (main_sort s.language Sub) ts (length s.header.body) u)
+    × IsSpot s (unread_place u) line column
+IsBadModule s tries (TypeError line column text) =
+    (b : HasBody s) × (walk None tries (goal_events s b.subject) ≡ exhausted)
+    × ((blame : Blame) × IsStuckGoal s b.subject blame × IsStuckAt b.tokens b.reading blame s line column × (text ≡ stuck_text s.language blame.goal blame.reason))
+IsBadModule s tries (BudgetSpent n) = (b : HasBody s) × (walk None tries (goal_events s b.subject) ≡ spent) × (n ≡ tries)
+IsBadModule s tries DepthSpent = (b : HasBody s) × (walk None tries (goal_events s b.subject) ≡ stopped depth_spent)
+IsBadModule s tries (TooDeep n) = (b : HasBody s) × (depth : ℕ) × (walk None tries (goal_events s b.subject) ≡ stopped (passes_depth depth)) × (n ≡ min depth (2 ^ 64 - 1))
+IsBadModule s tries (TooBig n) = (b : HasBody s) × (size : ℕ) × (walk None tries (goal_events s b.subject) ≡ stopped (passes_size size)) × (n ≡ min size (2 ^ 64 - 1))
+IsBadModule s tries (PrintLimit part limit) =
+    (t : Typed s tries) × IsDue s t.body.subject part
+    × IsLimit s.language.parts (sort_of s part) (length (file_of s t.body.subject t.signature part)) (shown_of s t.body.subject t.signature part) (term_of t.body.subject t.signature part) limit
+IsBadModule s tries (PrintAmbiguous part one other) =
+    (t : Typed s tries) × IsDue s t.body.subject part
+    × IsAmbiguous s.language.parts (sort_of s part) (length (file_of s t.body.subject t.signature part)) (shown_of s t.body.subject t.signature part) one other
+
+-- what compiling answers
+abbrev pub IsCompiled : Source → ℕ → Result Compiled ModuleError → Type 0
+IsCompiled s tries (Ok c) = IsMade s tries (unit_of c)
+IsCompiled s tries (Err e) = IsBadModule s tries e
+
+-- ---- tries
+
+-- the walk of the module's goal makes so many tries; where the body is not read there is no walk
+abbrev pub HasWalked : Source → (tries made : ℕ) → Type 0
+HasWalked s tries made = ((b : HasBody s) × (made ≡ tries_of None tries (goal_events s b.subject))) ⊎ ((HasBody s → ⊥) × (made ≡ 0))
+
+-- the steps rose by the tries of the walk, or by at most as many where memory lacked
+abbrev pub IsCounted : Source → ℕ → Result Compiled ModuleError → ℕ → ℕ → Type 0
+IsCounted s tries (Err Memory) before after = (before ≤ after) × ((after ≡ before) ⊎ ((made : ℕ) × HasWalked s tries made × (after ≤ before + made)))
+IsCounted s tries _ before after = (made : ℕ) × HasWalked s tries made × (after ≡ before + made)

@@ -1,0 +1,66 @@
+//! Why a module is not compiled.
+
+use crate::print_limit::{Limit, Part};
+use crate::stuck_text::StuckText;
+use std::alloc::AllocError;
+use sx_notation::Unread;
+use sx_term::{NoMemory, Text};
+use sx_token::TokenError;
+use thiserror::Error;
+
+/// Why a module is not compiled. Lines and columns are those of the module's file, from 1; a column counts bytes.
+#[derive(Debug, Drop, Error)]
+pub enum ModuleError {
+    /// Memory is lacking.
+    #[error("out of memory")]
+    Memory,
+    /// The body has no tokens: its first defect.
+    #[error("a body without tokens")]
+    Token { line: u64, column: u64, error: TokenError },
+    /// The body has not one reading.
+    #[error("a body without one reading")]
+    Read { line: u64, column: u64, error: Unread },
+    /// The main goal has no derivation: the stuck goal, and where the part begins that it speaks of.
+    #[error("a type error")]
+    TypeError { line: u64, column: u64, stuck: StuckText },
+    /// The walk needs more tries than it may take, so many.
+    #[error("more than {0} tries")]
+    BudgetSpent(u64),
+    /// The walk comes to a goal deeper than 3,000.
+    #[error("a derivation deeper than 3000")]
+    DepthSpent,
+    /// A term of the walk has this depth, over 1,000.
+    #[error("depth {0} is over 1000")]
+    TooDeep(u64),
+    /// A term of the walk has so many nodes, over 1,000,000.
+    #[error("a term has {0} nodes")]
+    TooBig(u64),
+    /// A printed text passes a limit.
+    #[error("a printed text passes a limit")]
+    PrintLimit { part: Part, limit: Limit },
+    /// A printed text has two readings: the tree texts of two of them.
+    #[error("a printed text with two readings")]
+    PrintAmbiguous { part: Part, one: Text, other: Text },
+}
+
+impl From<NoMemory> for ModuleError {
+    ghost use Rattle.std.specs.Prelude.{◌≡◌};
+    ghost use Rattle.sx_module.specs.declared.module_error.ModuleError.TheVariants.{Memory};
+
+    ghost from_gives = { λ _ e. e ≡ Memory };
+
+    fn from(_: NoMemory) -> ModuleError {
+        ModuleError::Memory
+    }
+}
+
+impl From<AllocError> for ModuleError {
+    ghost use Rattle.std.specs.Prelude.{◌≡◌};
+    ghost use Rattle.sx_module.specs.declared.module_error.ModuleError.TheVariants.{Memory};
+
+    ghost from_gives = { λ _ e. e ≡ Memory };
+
+    fn from(_: AllocError) -> ModuleError {
+        ModuleError::Memory
+    }
+}
