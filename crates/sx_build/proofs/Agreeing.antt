@@ -18,7 +18,6 @@ use Rattle.sx_module.specs.declared.module_error.ModuleError.{ModuleError}
 use Rattle.sx_module.specs.declared.module_error.ModuleError.TheVariants as module_error
 use Rattle.sx_module.specs.Alike.{ReadOthers, PrintOthers, AreAlike as AreAlikeModules}
 use Rattle.sx_module.proofs.OneUnit.{one_unit}
-use Rattle.sx_module.specs.Unit.{UnitData, Source}
 use Rattle.sx_words.specs.declared.print_defect.PrintDefect.TheVariants as print_defect
 use Rattle.sx_steps.specs.declared.stop.Stop.{Stop}
 use Rattle.sx_steps.specs.Held.{Held, most_bytes}
@@ -142,9 +141,9 @@ module _ (file : List ℕ) (budget : ℕ) (m : Module) (l : Stated) where
   wants stop e is = not_lacking (module_stop file) module_error.Memory refl e stop is
 
   compiles_nearly : IsNearlyOne (Compiles file budget m l)
-  compiles_nearly (Ok u) (Ok v) s t f g = inl (ap Ok (one_unit.found (source_of m l) u v s t))
-  compiles_nearly (Ok u) (Err t) s r f g = absurd (wants t r.error r.is (one_unit.either (source_of m l) budget u r.error s r.refused))
-  compiles_nearly (Err s) (Ok v) r t f g = absurd (wants s r.error r.is (one_unit.either (source_of m l) budget v r.error t r.refused))
+  compiles_nearly (Ok u) (Ok v) s t f g = inl (ap Ok (one_unit.found (source_of m l) budget u v s.made t.made))
+  compiles_nearly (Ok u) (Err t) s r f g = absurd (wants t r.error r.is (one_unit.either (source_of m l) budget u r.error s.made r.refused))
+  compiles_nearly (Err s) (Ok v) r t f g = absurd (wants s r.error r.is (one_unit.either (source_of m l) budget v r.error t.made r.refused))
   compiles_nearly (Err s) (Err t) r q f g =
       module_alike file r.error q.error s t (one_unit.refused (source_of m l) budget r.error q.error r.refused q.refused (wants s r.error r.is) (wants t q.error q.is)) r.is q.is
 

@@ -1,4 +1,6 @@
 mod Environments
 mod Sources
 mod FirstLines
-mod Agreeing
+pub mod Agreeing
+pub mod Promise
+mod Counted

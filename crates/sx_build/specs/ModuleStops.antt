@@ -6,12 +6,12 @@ use Rattle.sx_notation.specs.declared.unread.Unread.{Unread}
 use Rattle.sx_notation.specs.declared.unread.Unread.TheVariants as unread
 use Rattle.sx_module.specs.declared.module_error.ModuleError.{ModuleError}
 use Rattle.sx_module.specs.declared.module_error.ModuleError.TheVariants as module_error
-use Rattle.sx_module.specs.declared.module_error.StuckText.{StuckText}
-use Rattle.sx_module.specs.declared.module_error.StuckText.TheVariants as stuck_text
-use Rattle.sx_module.specs.declared.module_error.Part.{Part}
-use Rattle.sx_module.specs.declared.module_error.Part.TheVariants as parts
-use Rattle.sx_module.specs.declared.module_error.Limit.{Limit}
-use Rattle.sx_module.specs.declared.module_error.Limit.TheVariants as limits
+use Rattle.sx_module.specs.declared.stuck_text.StuckText.{StuckText}
+use Rattle.sx_module.specs.declared.stuck_text.StuckText.TheVariants as stuck_text
+use Rattle.sx_module.specs.declared.print_limit.Part.{Part}
+use Rattle.sx_module.specs.declared.print_limit.Part.TheVariants as parts
+use Rattle.sx_module.specs.declared.print_limit.Limit.{Limit}
+use Rattle.sx_module.specs.declared.print_limit.Limit.TheVariants as limits
 use Rattle.sx_words.specs.declared.place.Place.TheVariants.{Spot}
 use Rattle.sx_words.specs.declared.text_defect.TextDefect.{TextDefect}
 use Rattle.sx_words.specs.declared.text_defect.TextDefect.TheVariants as text_defect

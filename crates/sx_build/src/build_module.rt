@@ -4,7 +4,8 @@ ghost use Rattle.std.specs.Prelude.{◌≡◌, ◌≤◌, IfOk, [], length};
 ghost use Rattle.sx_outside.specs.Told.{WhereTold};
 ghost use Rattle.sx_term.specs.Term.{tree};
 ghost use Rattle.sx_notation.specs.Language.{IsLanguage, language_data};
-ghost use Rattle.sx_module.specs.Unit.{unit_of, IsSource, IsEnvironment};
+ghost use Rattle.sx_module.specs.Source.{IsSource, IsEnvironment};
+ghost use Rattle.sx_module.specs.Unit.{unit_of};
 ghost use Rattle.sx_steps.specs.Stop.{Gives, OnlyReads, IsNoFault, Tried, RisesWithin};
 ghost use Rattle.sx_steps.specs.Work.{plan_of};
 ghost use Rattle.sx_build.specs.ModuleFiles.{module_file};
@@ -47,7 +48,7 @@ fn compile_module<L: Ledger>(
     steps: &mut Steps<L>,
 ) -> Result<Compiled, StepError>
     requires language { IsLanguage language.now.language }
-    requires stated { IsSource source.now.bytes.items (module_of source.now).header }
+    requires stated { IsSource source.now.bytes.items (module_of source.now).header [] }
     requires short { length source.now.bytes.items ≤ 262144 }
     ensures step { Gives unit_of (Compiles file.now budget (module_of source.now) (stated_of language.now)) result }
     ensures no_fault { IsNoFault result }
@@ -86,7 +87,7 @@ fn build_unit<L: Ledger>(
 ) -> Result<Work, StepError>
     requires file { file.now ≡ module_file name.now }
     requires language { IsLanguage language.now.language }
-    requires stated { IsSource source.now.bytes.items (module_of source.now).header }
+    requires stated { IsSource source.now.bytes.items (module_of source.now).header [] }
     requires short { length source.now.bytes.items ≤ 262144 }
     ensures step { Gives plan_of (BuildsUnit name.now budget (module_of source.now) (stated_of language.now)) result }
     ensures no_fault { IsNoFault result }
@@ -120,7 +121,7 @@ fn build_over<S: Shelf, L: Ledger>(
     steps: &mut Steps<L>,
 ) -> Result<Work, StepError>
     requires file { file.now ≡ module_file name.now }
-    requires stated { IsSource source.now.bytes.items (module_of source.now).header }
+    requires stated { IsSource source.now.bytes.items (module_of source.now).header [] }
     requires short { length source.now.bytes.items ≤ 262144 }
     ensures step { WhereTold (S.content shelf.old) (λ files. Gives plan_of (BuildsOver name.now budget files (module_of source.now)) result) }
     ensures reads { OnlyReads (S.content shelf.old) (S.content shelf.new)

@@ -12,14 +12,14 @@ use sx_term::{NoMemory, Text};
 use sx_token::TokenError;
 use sx_words::{Defect, FileDefect, GrammarDefect, Place, TextDefect};
 
-/// The column of a place in a line, where it is below 2^32. No line in memory is longer.
-fn column(place: usize) -> Result<u32, NoMemory>
-    ensures { IfOk result (λ c. c ≡ place + 1) }
+/// The column of a place in a line, where it is below 2^64. No line in memory is longer.
+fn column_of(place: usize) -> Result<u64, NoMemory>
+    ensures { IfOk result (λ column. column ≡ place + 1) }
 {
-    if place >= u32::MAX as usize {
-        return Err(NoMemory::Memory);
+    match (place as u64).checked_add(1) {
+        Some(column) => Ok(column),
+        None => Err(NoMemory::Memory),
     }
-    Ok(place as u32 + 1)
 }
 
 /// A defect of a line at this place in it.
@@ -32,7 +32,8 @@ fn at_place(
 ) -> Result<Stop, NoMemory>
     ensures { IfOk result (λ stop. stop ≡ stops.at_place file.now line place defect) }
 {
-    let column = column(place)?;
+    let line = u64::from(line);
+    let column = column_of(place)?;
     refused_at(
         alloc,
         file,

@@ -15,8 +15,8 @@ use sx_words::{BudgetDefect, Defect, FileDefect, GoalDefect, Place, PrintDefect,
 fn at_spot(
     alloc: Global,
     file: &Text,
-    line: u32,
-    column: u32,
+    line: u64,
+    column: u64,
     what: TextDefect,
 ) -> Result<Stop, NoMemory>
     ensures { IfOk result (λ stop. stop ≡ stops.at_spot file.now line column what) }
@@ -33,8 +33,8 @@ fn at_spot(
 fn uncut_body(
     alloc: Global,
     file: &Text,
-    line: u32,
-    column: u32,
+    line: u64,
+    column: u64,
     error: TokenError,
 ) -> Result<Stop, NoMemory>
     ensures { IfOk result (λ stop. stops.uncut_body file.now line column error ≡ Some stop) }
@@ -60,8 +60,8 @@ fn uncut_body(
 fn unread_body(
     alloc: Global,
     file: &Text,
-    line: u32,
-    column: u32,
+    line: u64,
+    column: u64,
     error: Unread,
 ) -> Result<Stop, NoMemory>
     ensures { IfOk result (λ stop. stop ≡ stops.unread_body file.now line column error) }
@@ -107,8 +107,8 @@ fn stuck_goal(why: StuckText) -> GoalDefect
 fn untyped(
     alloc: Global,
     file: &Text,
-    line: u32,
-    column: u32,
+    line: u64,
+    column: u64,
     why: StuckText,
 ) -> Result<Stop, NoMemory>
     ensures { IfOk result (λ stop. stop ≡ stops.untyped file.now line column why) }
@@ -176,8 +176,8 @@ pub fn bad_module(alloc: Global, file: &Text, error: ModuleError) -> Result<Stop
         ModuleError::TypeError {
             line,
             column,
-            blame,
-        } => return untyped(alloc, file, line, column, blame),
+            stuck,
+        } => return untyped(alloc, file, line, column, stuck),
         ModuleError::BudgetSpent(tries) => Defect::Budget(BudgetDefect::Tries(tries)),
         ModuleError::DepthSpent => Defect::Budget(BudgetDefect::Depth),
         ModuleError::TooDeep(depth) => Defect::Text(TextDefect::TooDeep(depth)),

@@ -1,4 +1,4 @@
--- `build --core` and `verify --core` have one outcome each, read faults aside.
+-- Runs have one outcome, read faults aside.
 use Rattle.std.proofs.Common.{◌≡◌, ◌≢◌, ℕ, true, false, List, length, refl, sym, ap, ◌∙◌}
 use Rattle.std.specs.Prelude.{Result, Ok, Err, Option, Some, None}
 use Rattle.sx_outside.specs.Files.{Files}
@@ -40,7 +40,8 @@ use Rattle.sx_top.specs.Commands.{by_now, Commands}
 use Rattle.sx_top.specs.Outcome.{Runs, Outcome}
 use Rattle.sx_top.specs.Laws.{OneOutcome}
 use Rattle.sx_steps.proofs.StepsOn.{went}
-use Rattle.sx_steps.proofs.Ones.{IsOne, then_one, held_one, lower_but, ok_same}
+use Rattle.sx_build.proofs.Agreeing.{builds_nearly}
+use Rattle.sx_steps.proofs.Ones.{IsOne, IsNearlyOne, nearly, then_one, then_nearly, held_one, lower_but, ok_same}
 use Rattle.sx_top.proofs.WholeOnes.{compares_one, searches_one}
 use Rattle.sx_top.proofs.Propers.{proper}
 use Rattle.sx_top.proofs.FirstBads.{bad_not_good, one_bad}
@@ -124,15 +125,16 @@ module _ (core_one : (bytes : List ℕ) (a b : Result Problem CoreFileError) →
       then_one (Reads (core_file name) files) (VerifiesSubject name files) (reads_one (core_file name) files)
       (λ p read. subject_one name files p (read_proper (core_file name) files p read))
 
-  runs_one : (command : Meant) (files : Files) → IsOne (Runs command files)
-  runs_one (builds true name tries nodes audits) files x y h k n m = builds_one name tries files x y h k n m
-  runs_one (builds false name tries nodes audits) files x y h k n m = absurd h
-  runs_one (compiles name tries nodes audits) files x y h k n m = absurd h
-  runs_one (checks name tries) files x y h k n m = absurd h
-  runs_one (verifies true name) files x y h k n m = verifies_one name files x y h k n m
-  runs_one (verifies false name) files x y h k n m = absurd h
-  runs_one (samples number) files x y h k n m = absurd h
+  runs_nearly : (command : Meant) (files : Files) → IsNearlyOne (Runs command files)
+  runs_nearly (builds true name tries nodes audits) files x y h k n m = nearly (BuildsWhole name tries files) (builds_one name tries files) x y h k n m
+  runs_nearly (builds false name tries nodes audits) files x y h k n m = builds_nearly name tries files x y h k n m
+  runs_nearly (compiles name tries nodes audits) files x y h k n m = absurd h
+  runs_nearly (checks name tries) files x y h k n m = absurd h
+  runs_nearly (verifies true name) files x y h k n m = nearly (VerifiesWhole name files) (verifies_one name files) x y h k n m
+  runs_nearly (verifies false name) files x y h k n m = absurd h
+  runs_nearly (samples number) files x y h k n m = absurd h
 
   pub one_outcome_by : OneOutcome
   unfolding Outcome
-  one_outcome_by words files = then_one (Commands words) (λ command. Runs command files) (commands_one words) (λ command read. runs_one command files)
+  one_outcome_by words files =
+      then_nearly (Commands words) (λ command. Runs command files) (nearly (Commands words) (commands_one words)) (λ command read. runs_nearly command files)

@@ -14,6 +14,7 @@ use crate::commands::read_command;
 use crate::verify_core::plan_verify_core;
 use std::alloc::Global;
 use std::sync::ledger::Ledger;
+use sx_build::plan_build_module;
 use sx_outside::Shelf;
 use sx_steps::{StepError, Work};
 use sx_term::{Steps, Text};
@@ -42,6 +43,13 @@ fn run_command<S: Shelf, L: Ledger>(
             nodes: _,
             audits: _,
         } => plan_build_core(alloc, name, *tries, shelf, steps),
+        Command::Build {
+            core: false,
+            name,
+            tries,
+            nodes: _,
+            audits: _,
+        } => plan_build_module(alloc, name, *tries, shelf, steps),
         Command::Verify { core: true, name } => plan_verify_core(alloc, name, shelf),
         _ => unreachable!(),
     }

@@ -1,6 +1,6 @@
 use Rattle.std.proofs.Common.{sym, subst}
 use Rattle.sx_notation.specs.Language.{language_data}
-use Rattle.sx_module.specs.Unit.{IsEnvironment}
+use Rattle.sx_module.specs.Source.{IsEnvironment}
 use Rattle.sx_build.proofs.Environments.{environment_fits, leaf_tree}
 use Rattle.sx_build.proofs.build_module.empty_environment.Goals as goal
 
