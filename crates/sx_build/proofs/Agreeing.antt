@@ -1,5 +1,5 @@
 -- `build NAME` has one result, read faults and the readings that a stop shows aside.
-use Rattle.std.proofs.Common.{◌≡◌, ◌≢◌, ℕ, List, refl, sym, ap, ◌∙◌, subst, inl, inr}
+use Rattle.std.proofs.Common.{◌≡◌, ◌≢◌, ℕ, List, [], ◌∷◌, map, refl, sym, ap, ◌∙◌, subst, inl, inr, ◌⊎◌}
 use Rattle.std.specs.Prelude.{Result, Ok, Err, Option, Some, None}
 use Rattle.std.specs.Str.Lossy.{utf8_valid_len}
 use Rattle.sha2.specs.Sha256.{sha256}
@@ -12,12 +12,8 @@ use Rattle.sx_outside.specs.Files.{Files}
 use Rattle.sx_notation.specs.declared.unread.Unread.TheVariants as unread
 use Rattle.sx_notation.specs.declared.notation_error.NotationError.{NotationError}
 use Rattle.sx_notation.specs.declared.notation_error.NotationError.TheVariants as notation_error
-use Rattle.sx_language.specs.Alike.{ShowOthers, AreAlike}
-use Rattle.sx_language.proofs.OneLanguage.{one_language}
 use Rattle.sx_module.specs.declared.module_error.ModuleError.{ModuleError}
 use Rattle.sx_module.specs.declared.module_error.ModuleError.TheVariants as module_error
-use Rattle.sx_module.specs.Alike.{ReadOthers, PrintOthers, AreAlike as AreAlikeModules}
-use Rattle.sx_module.proofs.OneUnit.{one_unit}
 use Rattle.sx_words.specs.declared.print_defect.PrintDefect.TheVariants as print_defect
 use Rattle.sx_steps.specs.declared.stop.Stop.{Stop}
 use Rattle.sx_steps.specs.Held.{Held, most_bytes}
@@ -32,7 +28,15 @@ use Rattle.sx_build.specs.ModuleStops.{unread_body, unprinted, module_stop}
 use Rattle.sx_build.specs.ReadLanguage.{Stated, IsStated, IsStopped, StatesLanguage, ReadsLanguage}
 use Rattle.sx_build.specs.CompileModule.{source_of, IsUncompiled, Compiles}
 use Rattle.sx_build.specs.BuildModule.{unit_plan, BuildsUnit, BuildsOver, BuildsRead, BuildsModule}
-use Rattle.sx_build.specs.Laws.{BuildsAgree}
+use Rattle.sx_rules.proofs.Facts.{kept_moded}
+use Rattle.sx_rules.specs.declared.rule.Rule.{Rule as RuleOf}
+use Rattle.sx_rules.specs.Rules.{Rule}
+use Rattle.sx_rules.specs.Modes.{AllModed}
+use Rattle.sx_rules.specs.Views.{modes_of, named, rule}
+use Rattle.sx_rules.specs.Sets.{shapes_in, forms_in}
+use Rattle.sx_notation.specs.Language.{LanguageData}
+use Rattle.sx_steps.proofs.StepsOn.{went}
+use Rattle.sx_build.specs.Laws.{ShowOthers, OneLanguage, ReadOthers, PrintOthers, IsFollowed, OneUnit, BuildsAgree}
 use Rattle.sx_build.proofs.FirstLines.{bad_states_none, one_first_bad}
 
 -- ---- the module's file
@@ -93,7 +97,7 @@ line_readings file e d s t show h k =
     readings_as (unread_line file show.line (unread.Ambiguous show.one show.other)) (unread_line file show.line (unread.Ambiguous show.some show.more)) s t (record { file = refl; place = refl; shown = tt })
     (sym (ap (language_stop file) show.first) ∙ h) (sym (ap (language_stop file) show.second) ∙ k)
 
-agree_alike : {A : Type 0} (file : List ℕ) (e d : NotationError) (s t : Stop) → AreAlike e d → language_stop file e ≡ Some s → language_stop file d ≡ Some t → Agree {A = A} (Err s) (Err t)
+agree_alike : {A : Type 0} (file : List ℕ) (e d : NotationError) (s t : Stop) → (e ≡ d) ⊎ ShowOthers e d → language_stop file e ≡ Some s → language_stop file d ≡ Some t → Agree {A = A} (Err s) (Err t)
 agree_alike file e d s t (inl same) h k = inl (ap Err (same_refusal (language_stop file) notation_error.Memory refl e d s t same h k))
 agree_alike file e d s t (inr show) h k = inr (line_readings file e d s t show h k)
 
@@ -108,61 +112,76 @@ print_readings file e d s t show h k =
     readings_as (unprinted file show.part (print_defect.Ambiguous show.one show.other)) (unprinted file show.part (print_defect.Ambiguous show.some show.more)) s t (record { file = refl; place = refl; shown = refl })
     (sym (ap (module_stop file) show.first) ∙ h) (sym (ap (module_stop file) show.second) ∙ k)
 
-module_alike : {A : Type 0} (file : List ℕ) (e d : ModuleError) (s t : Stop) → AreAlikeModules e d → module_stop file e ≡ Some s → module_stop file d ≡ Some t → Agree {A = A} (Err s) (Err t)
+module_alike : {A : Type 0} (file : List ℕ) (e d : ModuleError) (s t : Stop) → (e ≡ d) ⊎ ReadOthers e d ⊎ PrintOthers e d → module_stop file e ≡ Some s → module_stop file d ≡ Some t → Agree {A = A} (Err s) (Err t)
 module_alike file e d s t (inl same) h k = inl (ap Err (same_refusal (module_stop file) module_error.Memory refl e d s t same h k))
 module_alike file e d s t (inr (inl show)) h k = inr (body_readings file e d s t show h k)
 module_alike file e d s t (inr (inr show)) h k = inr (print_readings file e d s t show h k)
 
 -- ---- the language's file
 
-stated_same : (name bytes : List ℕ) (l k : Stated) → IsStated name bytes l → IsStated name bytes k → l ≡ k
-stated_same name bytes l k s t = λ i. record { language = (s.language ∙ one_language.found name bytes s.whole t.whole s.states t.states ∙ sym t.language) i; digest = (s.digest ∙ sym t.digest) i }
+bare_named : (rs : List RuleOf) → map rule rs ≡ map (λ r. r.rule) (map named rs)
+bare_named [] = refl
+bare_named (r ∷ rs) = ap (λ (l : List Rule). rule r ∷ l) (bare_named rs)
 
-module _ (name bytes : List ℕ) where
-  lacks : (stop : Stop) (e : NotationError) → language_stop (language_file name) e ≡ Some stop → e ≢ notation_error.Memory
-  lacks stop e is = not_lacking (language_stop (language_file name)) notation_error.Memory refl e stop is
+module _ (one_language : OneLanguage) (one_unit : OneUnit) where
+  stated_same : (name bytes : List ℕ) (l k : Stated) → IsStated name bytes l → IsStated name bytes k → l ≡ k
+  stated_same name bytes l k s t = λ i. record { language = (s.language ∙ one_language.found name bytes s.whole t.whole s.states t.states ∙ sym t.language) i; digest = (s.digest ∙ sym t.digest) i }
 
-  language_nearly : IsNearlyOne (StatesLanguage name bytes)
-  language_nearly (Ok l) (Ok k) s t f g = inl (ap Ok (stated_same name bytes l k s t))
-  language_nearly (Ok l) (Err t) s r f g = absurd (lacks t r.error r.is (one_language.either name bytes s.whole r.error s.states r.refused))
-  language_nearly (Err s) (Ok k) r t f g = absurd (lacks s r.error r.is (one_language.either name bytes t.whole r.error t.states r.refused))
-  language_nearly (Err s) (Err t) r q f g =
-      agree_alike (language_file name) r.error q.error s t (one_language.refused name bytes r.error q.error r.refused q.refused (lacks s r.error r.is) (lacks t q.error q.is)) r.is q.is
+  module _ (name bytes : List ℕ) where
+    lacks : (stop : Stop) (e : NotationError) → language_stop (language_file name) e ≡ Some stop → e ≢ notation_error.Memory
+    lacks stop e is = not_lacking (language_stop (language_file name)) notation_error.Memory refl e stop is
 
-reads_language_nearly : (name : List ℕ) (files : Files) → IsNearlyOne (ReadsLanguage name files)
-reads_language_nearly name files =
-    then_nearly (Held most_bytes (language_file name) files) (StatesLanguage name) (nearly (Held most_bytes (language_file name) files) (held_one most_bytes (language_file name) files))
-    (λ bytes held. language_nearly name bytes)
+    language_nearly : IsNearlyOne (StatesLanguage name bytes)
+    language_nearly (Ok l) (Ok k) s t f g = inl (ap Ok (stated_same name bytes l k s t))
+    language_nearly (Ok l) (Err t) s r f g = absurd (lacks t r.error r.is (one_language.either name bytes s.whole r.error s.states r.refused))
+    language_nearly (Err s) (Ok k) r t f g = absurd (lacks s r.error r.is (one_language.either name bytes t.whole r.error t.states r.refused))
+    language_nearly (Err s) (Err t) r q f g =
+        agree_alike (language_file name) r.error q.error s t (one_language.refused name bytes r.error q.error r.refused q.refused (lacks s r.error r.is) (lacks t q.error q.is)) r.is q.is
 
--- ---- the unit
+  reads_language_nearly : (name : List ℕ) (files : Files) → IsNearlyOne (ReadsLanguage name files)
+  reads_language_nearly name files =
+      then_nearly (Held most_bytes (language_file name) files) (StatesLanguage name) (nearly (Held most_bytes (language_file name) files) (held_one most_bytes (language_file name) files))
+      (λ bytes held. language_nearly name bytes)
 
-module _ (file : List ℕ) (budget : ℕ) (m : Module) (l : Stated) where
-  wants : (stop : Stop) (e : ModuleError) → module_stop file e ≡ Some stop → e ≢ module_error.Memory
-  wants stop e is = not_lacking (module_stop file) module_error.Memory refl e stop is
+  -- ---- the unit
 
-  compiles_nearly : IsNearlyOne (Compiles file budget m l)
-  compiles_nearly (Ok u) (Ok v) s t f g = inl (ap Ok (one_unit.found (source_of m l) budget u v s.made t.made))
-  compiles_nearly (Ok u) (Err t) s r f g = absurd (wants t r.error r.is (one_unit.either (source_of m l) budget u r.error s.made r.refused))
-  compiles_nearly (Err s) (Ok v) r t f g = absurd (wants s r.error r.is (one_unit.either (source_of m l) budget v r.error t.made r.refused))
-  compiles_nearly (Err s) (Err t) r q f g =
-      module_alike file r.error q.error s t (one_unit.refused (source_of m l) budget r.error q.error r.refused q.refused (wants s r.error r.is) (wants t q.error q.is)) r.is q.is
+  module _ (file : List ℕ) (budget : ℕ) (m : Module) (l : Stated) (followed : IsFollowed l.language) where
+    wants : (stop : Stop) (e : ModuleError) → module_stop file e ≡ Some stop → e ≢ module_error.Memory
+    wants stop e is = not_lacking (module_stop file) module_error.Memory refl e stop is
 
--- ---- the command
+    compiles_nearly : IsNearlyOne (Compiles file budget m l)
+    compiles_nearly (Ok u) (Ok v) s t f g = inl (ap Ok (one_unit.found (source_of m l) budget u v s.made t.made))
+    compiles_nearly (Ok u) (Err t) s r f g = absurd (wants t r.error r.is (one_unit.either (source_of m l) budget u r.error s.made r.refused))
+    compiles_nearly (Err s) (Ok v) r t f g = absurd (wants s r.error r.is (one_unit.either (source_of m l) budget v r.error t.made r.refused))
+    compiles_nearly (Err s) (Err t) r q f g =
+        module_alike file r.error q.error s t (one_unit.refused (source_of m l) budget r.error q.error followed r.refused q.refused (wants s r.error r.is) (wants t q.error q.is)) r.is q.is
 
-unit_nearly : (name : List ℕ) (budget : ℕ) (m : Module) (l : Stated) → IsNearlyOne (BuildsUnit name budget m l)
-unit_nearly name budget m l =
-    then_nearly (Compiles (module_file name) budget m l) (λ unit result. result ≡ Ok (unit_plan name unit)) (compiles_nearly (module_file name) budget m l)
-    (λ unit compiled x y h k f g. inl (h ∙ sym k))
+  -- ---- the command
 
-over_nearly : (name : List ℕ) (budget : ℕ) (files : Files) (m : Module) → IsNearlyOne (BuildsOver name budget files m)
-over_nearly name budget files m =
-    then_nearly (ReadsLanguage m.header.language files) (BuildsUnit name budget m) (reads_language_nearly m.header.language files) (λ l read. unit_nearly name budget m l)
+  unit_nearly : (name : List ℕ) (budget : ℕ) (m : Module) (l : Stated) → IsFollowed l.language → IsNearlyOne (BuildsUnit name budget m l)
+  unit_nearly name budget m l followed =
+      then_nearly (Compiles (module_file name) budget m l) (λ unit result. result ≡ Ok (unit_plan name unit)) (compiles_nearly (module_file name) budget m l followed)
+      (λ unit compiled x y h k f g. inl (h ∙ sym k))
 
-read_nearly : (name : List ℕ) (budget : ℕ) (files : Files) (m : Module) → IsNearlyOne (BuildsRead name budget files m)
-read_nearly name budget files m =
-    then_nearly (IsAlone (module_file name) m.header) (λ done. BuildsOver name budget files m) (nearly (IsAlone (module_file name) m.header) (alone_one (module_file name) m.header))
-    (λ done alone. over_nearly name budget files m)
+  -- the rules of a language that a text states can be followed, as those of each rule set
+  stated_followed : (name bytes : List ℕ) (l : Stated) → IsStated name bytes l → IsFollowed l.language
+  stated_followed name bytes l s = 
+      subst IsFollowed (sym s.language)
+      (subst (λ (rules : List Rule). AllModed (modes_of (forms_in s.whole.rules)) rules) (bare_named s.whole.rules.rules.items)
+      (kept_moded (shapes_in s.whole.rules) (forms_in s.whole.rules) s.whole.rules.rules.items s.whole.rules.good))
 
-pub builds_nearly : BuildsAgree
-builds_nearly name budget files =
-    then_nearly (ReadsModule (module_file name) name files) (BuildsRead name budget files) (reads_nearly (module_file name) name files) (λ m read. read_nearly name budget files m)
+  read_followed : (name : List ℕ) (files : Files) (l : Stated) → ReadsLanguage name files (Ok l) → IsFollowed l.language
+  read_followed name files l read = let at = went _ _ _ read in stated_followed name at.given l at.goes
+
+  over_nearly : (name : List ℕ) (budget : ℕ) (files : Files) (m : Module) → IsNearlyOne (BuildsOver name budget files m)
+  over_nearly name budget files m =
+      then_nearly (ReadsLanguage m.header.language files) (BuildsUnit name budget m) (reads_language_nearly m.header.language files) (λ l read. unit_nearly name budget m l (read_followed m.header.language files l read))
+
+  read_nearly : (name : List ℕ) (budget : ℕ) (files : Files) (m : Module) → IsNearlyOne (BuildsRead name budget files m)
+  read_nearly name budget files m =
+      then_nearly (IsAlone (module_file name) m.header) (λ done. BuildsOver name budget files m) (nearly (IsAlone (module_file name) m.header) (alone_one (module_file name) m.header))
+      (λ done alone. over_nearly name budget files m)
+
+  pub builds_nearly : BuildsAgree
+  builds_nearly name budget files =
+      then_nearly (ReadsModule (module_file name) name files) (BuildsRead name budget files) (reads_nearly (module_file name) name files) (λ m read. read_nearly name budget files m)

@@ -1,6 +1,6 @@
 -- Runs have one outcome, read faults aside.
 use Rattle.std.proofs.Common.{◌≡◌, ◌≢◌, ℕ, true, false, List, length, refl, sym, ap, ◌∙◌}
-use Rattle.std.specs.Prelude.{Result, Ok, Err, Option, Some, None}
+use Rattle.std.specs.Prelude.{Result, Ok, Err}
 use Rattle.sx_outside.specs.Files.{Files}
 use Rattle.sx_term.specs.Tree.{Tree}
 use Rattle.sx_lines.specs.Lines.{lines_from, texts}
@@ -19,7 +19,6 @@ use Rattle.sx_replay.specs.Replay.{IsReplayAnswer}
 use Rattle.sx_replay.specs.declared.replay_error.ReplayError.TheVariants as replay_error
 use Rattle.sx_replay.proofs.OneAnswer.{one_answer}
 use Rattle.sx_words.specs.Commands.{Meant, builds, compiles, checks, verifies, samples}
-use Rattle.sx_steps.specs.declared.stop.Stop.{Stop}
 use Rattle.sx_top.specs.CoreStops.{bad_entry}
 use Rattle.sx_top.specs.CoreTexts.{subject_text, term_lines}
 use Rattle.sx_top.specs.FindFirst.{no_hypotheses, rules_of}
@@ -38,7 +37,8 @@ use Rattle.sx_words.proofs.CommandLaws.{one_command}
 use Rattle.sx_words.proofs.OneAnswer.{one_misfit, no_misfit}
 use Rattle.sx_top.specs.Commands.{by_now, Commands}
 use Rattle.sx_top.specs.Outcome.{Runs, Outcome}
-use Rattle.sx_top.specs.Laws.{OneOutcome}
+use Rattle.sx_build.specs.Laws.{OneLanguage, OneUnit}
+use Rattle.sx_top.specs.Laws.{IsNoBuild, OneCoreOutcome, OneOutcome}
 use Rattle.sx_steps.proofs.StepsOn.{went}
 use Rattle.sx_build.proofs.Agreeing.{builds_nearly}
 use Rattle.sx_steps.proofs.Ones.{IsOne, IsNearlyOne, nearly, then_one, then_nearly, held_one, lower_but, ok_same}
@@ -125,16 +125,31 @@ module _ (core_one : (bytes : List ℕ) (a b : Result Problem CoreFileError) →
       then_one (Reads (core_file name) files) (VerifiesSubject name files) (reads_one (core_file name) files)
       (λ p read. subject_one name files p (read_proper (core_file name) files p read))
 
-  runs_nearly : (command : Meant) (files : Files) → IsNearlyOne (Runs command files)
-  runs_nearly (builds true name tries nodes audits) files x y h k n m = nearly (BuildsWhole name tries files) (builds_one name tries files) x y h k n m
-  runs_nearly (builds false name tries nodes audits) files x y h k n m = builds_nearly name tries files x y h k n m
-  runs_nearly (compiles name tries nodes audits) files x y h k n m = absurd h
-  runs_nearly (checks name tries) files x y h k n m = absurd h
-  runs_nearly (verifies true name) files x y h k n m = nearly (VerifiesWhole name files) (verifies_one name files) x y h k n m
-  runs_nearly (verifies false name) files x y h k n m = absurd h
-  runs_nearly (samples number) files x y h k n m = absurd h
+  runs_one : (command : Meant) (files : Files) → IsNoBuild command → IsOne (Runs command files)
+  runs_one (builds true name tries nodes audits) files kept x y h k n m = builds_one name tries files x y h k n m
+  runs_one (builds false name tries nodes audits) files kept x y h k n m = absurd kept
+  runs_one (compiles name tries nodes audits) files kept x y h k n m = absurd h
+  runs_one (checks name tries) files kept x y h k n m = absurd h
+  runs_one (verifies true name) files kept x y h k n m = verifies_one name files x y h k n m
+  runs_one (verifies false name) files kept x y h k n m = absurd h
+  runs_one (samples number) files kept x y h k n m = absurd h
+
+  pub core_outcome_by : OneCoreOutcome
+  unfolding Outcome
+  core_outcome_by words none files =
+      then_one (Commands words) (λ command. Runs command files) (commands_one words) (λ command read. runs_one command files (none command read))
+
+  module _ (languages : OneLanguage) (units : OneUnit) where
+    runs_nearly : (command : Meant) (files : Files) → IsNearlyOne (Runs command files)
+    runs_nearly (builds true name tries nodes audits) files x y h k n m = nearly (BuildsWhole name tries files) (builds_one name tries files) x y h k n m
+    runs_nearly (builds false name tries nodes audits) files x y h k n m = builds_nearly languages units name tries files x y h k n m
+    runs_nearly (compiles name tries nodes audits) files x y h k n m = absurd h
+    runs_nearly (checks name tries) files x y h k n m = absurd h
+    runs_nearly (verifies true name) files x y h k n m = nearly (VerifiesWhole name files) (verifies_one name files) x y h k n m
+    runs_nearly (verifies false name) files x y h k n m = absurd h
+    runs_nearly (samples number) files x y h k n m = absurd h
 
   pub one_outcome_by : OneOutcome
   unfolding Outcome
-  one_outcome_by words files =
-      then_nearly (Commands words) (λ command. Runs command files) (nearly (Commands words) (commands_one words)) (λ command read. runs_nearly command files)
+  one_outcome_by languages units words files =
+      then_nearly (Commands words) (λ command. Runs command files) (nearly (Commands words) (commands_one words)) (λ command read. runs_nearly languages units command files)

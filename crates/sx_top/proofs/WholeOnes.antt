@@ -1,6 +1,6 @@
 -- The steps of the commands on core files have one result each, read faults aside.
-use Rattle.std.proofs.Common.{◌≡◌, ℕ, ◌≤◌, List, [], length, refl, ap, ◌∙◌, sym, subst, inl, inr, arith}
-use Rattle.std.specs.Prelude.{Result, Ok, Err, Option, Some, None}
+use Rattle.std.proofs.Common.{◌≡◌, ℕ, List, [], refl, ap, ◌∙◌, sym}
+use Rattle.std.specs.Prelude.{Result, Ok, Err, None}
 use Rattle.sx_outside.specs.Files.{Files}
 use Rattle.sx_rules.specs.Views.{modes_of, subjects_in}
 use Rattle.sx_rules.specs.Modes.{AllModed}
@@ -10,12 +10,9 @@ use Rattle.sx_derive.specs.Search.{Ending, found, stopped, spent, exhausted, wal
 use Rattle.sx_derive.specs.Stuck.{Blame}
 use Rattle.sx_derive.proofs.BlamedOnce.{stuck_goal_is_unique}
 use Rattle.sx_steps.specs.declared.stop.Stop.{Stop}
-use Rattle.sx_steps.specs.declared.status.Status.TheVariants as statuses
-use Rattle.sx_steps.specs.Refusal.{status_of}
 use Rattle.sx_top.specs.CoreStops.{underivable}
 use Rattle.sx_top.specs.FindFirst.{no_hypotheses, rules_of}
-use Rattle.sx_steps.specs.Held.{Held, IsLong, most_bytes}
-use Rattle.sx_steps.specs.Lower.{Lower}
+use Rattle.sx_steps.specs.Held.{Held, most_bytes}
 use Rattle.sx_top.specs.Search.{goal_events, ComesTo, Searches}
 use Rattle.sx_top.specs.Written.{Equals, Compares}
 use Rattle.sx_steps.proofs.Ones.{IsOne, then_one, held_one}

@@ -1,5 +1,5 @@
 -- The steps of `build --core NAME`, and what it promises.
-use Rattle.std.specs.Prelude.{◌≡◌, ◌≢◌, ℕ, List, [], ◌∷◌, ◌++◌, Result, Ok, Some, codes, decimal}
+use Rattle.std.specs.Prelude.{◌≡◌, ◌≢◌, ℕ, List, ◌++◌, Result, Ok, Some}
 use Rattle.sx_outside.specs.Files.{Files}
 use Rattle.sx_rules.specs.Derivations.{nodes_of}
 use Rattle.sx_rules.specs.Orders.{order_of}

@@ -1,5 +1,5 @@
 -- The stops of the commands on core files.
-use Rattle.std.specs.Prelude.{ℕ, ◌+◌, List, ◌++◌, codes, decimal, Option, Some, None}
+use Rattle.std.specs.Prelude.{ℕ, ◌+◌, List, ◌++◌, codes, decimal, Some, None}
 use Rattle.sx_words.specs.declared.place.Place.TheVariants.{Line}
 use Rattle.sx_words.specs.declared.file_defect.FileDefect.TheVariants as file_defect
 use Rattle.sx_words.specs.declared.goal_defect.GoalDefect.{GoalDefect}

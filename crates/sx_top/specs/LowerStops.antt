@@ -1,5 +1,5 @@
 -- The stops of what the calls below refuse.
-use Rattle.std.specs.Prelude.{ℕ, List, Option, Some, None, codes}
+use Rattle.std.specs.Prelude.{ℕ, List, Option, Some, None}
 use Rattle.sx_core.specs.declared.error.CoreFileError.{CoreFileError}
 use Rattle.sx_core.specs.declared.error.CoreFileError.TheVariants as core_error
 use Rattle.sx_core.specs.Problem.{Problem}

@@ -25,6 +25,8 @@ pub use sx_steps::Status;
 pub use verify_laws::{built_is_verified, found_is_within};
 
 #[cfg(test)]
+mod module_tests;
+#[cfg(test)]
 mod tests;
 #[cfg(test)]
 mod verify_tests;

@@ -86,7 +86,8 @@ pub fn has(alloc: Global, shelf: &MemShelf, name: &str, bytes: &str) -> Result<b
     })
 }
 
-fn lacks(alloc: Global, shelf: &MemShelf, name: &str) -> Result<bool, Fail> {
+/// Whether nothing stands under the name.
+pub fn lacks(alloc: Global, shelf: &MemShelf, name: &str) -> Result<bool, Fail> {
     Ok(shelf.get(&text(alloc, name)?).is_none())
 }
 
