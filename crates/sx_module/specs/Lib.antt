@@ -1,6 +1,14 @@
 pub mod Spots
 pub mod Source
 pub mod Body
+pub mod Unread
 pub mod Texts
 pub mod Unit
 pub mod Refused
+pub mod Given
+pub mod Outcomes
+pub mod MainGoals
+pub mod Searched
+pub mod TypeErrors
+pub mod PrintRefused
+pub mod Alike

@@ -37,7 +37,8 @@ use Rattle.sx_module.specs.Spots.{line_at, column_at}
 use Rattle.sx_module.specs.Source.{Source, main_sort, bytes_before}
 use Rattle.sx_module.specs.Body.{IsCut, HasDefect, ReadsOnly}
 use Rattle.sx_module.specs.Texts.{printed, print_text, print_line, base_text, interface_text}
-use Rattle.sx_module.specs.Unit.{no_hypotheses, rules_of, goal, goal_events, IsBody, IsTyped, IsMade, unit_of}
+use Rattle.sx_module.specs.Outcomes.{no_hypotheses}
+use Rattle.sx_module.specs.Unit.{rules_of, goal, goal_events, IsBody, IsTyped, IsMade, unit_of}
 
 -- ---- the body
 
@@ -79,7 +80,7 @@ IsStuckAt ts r blame s line column = (number : ℕ) × (place_at r blame.path �
 -- of a file with so many bytes, in which the term is printed as the sort: which limit is passed first
 abbrev pub IsLimit : Parts → Sort → (size : ℕ) → (shown : List ℕ) → (t : Tree) → Limit → Type 0
 IsLimit p sort size shown t (Bytes n) = (262144 < size) × (n ≡ size)
-IsLimit p sort size shown t (Tokens n) = (size ≤ 262144) × (10000 < n) × (n ≡ length (printed p t))
+IsLimit p sort size shown t (Tokens n) = (size ≤ 262144) × (10000 < n) × (n ≡ length (printed p t)) × ((ts : List Token) → IsCut p shown ts → ⊥)
 IsLimit p sort size shown t Items =
     (size ≤ 262144) × ((ts : List Token) × IsCut p shown ts × IsAnswer (numbered p) (plain_tokens [] ts) (number_of sort) too_hard)
 IsLimit p sort size shown t (Depth n) =

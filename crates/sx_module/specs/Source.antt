@@ -1,5 +1,5 @@
 -- What a module is compiled from.
-use Rattle.std.specs.Prelude.{◌≡◌, ℕ, ◌-◌, ◌≤◌, List, [], ◌∷◌, map, flat_map, length}
+use Rattle.std.specs.Prelude.{◌≡◌, ℕ, ◌-◌, ◌≤◌, List, [], ◌∷◌, map, length}
 use Rattle.std.specs.Str.{IsUtf8}
 use Rattle.sx_term.specs.declared.term.Term.{Term}
 use Rattle.sx_term.specs.declared.lex_kind.LexKind.TheVariants.{Id}
@@ -14,8 +14,7 @@ use Rattle.sx_grammar.specs.Tables.{literals_of}
 use Rattle.sx_grammar.specs.Told.{shapes_of}
 use Rattle.sx_print.specs.Cut.{HasLexemes}
 use Rattle.sx_rules.specs.declared.rule.Role.{Role}
-use Rattle.sx_rules.specs.declared.rule.Role.TheVariants.{In, Sub, Out}
-use Rattle.sx_rules.specs.Modes.{Goal}
+use Rattle.sx_rules.specs.declared.rule.Role.TheVariants.{In}
 use Rattle.sx_rules.specs.Views.{places_at}
 use Rattle.sx_interface.specs.declared.headers.Header as headers
 use Rattle.sx_interface.specs.declared.marks.Digest.{Digest}
@@ -64,17 +63,6 @@ pub record IsEnvironment (d : LanguageData) (t : Tree) : Type 0 where
   pub sorted : HasSort (shapes_of d.parts) [] t (main_sort d In)
   pub depth : depth_of t ≤ 1000
   pub lexemes : HasLexemes (literals_of d.parts) t
-
--- the input that stands at a place of this role
-abbrev pub input_at : Tree → Tree → Role → List Tree
-input_at environment subject In = environment ∷ []
-input_at environment subject Sub = subject ∷ []
-input_at environment subject Out = []
-
--- the main form's goal with this environment and this subject
-abbrev pub main_goal : LanguageData → Tree → Tree → Goal
-main_goal d environment subject =
-    record { form = d.main.form; terms = flat_map (λ p. input_at environment subject p.role) (places_at d.forms d.main.form) }
 
 -- how many bytes stand before the body
 abbrev pub bytes_before : Source → ℕ

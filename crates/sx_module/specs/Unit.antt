@@ -9,13 +9,15 @@ use Rattle.sx_rules.specs.EntryView.{entries}
 use Rattle.sx_rules.specs.First.{Answer, IsFirst}
 use Rattle.sx_rules.specs.Modes.{Goal, AllModed}
 use Rattle.sx_rules.specs.Orders.{Entry, order_of}
-use Rattle.sx_rules.specs.Rules.{Rule, Hypotheses}
+use Rattle.sx_rules.specs.Rules.{Rule}
 use Rattle.sx_rules.specs.Views.{modes_of}
 use Rattle.sx_derive.specs.Walk.{Event, events}
 use Rattle.sx_derive.specs.Search.{found, walk}
 use Rattle.sx_notation.specs.Language.{LanguageData}
 use Rattle.sx_module.specs.declared.compiled.Compiled.{Compiled}
-use Rattle.sx_module.specs.Source.{Source, main_sort, main_goal}
+use Rattle.sx_module.specs.Source.{Source, main_sort}
+use Rattle.sx_module.specs.Outcomes.{bare, no_hypotheses}
+use Rattle.sx_module.specs.MainGoals.{main_goal}
 use Rattle.sx_module.specs.Body.{ReadsAs, ReadsOnly}
 use Rattle.sx_module.specs.Texts.{printed, print_text, print_line, base_text, interface_text, derivation_text}
 
@@ -35,16 +37,13 @@ unit_of c = record {
   nodes = c.nodes; source_tokens = c.source_tokens; base_tokens = c.base_tokens;
 }
 
-abbrev pub no_hypotheses : Hypotheses
-no_hypotheses = record { judgements = []; pairs = [] }
-
 -- the rules of a language without their names
 abbrev pub rules_of : LanguageData → List Rule
-rules_of d = map (λ r. r.rule) d.rules
+rules_of d = bare d.rules
 
 -- the goal of the module with this body's term
 abbrev pub goal : Source → (subject : Tree) → Goal
-goal s subject = main_goal s.language s.environment subject
+goal s subject = main_goal s.language.forms s.language.main.form s.environment subject
 
 -- the events of the walk of that goal
 abbrev pub goal_events : Source → (subject : Tree) → List (Event Answer)

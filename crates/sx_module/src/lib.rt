@@ -1,17 +1,30 @@
 //! Modules: a body that is read, typed and printed.
 #![tactic(auto)]
 
+mod body;
 mod compiled;
+mod given;
+mod goal_laws;
+mod counting;
 mod import;
 mod laws;
 mod module_error;
+mod print_check;
 mod print_limit;
+mod reading;
+mod showing;
 mod spots;
+mod stuck_goal;
 mod stuck_text;
+mod texts;
+mod type_error;
+mod typed;
+mod typing;
 
 pub use compiled::Compiled;
+pub use goal_laws::{main_goals_fit, outputs_fit, searches_fit, stuck_goals_fit};
 pub use import::Import;
-pub use laws::units_are_made;
+pub use laws::{one_unit, units_are_made};
 pub use module_error::ModuleError;
 pub use print_limit::{Limit, Part};
 pub use stuck_text::StuckText;

@@ -1,6 +1,7 @@
 use Rattle.sx_derive.proofs.Walked.{found_is_first}
 use Rattle.sx_rules.specs.Views.{modes_of}
-use Rattle.sx_module.specs.Unit.{no_hypotheses, rules_of, goal as goal_of}
+use Rattle.sx_module.specs.Outcomes.{no_hypotheses}
+use Rattle.sx_module.specs.Unit.{rules_of, goal as goal_of}
 use Rattle.sx_module.proofs.laws.units_are_made.Goals as goal
 use Rattle.std.specs.Prelude.{None}
 

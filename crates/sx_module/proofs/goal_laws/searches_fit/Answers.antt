@@ -1,0 +1,12 @@
+use Rattle.sx_module.proofs.Finding.{found_outputs_fit, exhausted_goals_fit}
+use Rattle.sx_module.proofs.Entries.{lists_fit}
+use Rattle.sx_module.proofs.goal_laws.searches_fit.Goals as goal
+
+pub returns-clause-found : goal.returns-clause-found
+returns-clause-found c = found_outputs_fit
+
+pub returns-clause-exhausted : goal.returns-clause-exhausted
+returns-clause-exhausted c = exhausted_goals_fit
+
+pub returns-clause-lists : goal.returns-clause-lists
+returns-clause-lists c = lists_fit

@@ -1,0 +1,133 @@
+//! The texts of a module.
+
+ghost use Rattle.std.specs.Prelude.{◌≡◌, ◌++◌, ◌∷◌, [], List, ℕ, map, codes, IfOk, OnOk};
+ghost use Rattle.std.specs.Str.{IsUtf8};
+ghost use Rattle.std.specs.List.{AllByRecursion};
+ghost use Rattle.sx_rules.specs.EntryView.{entries};
+ghost use Rattle.sx_rules.specs.ListText.{IsEntry};
+ghost use Rattle.sx_rules.specs.Sets.{names_in, rules_in};
+ghost use Rattle.sx_lines.specs.Reading.{written};
+ghost use Rattle.sx_interface.specs.StatedHeader.{row_lines};
+ghost use Rattle.sx_interface.specs.HeaderView.{header_view};
+ghost use Rattle.sx_interface.specs.InterfaceView.{mark_view, interface_view};
+ghost use Rattle.sha2.specs.Sha256.{sha256};
+ghost use Rattle.sx_interface.specs.Interfaces.{interface_lines};
+ghost use Rattle.sx_module.specs.Source.{mark};
+ghost use Rattle.sx_module.specs.Texts.{base_of, interface_of, derivation_text};
+
+use crate::import::Import;
+use std::alloc::Global;
+use sx_interface::{Digest, Header, ImportMark, Interface, digest, write_interface};
+use sx_rules::{Entry, RuleSet, write_list};
+use sx_term::{NoMemory, Text, TextError};
+
+/// Appends a line: a front, a name and a line feed.
+fn put_row(front: &[u8], name: &[u8], into: &mut Vec<u8>) -> Result<(), NoMemory>
+    ensures { OnOk result (into.new.items ≡ into.old.items ++ (front.now ++ name.now ++ 10 ∷ [])) }
+{
+    into.extend_from_slice(front)?;
+    into.extend_from_slice(name)?;
+    into.push(b'\n')?;
+    Ok(())
+}
+
+/// Appends a line for each import.
+fn put_imports(imports: &[Text], into: &mut Vec<u8>) -> Result<(), NoMemory>
+    ensures { OnOk result (into.new.items ≡ into.old.items ++ written (row_lines (codes "import ") imports.now)) }
+{
+    for i in 0..imports.len() {
+        let name = &imports[i];
+        put_row(b"import ", name.bytes(), into)?;
+    }
+    Ok(())
+}
+
+/// The base file: the header without extensions, `---`, and the printed body on a line.
+pub(crate) fn base_text(alloc: Global, header: &Header, shown: &[u8]) -> Result<Vec<u8>, NoMemory>
+    ensures { (bytes : List ℕ) → IfOk result (λ v. v.items ≡ base_of (header_view bytes header.now) shown.now) }
+{
+    let mut text = Vec::with_capacity(alloc, shown.len())?;
+    put_row(b"module ", header.name.bytes(), &mut text)?;
+    put_row(b"language ", header.language.bytes(), &mut text)?;
+    put_imports(&header.imports, &mut text)?;
+    put_row(b"---", b"", &mut text)?;
+    put_row(shown, b"", &mut text)?;
+    Ok(text)
+}
+
+/// The imports with the digests of their interfaces.
+fn import_marks(alloc: Global, imports: &[Import]) -> Result<Vec<ImportMark>, NoMemory>
+    ensures { IfOk result (λ v. map mark_view v.items ≡ map mark imports.now) }
+{
+    let mut marks = Vec::with_capacity(alloc, imports.len())?;
+    for i in 0..imports.len() {
+        let import = &imports[i];
+        marks.push(ImportMark {
+            name: import.interface.module.copy(alloc)?,
+            digest: import.digest,
+        })?;
+    }
+    Ok(marks)
+}
+
+/// The text with these bytes.
+fn text_of(alloc: Global, bytes: &[u8]) -> Result<Text, NoMemory>
+    requires { IsUtf8 bytes.now }
+    ensures { IfOk result (λ t. t ≡ bytes.now) }
+{
+    match Text::make(alloc, bytes) {
+        Ok(text) => Ok(text),
+        Err(TextError::Memory) => Err(NoMemory::Memory),
+        Err(TextError::NotUtf8(_)) => unreachable!(),
+    }
+}
+
+/// What importers read of the module.
+fn interface(
+    alloc: Global,
+    header: &Header,
+    language: &Digest,
+    base: &[u8],
+    imports: &[Import],
+    signature: &[u8],
+) -> Result<Interface, NoMemory>
+    requires { IsUtf8 signature.now }
+    ensures { (bytes : List ℕ) → IfOk result (λ it. interface_view it ≡ interface_of (header_view bytes header.now) language.now.bytes (sha256 base.now) (map mark imports.now) signature.now) }
+{
+    Ok(Interface {
+        module: header.name.copy(alloc)?,
+        language: header.language.copy(alloc)?,
+        language_digest: *language,
+        base_digest: digest(base),
+        imports: import_marks(alloc, imports)?,
+        signature: text_of(alloc, signature)?,
+    })
+}
+
+/// The interface file.
+pub(crate) fn interface_text(
+    alloc: Global,
+    header: &Header,
+    language: &Digest,
+    base: &[u8],
+    imports: &[Import],
+    signature: &[u8],
+) -> Result<Vec<u8>, NoMemory>
+    requires { IsUtf8 signature.now }
+    ensures { (bytes : List ℕ) → IfOk result (λ v. v.items ≡ written (interface_lines (interface_of (header_view bytes header.now) language.now.bytes (sha256 base.now) (map mark imports.now) signature.now))) }
+{
+    let it = interface(alloc, header, language, base, imports, signature)?;
+    let mut text = Vec::new(alloc);
+    write_interface(alloc, &it, &mut text)?;
+    Ok(text)
+}
+
+/// The derivation file.
+pub(crate) fn derivation_text(alloc: Global, rules: &RuleSet, list: &[Entry]) -> Result<Vec<u8>, NoMemory>
+    requires { AllByRecursion (IsEntry (names_in rules.now)) list.now }
+    ensures { IfOk result (λ v. v.items ≡ derivation_text (rules_in rules.now) (entries list.now)) }
+{
+    let mut text = Vec::new(alloc);
+    write_list(alloc, rules, list, &mut text)?;
+    Ok(text)
+}
