@@ -14,33 +14,12 @@ use Rattle.sx_top.specs.CoreTexts.{subject_text, list_text, term_lines}
 use Rattle.sx_top.specs.ReadCore.{core_file}
 use Rattle.sx_top.specs.FindFirst.{no_hypotheses, rules_of, IsFirstOf}
 use Rattle.sx_top.specs.Search.{goal_events, ComesTo, Searches}
-use Rattle.sx_top.specs.Work.{Plan}
+use Rattle.sx_steps.specs.Work.{Plan}
 use Rattle.sx_top.specs.BuildCore.{core_plan, BuildsWhole, BuiltUnit}
 use Rattle.sx_top.specs.Ending.{IsDone}
-use Rattle.sx_top.proofs.StepsOn.{went}
+use Rattle.sx_steps.proofs.StepsOn.{went}
+use Rattle.sx_steps.proofs.Units.{written}
 use Rattle.sx_top.proofs.Propers.{proper}
-
-pub same_end : (name some others : List ℕ) → name ++ some ≡ name ++ others → some ≡ others
-same_end [] some others same = same
-same_end (b ∷ name) some others same = let rest : name ++ some ≡ name ++ others = cc in same_end name some others rest
-
-base_der : codes ".base" ≢ codes ".der"
-base_der same = let letters : ◌≡◌ {A = ℕ} 98 100 = ap (λ (l : List ℕ). get_or l 1 0) same in absurd (omega arith)
-
-base_int : codes ".base" ≢ codes ".int"
-base_int same = let letters : ◌≡◌ {A = ℕ} 98 105 = ap (λ (l : List ℕ). get_or l 1 0) same in absurd (omega arith)
-
-der_int : codes ".der" ≢ codes ".int"
-der_int same = let letters : ◌≡◌ {A = ℕ} 100 105 = ap (λ (l : List ℕ). get_or l 1 0) same in absurd (omega arith)
-
--- what stands after three writes under three names
-pub written : (name : List ℕ) (base list interface : List ℕ) (old : Files) → (let new : Files = put (put (put old (name ++ codes ".base") base) (name ++ codes ".der") list) (name ++ codes ".int") interface in (new (name ++ codes ".base") ≡ Some base) × (new (name ++ codes ".der") ≡ Some list) × (new (name ++ codes ".int") ≡ Some interface) × ((other : List ℕ) → other ≢ name ++ codes ".base" → other ≢ name ++ codes ".der" → other ≢ name ++ codes ".int" → new other ≡ old other))
-written name base list interface old = (
-  put-other _ _ _ _ (λ same. base_int (same_end name _ _ same)) ∙ put-other _ _ _ _ (λ same. base_der (same_end name _ _ same)) ∙ put-same _ _ _,
-  put-other _ _ _ _ (λ same. der_int (same_end name _ _ same)) ∙ put-same _ _ _,
-  put-same _ _ _,
-  λ other not_base not_der not_int. put-other _ _ _ _ not_int ∙ put-other _ _ _ _ not_der ∙ put-other _ _ _ _ not_base,
-)
 
 -- a walk that comes to an answer found it
 pub comes_found : (file : List ℕ) (problem : Problem) (budget : ℕ) (ending : Ending) (answer : Answer) → ComesTo file problem budget ending (Ok answer) → ending ≡ found answer

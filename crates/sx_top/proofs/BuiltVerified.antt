@@ -16,9 +16,10 @@ use Rattle.sx_top.specs.ReadCore.{core_file}
 use Rattle.sx_top.specs.BuildCore.{core_plan}
 use Rattle.sx_top.specs.VerifyCore.{verified_plan}
 use Rattle.sx_top.specs.VerifyLaws.{BuiltIsVerified}
-use Rattle.sx_top.proofs.StepsOn.{went}
+use Rattle.sx_steps.proofs.StepsOn.{went}
 use Rattle.sx_top.proofs.Propers.{proper}
-use Rattle.sx_top.proofs.BuildPromise.{same_end, written, comes_found, searches_first}
+use Rattle.sx_top.proofs.BuildPromise.{comes_found, searches_first}
+use Rattle.sx_steps.proofs.Units.{same_end, written}
 use Rattle.sx_top.proofs.SubjectTexts.{subject_short}
 use Rattle.sx_top.proofs.ListTexts.{list_again, same_entries, of_rules, order_length, text_states, text_length}
 use Rattle.sx_top.proofs.FoundWithin.{found_within}

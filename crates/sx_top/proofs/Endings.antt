@@ -10,22 +10,23 @@ use Rattle.sx_words.specs.declared.refusal.Defect.TheVariants as defect
 use Rattle.sx_words.proofs.CommandLaws.{one_command}
 use Rattle.sx_outside.specs.Files.{Files, after}
 use Rattle.sx_outside.specs.Faults.{Rose}
-use Rattle.sx_top.specs.Work.{Plan, plan_of}
-use Rattle.sx_top.specs.Stop.{Gives, IsStopped, RisesBy, RisesUpTo, Tried}
+use Rattle.sx_steps.specs.Work.{Plan, plan_of}
+use Rattle.sx_steps.specs.Stop.{Gives, IsStopped, RisesBy, RisesUpTo, Tried}
 use Rattle.sx_top.specs.Commands.{by_now, Spelled}
 use Rattle.sx_top.specs.Outcome.{Outcome, Runs, Walks, Promises}
 use Rattle.sx_top.specs.Tries.{TriesOf}
 use Rattle.sx_top.specs.Performing.{Performs}
 use Rattle.sx_top.specs.Telling.{Sends, IsTold, IsStatusOf, error_status}
-use Rattle.sx_top.specs.declared.stop.Stop.{Stop}
-use Rattle.sx_top.specs.Refusal.{file_status, defect_status, status_of, line_of}
+use Rattle.sx_steps.specs.declared.stop.Stop.{Stop}
+use Rattle.sx_steps.specs.Refusal.{file_status, defect_status, status_of, line_of}
 use Rattle.sx_top.specs.Ending.{Ends, Tells, KeepsPromise, HasNoDefect, IsDoneOrShort, IsDone, IsCounted, HasWalks}
-use Rattle.sx_top.specs.declared.status.Status.{Status}
-use Rattle.sx_top.specs.declared.status.Status.TheVariants as statuses
-use Rattle.sx_top.specs.declared.step_error.StepError.{StepError}
-use Rattle.sx_top.specs.declared.step_error.StepError.TheVariants as errors
-use Rattle.sx_top.specs.declared.work.Work.{Work}
-use Rattle.sx_top.proofs.StepsOn.{went}
+use Rattle.sx_steps.specs.declared.status.Status.{Status}
+use Rattle.sx_steps.specs.declared.status.Status.TheVariants as statuses
+use Rattle.sx_steps.specs.declared.step_error.StepError.{StepError}
+use Rattle.sx_steps.specs.declared.step_error.StepError.TheVariants as errors
+use Rattle.sx_steps.specs.declared.work.Work.{Work}
+use Rattle.sx_steps.proofs.StepsOn.{went}
+use Rattle.sx_build.proofs.Promise.{build_promise as build_module_promise}
 use Rattle.sx_top.proofs.BuildPromise.{build_promise}
 use Rattle.sx_top.proofs.VerifyPromise.{verify_promise}
 use Rattle.sx_top.proofs.VerifySteps.{replayed_derives}
@@ -62,6 +63,7 @@ file_of_stop (file_defect.Notation kind) = tt
 file_of_stop file_defect.Header = tt
 file_of_stop (file_defect.Version number) = tt
 file_of_stop file_defect.BadList = tt
+file_of_stop file_defect.NotYet = tt
 
 defect_of_stop : (what : Defect) → IsOfStop (defect_status what)
 unfolding IsOfStop
@@ -106,7 +108,7 @@ ends_told words (errors.Stopped stop) status old sent sent' outcome told = ends_
 -- each command keeps its promise
 kept : (command : Meant) (plan : Plan) (old new : Files) (sent sent' : List ℕ) → Runs command old (Ok plan) → IsDone plan old new sent sent' → Promises command old new sent sent'
 kept (builds true name tries nodes audits) plan old new sent sent' runs is = build_promise name tries old new sent sent' plan runs is
-kept (builds false name tries nodes audits) plan old new sent sent' runs is = absurd runs
+kept (builds false name tries nodes audits) plan old new sent sent' runs is = build_module_promise name tries old new sent sent' plan runs is.files is.lines
 kept (compiles name tries nodes audits) plan old new sent sent' runs is = absurd runs
 kept (checks name tries) plan old new sent sent' runs is = absurd runs
 kept (verifies true name) plan old new sent sent' runs is = verify_promise replayed_derives name old new sent sent' plan runs is
@@ -163,7 +165,7 @@ counted_none words files status (errors.Stopped stop) before after never (inr ri
 -- the tries of a command are those of its walks
 pub tries_of : (command : Meant) (files : Files) (result : Result Work StepError) (before after : ℕ) → TriesOf command files result before after → Tried (Walks command files) result before after
 tries_of (builds true name tries nodes audits) files result before after tried = tried
-tries_of (builds false name tries nodes audits) files result before after tried = absurd tried
+tries_of (builds false name tries nodes audits) files result before after tried = tried
 tries_of (compiles name tries nodes audits) files result before after tried = absurd tried
 tries_of (checks name tries) files result before after tried = absurd tried
 tries_of (verifies true name) files result before after tried = tried

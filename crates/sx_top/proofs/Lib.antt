@@ -1,5 +1,4 @@
 mod Writes
-mod StepsOn
 mod Utf8
 mod Propers
 mod Refused
@@ -10,7 +9,6 @@ mod BuildPromise
 mod VerifyPromise
 mod Endings
 mod There
-mod OutcomeLaws
 mod WholeOnes
 mod ShortTexts
 mod SubjectTexts

@@ -23,10 +23,11 @@ use Rattle.sx_derive.proofs.Bounded.{answers_are_bounded}
 use Rattle.sx_derive.proofs.Blamed.{exhausted_has_no_stop}
 use Rattle.sx_derive.proofs.BlameTexts.{stuck_goal_has_texts}
 use Rattle.sx_derive.proofs.BlameDepths.{stuck_goal_is_shallow}
-use Rattle.sx_top.specs.declared.stop.Stop.{Stop}
-use Rattle.sx_top.specs.Stop.{RisesBy, RisesUpTo}
+use Rattle.sx_steps.specs.declared.stop.Stop.{Stop}
+use Rattle.sx_steps.specs.Stop.{RisesBy, RisesUpTo}
 use Rattle.sx_top.specs.FindFirst.{no_hypotheses, rules_of}
-use Rattle.sx_top.specs.CoreStops.{tries_spent, depth_spent, too_deep, too_big, underivable}
+use Rattle.sx_top.specs.CoreStops.{underivable}
+use Rattle.sx_steps.specs.Stops.{tries_spent, depth_spent, too_deep, too_big}
 use Rattle.sx_top.specs.LowerStops.{derive_stop}
 use Rattle.sx_top.specs.Search.{goal_events, IsStuckGoal, ComesTo, HasWalked}
 use Rattle.sx_top.specs.Terms.{AreTerms}

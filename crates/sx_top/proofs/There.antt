@@ -2,12 +2,12 @@
 use Rattle.std.proofs.Common.{ℕ, List, sym, subst, inl, inr}
 use Rattle.sx_words.specs.Commands.{Meant}
 use Rattle.sx_words.proofs.FewLaws.{HasFew, spelled_few}
-use Rattle.sx_words.proofs.StageLaws.{core_files}
+use Rattle.sx_words.proofs.StageLaws.{modules}
 use Rattle.sx_top.specs.Commands.{by_now, Spelled, IsThere}
 
 pub spelled_there : (words : List (List ℕ)) (command : Meant) → Spelled words command → IsThere command
 spelled_there words command spelled =
-    elim (core_files words command spelled) [
-      | inl goal ↦ subst IsThere (sym goal.is) (subst HasFew goal.is (spelled_few by_now words command spelled))
+    elim (modules words command spelled) [
+      | inl built ↦ subst IsThere (sym built.is) (subst HasFew built.is (spelled_few by_now words command spelled))
       | inr verified ↦ subst IsThere (sym verified.is) tt
     ]

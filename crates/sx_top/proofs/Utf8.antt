@@ -1,23 +1,16 @@
 -- Core texts, and the texts of goals, are UTF-8.
-use Rattle.std.proofs.Common.{◌≡◌, ℕ, ◌^◌, ◌<◌, Bool, true, false, List, [], ◌∷◌, length, decimal, subst, arith}
-use Rattle.std.specs.Prelude.{Result, Err, Some, None}
+use Rattle.std.proofs.Common.{ℕ, ◌^◌, ◌<◌, Bool, true, false, List, [], ◌∷◌, length, decimal, arith}
+use Rattle.std.specs.Prelude.{Some, None}
 use Rattle.std.specs.Str.{IsUtf8}
 use Rattle.std.proofs.lemmas.Str.{IsUtf8-append, IsUtf8-nil, IsUtf8-from_ascii}
 use Rattle.std.proofs.lemmas.Str.Ascii.{IsAscii-nil, IsAscii-cons}
 use Rattle.std.proofs.lemmas.Fmt.{IsAscii-decimal}
-use Rattle.sx_term.specs.Text.{IsMade}
-use Rattle.sx_term.specs.declared.text_error.TextError.{TextError}
-use Rattle.sx_term.specs.declared.text_error.TextError.TheVariants.{NotUtf8}
 use Rattle.sx_term.specs.Tree.{Tree, Trees, node, lexeme, hole, none, ◌▹◌}
 use Rattle.sx_term.specs.Core.{core, cores, kind_byte, HasCore, HaveCore}
 use Rattle.sx_term.specs.declared.lex_kind.LexKind.{LexKind}
 use Rattle.sx_term.specs.declared.lex_kind.LexKind.TheVariants.{Id, Num, Str}
 use Rattle.sx_top.specs.GoalTexts.{places_text}
 use Rattle.sx_top.specs.Terms.{AreTerms}
-
--- bytes that are UTF-8 are not refused
-pub not_refused : (bytes : List ℕ) (result : Result (List ℕ) TextError) (place : ℕ) → IsMade bytes result → result ≡ Err (NotUtf8 place) → IsUtf8 bytes → ⊥
-not_refused bytes result place made is utf8 = (subst (IsMade bytes) is made).0 utf8
 
 number_utf8 : (n : ℕ) → n < 2 ^ 64 → IsUtf8 (decimal n)
 number_utf8 n small = IsUtf8-from_ascii (decimal n) (IsAscii-decimal n small)

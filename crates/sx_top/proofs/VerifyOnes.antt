@@ -1,6 +1,6 @@
--- `build --core` and `verify --core` have one outcome each, read faults aside.
+-- Runs have one outcome, read faults aside.
 use Rattle.std.proofs.Common.{◌≡◌, ◌≢◌, ℕ, true, false, List, length, refl, sym, ap, ◌∙◌}
-use Rattle.std.specs.Prelude.{Result, Ok, Err, Option, Some, None}
+use Rattle.std.specs.Prelude.{Result, Ok, Err}
 use Rattle.sx_outside.specs.Files.{Files}
 use Rattle.sx_term.specs.Tree.{Tree}
 use Rattle.sx_lines.specs.Lines.{lines_from, texts}
@@ -19,52 +19,32 @@ use Rattle.sx_replay.specs.Replay.{IsReplayAnswer}
 use Rattle.sx_replay.specs.declared.replay_error.ReplayError.TheVariants as replay_error
 use Rattle.sx_replay.proofs.OneAnswer.{one_answer}
 use Rattle.sx_words.specs.Commands.{Meant, builds, compiles, checks, verifies, samples}
-use Rattle.sx_top.specs.declared.stop.Stop.{Stop}
 use Rattle.sx_top.specs.CoreStops.{bad_entry}
 use Rattle.sx_top.specs.CoreTexts.{subject_text, term_lines}
 use Rattle.sx_top.specs.FindFirst.{no_hypotheses, rules_of}
-use Rattle.sx_top.specs.Held.{Held, most_bytes, most_list_bytes}
-use Rattle.sx_top.specs.Lower.{Lower}
+use Rattle.sx_steps.specs.Held.{Held, most_bytes, most_list_bytes}
+use Rattle.sx_steps.specs.Lower.{Lower}
 use Rattle.sx_top.specs.LowerStops.{core_stop, replay_stop}
 use Rattle.sx_top.specs.Proper.{IsProper}
-use Rattle.sx_top.specs.ReadCore.{core_file, base_file, list_file, interface_file, rule_names, Reads}
+use Rattle.sx_top.specs.ReadCore.{core_file, rule_names, Reads}
+use Rattle.sx_steps.specs.Unit.{base_file, list_file, interface_file}
 use Rattle.sx_top.specs.Search.{Searches}
 use Rattle.sx_top.specs.Written.{Compares, StatesEntries, ReadsEntries}
 use Rattle.sx_top.specs.BuildCore.{core_plan, BuildsGoal, BuildsWhole}
 use Rattle.sx_top.specs.VerifyCore.{verified_plan, Replays, VerifiesOutputs, VerifiesEntries, VerifiesList, VerifiesSubject, VerifiesWhole}
-use Rattle.sx_top.specs.Commands.{Commands}
+use Rattle.sx_steps.specs.Refusal.{bad_word}
+use Rattle.sx_words.proofs.CommandLaws.{one_command}
+use Rattle.sx_words.proofs.OneAnswer.{one_misfit, no_misfit}
+use Rattle.sx_top.specs.Commands.{by_now, Commands}
 use Rattle.sx_top.specs.Outcome.{Runs, Outcome}
-use Rattle.sx_top.specs.Laws.{OneOutcome}
-use Rattle.sx_top.proofs.StepsOn.{went}
-use Rattle.sx_top.proofs.OutcomeLaws.{IsOne, then_one, ok_same, err_same, ok_no_err, commands_one}
-use Rattle.sx_top.proofs.WholeOnes.{held_one, compares_one, searches_one}
+use Rattle.sx_build.specs.Laws.{OneLanguage, OneUnit}
+use Rattle.sx_top.specs.Laws.{IsNoBuild, OneCoreOutcome, OneOutcome}
+use Rattle.sx_steps.proofs.StepsOn.{went}
+use Rattle.sx_build.proofs.Agreeing.{builds_nearly}
+use Rattle.sx_steps.proofs.Ones.{IsOne, IsNearlyOne, nearly, then_one, then_nearly, held_one, lower_but, ok_same}
+use Rattle.sx_top.proofs.WholeOnes.{compares_one, searches_one}
 use Rattle.sx_top.proofs.Propers.{proper}
 use Rattle.sx_top.proofs.FirstBads.{bad_not_good, one_bad}
-
--- ---- calls below
-
-some_same : {A : Type 0} (a b : A) → Some a ≡ Some b → a ≡ b
-some_same a b e = cc
-
-none_some : {A : Type 0} (a : A) → ◌≡◌ {A = Option A} None (Some a) → ⊥
-none_some a e = cc
-
--- where a call below has one answer, want of memory aside, so has the step
-module _ {A E : Type 0} (stop_of : E → Option Stop) (Answers : Result A E → Type 0) (memory : E) (none : stop_of memory ≡ None)
-    (one : (x y : Result A E) → Answers x → Answers y → (x ≢ Err memory) → (y ≢ Err memory) → x ≡ y) where
-  not_lacking : (e : E) (stop : Stop) → stop_of e ≡ Some stop → ◌≢◌ {A = Result A E} (Err e) (Err memory)
-  not_lacking e stop is same = none_some stop (sym none ∙ ap stop_of (sym (err_same e memory same)) ∙ is)
-
-  given_value : (a : A) → ◌≢◌ {A = Result A E} (Ok a) (Err memory)
-  given_value a same = ok_no_err a memory same
-
-  pub lower_but : IsOne (Lower stop_of Answers)
-  lower_but (Ok a) (Ok b) h k n m = ap Ok (ok_same a b (one (Ok a) (Ok b) h k (given_value a) (given_value b)))
-  lower_but (Ok a) (Err t) h k n m = absurd (ok_no_err a k.0 (one (Ok a) (Err k.0) h k.1 (given_value a) (not_lacking k.0 t k.2)))
-  lower_but (Err s) (Ok b) h k n m = absurd (ok_no_err b h.0 (one (Ok b) (Err h.0) k h.1 (given_value b) (not_lacking h.0 s h.2)))
-  lower_but (Err s) (Err t) h k n m =
-      let same = err_same h.0 k.0 (one (Err h.0) (Err k.0) h.1 k.1 (not_lacking h.0 s h.2) (not_lacking k.0 t k.2)) in
-      ap Err (some_same s t (sym h.2 ∙ ap stop_of same ∙ k.2))
 
 -- ---- the list
 
@@ -120,6 +100,12 @@ module _ (name : List ℕ) (files : Files) where
 
 -- ---- commands
 
+commands_one : (words : List (List ℕ)) → IsOne (Commands words)
+commands_one words (Ok a) (Ok b) h k n m = ap Ok (one_command by_now words a b h k)
+commands_one words (Ok a) (Err t) h k n m = absurd (no_misfit by_now words a k.0 h k.1)
+commands_one words (Err s) (Ok b) h k n m = absurd (no_misfit by_now words b h.0 k h.1)
+commands_one words (Err s) (Err t) h k n m = ap Err (h.2 ∙ ap bad_word (one_misfit by_now words h.0 k.0 h.1 k.1) ∙ sym k.2)
+
 module _ (core_one : (bytes : List ℕ) (a b : Result Problem CoreFileError) → IsCoreAnswer bytes a → IsCoreAnswer bytes b → (a ≢ Err core_error.Memory) → (b ≢ Err core_error.Memory) → a ≡ b) where
   reads_one : (file : List ℕ) (files : Files) → IsOne (Reads file files)
   reads_one file files =
@@ -139,15 +125,31 @@ module _ (core_one : (bytes : List ℕ) (a b : Result Problem CoreFileError) →
       then_one (Reads (core_file name) files) (VerifiesSubject name files) (reads_one (core_file name) files)
       (λ p read. subject_one name files p (read_proper (core_file name) files p read))
 
-  runs_one : (command : Meant) (files : Files) → IsOne (Runs command files)
-  runs_one (builds true name tries nodes audits) files x y h k n m = builds_one name tries files x y h k n m
-  runs_one (builds false name tries nodes audits) files x y h k n m = absurd h
-  runs_one (compiles name tries nodes audits) files x y h k n m = absurd h
-  runs_one (checks name tries) files x y h k n m = absurd h
-  runs_one (verifies true name) files x y h k n m = verifies_one name files x y h k n m
-  runs_one (verifies false name) files x y h k n m = absurd h
-  runs_one (samples number) files x y h k n m = absurd h
+  runs_one : (command : Meant) (files : Files) → IsNoBuild command → IsOne (Runs command files)
+  runs_one (builds true name tries nodes audits) files kept x y h k n m = builds_one name tries files x y h k n m
+  runs_one (builds false name tries nodes audits) files kept x y h k n m = absurd kept
+  runs_one (compiles name tries nodes audits) files kept x y h k n m = absurd h
+  runs_one (checks name tries) files kept x y h k n m = absurd h
+  runs_one (verifies true name) files kept x y h k n m = verifies_one name files x y h k n m
+  runs_one (verifies false name) files kept x y h k n m = absurd h
+  runs_one (samples number) files kept x y h k n m = absurd h
+
+  pub core_outcome_by : OneCoreOutcome
+  unfolding Outcome
+  core_outcome_by words none files =
+      then_one (Commands words) (λ command. Runs command files) (commands_one words) (λ command read. runs_one command files (none command read))
+
+  module _ (languages : OneLanguage) (units : OneUnit) where
+    runs_nearly : (command : Meant) (files : Files) → IsNearlyOne (Runs command files)
+    runs_nearly (builds true name tries nodes audits) files x y h k n m = nearly (BuildsWhole name tries files) (builds_one name tries files) x y h k n m
+    runs_nearly (builds false name tries nodes audits) files x y h k n m = builds_nearly languages units name tries files x y h k n m
+    runs_nearly (compiles name tries nodes audits) files x y h k n m = absurd h
+    runs_nearly (checks name tries) files x y h k n m = absurd h
+    runs_nearly (verifies true name) files x y h k n m = nearly (VerifiesWhole name files) (verifies_one name files) x y h k n m
+    runs_nearly (verifies false name) files x y h k n m = absurd h
+    runs_nearly (samples number) files x y h k n m = absurd h
 
   pub one_outcome_by : OneOutcome
   unfolding Outcome
-  one_outcome_by words files = then_one (Commands words) (λ command. Runs command files) (commands_one words) (λ command read. runs_one command files)
+  one_outcome_by languages units words files =
+      then_nearly (Commands words) (λ command. Runs command files) (nearly (Commands words) (commands_one words)) (λ command read. runs_nearly languages units command files)

@@ -11,10 +11,10 @@ use Rattle.sx_core.specs.Problem.{Problem}
 use Rattle.sx_replay.specs.Replay.{IsReplayAnswer}
 use Rattle.sx_top.specs.CoreTexts.{term_lines}
 use Rattle.sx_top.specs.FindFirst.{no_hypotheses, rules_of}
-use Rattle.sx_top.specs.Work.{Plan}
+use Rattle.sx_steps.specs.Work.{Plan}
 use Rattle.sx_top.specs.VerifyCore.{verified_plan, VerifiesWhole, VerifiedUnit}
 use Rattle.sx_top.specs.Ending.{IsDone}
-use Rattle.sx_top.proofs.StepsOn.{went}
+use Rattle.sx_steps.proofs.StepsOn.{went}
 
 -- what is replayed is the list of a derivation with the outputs
 module _ (derived : (problem : Problem) (list : List Entry) (outputs : List Tree) → IsReplayAnswer (modes_of problem.forms) (rules_of problem) no_hypotheses problem.goal list (Ok outputs) → (answer : Answer) × DerivesGoal (modes_of problem.forms) (rules_of problem) no_hypotheses problem.goal answer × (order_of answer.0 ≡ list) × (answer.1 ≡ outputs)) where

@@ -27,8 +27,8 @@ use Rattle.sx_replay.specs.Replay.{IsWithin, IsReplayAnswer}
 use Rattle.sx_top.specs.FindFirst.{no_hypotheses, rules_of}
 use Rattle.sx_top.specs.Terms.{AreTerms}
 use Rattle.sx_top.specs.Proper.{IsProper}
-use Rattle.sx_top.specs.Stop.{IsNoFault, OnlyReads}
-use Rattle.sx_top.specs.declared.step_error.StepError.{StepError}
+use Rattle.sx_steps.specs.Stop.{IsNoFault, OnlyReads}
+use Rattle.sx_steps.specs.declared.step_error.StepError.{StepError}
 use Rattle.sx_top.proofs.Propers.{terms_of}
 use Rattle.sx_top.proofs.ShortTexts.{lines_few}
 

@@ -3,10 +3,10 @@ use Rattle.std.proofs.Common.{◌≡◌, ℕ, zero, suc, ◌<◌, List, [], ◌�
 use Rattle.std.specs.Prelude.{Option, Some, None, slice_get}
 use Rattle.sx_outside.specs.Files.{Files, File, put, after}
 use Rattle.sx_outside.specs.Told.{Told}
-use Rattle.sx_top.specs.Work.{file_of}
+use Rattle.sx_steps.specs.Work.{file_of}
 use Rattle.sx_top.specs.Writing.{FailedAt}
 use Rattle.sx_top.specs.Ending.{BothTell}
-use Rattle.sx_top.specs.declared.work.Output.{Output}
+use Rattle.sx_steps.specs.declared.work.Output.{Output}
 
 -- what was told goes on
 pub told_then : {A : Type 0} (R Q T : A → A → Type 0) (first second third : Option A) → Told R first second → Told Q second third → ((x y z : A) → R x y → Q y z → T x z) → Told T first third

@@ -1,5 +1,5 @@
 -- The steps of `build --core NAME`, and what it promises.
-use Rattle.std.specs.Prelude.{◌≡◌, ◌≢◌, ℕ, List, [], ◌∷◌, ◌++◌, Result, Ok, Some, codes, decimal}
+use Rattle.std.specs.Prelude.{◌≡◌, ◌≢◌, ℕ, List, ◌++◌, Result, Ok, Some}
 use Rattle.sx_outside.specs.Files.{Files}
 use Rattle.sx_rules.specs.Derivations.{nodes_of}
 use Rattle.sx_rules.specs.Orders.{order_of}
@@ -7,23 +7,18 @@ use Rattle.sx_rules.specs.First.{Answer}
 use Rattle.sx_core.specs.Problem.{Problem}
 use Rattle.sx_core.specs.CoreRead.{IsCoreAnswer}
 use Rattle.sx_top.specs.CoreTexts.{subject_text, list_text, term_lines}
-use Rattle.sx_top.specs.declared.stop.Stop.{Stop}
-use Rattle.sx_top.specs.Steps.{Then}
-use Rattle.sx_top.specs.ReadCore.{core_file, base_file, list_file, interface_file, Reads}
+use Rattle.sx_steps.specs.declared.stop.Stop.{Stop}
+use Rattle.sx_steps.specs.Steps.{Then}
+use Rattle.sx_top.specs.ReadCore.{core_file, Reads}
+use Rattle.sx_steps.specs.Unit.{base_file, list_file, interface_file, built_line, built_plan}
 use Rattle.sx_top.specs.FindFirst.{IsFirstOf}
 use Rattle.sx_top.specs.Search.{Searches, HasWalked}
-use Rattle.sx_top.specs.Work.{Plan}
-
--- the line that tells how many nodes the derivation has
-abbrev pub built_line : List ℕ → Answer → List ℕ
-built_line name answer = codes "built " ++ name ++ codes ": " ++ decimal (nodes_of answer.0) ++ codes " nodes" ++ 10 ∷ []
+use Rattle.sx_steps.specs.Work.{Plan}
 
 -- the three files and the line
 unfoldable pub core_plan : List ℕ → Problem → Answer → Plan
-core_plan name problem answer = record {
-  files = record { name = base_file name; bytes = subject_text problem.forms problem.goal } ∷ record { name = list_file name; bytes = list_text problem.rules (order_of answer.0) } ∷ record { name = interface_file name; bytes = term_lines answer.1 } ∷ [];
-  lines = built_line name answer;
-}
+core_plan name problem answer =
+    built_plan name (subject_text problem.forms problem.goal) (list_text problem.rules (order_of answer.0)) (term_lines answer.1) (nodes_of answer.0)
 
 -- the first derivation of the problem's goal, and then the three files and the line
 abbrev pub BuildsGoal : List ℕ → List ℕ → ℕ → Problem → Result Plan Stop → Type 0
@@ -60,4 +55,4 @@ pub record BuiltUnit (name : List ℕ) (old new : Files) (sent sent' : List ℕ)
   pub list : new (list_file name) ≡ Some (list_text problem.rules (order_of answer.0))
   pub interface : new (interface_file name) ≡ Some (term_lines answer.1)
   pub others : (other : List ℕ) → other ≢ base_file name → other ≢ list_file name → other ≢ interface_file name → new other ≡ old other
-  pub line : sent' ≡ sent ++ built_line name answer
+  pub line : sent' ≡ sent ++ built_line name (nodes_of answer.0)

@@ -2,13 +2,13 @@
 use Rattle.std.specs.Prelude.{◌≡◌, ℕ, ◌≤◌, true, List, Result, Ok, Err}
 use Rattle.sx_words.specs.Commands.{Meant, builds, verifies, SpellsAt, IsMisfitAt}
 use Rattle.sx_words.specs.declared.stage.Stage.{Stage}
-use Rattle.sx_words.specs.declared.stage.Stage.TheVariants.{CoreFiles}
-use Rattle.sx_top.specs.declared.stop.Stop.{Stop}
-use Rattle.sx_top.specs.Refusal.{bad_word}
+use Rattle.sx_words.specs.declared.stage.Stage.TheVariants.{Modules}
+use Rattle.sx_steps.specs.declared.stop.Stop.{Stop}
+use Rattle.sx_steps.specs.Refusal.{bad_word}
 
--- the commands that there are by now: `build --core`, with `--tries`, and `verify --core`
+-- the commands that there are by now: `build` and `build --core`, with `--tries`, and `verify --core`
 abbrev pub by_now : Stage
-by_now = CoreFiles
+by_now = Modules
 
 -- the words spell the command, of those that there are by now
 abbrev pub Spelled : List (List ℕ) → Meant → Type 0
@@ -21,6 +21,6 @@ Commands words (Err stop) = (place : ℕ) × IsMisfitAt by_now words place × (s
 
 -- there are steps for the command, and it has at most 1,000,000 tries to spend
 abbrev pub IsThere : Meant → Type 0
-IsThere (builds true name tries nodes audits) = tries ≤ 1000000
+IsThere (builds of_core name tries nodes audits) = tries ≤ 1000000
 IsThere (verifies true name) = Unit {0}
 IsThere command = ⊥

@@ -3,15 +3,15 @@ use Rattle.std.specs.Prelude.{◌≡◌, ◌⊎◌, ℕ, ◌+◌, ◌≤◌, Lis
 use Rattle.sx_outside.specs.Files.{Files, after}
 use Rattle.sx_outside.specs.Told.{Told}
 use Rattle.sx_outside.specs.Sink.{AppendsBeginning}
-use Rattle.sx_top.specs.Work.{Plan}
+use Rattle.sx_steps.specs.Work.{Plan}
 use Rattle.sx_top.specs.Writing.{FailedAt}
-use Rattle.sx_top.specs.declared.stop.Stop.{Stop}
-use Rattle.sx_top.specs.Refusal.{write_fault, line_of, status_of}
+use Rattle.sx_steps.specs.declared.stop.Stop.{Stop}
+use Rattle.sx_steps.specs.Refusal.{write_fault, line_of, status_of}
 use Rattle.sx_top.specs.Outcome.{Outcome, Promises, Walks}
 use Rattle.sx_top.specs.Commands.{Spelled}
 use Rattle.sx_words.specs.Commands.{Meant}
-use Rattle.sx_top.specs.declared.status.Status.{Status}
-use Rattle.sx_top.specs.declared.status.Status.TheVariants as statuses
+use Rattle.sx_steps.specs.declared.status.Status.{Status}
+use Rattle.sx_steps.specs.declared.status.Status.TheVariants as statuses
 
 -- what both tell, before and after
 abbrev pub BothTell : (Files → Files → List ℕ → List ℕ → Type 0) → Option Files → Option Files → Option (List ℕ) → Option (List ℕ) → Type 0
@@ -92,7 +92,3 @@ HasWalks words files tries = (command : Meant) × Spelled words command × Walks
 pub record IsCounted (words : List (List ℕ)) (files : Files) (status : Status) (before after : ℕ) : Type 0 where
   pub most : (after ≡ before) ⊎ ((tries : ℕ) × HasWalks words files tries × (after ≤ before + tries))
   pub exact : status ≡ statuses.Done → (tries : ℕ) × HasWalks words files tries × (after ≡ before + tries)
-
--- the steps rose by at most so many
-abbrev pub RisesWithin : ℕ → ℕ → ℕ → Type 0
-RisesWithin most before after = (before ≤ after) × (after ≤ before + most)

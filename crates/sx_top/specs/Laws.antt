@@ -1,19 +1,28 @@
 -- Laws of what runs come to.
-use Rattle.std.specs.Prelude.{◌≡◌, ℕ, List, Result, Ok, Err}
+use Rattle.std.specs.Prelude.{◌≡◌, ℕ, false, List, Result}
 use Rattle.sx_outside.specs.Files.{Files}
-use Rattle.sx_top.specs.declared.stop.Stop.{Stop}
-use Rattle.sx_top.specs.declared.status.Status.TheVariants as statuses
-use Rattle.sx_top.specs.Refusal.{status_of}
-use Rattle.sx_top.specs.Work.{Plan}
+use Rattle.sx_words.specs.Commands.{Meant, builds}
+use Rattle.sx_steps.specs.declared.stop.Stop.{Stop}
+use Rattle.sx_steps.specs.Agree.{IsNoReadFault, Agree}
+use Rattle.sx_steps.specs.Work.{Plan}
+use Rattle.sx_build.specs.Laws.{OneLanguage, OneUnit}
+use Rattle.sx_top.specs.Commands.{Spelled}
 use Rattle.sx_top.specs.Outcome.{Outcome}
 
--- the result is no read fault
-abbrev pub IsNoReadFault : {A : Type 0} → Result A Stop → Type 0
-IsNoReadFault (Ok x) = Unit {0}
-IsNoReadFault (Err stop) = status_of stop ≡ statuses.ReadFault → ⊥
+-- the command builds no module
+abbrev pub IsNoBuild : Meant → Type 0
+IsNoBuild (builds false name tries nodes audits) = ⊥
+IsNoBuild command = Unit {0}
 
--- words and files have one outcome, read faults aside
+-- words that build no module have with the files one outcome, read faults aside
+abbrev pub OneCoreOutcome : Type 0
+OneCoreOutcome =
+    (words : List (List ℕ)) → ((command : Meant) → Spelled words command → IsNoBuild command) → (files : Files) (a b : Result Plan Stop) →
+    Outcome words files a → Outcome words files b → IsNoReadFault a → IsNoReadFault b → a ≡ b
+
+-- Words and files have one outcome, read faults aside, where a text states one language and a module has one unit. Where a text has more than two
+-- readings, a refusal may show any two of them.
 abbrev pub OneOutcome : Type 0
 OneOutcome =
-    (words : List (List ℕ)) (files : Files) (a b : Result Plan Stop) →
-    Outcome words files a → Outcome words files b → IsNoReadFault a → IsNoReadFault b → a ≡ b
+    OneLanguage → OneUnit → (words : List (List ℕ)) (files : Files) (a b : Result Plan Stop) →
+    Outcome words files a → Outcome words files b → IsNoReadFault a → IsNoReadFault b → Agree a b

@@ -1,7 +1,3 @@
-pub mod Status
-pub mod Refusal
-pub mod Steps
-pub mod Stop
 pub mod Commands
 pub mod CoreTexts
 pub mod GoalTexts
@@ -9,13 +5,10 @@ pub mod Terms
 pub mod FindFirst
 pub mod CoreStops
 pub mod LowerStops
-pub mod Held
-pub mod Lower
 pub mod ReadCore
 pub mod Proper
 pub mod Search
 pub mod Written
-pub mod Work
 pub mod BuildCore
 pub mod VerifyCore
 pub mod Outcome

@@ -1,7 +1,5 @@
 -- The stops of what the calls below refuse.
-use Rattle.std.specs.Prelude.{ℕ, List, Option, Some, None, codes}
-use Rattle.sx_core.specs.declared.kind.Kind.{Kind}
-use Rattle.sx_core.specs.declared.kind.Kind.TheVariants as kind
+use Rattle.std.specs.Prelude.{ℕ, List, Option, Some, None}
 use Rattle.sx_core.specs.declared.error.CoreFileError.{CoreFileError}
 use Rattle.sx_core.specs.declared.error.CoreFileError.TheVariants as core_error
 use Rattle.sx_core.specs.Problem.{Problem}
@@ -11,18 +9,9 @@ use Rattle.sx_derive.specs.declared.derive_error.DeriveError.TheVariants as deri
 use Rattle.sx_replay.specs.declared.replay_error.ReplayError.{ReplayError}
 use Rattle.sx_replay.specs.declared.replay_error.ReplayError.TheVariants as replay_error
 use Rattle.sx_words.specs.declared.list_defect.ListDefect.TheVariants as list_defect
-use Rattle.sx_top.specs.declared.stop.Stop.{Stop}
-use Rattle.sx_top.specs.CoreStops.{not_utf8, bad_line, too_deep, too_big, bad_rules, tries_spent, depth_spent, underivable, unfit_list}
-
--- the kind of what is bad about a line, in lower case
-abbrev pub kind_text : Kind → List ℕ
-kind_text kind.Head = codes "head"
-kind_text kind.Directive = codes "directive"
-kind_text kind.Shape = codes "shape"
-kind_text kind.Order = codes "order"
-kind_text kind.Unfinished = codes "unfinished"
-kind_text kind.Main = codes "main"
-kind_text kind.Variable = codes "variable"
+use Rattle.sx_steps.specs.declared.stop.Stop.{Stop}
+use Rattle.sx_top.specs.CoreStops.{variable_name, underivable, unfit_list}
+use Rattle.sx_steps.specs.Stops.{kind_text, not_utf8, bad_line, too_deep, too_big, bad_rules, tries_spent, depth_spent}
 
 -- the stop of a core file's refusal; want of memory has none, and the text of a term that is too deep names no line
 abbrev pub core_stop : List ℕ → CoreFileError → Option Stop
@@ -30,7 +19,7 @@ core_stop file core_error.Memory = None
 core_stop file (core_error.NotUtf8 before) = Some (not_utf8 file before)
 core_stop file (core_error.Notation line what) = Some (bad_line file line (kind_text what))
 core_stop file (core_error.TooDeep line depth) = Some (too_deep file depth)
-core_stop file (core_error.Rules e) = bad_rules file e
+core_stop file (core_error.Rules e) = bad_rules file variable_name e
 
 -- the stop of a list's refusal; want of memory has none
 abbrev pub replay_stop : List ℕ → ReplayError → Option Stop

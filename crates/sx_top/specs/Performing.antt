@@ -1,10 +1,10 @@
 -- What performing a plan leads to, by the status.
 use Rattle.std.specs.Prelude.{◌⊎◌, ℕ, ◌<◌, List, length}
 use Rattle.sx_outside.specs.Files.{Files}
-use Rattle.sx_top.specs.Work.{Plan}
+use Rattle.sx_steps.specs.Work.{Plan}
 use Rattle.sx_top.specs.Ending.{IsDone, FileFails, StopsAfter}
-use Rattle.sx_top.specs.declared.status.Status.{Status}
-use Rattle.sx_top.specs.declared.status.Status.TheVariants as statuses
+use Rattle.sx_steps.specs.declared.status.Status.{Status}
+use Rattle.sx_steps.specs.declared.status.Status.TheVariants as statuses
 use Rattle.sx_top.specs.declared.perform.WriteEnd.{WriteEnd}
 use Rattle.sx_top.specs.declared.perform.WriteEnd.TheVariants as write_ends
 

@@ -1,26 +1,17 @@
--- The files of a core file, and the step that reads it.
+-- The file of a core problem, and the step that reads it.
 use Rattle.std.specs.Prelude.{ℕ, List, ◌++◌, map, Result, codes}
 use Rattle.sx_outside.specs.Files.{Files}
 use Rattle.sx_core.specs.Problem.{Problem}
 use Rattle.sx_core.specs.CoreRead.{IsCoreAnswer}
-use Rattle.sx_top.specs.declared.stop.Stop.{Stop}
-use Rattle.sx_top.specs.Steps.{Then}
-use Rattle.sx_top.specs.Lower.{Lower}
+use Rattle.sx_steps.specs.declared.stop.Stop.{Stop}
+use Rattle.sx_steps.specs.Steps.{Then}
+use Rattle.sx_steps.specs.Lower.{Lower}
 use Rattle.sx_top.specs.LowerStops.{core_stop}
-use Rattle.sx_top.specs.Held.{Held, most_bytes}
+use Rattle.sx_steps.specs.Held.{Held, most_bytes}
 
--- the files of a core file
+-- the file of a core problem
 abbrev pub core_file : List ℕ → List ℕ
 core_file name = name ++ codes ".core"
-
-abbrev pub base_file : List ℕ → List ℕ
-base_file name = name ++ codes ".base"
-
-abbrev pub list_file : List ℕ → List ℕ
-list_file name = name ++ codes ".der"
-
-abbrev pub interface_file : List ℕ → List ℕ
-interface_file name = name ++ codes ".int"
 
 -- the names of a problem's rules
 abbrev pub rule_names : Problem → List (List ℕ)

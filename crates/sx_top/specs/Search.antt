@@ -6,9 +6,10 @@ use Rattle.sx_core.specs.Problem.{Problem}
 use Rattle.sx_derive.specs.Walk.{Event, Cause, depth_spent as passes_depth, too_deep as passes_terms, too_big as passes_size, events}
 use Rattle.sx_derive.specs.Search.{Ending, found, stopped, spent, exhausted, walk, tries_of}
 use Rattle.sx_derive.specs.Stuck.{Blame, IsStuck}
-use Rattle.sx_top.specs.declared.stop.Stop.{Stop}
+use Rattle.sx_steps.specs.declared.stop.Stop.{Stop}
 use Rattle.sx_top.specs.FindFirst.{no_hypotheses, rules_of}
-use Rattle.sx_top.specs.CoreStops.{tries_spent, depth_spent, too_deep, too_big, underivable}
+use Rattle.sx_top.specs.CoreStops.{underivable}
+use Rattle.sx_steps.specs.Stops.{tries_spent, depth_spent, too_deep, too_big}
 
 -- the events of the problem's goal, without hypotheses
 abbrev pub goal_events : Problem → List (Event Answer)

@@ -2,11 +2,11 @@
 use Rattle.std.specs.Prelude.{◌≡◌, ◌⊎◌, ℕ, List, ◌++◌}
 use Rattle.sx_outside.specs.Faults.{Rose}
 use Rattle.sx_outside.specs.Sink.{AppendsBeginning}
-use Rattle.sx_top.specs.Refusal.{status_of, line_of}
-use Rattle.sx_top.specs.declared.status.Status.{Status}
-use Rattle.sx_top.specs.declared.status.Status.TheVariants as statuses
-use Rattle.sx_top.specs.declared.step_error.StepError.{StepError}
-use Rattle.sx_top.specs.declared.step_error.StepError.TheVariants as errors
+use Rattle.sx_steps.specs.Refusal.{status_of, line_of}
+use Rattle.sx_steps.specs.declared.status.Status.{Status}
+use Rattle.sx_steps.specs.declared.status.Status.TheVariants as statuses
+use Rattle.sx_steps.specs.declared.step_error.StepError.{StepError}
+use Rattle.sx_steps.specs.declared.step_error.StepError.TheVariants as errors
 
 -- the line was sent and the status stays, or the sink failed, or memory lacked
 abbrev pub Sends : Status → List ℕ → Status → List ℕ → List ℕ → Type 0

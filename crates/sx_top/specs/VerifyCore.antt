@@ -12,15 +12,16 @@ use Rattle.sx_rules.specs.ListText.{StatesList}
 use Rattle.sx_core.specs.Problem.{Problem}
 use Rattle.sx_core.specs.CoreRead.{IsCoreAnswer}
 use Rattle.sx_replay.specs.Replay.{IsReplayAnswer}
-use Rattle.sx_top.specs.declared.stop.Stop.{Stop}
-use Rattle.sx_top.specs.Steps.{Then}
-use Rattle.sx_top.specs.Lower.{Lower}
+use Rattle.sx_steps.specs.declared.stop.Stop.{Stop}
+use Rattle.sx_steps.specs.Steps.{Then}
+use Rattle.sx_steps.specs.Lower.{Lower}
 use Rattle.sx_top.specs.LowerStops.{replay_stop}
-use Rattle.sx_top.specs.ReadCore.{core_file, base_file, list_file, interface_file, rule_names, Reads}
+use Rattle.sx_top.specs.ReadCore.{core_file, rule_names, Reads}
+use Rattle.sx_steps.specs.Unit.{base_file, list_file, interface_file}
 use Rattle.sx_top.specs.Written.{Compares, ReadsEntries}
 use Rattle.sx_top.specs.FindFirst.{no_hypotheses, rules_of}
 use Rattle.sx_top.specs.CoreTexts.{subject_text, term_lines}
-use Rattle.sx_top.specs.Work.{Plan}
+use Rattle.sx_steps.specs.Work.{Plan}
 
 -- the line that tells how many entries the list has
 abbrev pub verified_line : List ℕ → ℕ → List ℕ

@@ -12,7 +12,7 @@ use Rattle.sx_derive.specs.Walk.{events}
 use Rattle.sx_derive.specs.Search.{found, walk}
 use Rattle.sx_replay.specs.Fronts.{whole}
 use Rattle.sx_replay.specs.Replay.{IsWithin}
-use Rattle.sx_top.specs.Held.{most_bytes}
+use Rattle.sx_steps.specs.Held.{most_bytes}
 use Rattle.sx_top.specs.ReadCore.{core_file, Reads}
 use Rattle.sx_top.specs.Search.{Searches}
 use Rattle.sx_top.specs.CoreTexts.{term_lines}

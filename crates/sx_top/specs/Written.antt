@@ -5,10 +5,10 @@ use Rattle.sx_lines.specs.Lines.{lines_from, texts}
 use Rattle.sx_rules.specs.declared.entry.Entry.{Entry}
 use Rattle.sx_rules.specs.ListText.{StatesList}
 use Rattle.sx_rules.specs.BadLine.{IsFirstBad}
-use Rattle.sx_top.specs.declared.stop.Stop.{Stop}
+use Rattle.sx_steps.specs.declared.stop.Stop.{Stop}
 use Rattle.sx_top.specs.CoreStops.{bad_entry, differs}
-use Rattle.sx_top.specs.Held.{Held, most_bytes, most_list_bytes}
-use Rattle.sx_top.specs.Steps.{Then}
+use Rattle.sx_steps.specs.Held.{Held, most_bytes, most_list_bytes}
+use Rattle.sx_steps.specs.Steps.{Then}
 
 -- ---- a text that is to stand in a file
 

@@ -1,55 +1,28 @@
 //! The steps of `build --core NAME`.
 
-ghost use Rattle.std.specs.Prelude.{◌≡◌, ◌++◌, IfOk, [], ◌∷◌, map};
+ghost use Rattle.std.specs.Prelude.{◌≡◌, IfOk, map};
 ghost use Rattle.sx_outside.specs.Told.{WhereTold};
 ghost use Rattle.sx_term.specs.Term.{tree};
 ghost use Rattle.sx_rules.specs.First.{Answer};
 ghost use Rattle.sx_core.specs.Problem.{problem as problem_data};
 ghost use Rattle.sx_derive.specs.Listing.{Lists};
 ghost use Rattle.sx_top.specs.BuildCore.{core_plan, BuildsGoal, BuildsFrom, BuildsWhole, FileTries, WholeTries};
-ghost use Rattle.sx_top.specs.Ending.{RisesWithin};
+ghost use Rattle.sx_steps.specs.Stop.{RisesWithin, Gives, OnlyReads, IsNoFault, Counts, Tried};
 ghost use Rattle.sx_top.specs.Proper.{IsProper, ListsGiven};
 ghost use Rattle.sx_top.specs.Search.{HasWalked};
-ghost use Rattle.sx_top.specs.Stop.{Gives, OnlyReads, IsNoFault, Counts, Tried};
 ghost use Rattle.sx_top.specs.Terms.{AreTerms};
-ghost use Rattle.sx_top.specs.Work.{plan_of, file_of};
+ghost use Rattle.sx_steps.specs.Work.{plan_of};
 
-use crate::names::with_suffix;
 use crate::read_core::read_problem;
 use crate::search::find_first;
-use crate::step_error::StepError;
-use crate::texts::{base_text, built_line, interface_text, list_text};
-use crate::work::{Output, Work};
+use crate::texts::{base_text, interface_text, list_text};
 use std::alloc::Global;
 use std::sync::ledger::Ledger;
 use sx_core::CoreProblem;
 use sx_derive::Listed;
 use sx_outside::Shelf;
+use sx_steps::{StepError, Work, built_work, with_suffix};
 use sx_term::{NoMemory, Steps, Text};
-
-/// A file to write, under the name with a suffix.
-fn output(alloc: Global, name: &Text, suffix: &str, bytes: Vec<u8>) -> Result<Output, NoMemory>
-    ensures { IfOk result (λ file. file_of file ≡ record { name = name.now ++ suffix.now; bytes = bytes.items }) }
-{
-    let name = with_suffix(alloc, name, suffix)?;
-    Ok(Output { name, bytes })
-}
-
-/// Three files in order.
-fn three(
-    alloc: Global,
-    first: Output,
-    second: Output,
-    third: Output,
-) -> Result<Vec<Output>, NoMemory>
-    ensures { IfOk result (λ files. files.items ≡ first ∷ second ∷ third ∷ []) }
-{
-    let mut files = Vec::new(alloc);
-    files.push(first)?;
-    files.push(second)?;
-    files.push(third)?;
-    Ok(files)
-}
 
 /// The three files of the derivation, and the line.
 fn make_work(
@@ -63,15 +36,11 @@ fn make_work(
     ensures { IfOk result (λ work. (answer : Answer) → Lists listed.now answer → plan_of work ≡ core_plan name.now (problem_data problem.now) answer) }
 {
     let list = &listed.entries;
-    let base_bytes = base_text(alloc, problem.rules.forms(), &problem.goal)?;
-    let list_bytes = list_text(alloc, &problem.rules, list)?;
-    let interface_bytes = interface_text(alloc, &listed.outputs)?;
-    let base = output(alloc, name, ".base", base_bytes)?;
-    let entries = output(alloc, name, ".der", list_bytes)?;
-    let interface = output(alloc, name, ".int", interface_bytes)?;
-    let files = three(alloc, base, entries, interface)?;
-    let lines = built_line(alloc, name, list.len() as u64)?;
-    Ok(Work { files, lines })
+    let base = base_text(alloc, problem.rules.forms(), &problem.goal)?;
+    let entries = list_text(alloc, &problem.rules, list)?;
+    let interface = interface_text(alloc, &listed.outputs)?;
+    let work = built_work(alloc, name, base, entries, interface, list.len() as u64)?;
+    Ok(work)
 }
 
 /// The steps from the problem that the file states.

@@ -3,15 +3,16 @@
 ghost use Rattle.std.specs.Prelude.{◌≡◌, ◌⊎◌};
 ghost use Rattle.sx_outside.specs.Told.{WhereTold};
 ghost use Rattle.sx_outside.specs.Faults.{Rose};
-ghost use Rattle.sx_top.specs.Ending.{BothTell, Ends, KeepsPromise, HasNoDefect, IsDoneOrShort, IsCounted, RisesWithin};
+ghost use Rattle.sx_top.specs.Ending.{BothTell, Ends, KeepsPromise, HasNoDefect, IsDoneOrShort, IsCounted};
+ghost use Rattle.sx_steps.specs.Stop.{RisesWithin};
 
 use crate::perform::perform;
 use crate::plan::plan;
-use crate::status::Status;
 use crate::tell::tell;
 use std::alloc::Global;
 use std::sync::ledger::Ledger;
 use sx_outside::{Shelf, Sink, Source};
+use sx_steps::Status;
 use sx_term::{Steps, Text};
 
 /// Does what the words say, which are the command line without the program's name.

@@ -3,13 +3,11 @@
 ghost use Rattle.std.specs.Prelude.{◌≡◌, IfOk};
 ghost use Rattle.sx_words.specs.View.{command_view};
 ghost use Rattle.sx_top.specs.Commands.{by_now as stage_by_now, Commands};
-ghost use Rattle.sx_top.specs.Refusal as refusals;
-ghost use Rattle.sx_top.specs.Stop.{Gives, IsNoFault};
+ghost use Rattle.sx_steps.specs.Refusal as refusals;
+ghost use Rattle.sx_steps.specs.Stop.{Gives, IsNoFault};
 
-use crate::names::text_of;
-use crate::step_error::StepError;
-use crate::stop::{Stop, about};
 use std::alloc::Global;
+use sx_steps::{StepError, Stop, about, text_of};
 use sx_term::{NoMemory, Text};
 use sx_words::{Command, Defect, FileDefect, Stage, WordsError, read_words_at};
 
@@ -17,7 +15,7 @@ use sx_words::{Command, Defect, FileDefect, Stage, WordsError, read_words_at};
 fn by_now() -> Stage
     ensures { result ≡ stage_by_now }
 {
-    Stage::CoreFiles
+    Stage::Modules
 }
 
 /// The refusal of words that are no command.

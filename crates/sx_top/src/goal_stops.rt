@@ -12,11 +12,10 @@ ghost use Rattle.sx_top.specs.CoreStops.{stuck};
 ghost use Rattle.sx_top.specs.Terms.{AreTerms};
 
 use crate::goal_texts::{open_goal, whole_goal};
-use crate::names::text_of;
-use crate::stop::{Stop, about};
 use std::alloc::Global;
 use sx_derive::{Blame, Cause};
 use sx_rules::{Goal, RuleSet};
+use sx_steps::{Stop, about, text_of};
 use sx_term::{NoMemory, Term, Text};
 use sx_words::{Defect, GoalDefect};
 

@@ -8,28 +8,24 @@ mod core_stops;
 mod forms;
 mod goal_stops;
 mod goal_texts;
-mod held;
 mod laws;
-mod names;
 mod perform;
 mod plan;
 mod read_core;
 mod search;
-mod status;
-mod step_error;
-mod stop;
 mod tell;
 mod texts;
 mod verify_core;
 mod verify_laws;
-mod work;
 mod written;
 
 pub use call::run;
 pub use laws::one_outcome;
-pub use status::Status;
+pub use sx_steps::Status;
 pub use verify_laws::{built_is_verified, found_is_within};
 
+#[cfg(test)]
+mod module_tests;
 #[cfg(test)]
 mod tests;
 #[cfg(test)]

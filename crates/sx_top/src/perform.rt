@@ -4,17 +4,15 @@ ghost use Rattle.std.specs.Prelude.{◌≡◌, ◌≤◌, ◌⊎◌, map, length
 ghost use Rattle.sx_outside.specs.Sink.{AppendsBeginning};
 ghost use Rattle.sx_outside.specs.Told.{Told};
 ghost use Rattle.sx_outside.specs.Faults.{Rose};
-ghost use Rattle.sx_top.specs.Refusal.{write_fault, line_of};
+ghost use Rattle.sx_steps.specs.Refusal.{write_fault, line_of};
 ghost use Rattle.sx_top.specs.Ending.{BothTell};
-ghost use Rattle.sx_top.specs.Work.{file_of, plan_of};
+ghost use Rattle.sx_steps.specs.Work.{file_of, plan_of};
 ghost use Rattle.sx_top.specs.Writing.{Wrote};
 ghost use Rattle.sx_top.specs.Performing.{Performs, IsFailed, IsBelow};
 
-use crate::status::Status;
-use crate::stop::refusal_line;
-use crate::work::{Output, Work};
 use std::alloc::Global;
 use sx_outside::{Shelf, Sink, WriteAnswer};
+use sx_steps::{Output, Status, Work, refusal_line};
 use sx_term::Text;
 use sx_words::{Defect, FileDefect, Place, Refusal};
 

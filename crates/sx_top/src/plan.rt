@@ -4,19 +4,19 @@ ghost use Rattle.sx_outside.specs.Told.{WhereTold};
 ghost use Rattle.sx_words.specs.View.{command_view};
 ghost use Rattle.sx_top.specs.Commands.{IsThere};
 ghost use Rattle.sx_top.specs.Outcome.{Outcome, Runs};
-ghost use Rattle.sx_top.specs.Ending.{HasWalks, RisesWithin};
-ghost use Rattle.sx_top.specs.Stop.{Gives, OnlyReads, Tried};
+ghost use Rattle.sx_top.specs.Ending.{HasWalks};
+ghost use Rattle.sx_steps.specs.Stop.{RisesWithin, Gives, OnlyReads, Tried};
 ghost use Rattle.sx_top.specs.Tries.{TriesOf};
-ghost use Rattle.sx_top.specs.Work.{plan_of};
+ghost use Rattle.sx_steps.specs.Work.{plan_of};
 
 use crate::build_core::plan_build_core;
 use crate::commands::read_command;
-use crate::step_error::StepError;
 use crate::verify_core::plan_verify_core;
-use crate::work::Work;
 use std::alloc::Global;
 use std::sync::ledger::Ledger;
+use sx_build::plan_build_module;
 use sx_outside::Shelf;
+use sx_steps::{StepError, Work};
 use sx_term::{Steps, Text};
 use sx_words::Command;
 
@@ -43,6 +43,13 @@ fn run_command<S: Shelf, L: Ledger>(
             nodes: _,
             audits: _,
         } => plan_build_core(alloc, name, *tries, shelf, steps),
+        Command::Build {
+            core: false,
+            name,
+            tries,
+            nodes: _,
+            audits: _,
+        } => plan_build_module(alloc, name, *tries, shelf, steps),
         Command::Verify { core: true, name } => plan_verify_core(alloc, name, shelf),
         _ => unreachable!(),
     }

@@ -4,18 +4,17 @@ ghost use Rattle.std.specs.Prelude.{◌≤◌, IfOk, length};
 ghost use Rattle.sx_outside.specs.Told.{WhereTold};
 ghost use Rattle.sx_core.specs.Problem.{problem};
 ghost use Rattle.sx_core.specs.CoreRead.{IsCoreAnswer};
-ghost use Rattle.sx_top.specs.Lower.{Lower};
+ghost use Rattle.sx_steps.specs.Lower.{Lower};
 ghost use Rattle.sx_top.specs.LowerStops.{core_stop};
 ghost use Rattle.sx_top.specs.Proper.{IsProper};
 ghost use Rattle.sx_top.specs.ReadCore.{Reads};
-ghost use Rattle.sx_top.specs.Stop.{Gives, OnlyReads, IsNoFault};
+ghost use Rattle.sx_steps.specs.Stop.{Gives, OnlyReads, IsNoFault};
 
 use crate::core_stops::bad_core;
-use crate::held::{MOST_BYTES, read_file};
-use crate::step_error::StepError;
 use std::alloc::Global;
 use sx_core::{CoreProblem, read_core_file};
 use sx_outside::Shelf;
+use sx_steps::{MOST_BYTES, StepError, read_file};
 use sx_term::Text;
 
 /// The problem that the bytes of the file state.

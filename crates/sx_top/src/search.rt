@@ -3,21 +3,19 @@
 ghost use Rattle.std.specs.Prelude.{◌≡◌, ◌<◌, ◌^◌, Some, IfOk, length};
 ghost use Rattle.sx_core.specs.Problem.{problem as problem_data};
 ghost use Rattle.sx_rules.specs.Views.{hypotheses};
-ghost use Rattle.sx_top.specs.Ending.{RisesWithin};
+ghost use Rattle.sx_steps.specs.Stop.{RisesWithin, GivesFor, IsNoFault, Counts};
 ghost use Rattle.sx_top.specs.FindFirst.{no_hypotheses};
 ghost use Rattle.sx_top.specs.LowerStops.{derive_stop};
 ghost use Rattle.sx_top.specs.Proper.{IsProper, ListsGiven, HasTerms};
 ghost use Rattle.sx_top.specs.Search.{Searches, HasWalked};
-ghost use Rattle.sx_top.specs.Stop.{GivesFor, IsNoFault, Counts};
 
 use crate::goal_stops::stuck_goal;
-use crate::step_error::StepError;
-use crate::stop::{Stop, about};
 use std::alloc::Global;
 use std::sync::ledger::Ledger;
 use sx_core::CoreProblem;
 use sx_derive::{DeriveError, Listed, derive_list};
 use sx_rules::Hyps;
+use sx_steps::{StepError, Stop, about};
 use sx_term::{NoMemory, Steps, Text};
 use sx_words::{BudgetDefect, Defect, TextDefect};
 

@@ -4,10 +4,9 @@ ghost use Rattle.std.specs.Prelude.{◌≡◌, ◌≤◌};
 ghost use Rattle.sx_outside.specs.Told.{Told};
 ghost use Rattle.sx_top.specs.Telling.{Sends, IsTold, IsStatusOf, error_status};
 
-use crate::status::Status;
-use crate::step_error::StepError;
 use std::alloc::Global;
 use sx_outside::{Sink, WriteAnswer};
+use sx_steps::{Status, StepError};
 
 /// Sends a line, and answers the status.
 fn send<K: Sink>(status: Status, line: &[u8], out: &mut K) -> Status

@@ -86,7 +86,8 @@ pub fn has(alloc: Global, shelf: &MemShelf, name: &str, bytes: &str) -> Result<b
     })
 }
 
-fn lacks(alloc: Global, shelf: &MemShelf, name: &str) -> Result<bool, Fail> {
+/// Whether nothing stands under the name.
+pub fn lacks(alloc: Global, shelf: &MemShelf, name: &str) -> Result<bool, Fail> {
     Ok(shelf.get(&text(alloc, name)?).is_none())
 }
 
@@ -296,7 +297,7 @@ fn commands_that_there_are_none_of(rt: HostRuntime) -> Result<(), Fail> {
     let alloc = rt.alloc();
     assert!(rt; are_refused(alloc, "check One", b"soundx: words: word 1\n")?);
     assert!(rt; are_refused(alloc, "verify One", b"soundx: words: word 2\n")?);
-    assert!(rt; are_refused(alloc, "build One", b"soundx: words: word 2\n")?);
+    assert!(rt; are_refused(alloc, "build --nodes=5 One", b"soundx: words: word 2\n")?);
     assert!(rt;
         are_refused(
             alloc,

@@ -1,6 +1,6 @@
 //! The texts of a core problem.
 
-ghost use Rattle.std.specs.Prelude.{◌≡◌, ◌++◌, ◌∷◌, [], OnOk, IfOk, map, codes, decimal};
+ghost use Rattle.std.specs.Prelude.{◌≡◌, ◌++◌, ◌∷◌, [], OnOk, IfOk, map};
 ghost use Rattle.std.specs.List.{AllByRecursion};
 ghost use Rattle.sx_term.specs.Term.{tree};
 ghost use Rattle.sx_rules.specs.EntryView.{entries};
@@ -94,18 +94,5 @@ pub fn list_text(alloc: Global, rules: &RuleSet, list: &[Entry]) -> Result<Vec<u
 {
     let mut bytes = Vec::new(alloc);
     write_list(alloc, rules, list, &mut bytes)?;
-    Ok(bytes)
-}
-
-/// The line that tells how many nodes the derivation has.
-pub fn built_line(alloc: Global, name: &Text, nodes: u64) -> Result<Vec<u8>, NoMemory>
-    ensures { IfOk result (λ bytes. bytes.items ≡ codes "built " ++ name.now ++ codes ": " ++ decimal nodes ++ codes " nodes" ++ 10 ∷ []) }
-{
-    let mut bytes = Vec::from_slice(alloc, b"built ")?;
-    bytes.extend_from_slice(name.bytes())?;
-    bytes.extend_from_slice(b": ")?;
-    let digits = nodes.to_string(alloc)?;
-    bytes.extend_from_slice(digits.as_bytes())?;
-    bytes.extend_from_slice(b" nodes\n")?;
     Ok(bytes)
 }

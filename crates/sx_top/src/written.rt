@@ -6,14 +6,12 @@ ghost use Rattle.sx_outside.specs.Told.{WhereTold};
 ghost use Rattle.sx_rules.specs.Sets.{names_in};
 ghost use Rattle.sx_top.specs.CoreStops as stops;
 ghost use Rattle.sx_top.specs.Written.{Equals, Compares, StatesEntries, ReadsEntries};
-ghost use Rattle.sx_top.specs.Stop.{Gives, OnlyReads, IsNoFault};
+ghost use Rattle.sx_steps.specs.Stop.{Gives, OnlyReads, IsNoFault};
 
-use crate::held::{MOST_BYTES, MOST_LIST_BYTES, read_file};
-use crate::step_error::StepError;
-use crate::stop::{Stop, about};
 use std::alloc::Global;
 use sx_outside::Shelf;
 use sx_rules::{Entry, ListError, RuleSet, read_list};
+use sx_steps::{MOST_BYTES, MOST_LIST_BYTES, StepError, Stop, about, read_file};
 use sx_term::{NoMemory, Text};
 use sx_words::{ClosureDefect, Defect, FileDefect, Place, Refusal};
 

@@ -26,13 +26,13 @@ pub record Named (stage : Stage) (verb : Verb) (place : ℕ) (s : Settings) (wor
   pub name : List ℕ
   pub parts : words ≡ map option_word options ++ name ∷ []
   pub stand : MayStand stage verb place s options
-  pub ends : may_end stage (with_options place s options) ≡ true
+  pub ends : may_end stage verb (with_options place s options) ≡ true
   pub named : is_name false name ≡ true
   pub is : c ≡ meant verb (with_options place s options) name
 
-name_case : (stage : Stage) (verb : Verb) (place : ℕ) (s : Settings) (word : List ℕ) (c : Meant) (test : Bool) → (may_end stage s && is_name false word) ≡ test → cond test (Ok (meant verb s word)) (Err place) ≡ Ok c → Named stage verb place s (word ∷ []) c
+name_case : (stage : Stage) (verb : Verb) (place : ℕ) (s : Settings) (word : List ℕ) (c : Meant) (test : Bool) → (may_end stage verb s && is_name false word) ≡ test → cond test (Ok (meant verb s word)) (Err place) ≡ Ok c → Named stage verb place s (word ∷ []) c
 name_case stage verb place s word c true is e =
-    let both = and_parts (may_end stage s) (is_name false word) is in
+    let both = and_parts (may_end stage verb s) (is_name false word) is in
     record { options = []; name = word; parts = refl; stand = tt; ends = both.0; named = both.1; is = sym (same_command (meant verb s word) c e) }
 name_case stage verb place s word c false is e = absurd cc
 
@@ -42,8 +42,8 @@ no_last place c false e = cc
 
 last_found : (stage : Stage) (verb : Verb) (place : ℕ) (s : Settings) (word : List ℕ) (words : List (List ℕ)) (c : Meant) → last_word stage verb place s word words ≡ Ok c → Named stage verb place s (word ∷ words) c
 unfolding last_word
-last_found stage verb place s word [] c e = name_case stage verb place s word c (may_end stage s && is_name false word) refl e
-last_found stage verb place s word (next ∷ rest) c e = absurd (no_last place c (may_end stage s && is_name false word) e)
+last_found stage verb place s word [] c e = name_case stage verb place s word c (may_end stage verb s && is_name false word) refl e
+last_found stage verb place s word (next ∷ rest) c e = absurd (no_last place c (may_end stage verb s && is_name false word) e)
 
 one_more : (stage : Stage) (verb : Verb) (place : ℕ) (s : Settings) (word : List ℕ) (words : List (List ℕ)) (c : Meant) (o : Option Given) → next_option stage verb s word ≡ o
     → ((option : Given) → after_verb stage verb (place + 1) (with_option place s option) words ≡ Ok c → Named stage verb (place + 1) (with_option place s option) words c)
@@ -73,7 +73,7 @@ unfolding after_verb
 verb_found stage verb place s [] c e = absurd cc
 verb_found stage verb place s (word ∷ words) c e = word_case stage verb place s word words c (is_option word) (λ option h. verb_found stage verb (place + 1) (with_option place s option) words c h) e
 
-pub verb_again : (stage : Stage) (verb : Verb) (place : ℕ) (s : Settings) (options : List Given) (name : List ℕ) → MayStand stage verb place s options → may_end stage (with_options place s options) ≡ true → is_name false name ≡ true
+pub verb_again : (stage : Stage) (verb : Verb) (place : ℕ) (s : Settings) (options : List Given) (name : List ℕ) → MayStand stage verb place s options → may_end stage verb (with_options place s options) ≡ true → is_name false name ≡ true
     → after_verb stage verb place s (map option_word options ++ name ∷ []) ≡ Ok (meant verb (with_options place s options) name)
 unfolding after_verb last_word
 verb_again stage verb place s [] name h ends named = rw (name_no_option name named) (rw (ends, named) refl)

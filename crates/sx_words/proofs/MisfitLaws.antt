@@ -6,7 +6,7 @@ use Rattle.std.proofs.lemmas.Bool.{and_parts}
 use Rattle.sx_lines.specs.Words.{after, is_name}
 use Rattle.sx_words.specs.declared.command.Command.{Command}
 use Rattle.sx_words.specs.declared.stage.Stage.{Stage}
-use Rattle.sx_words.specs.declared.stage.Stage.TheVariants.{CoreGoals, CoreFiles, Whole}
+use Rattle.sx_words.specs.declared.stage.Stage.TheVariants.{CoreGoals, CoreFiles, Modules, Whole}
 use Rattle.sx_words.specs.declared.verb.Verb.{Verb}
 use Rattle.sx_words.specs.declared.verb.Verb.TheVariants.{Build, Compile, Check, Verify}
 use Rattle.sx_words.specs.declared.words_error.WordsError.{WordsError}
@@ -38,7 +38,7 @@ record Stops (read : List (List ℕ) → Result Meant ℕ) (place : ℕ) (words 
 
 -- the name may come, or `--core` may
 abbrev Opens : Stage → Verb → Settings → Type 0
-Opens stage verb s = (may_end stage s ≡ true) ⊎ ((may_end stage s ≡ false) × (takes stage verb core ≡ true) × (is_new s core ≡ true))
+Opens stage verb s = (may_end stage verb s ≡ true) ⊎ ((may_end stage verb s ≡ false) × (takes stage verb core ≡ true) × (is_new s core ≡ true))
 
 -- with an option more too
 opens_more : (stage : Stage) (verb : Verb) (place : ℕ) (s : Settings) (option : Given) → takes stage verb option ≡ true → Opens stage verb s → Opens stage verb (with_option place s option)
@@ -51,6 +51,19 @@ opens_more CoreFiles verb place s core t h = inl refl
 opens_more CoreFiles verb place s (tries n) t h = h
 opens_more CoreFiles verb place s (nodes n) t h = absurd cc
 opens_more CoreFiles verb place s (audit kind setting) t h = absurd cc
+opens_more Modules Build place s option t h = inl refl
+opens_more Modules Compile place s core t h = absurd cc
+opens_more Modules Compile place s (tries n) t h = h
+opens_more Modules Compile place s (nodes n) t h = absurd cc
+opens_more Modules Compile place s (audit kind setting) t h = absurd cc
+opens_more Modules Check place s core t h = absurd cc
+opens_more Modules Check place s (tries n) t h = h
+opens_more Modules Check place s (nodes n) t h = absurd cc
+opens_more Modules Check place s (audit kind setting) t h = absurd cc
+opens_more Modules Verify place s core t h = inl refl
+opens_more Modules Verify place s (tries n) t h = absurd cc
+opens_more Modules Verify place s (nodes n) t h = absurd cc
+opens_more Modules Verify place s (audit kind setting) t h = absurd cc
 opens_more Whole verb place s option t h = inl refl
 
 -- at first
@@ -64,13 +77,17 @@ opens_first CoreFiles Build t = inr (refl, refl, refl)
 opens_first CoreFiles Compile t = absurd cc
 opens_first CoreFiles Check t = absurd cc
 opens_first CoreFiles Verify t = inr (refl, refl, refl)
+opens_first Modules Build t = inl refl
+opens_first Modules Compile t = absurd cc
+opens_first Modules Check t = absurd cc
+opens_first Modules Verify t = inr (refl, refl, refl)
 opens_first Whole verb t = inl refl
 
 some_name : is_name false (codes "A") ≡ true
 unfolding is_name
 some_name = refl
 
-name_read : (stage : Stage) (verb : Verb) (place : ℕ) (s : Settings) (name : List ℕ) → may_end stage s ≡ true → is_name false name ≡ true → after_verb stage verb place s (name ∷ []) ≡ Ok (meant verb s name)
+name_read : (stage : Stage) (verb : Verb) (place : ℕ) (s : Settings) (name : List ℕ) → may_end stage verb s ≡ true → is_name false name ≡ true → after_verb stage verb place s (name ∷ []) ≡ Ok (meant verb s name)
 unfolding after_verb last_word
 name_read stage verb place s name ends h = rw (name_no_option name h) (rw (ends, h) refl)
 
@@ -84,16 +101,20 @@ core_begins : is_option (codes "--core") ≡ true
 unfolding is_option after
 core_begins = refl
 
-core_ends : (stage : Stage) (place : ℕ) (s : Settings) → may_end stage (with_option place s core) ≡ true
+core_ends : (stage : Stage) (verb : Verb) (place : ℕ) (s : Settings) → may_end stage verb (with_option place s core) ≡ true
 unfolding with_option
-core_ends CoreGoals place s = refl
-core_ends CoreFiles place s = refl
-core_ends Whole place s = refl
+core_ends CoreGoals verb place s = refl
+core_ends CoreFiles verb place s = refl
+core_ends Modules Build place s = refl
+core_ends Modules Compile place s = refl
+core_ends Modules Check place s = refl
+core_ends Modules Verify place s = refl
+core_ends Whole verb place s = refl
 
 core_read : (stage : Stage) (verb : Verb) (place : ℕ) (s : Settings) → takes stage verb core ≡ true → is_new s core ≡ true
     → after_verb stage verb place s (codes "--core" ∷ codes "A" ∷ []) ≡ Ok (meant verb (with_option place s core) (codes "A"))
 unfolding after_verb
-core_read stage verb place s t new = rw (core_begins, next_again stage verb s core tt t new) (name_read stage verb (place + 1) (with_option place s core) (codes "A") (core_ends stage place s) some_name)
+core_read stage verb place s t new = rw (core_begins, next_again stage verb s core tt t new) (name_read stage verb (place + 1) (with_option place s core) (codes "A") (core_ends stage verb place s) some_name)
 
 some_read : (stage : Stage) (verb : Verb) (place : ℕ) (s : Settings) → Opens stage verb s → Read stage verb place s
 some_read stage verb place s (inl ends) = record { more = codes "A" ∷ []; command = meant verb s (codes "A"); good = name_read stage verb place s (codes "A") ends some_name }
@@ -112,20 +133,20 @@ no_option : (stage : Stage) (verb : Verb) (place : ℕ) (s : Settings) (word : L
 unfolding after_verb
 no_option stage verb place s word words test none more c e = let k : ◌≡◌ {A = Result Meant ℕ} (Err place) (Ok c) = (rw (test, none) at e) in cc
 
-last_refused : (stage : Stage) (verb : Verb) (place : ℕ) (s : Settings) (word : List ℕ) (more : List (List ℕ)) (c : Meant) → (may_end stage s && is_name false word) ≡ false → last_word stage verb place s word more ≡ Ok c → ⊥
+last_refused : (stage : Stage) (verb : Verb) (place : ℕ) (s : Settings) (word : List ℕ) (more : List (List ℕ)) (c : Meant) → (may_end stage verb s && is_name false word) ≡ false → last_word stage verb place s word more ≡ Ok c → ⊥
 unfolding last_word
 last_refused stage verb place s word [] c h e = let k : ◌≡◌ {A = Result Meant ℕ} (Err place) (Ok c) = (rw h at e) in cc
 last_refused stage verb place s word (next ∷ rest) c h e = let k : ◌≡◌ {A = Result Meant ℕ} (Err place) (Ok c) = (rw h at e) in cc
 
-no_name : (stage : Stage) (verb : Verb) (place : ℕ) (s : Settings) (word : List ℕ) (words : List (List ℕ)) → is_option word ≡ false → (may_end stage s && is_name false word) ≡ false → NoneRead (after_verb stage verb place s) [] (word ∷ words)
+no_name : (stage : Stage) (verb : Verb) (place : ℕ) (s : Settings) (word : List ℕ) (words : List (List ℕ)) → is_option word ≡ false → (may_end stage verb s && is_name false word) ≡ false → NoneRead (after_verb stage verb place s) [] (word ∷ words)
 unfolding after_verb
 no_name stage verb place s word words test h more c e = last_refused stage verb place s word more c h (rw test at e)
 
-one_too_many : (stage : Stage) (verb : Verb) (place : ℕ) (s : Settings) (word next : List ℕ) (rest : List (List ℕ)) → is_option word ≡ false → (may_end stage s && is_name false word) ≡ true → NoneRead (after_verb stage verb place s) (word ∷ []) (next ∷ rest)
+one_too_many : (stage : Stage) (verb : Verb) (place : ℕ) (s : Settings) (word next : List ℕ) (rest : List (List ℕ)) → is_option word ≡ false → (may_end stage verb s && is_name false word) ≡ true → NoneRead (after_verb stage verb place s) (word ∷ []) (next ∷ rest)
 unfolding after_verb last_word
 one_too_many stage verb place s word next rest test h more c e = let k : ◌≡◌ {A = Result Meant ℕ} (Err (place + 1)) (Ok c) = (rw (test, h) at e) in cc
 
-name_stops : (stage : Stage) (verb : Verb) (place : ℕ) (s : Settings) (word : List ℕ) (words : List (List ℕ)) (n : ℕ) (named : Bool) → Opens stage verb s → is_option word ≡ false → (may_end stage s && is_name false word) ≡ named → last_word stage verb place s word words ≡ Err n → Stops (after_verb stage verb place s) place (word ∷ words) n
+name_stops : (stage : Stage) (verb : Verb) (place : ℕ) (s : Settings) (word : List ℕ) (words : List (List ℕ)) (n : ℕ) (named : Bool) → Opens stage verb s → is_option word ≡ false → (may_end stage verb s && is_name false word) ≡ named → last_word stage verb place s word words ≡ Err n → Stops (after_verb stage verb place s) place (word ∷ words) n
 unfolding last_word
 name_stops stage verb place s word [] n true opens test h e = let k : Ok (meant verb s word) ≡ Err n = (rw h at e) in absurd cc
 name_stops stage verb place s word [] n false opens test h e = let k : ◌≡◌ {A = Result Meant ℕ} (Err place) (Err n) = (rw h at e) in here stage verb place s (word ∷ []) n opens (cc) (no_name stage verb place s word [] test h)
@@ -133,7 +154,7 @@ name_stops stage verb place s word (next ∷ rest) n false opens test h e = let 
 name_stops stage verb place s word (next ∷ rest) n true opens test h e =
     let k : ◌≡◌ {A = Result Meant ℕ} (Err (place + 1)) (Err n) = (rw h at e) in
     let same : n ≡ place + 1 = cc in
-    let both = and_parts (may_end stage s) (is_name false word) h in
+    let both = and_parts (may_end stage verb s) (is_name false word) h in
     record { front = word ∷ []; rest = next ∷ rest; parts = refl; at = same; more = []; command = meant verb s word; good = name_read stage verb place s word both.0 both.1; bad = one_too_many stage verb place s word next rest test h }
 
 -- one option more
@@ -168,7 +189,7 @@ word_stops : (stage : Stage) (verb : Verb) (place : ℕ) (s : Settings) (word : 
     → ((option : Given) → Opens stage verb (with_option place s option) → after_verb stage verb (place + 1) (with_option place s option) words ≡ Err n → Stops (after_verb stage verb (place + 1) (with_option place s option)) (place + 1) words n)
     → cond test (then_option place (next_option stage verb s word) (λ option. after_verb stage verb (place + 1) (with_option place s option) words)) (last_word stage verb place s word words) ≡ Err n → Stops (after_verb stage verb place s) place (word ∷ words) n
 word_stops stage verb place s word words n true opens test ih e = option_stops stage verb place s word words n (next_option stage verb s word) opens test refl ih e
-word_stops stage verb place s word words n false opens test ih e = name_stops stage verb place s word words n (may_end stage s && is_name false word) opens test refl e
+word_stops stage verb place s word words n false opens test ih e = name_stops stage verb place s word words n (may_end stage verb s && is_name false word) opens test refl e
 
 verb_stops : (stage : Stage) (verb : Verb) (place : ℕ) (s : Settings) (words : List (List ℕ)) (n : ℕ) → Opens stage verb s → after_verb stage verb place s words ≡ Err n → Stops (after_verb stage verb place s) place words n
 unfolding after_verb
@@ -234,11 +255,13 @@ misfit stage words n h = record {
 build_there : (stage : Stage) → has_verb stage Build ≡ true
 build_there CoreGoals = refl
 build_there CoreFiles = refl
+build_there Modules = refl
 build_there Whole = refl
 
 build_takes : (stage : Stage) → takes stage Build core ≡ true
 build_takes CoreGoals = refl
 build_takes CoreFiles = refl
+build_takes Modules = refl
 build_takes Whole = refl
 
 core_new : is_new nothing_said core ≡ true

@@ -4,7 +4,7 @@ use Rattle.std.specs.List.{AllByRecursion}
 use Rattle.std.specs.Str.{bytes_eq}
 use Rattle.sx_lines.specs.Words.{is_name}
 use Rattle.sx_words.specs.declared.stage.Stage.{Stage}
-use Rattle.sx_words.specs.declared.stage.Stage.TheVariants.{CoreGoals, CoreFiles, Whole}
+use Rattle.sx_words.specs.declared.stage.Stage.TheVariants.{CoreGoals, CoreFiles, Modules, Whole}
 use Rattle.sx_words.specs.declared.verb.Verb.{Verb}
 use Rattle.sx_words.specs.declared.verb.Verb.TheVariants.{Build, Compile, Check, Verify}
 
@@ -75,6 +75,9 @@ has_verb CoreGoals verb = false
 has_verb CoreFiles Build = true
 has_verb CoreFiles Verify = true
 has_verb CoreFiles verb = false
+has_verb Modules Build = true
+has_verb Modules Verify = true
+has_verb Modules verb = false
 has_verb Whole verb = true
 
 -- the option is there
@@ -84,18 +87,24 @@ has_option CoreGoals option = false
 has_option CoreFiles core = true
 has_option CoreFiles (tries n) = true
 has_option CoreFiles option = false
+has_option Modules core = true
+has_option Modules (tries n) = true
+has_option Modules option = false
 has_option Whole option = true
 
--- modules are there: where they are not, a command is on a core file
-abbrev pub has_modules : Stage → Bool
-has_modules CoreGoals = false
-has_modules CoreFiles = false
-has_modules Whole = true
+-- the command is there for modules: where it is not, it is on a core file
+abbrev pub has_modules : Stage → Verb → Bool
+has_modules CoreGoals verb = false
+has_modules CoreFiles verb = false
+has_modules Modules Build = true
+has_modules Modules verb = false
+has_modules Whole verb = true
 
 -- `sample` is there
 abbrev pub has_sample : Stage → Bool
 has_sample CoreGoals = false
 has_sample CoreFiles = false
+has_sample Modules = false
 has_sample Whole = true
 
 -- ---- which options a command takes
@@ -155,9 +164,9 @@ MayStand stage verb place s [] = Unit {0}
 MayStand stage verb place s (option ∷ options) =
     (takes stage verb option ≡ true) × (is_new s option ≡ true) × IsGiven option × MayStand stage verb (place + 1) (with_option place s option) options
 
--- the name may come: `--core` stands, or modules are there
-abbrev pub may_end : Stage → Settings → Bool
-may_end stage s = has_modules stage || s.core
+-- the name may come: `--core` stands, or the command is there for modules
+abbrev pub may_end : Stage → Verb → Settings → Bool
+may_end stage verb s = has_modules stage verb || s.core
 
 -- what is not said of tries and nodes is 1,000,000
 abbrev pub or_most : Option ℕ → ℕ
@@ -180,7 +189,7 @@ pub record SpellsNamed (stage : Stage) (words : List (List ℕ)) (command : Mean
   pub parts : words ≡ verb_word verb ∷ (map option_word options ++ name ∷ [])
   pub there : has_verb stage verb ≡ true
   pub stand : MayStand stage verb 2 nothing_said options
-  pub ends : may_end stage (with_options 2 nothing_said options) ≡ true
+  pub ends : may_end stage verb (with_options 2 nothing_said options) ≡ true
   pub named : is_name false name ≡ true
   pub is : command ≡ meant verb (with_options 2 nothing_said options) name
 

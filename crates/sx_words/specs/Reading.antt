@@ -50,8 +50,8 @@ is_option word = is_some (after (codes "--") word)
 
 -- the last word
 unfoldable pub last_word : Stage → Verb → ℕ → Settings → List ℕ → List (List ℕ) → Result Meant ℕ
-last_word stage verb place s word [] = if may_end stage s && is_name false word then Ok (meant verb s word) else Err place
-last_word stage verb place s word (next ∷ rest) = if may_end stage s && is_name false word then Err (place + 1) else Err place
+last_word stage verb place s word [] = if may_end stage verb s && is_name false word then Ok (meant verb s word) else Err place
+last_word stage verb place s word (next ∷ rest) = if may_end stage verb s && is_name false word then Err (place + 1) else Err place
 
 -- the option, and what comes after it
 abbrev pub then_option : ℕ → Option Given → (Given → Result Meant ℕ) → Result Meant ℕ

@@ -48,6 +48,7 @@ file_text (file.Notation text) = joined (text ∷ [])
 file_text file.Header = joined (codes "bad header" ∷ [])
 file_text (file.Version n) = joined (codes "version " ∷ decimal n ∷ [])
 file_text file.BadList = joined (codes "bad entry" ∷ [])
+file_text file.NotYet = joined (codes "not read yet" ∷ [])
 
 -- defects of texts and terms
 abbrev pub text_text : TextDefect → List ℕ

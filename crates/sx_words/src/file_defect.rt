@@ -30,6 +30,8 @@ pub enum FileDefect {
     Version(u64),
     /// A bad line of a derivation list. At `Place::Line`.
     BadList,
+    /// Nothing reads it yet.
+    NotYet,
 }
 
 /// Appends the defect's text.
@@ -60,5 +62,6 @@ pub(crate) fn put_file(
             put(&[b"version ", n.as_str().as_bytes()], into)
         }
         FileDefect::BadList => put(&[b"bad entry"], into),
+        FileDefect::NotYet => put(&[b"not read yet"], into),
     }
 }

@@ -60,27 +60,28 @@ fn has_option(stage: Stage, option: &Given<'_>) -> bool
 {
     match stage {
         Stage::CoreGoals => matches!(option, Given::Core),
-        Stage::CoreFiles => matches!(option, Given::Core | Given::Tries(_)),
+        Stage::CoreFiles | Stage::Modules => matches!(option, Given::Core | Given::Tries(_)),
         Stage::Whole => true,
     }
 }
 
-/// Whether modules are there: where they are not, a command is on a core file.
-fn has_modules(stage: Stage) -> bool
-    ensures { result ≡ spec.has_modules stage }
+/// Whether the command is there for modules: where it is not, it is on a core file.
+fn has_modules(stage: Stage, verb: Verb) -> bool
+    ensures { result ≡ spec.has_modules stage verb }
 {
     match stage {
         Stage::CoreGoals => false,
         Stage::CoreFiles => false,
+        Stage::Modules => matches!(verb, Verb::Build),
         Stage::Whole => true,
     }
 }
 
 /// Whether the name may come after what was said.
-pub(crate) fn may_end(stage: Stage, said: &Options) -> bool
-    ensures { result ≡ spec.may_end stage (settings_view said.now) }
+pub(crate) fn may_end(stage: Stage, verb: Verb, said: &Options) -> bool
+    ensures { result ≡ spec.may_end stage verb (settings_view said.now) }
 {
-    has_modules(stage) || said.core
+    has_modules(stage, verb) || said.core
 }
 
 /// Whether the option goes with the command.

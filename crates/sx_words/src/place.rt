@@ -16,7 +16,7 @@ pub enum Place {
     /// A line, from 1.
     Line(u32),
     /// A line and a column, from 1.
-    Spot { line: u32, column: u32 },
+    Spot { line: u64, column: u64 },
     /// The name of a rule.
     Rule(Text),
     /// The label of a plain body.
@@ -36,8 +36,8 @@ pub(crate) fn put_place(alloc: Global, place: &Place, into: &mut Vec<u8>) -> Res
             put(&[b"line ", line.as_str().as_bytes(), b": "], into)
         }
         Place::Spot { line, column } => {
-            let line = number(alloc, u64::from(*line))?;
-            let column = number(alloc, u64::from(*column))?;
+            let line = number(alloc, *line)?;
+            let column = number(alloc, *column)?;
             put(
                 &[
                     b"line ",

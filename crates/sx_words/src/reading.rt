@@ -41,7 +41,7 @@ fn last_word(
     ensures { Gives command_view Refuses result
         (spec.last_word stage verb place (settings_view said) name.now rest.now) }
 {
-    if !(may_end(stage, &said) && is_name(false, name.bytes())) {
+    if !(may_end(stage, verb, &said) && is_name(false, name.bytes())) {
         return Err(WordsError::Words(place));
     }
     match rest {
@@ -127,7 +127,7 @@ fn has_verb(stage: Stage, verb: Verb) -> bool
 {
     match stage {
         Stage::CoreGoals => matches!(verb, Verb::Build),
-        Stage::CoreFiles => matches!(verb, Verb::Build | Verb::Verify),
+        Stage::CoreFiles | Stage::Modules => matches!(verb, Verb::Build | Verb::Verify),
         Stage::Whole => true,
     }
 }
@@ -139,6 +139,7 @@ fn has_sample(stage: Stage) -> bool
     match stage {
         Stage::CoreGoals => false,
         Stage::CoreFiles => false,
+        Stage::Modules => false,
         Stage::Whole => true,
     }
 }

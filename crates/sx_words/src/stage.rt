@@ -7,6 +7,8 @@ pub enum Stage {
     CoreGoals,
     /// `build --core` with `--tries`, and `verify --core`.
     CoreFiles,
+    /// `build` and `build --core` with `--tries`, and `verify --core`.
+    Modules,
     /// All commands with all their options.
     Whole,
 }

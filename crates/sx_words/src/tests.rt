@@ -106,6 +106,22 @@ fn words_of_core_files(rt: HostRuntime) -> Result<(), Fail> {
 }
 
 #[test]
+fn words_of_modules(rt: HostRuntime) -> Result<(), Fail> {
+    let stage = Stage::Modules;
+    assert_eq!(rt; misfit_at(&rt, stage, b"build Main")?, 0);
+    assert_eq!(rt; misfit_at(&rt, stage, b"build --tries=5 Main")?, 0);
+    assert_eq!(rt; misfit_at(&rt, stage, b"build --core --tries=5 One")?, 0);
+    assert_eq!(rt; misfit_at(&rt, stage, b"verify --core One")?, 0);
+    assert_eq!(rt; misfit_at(&rt, stage, b"verify Main")?, 2);
+    assert_eq!(rt; misfit_at(&rt, stage, b"verify --tries=5 Main")?, 2);
+    assert_eq!(rt; misfit_at(&rt, stage, b"build --nodes=5 Main")?, 2);
+    assert_eq!(rt; misfit_at(&rt, stage, b"build --audit=deny:R Main")?, 2);
+    assert_eq!(rt; misfit_at(&rt, stage, b"build Main --tries=5")?, 3);
+    assert_eq!(rt; misfit_at(&rt, stage, b"compile Main")?, 1);
+    Ok(())
+}
+
+#[test]
 fn a_command(rt: HostRuntime) -> Result<(), Fail> {
     let words = words(&rt, b"build --audit=bogus:1:2 --nodes=7 Main")?;
     let command = read_words(rt.alloc(), words.as_slice())
@@ -174,6 +190,8 @@ fn lines_with_places(rt: HostRuntime) -> Result<(), Fail> {
             b"soundx: M.mod: line 3 column 7: bad token\n"
         )?
     );
+    let yet = Defect::File(FileDefect::NotYet);
+    assert!(rt; is_line(&rt, Place::Nowhere, yet, b"soundx: M.mod: not read yet\n")?);
     let header = Defect::File(FileDefect::Header);
     assert!(rt;
         is_line(

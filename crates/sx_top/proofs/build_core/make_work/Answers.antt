@@ -31,10 +31,9 @@ returns c = λ answer lists.
     let list = c.args.listed.now.entries.items in
     let rules = rules_in c.args.problem.now.rules in
     let count : c.len.result ≡ length list = let held = c.args.listed.now.entries.ok in let e = c.len.ensures in omega arith in
-    plan_made c.args.name.now (problem c.args.problem.now) answer c.in_ok-files.files.items c.in_ok-base.base c.in_ok-entries.entries c.in_ok-interface.interface c.in_ok-lines.lines.items
-    c.in_ok-base_bytes.base_bytes.items c.in_ok-list_bytes.list_bytes.items c.in_ok-interface_bytes.interface_bytes.items c.len.result
-    c.in_ok-files.ensures
-    c.in_ok-base.ensures (c.in_ok-base_bytes.ensures ∙ ap (λ (fs : List FormData). subject_text fs (goal_data c.args.problem.now.goal)) c.forms.ensures)
-    c.in_ok-entries.ensures (c.in_ok-list_bytes.ensures ∙ ap (λ (l : List Entry). list_text rules (entries l)) c.deref.ensures.value ∙ ap (list_text rules) lists.entries)
-    c.in_ok-interface.ensures (c.in_ok-interface_bytes.ensures ∙ ap (λ (ts : List Term). term_lines (map tree ts)) c.deref-2.ensures.value ∙ ap term_lines lists.outputs)
-    c.in_ok-lines.ensures (count ∙ nodes_listed list answer.0 lists.entries)
+    plan_made c.args.name.now (problem c.args.problem.now) answer _ c.in_ok-base.base.items c.in_ok-entries.entries.items c.in_ok-interface.interface.items c.len.result
+    c.in_ok-work.ensures
+    (c.in_ok-base.ensures ∙ ap (λ (fs : List FormData). subject_text fs (goal_data c.args.problem.now.goal)) c.forms.ensures)
+    (c.in_ok-entries.ensures ∙ ap (λ (l : List Entry). list_text rules (entries l)) c.deref.ensures.value ∙ ap (list_text rules) lists.entries)
+    (c.in_ok-interface.ensures ∙ ap (λ (ts : List Term). term_lines (map tree ts)) c.deref-2.ensures.value ∙ ap term_lines lists.outputs)
+    (count ∙ nodes_listed list answer.0 lists.entries)

@@ -1,7 +1,7 @@
 use Rattle.std.proofs.Common.{ℕ, List, subst}
-use Rattle.sx_top.specs.Work.{plan_of}
+use Rattle.sx_steps.specs.Work.{plan_of}
 use Rattle.sx_top.specs.BuildCore.{BuildsFrom, FileTries}
-use Rattle.sx_top.specs.Stop.{Gives, Tried}
+use Rattle.sx_steps.specs.Stop.{Gives, Tried}
 use Rattle.sx_top.proofs.build_core.plan_build_core.Goals as goal
 
 pub returns-in-Ok-clause-step : goal.returns-in-Ok-clause-step

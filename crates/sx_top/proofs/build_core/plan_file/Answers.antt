@@ -1,8 +1,8 @@
 use Rattle.sx_core.specs.Problem.{problem}
-use Rattle.sx_top.specs.Work.{plan_of}
+use Rattle.sx_steps.specs.Work.{plan_of}
 use Rattle.sx_top.specs.ReadCore.{Reads}
 use Rattle.sx_top.specs.BuildCore.{BuildsGoal}
-use Rattle.sx_top.proofs.StepsOn.{goes_next, stops_first, reads_on}
+use Rattle.sx_steps.proofs.StepsOn.{goes_next, stops_first, reads_on}
 use Rattle.sx_top.proofs.Plans.{file_tries}
 use Rattle.sx_top.proofs.build_core.plan_file.Goals as goal
 

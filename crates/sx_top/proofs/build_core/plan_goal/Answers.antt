@@ -5,9 +5,9 @@ use Rattle.sx_core.specs.Problem.{problem}
 use Rattle.sx_top.specs.Proper.{ListsGiven}
 use Rattle.sx_top.specs.Search.{Searches}
 use Rattle.sx_top.specs.BuildCore.{core_plan}
-use Rattle.sx_top.specs.Work.{plan_of}
+use Rattle.sx_steps.specs.Work.{plan_of}
 use Rattle.sx_top.proofs.Propers.{terms_of}
-use Rattle.sx_top.proofs.StepsOn.{stops_for}
+use Rattle.sx_steps.proofs.StepsOn.{stops_for}
 use Rattle.sx_top.proofs.build_core.plan_goal.Goals as goal
 
 pub make_work-requires-clause-goal : goal.make_work-requires-clause-goal

@@ -1,6 +1,6 @@
 use Rattle.std.proofs.Common.{inl, inr}
 use Rattle.sx_top.specs.Ending.{Ends, KeepsPromise}
-use Rattle.sx_top.specs.Work.{plan_of}
+use Rattle.sx_steps.specs.Work.{plan_of}
 use Rattle.sx_top.specs.Performing.{Performs}
 use Rattle.sx_top.specs.Telling.{IsTold}
 use Rattle.sx_top.proofs.Writes.{both_goes, both_kept}

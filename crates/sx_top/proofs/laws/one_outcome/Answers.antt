@@ -1,6 +1,9 @@
 use Rattle.sx_core.proofs.OneAnswer.{one_answer}
-use Rattle.sx_top.proofs.VerifyOnes.{one_outcome_by}
+use Rattle.sx_top.proofs.VerifyOnes.{core_outcome_by, one_outcome_by}
 use Rattle.sx_top.proofs.laws.one_outcome.Goals as goal
 
-pub returns : goal.returns
-returns c = one_outcome_by one_answer
+pub returns-clause-core : goal.returns-clause-core
+returns-clause-core c = core_outcome_by one_answer
+
+pub returns-clause-whole : goal.returns-clause-whole
+returns-clause-whole c = one_outcome_by one_answer

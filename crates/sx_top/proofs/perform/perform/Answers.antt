@@ -1,12 +1,12 @@
 use Rattle.std.proofs.Common.{ℕ, ◌<◌, List, map, length, inl, subst}
 use Rattle.sx_outside.specs.Sink.{AppendsBeginning}
 use Rattle.sx_outside.specs.Told.{Told}
-use Rattle.sx_top.specs.declared.work.Output.{Output}
-use Rattle.sx_top.specs.Refusal.{write_fault, line_of}
-use Rattle.sx_top.specs.Work.{file_of, plan_of}
+use Rattle.sx_steps.specs.declared.work.Output.{Output}
+use Rattle.sx_steps.specs.Refusal.{write_fault, line_of}
+use Rattle.sx_steps.specs.Work.{file_of, plan_of}
 use Rattle.sx_top.specs.Writing.{Wrote}
 use Rattle.sx_top.specs.Performing.{Performs}
-use Rattle.sx_top.specs.declared.status.Status.TheVariants as statuses
+use Rattle.sx_steps.specs.declared.status.Status.TheVariants as statuses
 use Rattle.sx_top.specs.declared.perform.WriteEnd.TheVariants as write_ends
 use Rattle.sx_top.proofs.Writes.{both_tell, failed_name}
 use Rattle.sx_top.proofs.perform.perform.Goals as goal

@@ -1,6 +1,6 @@
 use Rattle.std.proofs.Common.{◌≡◌, ◌+◌, refl, sym, ap, ◌∙◌, subst, arith, take, map, add-one}
 use Rattle.sx_outside.specs.Files.{Files, after, put, SameBut}
-use Rattle.sx_top.specs.Work.{file_of}
+use Rattle.sx_steps.specs.Work.{file_of}
 use Rattle.sx_top.specs.Writing.{Wrote}
 use Rattle.sx_top.proofs.Writes.{told_then, after_more, output_at}
 use Rattle.sx_top.proofs.perform.write_files.Goals as goal

@@ -1,7 +1,7 @@
 use Rattle.std.proofs.Common.{◌≡◌, ◌≤◌, take, map}
 use Rattle.sx_outside.specs.Files.{after}
 use Rattle.sx_outside.specs.Told.{Told}
-use Rattle.sx_top.specs.Work.{file_of}
+use Rattle.sx_steps.specs.Work.{file_of}
 use Rattle.sx_top.proofs.perform.write_files.Given as goal
 
 abbrev pub invariant-loop-i : goal.invariant-loop-i

@@ -2,10 +2,10 @@ use Rattle.sx_words.specs.View.{command_view}
 use Rattle.sx_top.specs.Commands.{Commands}
 use Rattle.sx_top.specs.Outcome.{Outcome, Runs, Walks}
 use Rattle.sx_top.specs.Ending.{HasWalks}
-use Rattle.sx_top.specs.Work.{plan_of}
+use Rattle.sx_steps.specs.Work.{plan_of}
 use Rattle.sx_top.proofs.Endings.{tries_of}
 use Rattle.sx_top.proofs.There.{spelled_there}
-use Rattle.sx_top.proofs.StepsOn.{goes_next, stops_first, tried_more}
+use Rattle.sx_steps.proofs.StepsOn.{goes_next, stops_first, tried_more}
 use Rattle.sx_top.proofs.plan.plan.Goals as goal
 
 pub run_command-requires : goal.run_command-requires

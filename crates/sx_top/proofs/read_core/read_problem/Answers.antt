@@ -2,11 +2,11 @@ use Rattle.std.proofs.Common.{ℕ, List, subst}
 use Rattle.std.specs.Global.{Vec}
 use Rattle.sx_core.specs.Problem.{problem}
 use Rattle.sx_core.specs.CoreRead.{IsCoreAnswer}
-use Rattle.sx_top.specs.Held.{Held, most_bytes}
-use Rattle.sx_top.specs.Lower.{Lower}
+use Rattle.sx_steps.specs.Held.{Held, most_bytes}
+use Rattle.sx_steps.specs.Lower.{Lower}
 use Rattle.sx_top.specs.LowerStops.{core_stop}
-use Rattle.sx_top.specs.Stop.{Gives}
-use Rattle.sx_top.proofs.StepsOn.{goes_next, stops_first}
+use Rattle.sx_steps.specs.Stop.{Gives}
+use Rattle.sx_steps.proofs.StepsOn.{goes_next, stops_first}
 use Rattle.sx_top.proofs.read_core.read_problem.Goals as goal
 
 pub returns-in-Ok-clause-step : goal.returns-in-Ok-clause-step

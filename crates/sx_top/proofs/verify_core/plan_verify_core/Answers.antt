@@ -2,10 +2,10 @@ use Rattle.std.proofs.Common.{ℕ, List, ◌∙◌, subst}
 use Rattle.std.specs.Prelude.{Ok, Err}
 use Rattle.sx_core.specs.Problem.{problem}
 use Rattle.sx_top.specs.ReadCore.{core_file, Reads}
-use Rattle.sx_top.specs.Stop.{Gives}
+use Rattle.sx_steps.specs.Stop.{Gives}
 use Rattle.sx_top.specs.VerifyCore.{VerifiesSubject}
-use Rattle.sx_top.specs.Work.{plan_of}
-use Rattle.sx_top.proofs.StepsOn.{goes_next, stops_first}
+use Rattle.sx_steps.specs.Work.{plan_of}
+use Rattle.sx_steps.proofs.StepsOn.{goes_next, stops_first}
 use Rattle.sx_top.proofs.verify_core.plan_verify_core.Goals as goal
 
 pub returns-in-Ok-clause-step : goal.returns-in-Ok-clause-step

@@ -4,11 +4,11 @@ use Rattle.std.specs.Global.{Vec}
 use Rattle.sx_term.specs.Term.{tree}
 use Rattle.sx_term.specs.declared.term.Term.{Term}
 use Rattle.sx_core.specs.Problem.{problem as problem_data}
-use Rattle.sx_top.specs.ReadCore.{list_file}
-use Rattle.sx_top.specs.Stop.{Gives}
+use Rattle.sx_steps.specs.Unit.{list_file}
+use Rattle.sx_steps.specs.Stop.{Gives}
 use Rattle.sx_top.specs.VerifyCore.{Replays, VerifiesOutputs}
-use Rattle.sx_top.specs.Work.{plan_of}
-use Rattle.sx_top.proofs.StepsOn.{goes_next, stops_first}
+use Rattle.sx_steps.specs.Work.{plan_of}
+use Rattle.sx_steps.proofs.StepsOn.{goes_next, stops_first}
 use Rattle.sx_top.proofs.verify_core.verify_entries.Goals as goal
 
 pub returns-in-Ok-clause-step : goal.returns-in-Ok-clause-step

@@ -5,12 +5,13 @@ use Rattle.sx_rules.specs.declared.entry.Entry.{Entry}
 use Rattle.sx_rules.specs.RuleNames.{AreNames}
 use Rattle.sx_rules.specs.Sets.{names_in}
 use Rattle.sx_core.specs.Problem.{problem as problem_data}
-use Rattle.sx_top.specs.ReadCore.{list_file, rule_names}
-use Rattle.sx_top.specs.Stop.{Gives}
+use Rattle.sx_top.specs.ReadCore.{rule_names}
+use Rattle.sx_steps.specs.Unit.{list_file}
+use Rattle.sx_steps.specs.Stop.{Gives}
 use Rattle.sx_top.specs.VerifyCore.{VerifiesEntries}
-use Rattle.sx_top.specs.Work.{plan_of}
+use Rattle.sx_steps.specs.Work.{plan_of}
 use Rattle.sx_top.specs.Written.{ReadsEntries}
-use Rattle.sx_top.proofs.StepsOn.{goes_next, stops_first}
+use Rattle.sx_steps.proofs.StepsOn.{goes_next, stops_first}
 use Rattle.sx_top.proofs.VerifySteps.{names_are, same_two}
 use Rattle.sx_top.proofs.verify_core.verify_list.Goals as goal
 

@@ -4,13 +4,13 @@ use Rattle.sx_term.specs.Term.{tree}
 use Rattle.sx_rules.specs.Views.{FormData}
 use Rattle.sx_core.specs.Problem.{problem as problem_data}
 use Rattle.sx_top.specs.CoreTexts.{subject_text}
-use Rattle.sx_top.specs.ReadCore.{base_file}
-use Rattle.sx_top.specs.Stop.{Gives}
+use Rattle.sx_steps.specs.Unit.{base_file}
+use Rattle.sx_steps.specs.Stop.{Gives}
 use Rattle.sx_top.specs.VerifyCore.{VerifiesList}
-use Rattle.sx_top.specs.Work.{plan_of}
+use Rattle.sx_steps.specs.Work.{plan_of}
 use Rattle.sx_top.specs.Written.{Compares}
 use Rattle.sx_top.proofs.Propers.{terms_of}
-use Rattle.sx_top.proofs.StepsOn.{goes_next, stops_first}
+use Rattle.sx_steps.proofs.StepsOn.{goes_next, stops_first}
 use Rattle.sx_top.proofs.VerifySteps.{same_two}
 use Rattle.sx_top.proofs.verify_core.verify_subject.Goals as goal
 

@@ -1,9 +1,9 @@
 use Rattle.std.proofs.Common.{ℕ, List, subst}
 use Rattle.std.specs.Global.{Vec}
-use Rattle.sx_top.specs.Held.{Held, most_bytes}
+use Rattle.sx_steps.specs.Held.{Held, most_bytes}
 use Rattle.sx_top.specs.Written.{Equals}
-use Rattle.sx_top.specs.Stop.{Gives}
-use Rattle.sx_top.proofs.StepsOn.{goes_next, stops_first}
+use Rattle.sx_steps.specs.Stop.{Gives}
+use Rattle.sx_steps.proofs.StepsOn.{goes_next, stops_first}
 use Rattle.sx_top.proofs.written.compare.Goals as goal
 
 pub returns-in-Ok-clause-step : goal.returns-in-Ok-clause-step

@@ -2,10 +2,10 @@ use Rattle.std.proofs.Common.{ℕ, List, subst}
 use Rattle.sx_rules.specs.declared.entry.Entry.{Entry}
 use Rattle.sx_rules.specs.Sets.{names_in}
 use Rattle.std.specs.Global.{Vec}
-use Rattle.sx_top.specs.Held.{Held, most_list_bytes}
+use Rattle.sx_steps.specs.Held.{Held, most_list_bytes}
 use Rattle.sx_top.specs.Written.{StatesEntries}
-use Rattle.sx_top.specs.Stop.{Gives}
-use Rattle.sx_top.proofs.StepsOn.{goes_next, stops_first}
+use Rattle.sx_steps.specs.Stop.{Gives}
+use Rattle.sx_steps.proofs.StepsOn.{goes_next, stops_first}
 use Rattle.sx_top.proofs.written.read_entries.Goals as goal
 
 pub returns-in-Ok-clause-step : goal.returns-in-Ok-clause-step

@@ -1,0 +1,187 @@
+-- `build NAME` has one result, read faults and the readings that a stop shows aside.
+use Rattle.std.proofs.Common.{◌≡◌, ◌≢◌, ℕ, List, [], ◌∷◌, map, refl, sym, ap, ◌∙◌, subst, inl, inr, ◌⊎◌}
+use Rattle.std.specs.Prelude.{Result, Ok, Err, Option, Some, None}
+use Rattle.std.specs.Str.Lossy.{utf8_valid_len}
+use Rattle.sha2.specs.Sha256.{sha256}
+use Rattle.sx_lines.specs.Lines.{lines_from}
+use Rattle.sx_lines.specs.Reading.{kept}
+use Rattle.sx_interface.specs.Headers.{HeaderParts}
+use Rattle.sx_interface.specs.StatedHeader.{StatesHeader}
+use Rattle.sx_interface.proofs.HeaderStated.{header_again}
+use Rattle.sx_outside.specs.Files.{Files}
+use Rattle.sx_notation.specs.declared.unread.Unread.TheVariants as unread
+use Rattle.sx_notation.specs.declared.notation_error.NotationError.{NotationError}
+use Rattle.sx_notation.specs.declared.notation_error.NotationError.TheVariants as notation_error
+use Rattle.sx_module.specs.declared.module_error.ModuleError.{ModuleError}
+use Rattle.sx_module.specs.declared.module_error.ModuleError.TheVariants as module_error
+use Rattle.sx_words.specs.declared.print_defect.PrintDefect.TheVariants as print_defect
+use Rattle.sx_steps.specs.declared.stop.Stop.{Stop}
+use Rattle.sx_steps.specs.Held.{Held, most_bytes}
+use Rattle.sx_steps.specs.Stops.{not_utf8}
+use Rattle.sx_steps.specs.Agree.{IsNoReadFault, AreReadings, Agree}
+use Rattle.sx_steps.specs.Work.{Plan}
+use Rattle.sx_steps.proofs.Ones.{IsOne, IsNearlyOne, nearly, then_nearly, held_one, ok_same, err_same, ok_no_err, some_same, none_some}
+use Rattle.sx_build.specs.ModuleFiles.{module_file, language_file}
+use Rattle.sx_build.specs.ReadModule.{Module, HasHeader, StatesModule, ReadsModule, StandsAlone, IsAlone, bad_header}
+use Rattle.sx_build.specs.LanguageStops.{unread_line, language_stop}
+use Rattle.sx_build.specs.ModuleStops.{unread_body, unprinted, module_stop}
+use Rattle.sx_build.specs.ReadLanguage.{Stated, IsStated, IsStopped, StatesLanguage, ReadsLanguage}
+use Rattle.sx_build.specs.CompileModule.{source_of, IsUncompiled, Compiles}
+use Rattle.sx_build.specs.BuildModule.{unit_plan, BuildsUnit, BuildsOver, BuildsRead, BuildsModule}
+use Rattle.sx_rules.proofs.Facts.{kept_moded}
+use Rattle.sx_rules.specs.declared.rule.Rule.{Rule as RuleOf}
+use Rattle.sx_rules.specs.Rules.{Rule}
+use Rattle.sx_rules.specs.Modes.{AllModed}
+use Rattle.sx_rules.specs.Views.{modes_of, named, rule}
+use Rattle.sx_rules.specs.Sets.{shapes_in, forms_in}
+use Rattle.sx_notation.specs.Language.{LanguageData}
+use Rattle.sx_steps.proofs.StepsOn.{went}
+use Rattle.sx_build.specs.Laws.{ShowOthers, OneLanguage, ReadOthers, PrintOthers, IsFollowed, OneUnit, BuildsAgree}
+use Rattle.sx_build.proofs.FirstLines.{bad_states_none, one_first_bad}
+
+-- ---- the module's file
+
+module _ (file name bytes : List ℕ) where
+  one_header : (h k : HeaderParts) → StatesHeader name (kept (lines_from 1 bytes)) h → StatesHeader name (kept (lines_from 1 bytes)) k → h ≡ k
+  one_header h k s t = ok_same h k (sym (header_again name (kept (lines_from 1 bytes)) h s) ∙ header_again name (kept (lines_from 1 bytes)) k t)
+
+  one_module : (m n : Module) → HasHeader name bytes m → HasHeader name bytes n → m ≡ n
+  one_module m n h k = λ i. record { bytes = (h.same ∙ sym k.same) i; header = one_header m.header n.header h.states k.states i }
+
+  no_module : (m : Module) (stop : Stop) → StatesModule file name bytes (Ok m) → StatesModule file name bytes (Err stop) → ⊥
+  no_module m stop h (inl k) = k.0 h.utf8
+  no_module m stop h (inr k) = let b = k.1 in bad_states_none (StatesHeader name) (kept (lines_from 1 bytes)) b.0 m.header b.1 h.states
+
+  one_stop : (s t : Stop) → StatesModule file name bytes (Err s) → StatesModule file name bytes (Err t) → s ≡ t
+  one_stop s t (inl h) (inl k) = h.1 ∙ sym k.1
+  one_stop s t (inl h) (inr k) = absurd (h.0 k.0)
+  one_stop s t (inr h) (inl k) = absurd (k.0 h.0)
+  one_stop s t (inr h) (inr k) =
+      let a = h.1 in
+      let b = k.1 in
+      a.2 ∙ ap (bad_header file) (one_first_bad (StatesHeader name) (kept (lines_from 1 bytes)) a.0 b.0 a.1 b.1) ∙ sym b.2
+
+  states_one : IsOne (StatesModule file name bytes)
+  states_one (Ok m) (Ok n) h k f g = ap Ok (one_module m n h k)
+  states_one (Ok m) (Err t) h k f g = absurd (no_module m t h k)
+  states_one (Err s) (Ok n) h k f g = absurd (no_module n s k h)
+  states_one (Err s) (Err t) h k f g = ap Err (one_stop s t h k)
+
+reads_nearly : (file name : List ℕ) (files : Files) → IsNearlyOne (ReadsModule file name files)
+reads_nearly file name files =
+    then_nearly (Held most_bytes file files) (StatesModule file name) (nearly (Held most_bytes file files) (held_one most_bytes file files))
+    (λ bytes held. nearly (StatesModule file name bytes) (states_one file name bytes))
+
+alone_one : (file : List ℕ) (header : HeaderParts) → IsOne (IsAlone file header)
+alone_one file header (Ok a) (Ok b) h k f g = refl
+alone_one file header (Ok a) (Err t) h k f g = absurd (k.0 h)
+alone_one file header (Err s) (Ok b) h k f g = absurd (h.0 k)
+alone_one file header (Err s) (Err t) h k f g = ap Err (h.1 ∙ sym k.1)
+
+-- ---- refusals
+
+-- both refusals have stops
+module _ {E : Type 0} (stop_of : E → Option Stop) (memory : E) (none : stop_of memory ≡ None) where
+  not_lacking : (e : E) (stop : Stop) → stop_of e ≡ Some stop → e ≢ memory
+  not_lacking e stop is same = none_some stop (sym none ∙ ap stop_of (sym same) ∙ is)
+
+  same_refusal : (e d : E) (s t : Stop) → e ≡ d → stop_of e ≡ Some s → stop_of d ≡ Some t → s ≡ t
+  same_refusal e d s t same h k = some_same s t (sym h ∙ ap stop_of same ∙ k)
+
+readings_as : (a b s t : Stop) → AreReadings a b → Some a ≡ Some s → Some b ≡ Some t → AreReadings s t
+readings_as a b s t are h k = subst (λ (x : Stop). AreReadings x t) (some_same a s h) (subst (λ (x : Stop). AreReadings a x) (some_same b t k) are)
+
+-- the stops of two refusals of a language that show other readings
+line_readings : (file : List ℕ) (e d : NotationError) (s t : Stop) → ShowOthers e d → language_stop file e ≡ Some s → language_stop file d ≡ Some t → AreReadings s t
+line_readings file e d s t show h k =
+    readings_as (unread_line file show.line (unread.Ambiguous show.one show.other)) (unread_line file show.line (unread.Ambiguous show.some show.more)) s t (record { file = refl; place = refl; shown = tt })
+    (sym (ap (language_stop file) show.first) ∙ h) (sym (ap (language_stop file) show.second) ∙ k)
+
+agree_alike : {A : Type 0} (file : List ℕ) (e d : NotationError) (s t : Stop) → (e ≡ d) ⊎ ShowOthers e d → language_stop file e ≡ Some s → language_stop file d ≡ Some t → Agree {A = A} (Err s) (Err t)
+agree_alike file e d s t (inl same) h k = inl (ap Err (same_refusal (language_stop file) notation_error.Memory refl e d s t same h k))
+agree_alike file e d s t (inr show) h k = inr (line_readings file e d s t show h k)
+
+-- the stops of two refusals of a module that show other readings
+body_readings : (file : List ℕ) (e d : ModuleError) (s t : Stop) → ReadOthers e d → module_stop file e ≡ Some s → module_stop file d ≡ Some t → AreReadings s t
+body_readings file e d s t show h k =
+    readings_as (unread_body file show.line show.column (unread.Ambiguous show.one show.other)) (unread_body file show.line show.column (unread.Ambiguous show.some show.more)) s t (record { file = refl; place = refl; shown = tt })
+    (sym (ap (module_stop file) show.first) ∙ h) (sym (ap (module_stop file) show.second) ∙ k)
+
+print_readings : (file : List ℕ) (e d : ModuleError) (s t : Stop) → PrintOthers e d → module_stop file e ≡ Some s → module_stop file d ≡ Some t → AreReadings s t
+print_readings file e d s t show h k =
+    readings_as (unprinted file show.part (print_defect.Ambiguous show.one show.other)) (unprinted file show.part (print_defect.Ambiguous show.some show.more)) s t (record { file = refl; place = refl; shown = refl })
+    (sym (ap (module_stop file) show.first) ∙ h) (sym (ap (module_stop file) show.second) ∙ k)
+
+module_alike : {A : Type 0} (file : List ℕ) (e d : ModuleError) (s t : Stop) → (e ≡ d) ⊎ ReadOthers e d ⊎ PrintOthers e d → module_stop file e ≡ Some s → module_stop file d ≡ Some t → Agree {A = A} (Err s) (Err t)
+module_alike file e d s t (inl same) h k = inl (ap Err (same_refusal (module_stop file) module_error.Memory refl e d s t same h k))
+module_alike file e d s t (inr (inl show)) h k = inr (body_readings file e d s t show h k)
+module_alike file e d s t (inr (inr show)) h k = inr (print_readings file e d s t show h k)
+
+-- ---- the language's file
+
+bare_named : (rs : List RuleOf) → map rule rs ≡ map (λ r. r.rule) (map named rs)
+bare_named [] = refl
+bare_named (r ∷ rs) = ap (λ (l : List Rule). rule r ∷ l) (bare_named rs)
+
+module _ (one_language : OneLanguage) (one_unit : OneUnit) where
+  stated_same : (name bytes : List ℕ) (l k : Stated) → IsStated name bytes l → IsStated name bytes k → l ≡ k
+  stated_same name bytes l k s t = λ i. record { language = (s.language ∙ one_language.found name bytes s.whole t.whole s.states t.states ∙ sym t.language) i; digest = (s.digest ∙ sym t.digest) i }
+
+  module _ (name bytes : List ℕ) where
+    lacks : (stop : Stop) (e : NotationError) → language_stop (language_file name) e ≡ Some stop → e ≢ notation_error.Memory
+    lacks stop e is = not_lacking (language_stop (language_file name)) notation_error.Memory refl e stop is
+
+    language_nearly : IsNearlyOne (StatesLanguage name bytes)
+    language_nearly (Ok l) (Ok k) s t f g = inl (ap Ok (stated_same name bytes l k s t))
+    language_nearly (Ok l) (Err t) s r f g = absurd (lacks t r.error r.is (one_language.either name bytes s.whole r.error s.states r.refused))
+    language_nearly (Err s) (Ok k) r t f g = absurd (lacks s r.error r.is (one_language.either name bytes t.whole r.error t.states r.refused))
+    language_nearly (Err s) (Err t) r q f g =
+        agree_alike (language_file name) r.error q.error s t (one_language.refused name bytes r.error q.error r.refused q.refused (lacks s r.error r.is) (lacks t q.error q.is)) r.is q.is
+
+  reads_language_nearly : (name : List ℕ) (files : Files) → IsNearlyOne (ReadsLanguage name files)
+  reads_language_nearly name files =
+      then_nearly (Held most_bytes (language_file name) files) (StatesLanguage name) (nearly (Held most_bytes (language_file name) files) (held_one most_bytes (language_file name) files))
+      (λ bytes held. language_nearly name bytes)
+
+  -- ---- the unit
+
+  module _ (file : List ℕ) (budget : ℕ) (m : Module) (l : Stated) (followed : IsFollowed l.language) where
+    wants : (stop : Stop) (e : ModuleError) → module_stop file e ≡ Some stop → e ≢ module_error.Memory
+    wants stop e is = not_lacking (module_stop file) module_error.Memory refl e stop is
+
+    compiles_nearly : IsNearlyOne (Compiles file budget m l)
+    compiles_nearly (Ok u) (Ok v) s t f g = inl (ap Ok (one_unit.found (source_of m l) budget u v s.made t.made))
+    compiles_nearly (Ok u) (Err t) s r f g = absurd (wants t r.error r.is (one_unit.either (source_of m l) budget u r.error s.made r.refused))
+    compiles_nearly (Err s) (Ok v) r t f g = absurd (wants s r.error r.is (one_unit.either (source_of m l) budget v r.error t.made r.refused))
+    compiles_nearly (Err s) (Err t) r q f g =
+        module_alike file r.error q.error s t (one_unit.refused (source_of m l) budget r.error q.error followed r.refused q.refused (wants s r.error r.is) (wants t q.error q.is)) r.is q.is
+
+  -- ---- the command
+
+  unit_nearly : (name : List ℕ) (budget : ℕ) (m : Module) (l : Stated) → IsFollowed l.language → IsNearlyOne (BuildsUnit name budget m l)
+  unit_nearly name budget m l followed =
+      then_nearly (Compiles (module_file name) budget m l) (λ unit result. result ≡ Ok (unit_plan name unit)) (compiles_nearly (module_file name) budget m l followed)
+      (λ unit compiled x y h k f g. inl (h ∙ sym k))
+
+  -- the rules of a language that a text states can be followed, as those of each rule set
+  stated_followed : (name bytes : List ℕ) (l : Stated) → IsStated name bytes l → IsFollowed l.language
+  stated_followed name bytes l s = 
+      subst IsFollowed (sym s.language)
+      (subst (λ (rules : List Rule). AllModed (modes_of (forms_in s.whole.rules)) rules) (bare_named s.whole.rules.rules.items)
+      (kept_moded (shapes_in s.whole.rules) (forms_in s.whole.rules) s.whole.rules.rules.items s.whole.rules.good))
+
+  read_followed : (name : List ℕ) (files : Files) (l : Stated) → ReadsLanguage name files (Ok l) → IsFollowed l.language
+  read_followed name files l read = let at = went _ _ _ read in stated_followed name at.given l at.goes
+
+  over_nearly : (name : List ℕ) (budget : ℕ) (files : Files) (m : Module) → IsNearlyOne (BuildsOver name budget files m)
+  over_nearly name budget files m =
+      then_nearly (ReadsLanguage m.header.language files) (BuildsUnit name budget m) (reads_language_nearly m.header.language files) (λ l read. unit_nearly name budget m l (read_followed m.header.language files l read))
+
+  read_nearly : (name : List ℕ) (budget : ℕ) (files : Files) (m : Module) → IsNearlyOne (BuildsRead name budget files m)
+  read_nearly name budget files m =
+      then_nearly (IsAlone (module_file name) m.header) (λ done. BuildsOver name budget files m) (nearly (IsAlone (module_file name) m.header) (alone_one (module_file name) m.header))
+      (λ done alone. over_nearly name budget files m)
+
+  pub builds_nearly : BuildsAgree
+  builds_nearly name budget files =
+      then_nearly (ReadsModule (module_file name) name files) (BuildsRead name budget files) (reads_nearly (module_file name) name files) (λ m read. read_nearly name budget files m)

@@ -1,0 +1,6 @@
+mod Environments
+mod Sources
+mod FirstLines
+pub mod Agreeing
+pub mod Promise
+mod Counted

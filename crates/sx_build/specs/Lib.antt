@@ -1,0 +1,8 @@
+pub mod ModuleFiles
+pub mod ReadModule
+pub mod LanguageStops
+pub mod ReadLanguage
+pub mod ModuleStops
+pub mod CompileModule
+pub mod BuildModule
+pub mod Laws

@@ -1,0 +1,16 @@
+//! The build of a module: the steps of `build NAME` for a module without `use` and `import` lines.
+//!
+//! - `plan_build_module`: what is to be written, or why nothing is. The module's file is read, then that of its language; the module is
+//!   compiled; and its three files and the line are planned.
+//! - `builds_agree`: by the name and the files there is one result, read faults and the readings that a refusal shows aside.
+#![tactic(auto)]
+
+mod build_module;
+mod language_stops;
+mod laws;
+mod module_stops;
+mod read_language;
+mod read_module;
+
+pub use build_module::plan_build_module;
+pub use laws::builds_agree;

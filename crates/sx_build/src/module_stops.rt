@@ -1,0 +1,193 @@
+//! The refusals of modules that are not compiled.
+
+ghost use Rattle.std.specs.Prelude.{◌≡◌, IfOk, Some};
+ghost use Rattle.sx_build.specs.ModuleStops as stops;
+
+use std::alloc::Global;
+use sx_module::{Limit, ModuleError, Part, StuckText};
+use sx_notation::Unread;
+use sx_steps::{Stop, refused, refused_at};
+use sx_term::{NoMemory, Text};
+use sx_token::TokenError;
+use sx_words::{BudgetDefect, Defect, FileDefect, GoalDefect, Place, PrintDefect, PrintedPart, TextDefect};
+
+/// A defect of the text at a line and a column.
+fn at_spot(
+    alloc: Global,
+    file: &Text,
+    line: u64,
+    column: u64,
+    what: TextDefect,
+) -> Result<Stop, NoMemory>
+    ensures { IfOk result (λ stop. stop ≡ stops.at_spot file.now line column what) }
+{
+    refused_at(
+        alloc,
+        file,
+        Place::Spot { line, column },
+        Defect::Text(what),
+    )
+}
+
+/// The refusal of a body that is not cut into tokens.
+fn uncut_body(
+    alloc: Global,
+    file: &Text,
+    line: u64,
+    column: u64,
+    error: TokenError,
+) -> Result<Stop, NoMemory>
+    ensures { IfOk result (λ stop. stops.uncut_body file.now line column error ≡ Some stop) }
+{
+    match error {
+        TokenError::Memory => Err(NoMemory::Memory),
+        TokenError::NotUtf8(before) => refused(
+            alloc,
+            file,
+            Defect::File(FileDefect::NotUtf8(u64::from(before))),
+        ),
+        TokenError::BadToken(_) => at_spot(alloc, file, line, column, TextDefect::BadToken),
+        TokenError::TooManyTokens => refused(
+            alloc,
+            file,
+            Defect::Text(TextDefect::TooManyTokens),
+        ),
+        TokenError::OpenString(_) => at_spot(alloc, file, line, column, TextDefect::OpenString),
+    }
+}
+
+/// The refusal of a body that has not one reading.
+fn unread_body(
+    alloc: Global,
+    file: &Text,
+    line: u64,
+    column: u64,
+    error: Unread,
+) -> Result<Stop, NoMemory>
+    ensures { IfOk result (λ stop. stop ≡ stops.unread_body file.now line column error) }
+{
+    let what = match error {
+        Unread::TooHard => TextDefect::TooHard,
+        Unread::NoReading(_) => return at_spot(alloc, file, line, column, TextDefect::NoReading),
+        Unread::TooDeep(depth) => TextDefect::TooDeep(depth),
+        Unread::Ambiguous(one, other) => TextDefect::Ambiguous { one, other },
+    };
+    refused(alloc, file, Defect::Text(what))
+}
+
+/// Why a goal has no derivation.
+fn stuck_goal(why: StuckText) -> GoalDefect
+    ensures { result ≡ stops.stuck_goal why }
+{
+    match why {
+        StuckText::NoRule { goal } => GoalDefect::NoRule { goal },
+        StuckText::Equal {
+            goal,
+            premise,
+            rule,
+        } => GoalDefect::Equal {
+            goal,
+            premise,
+            rule,
+        },
+        StuckText::Mismatch {
+            goal,
+            premise,
+            rule,
+        } => GoalDefect::Mismatch {
+            goal,
+            premise,
+            rule,
+        },
+        StuckText::NotStated { goal } => GoalDefect::NotStated { goal },
+    }
+}
+
+/// The refusal of a body without a type.
+fn untyped(
+    alloc: Global,
+    file: &Text,
+    line: u64,
+    column: u64,
+    why: StuckText,
+) -> Result<Stop, NoMemory>
+    ensures { IfOk result (λ stop. stop ≡ stops.untyped file.now line column why) }
+{
+    let goal = stuck_goal(why);
+    refused_at(
+        alloc,
+        file,
+        Place::Spot { line, column },
+        Defect::Goal(goal),
+    )
+}
+
+/// Which text was printed.
+fn printed_part(part: Part) -> PrintedPart
+    ensures { result ≡ stops.printed_part part }
+{
+    match part {
+        Part::Body => PrintedPart::Body,
+        Part::Signature => PrintedPart::Signature,
+    }
+}
+
+/// The limit that a printed text passes.
+fn passed_limit(limit: Limit) -> PrintDefect
+    ensures { result ≡ stops.passed_limit limit }
+{
+    match limit {
+        Limit::Bytes(number) => PrintDefect::Bytes(number),
+        Limit::Tokens(number) => PrintDefect::Tokens(number),
+        Limit::Items => PrintDefect::Items,
+        Limit::Depth(depth) => PrintDefect::Depth(depth),
+    }
+}
+
+/// The refusal of a printed text that cannot be written.
+fn unprinted(
+    alloc: Global,
+    file: &Text,
+    part: Part,
+    defect: PrintDefect,
+) -> Result<Stop, NoMemory>
+    ensures { IfOk result (λ stop. stop ≡ stops.unprinted file.now part defect) }
+{
+    let part = printed_part(part);
+    refused(alloc, file, Defect::Print { part, defect })
+}
+
+/// The refusal of a module that is not compiled.
+pub fn bad_module(alloc: Global, file: &Text, error: ModuleError) -> Result<Stop, NoMemory>
+    ensures { IfOk result (λ stop. stops.module_stop file.now error ≡ Some stop) }
+{
+    let defect = match error {
+        ModuleError::Memory => return Err(NoMemory::Memory),
+        ModuleError::Token {
+            line,
+            column,
+            error,
+        } => return uncut_body(alloc, file, line, column, error),
+        ModuleError::Read {
+            line,
+            column,
+            error,
+        } => return unread_body(alloc, file, line, column, error),
+        ModuleError::TypeError {
+            line,
+            column,
+            stuck,
+        } => return untyped(alloc, file, line, column, stuck),
+        ModuleError::BudgetSpent(tries) => Defect::Budget(BudgetDefect::Tries(tries)),
+        ModuleError::DepthSpent => Defect::Budget(BudgetDefect::Depth),
+        ModuleError::TooDeep(depth) => Defect::Text(TextDefect::TooDeep(depth)),
+        ModuleError::TooBig(size) => Defect::Text(TextDefect::TooBig(size)),
+        ModuleError::PrintLimit { part, limit } => {
+            return unprinted(alloc, file, part, passed_limit(limit));
+        }
+        ModuleError::PrintAmbiguous { part, one, other } => {
+            return unprinted(alloc, file, part, PrintDefect::Ambiguous { one, other });
+        }
+    };
+    refused(alloc, file, defect)
+}

@@ -1,0 +1,5 @@
+pub mod Texts
+pub mod StepsOn
+pub mod Ones
+pub mod Units
+pub mod Quiet

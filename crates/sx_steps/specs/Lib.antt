@@ -1,0 +1,10 @@
+pub mod Status
+pub mod Refusal
+pub mod Steps
+pub mod Stop
+pub mod Stops
+pub mod Held
+pub mod Lower
+pub mod Work
+pub mod Unit
+pub mod Agree

@@ -1,0 +1,4 @@
+module Main
+language Lam
+---
+( \ x : Int . x ) 1
