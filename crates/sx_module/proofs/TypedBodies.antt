@@ -81,13 +81,13 @@ module _ (l : Language) (is : IsLanguage l) where
     goal_for =
         let fits = main_goals_fit (shapes_of p) forms [] l.main.form m.form (sorts.Plain m.environment) (sorts.Typed m.subject) (sorts.Plain m.signature) environment subject m.is m.input m.typed m.output environment_sorted subject_sorted in
         record {
-      form = m.form;
-      is = m.is;
-      sorted = fits.0;
-      lexemes = main_goals_have_lexemes (literals_of p) (places_at forms l.main.form) environment subject he.lexemes hs.lexemes;
-      shallow = main_goals_are_shallow (places_at forms l.main.form) environment subject he.depth hs.depth;
-      leads = fits.1;
-    }
+          form = m.form;
+          is = m.is;
+          sorted = fits.0;
+          lexemes = main_goals_have_lexemes (literals_of p) (places_at forms l.main.form) environment subject he.lexemes hs.lexemes;
+          shallow = main_goals_are_shallow (places_at forms l.main.form) environment subject he.depth hs.depth;
+          leads = fits.1;
+        }
 
     -- the outputs are one term, which can be printed
     pub one_output : (outs : List Tree) → AreOutputsFor (literals_of p) (shapes_of p) forms [] (main_goal forms l.main.form environment subject) outs →
@@ -96,12 +96,15 @@ module _ (l : Language) (is : IsLanguage l) where
         let fits = main_goals_fit (shapes_of p) forms [] l.main.form m.form (sorts.Plain m.environment) (sorts.Typed m.subject) (sorts.Plain m.signature) environment subject m.is m.input m.typed m.output environment_sorted subject_sorted in
         let one = fits.2 outs h.sorted in
         let lexemes = subst (λ (ts : List Tree). AllByRecursion (HasLexemes (literals_of p)) ts) one.1 h.lexemes in
-        let shallow = subst AreShallow one.1 h.shallow in
-        (one.0, one.1, record {
-          sorted = subst (HasSort (shapes_of p) [] one.0) (sym (main_sort_is forms l.main.form m.form Out (sorts.Plain m.signature) m.is m.output)) one.2;
-          depth = shallow.0;
-          lexemes = lexemes.0;
-        })
+        let shallow = subst AreShallow one.1 h.shallow in (
+          one.0,
+          one.1,
+          record {
+            sorted = subst (HasSort (shapes_of p) [] one.0) (sym (main_sort_is forms l.main.form m.form Out (sorts.Plain m.signature) m.is m.output)) one.2;
+            depth = shallow.0;
+            lexemes = lexemes.0;
+          },
+        )
 
     -- so it is of what a search finds
     pub found_fit : IsRuleSet (shapes_in l.rules) forms (rules_in l.rules) → (tries : ℕ) (a : Answer) →

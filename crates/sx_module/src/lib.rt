@@ -3,10 +3,10 @@
 
 mod body;
 mod compiled;
-mod given;
-mod goal_laws;
 mod compiling;
 mod counting;
+mod given;
+mod goal_laws;
 mod import;
 mod laws;
 mod module_error;

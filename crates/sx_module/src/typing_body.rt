@@ -34,7 +34,15 @@ fn stuck(alloc: Global, given: &Given, body: &Body, blame: &Blame) -> Result<Mod
 {
     given.language.rules.facts();
     let before = given.bytes.len() - body_of(given.bytes, given.header).len();
-    type_error(alloc, given.language, given.bytes, before, &body.tokens, &body.reading, blame)
+    type_error(
+        alloc,
+        given.language,
+        given.bytes,
+        before,
+        &body.tokens,
+        &body.reading,
+        blame,
+    )
 }
 
 /// Why the body's goal has no derivation.

@@ -18,7 +18,7 @@ returns-in_err-typed-clause-tries g c =
     let b : HasBody s = record { tokens = c.args.body.now.tokens.items; reading = plain_reading c.args.body.now.reading; subject = tree c.args.body.now.term; read = c.requires.body } in
     err_is (λ (r : Result Compiled ModuleError). IsCounted s c.args.tries r c.args.steps.now c.type_source.new.steps) c.from_residual.result _ c.from_residual.ensures.1
     (λ e is. subst (λ (x : ModuleError). IsCounted s c.args.tries (Err x) c.args.steps.now c.type_source.new.steps) (sym is)
-      (untyped_counted s c.args.tries b c.args.steps.now c.type_source.new.steps c.in_err-typed.field-0.0 c.in_err-typed.ensures.tries))
+    (untyped_counted s c.args.tries b c.args.steps.now c.type_source.new.steps c.in_err-typed.field-0.0 c.in_err-typed.ensures.tries))
 
 pub returns-in_err-typed-clause-most : goal.returns-in_err-typed-clause-most
 returns-in_err-typed-clause-most g c =

@@ -25,7 +25,7 @@ returns-in_err-body-clause-tries g c =
     let s = source_of c.args.given.now in
     err_is (λ (r : Result Compiled ModuleError). IsCounted s c.args.tries r c.args.steps.now c.args.steps.now) c.from_residual.result _ c.from_residual.ensures.1
     (λ e is. subst (λ (x : ModuleError). IsCounted s c.args.tries (Err x) c.args.steps.now c.args.steps.now) (sym is)
-      (unread_counted s c.args.tries c.in_err-body.field-0.0 c.args.steps.now c.in_err-body.ensures.none))
+    (unread_counted s c.args.tries c.in_err-body.field-0.0 c.args.steps.now c.in_err-body.ensures.none))
 
 pub compile_body-requires-clause-shown : goal.compile_body-requires-clause-shown
 compile_body-requires-clause-shown g c =

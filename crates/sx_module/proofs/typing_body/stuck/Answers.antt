@@ -33,7 +33,7 @@ type_error-requires-clause-blame c =
     let r = plain_reading c.args.body.now.reading in
     let g = goal_for l is env subject c.requires.can.environment c.requires.shown in
     let fits = exhausted_goals_fit (literals_of p) (shapes_of p) (forms_in l.rules) (rules_in l.rules) (rule_set l is c.facts.ensures.good) [] subject
-      (main_goal (forms_in l.rules) l.main.form env subject) g None c.requires.blame.0 (blame_of c.args.blame.now) c.requires.blame.1.0 c.requires.blame.1.1 in
+    (main_goal (forms_in l.rules) l.main.form env subject) g None c.requires.blame.0 (blame_of c.args.blame.now) c.requires.blame.1.0 c.requires.blame.1.1 in
     subst (λ (ts : List Token). IsBlameIn (shapes_of p) (forms_in l.rules) [] (term_of (plain_tokens [] ts) [] r) (blame_of c.args.blame.now)) (sym c.deref.ensures.value)
     (subst (λ (t : Tree). IsBlameIn (shapes_of p) (forms_in l.rules) [] t (blame_of c.args.blame.now)) c.requires.body.term fits.0)
 
@@ -46,7 +46,7 @@ type_error-requires-clause-shallow c =
     let subject = tree c.args.body.now.term in
     let g = goal_for l is env subject c.requires.can.environment c.requires.shown in
     let fits = exhausted_goals_fit (literals_of p) (shapes_of p) (forms_in l.rules) (rules_in l.rules) (rule_set l is c.facts.ensures.good) [] subject
-      (main_goal (forms_in l.rules) l.main.form env subject) g None c.requires.blame.0 (blame_of c.args.blame.now) c.requires.blame.1.0 c.requires.blame.1.1 in
+    (main_goal (forms_in l.rules) l.main.form env subject) g None c.requires.blame.0 (blame_of c.args.blame.now) c.requires.blame.1.0 c.requires.blame.1.1 in
     fits.1
 
 pub returns : goal.returns
@@ -61,5 +61,5 @@ returns c =
     ok_if c.type_error.result (IsTypeError s.language s.bytes before (length s.bytes - before) c.deref.result.now r blame)
     (λ e. (tries : ℕ) → IsFoundBy s tries subject (Err (Underivable c.args.blame.now)) → IsBadModule s tries e) c.type_error.ensures
     (λ e told tries found. is_type_error s tries before (length s.bytes - before) b blame e
-      (ap (λ (bytes : List ℕ). length s.bytes - length bytes) c.body_of.ensures) (size_is s.bytes c.body_of.result.now c.args.given.now.header.now.body c.body_of.ensures) found.0 found.1
-      (subst (λ (l : List Token). IsTypeError s.language s.bytes before (length s.bytes - before) l r blame e) c.deref.ensures.value told))
+    (ap (λ (bytes : List ℕ). length s.bytes - length bytes) c.body_of.ensures) (size_is s.bytes c.body_of.result.now c.args.given.now.header.now.body c.body_of.ensures) found.0 found.1
+    (subst (λ (l : List Token). IsTypeError s.language s.bytes before (length s.bytes - before) l r blame e) c.deref.ensures.value told))

@@ -57,5 +57,5 @@ returns-clause-tries g c =
     let s = source_of c.args.given.now in
     let subject = tree c.args.body.now.term in
     let counted = subst (λ (x : Goal). AreCounted {X = Listed} (tries_of None c.args.tries (events (modes_of (forms_in set)) (bare (rules_in set)) no_hypotheses x 1)) c.args.steps.now c.find_derivation.new.steps (Err c.in-Err.error))
-      c.in_ok-goal.ensures c.in-Err.ensures.steps in
+    c.in_ok-goal.ensures c.in-Err.ensures.steps in
     tried (tries_of None c.args.tries (goal_events s subject)) c.args.steps.now c.find_derivation.new.steps c.in-Err.error c.no_derivation.result counted c.no_derivation.ensures.memory
