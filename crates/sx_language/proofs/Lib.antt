@@ -1,0 +1,5 @@
+pub mod Saying
+pub mod Premising
+pub mod StemNames
+pub mod NamedSorts
+pub mod ShortLines

@@ -1,0 +1,5 @@
+pub mod RuleLine
+pub mod RuleTexts
+pub mod States
+pub mod Readers
+pub mod StemTables
