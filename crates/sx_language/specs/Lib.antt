@@ -3,3 +3,4 @@ pub mod RuleTexts
 pub mod States
 pub mod Readers
 pub mod StemTables
+pub mod Prepared

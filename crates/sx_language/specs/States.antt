@@ -30,6 +30,10 @@ use Rattle.sx_notation.specs.RuleLaws.{form_of}
 use Rattle.sx_language.specs.RuleLine.{Reader}
 use Rattle.sx_language.specs.RuleTexts.{AreRules, IsFirstBad}
 
+-- the name is that of a lexical sort, or of a sort line
+abbrev pub IsNameOfSort : Parts → (name : Text) → Type 0
+IsNameOfSort p name = ((kind : LexKind) × (name ≡ lex_text kind)) ⊎ Contains (names p) name
+
 -- the sort with this name: a lexical one, or that of a sort line
 abbrev pub IsSortNamed : Parts → (name : Text) → Sort → Type 0
 IsSortNamed p name sort =
@@ -85,15 +89,15 @@ abbrev pub HasBadRule : (name bytes : Text) → NotationError → Type 0
 HasBadRule name bytes e = (o : Outline) × (r : Reader) × IsReadable name bytes o r × IsFirstBad r (map rule_data o.rules.items) e
 
 -- the names of the variables of the first rule with this name
-abbrev pub names_in : List NamedRule → (names : List (List Text)) → Text → List Text
+abbrev pub names_in : (rules : List Text) → (names : List (List Text)) → Text → List Text
 names_in [] names name = []
-names_in (q ∷ qs) [] name = []
-names_in (q ∷ qs) (n ∷ ns) name = if bytes_eq q.name name then n else names_in qs ns name
+names_in (rule ∷ rules) [] name = []
+names_in (rule ∷ rules) (n ∷ ns) name = if bytes_eq rule name then n else names_in rules ns name
 
--- the name of the variable that is not bound, if that is why the rules are no rule set
-abbrev pub name_unbound : List NamedRule → (names : List (List Text)) → RuleError → Option Text
-name_unbound qs names (rules.NotModed name variable) = slice_get (names_in qs names name) variable
-name_unbound qs names _ = None
+-- the name of the variable that is not bound, if that is why the rules with these names are no rule set
+abbrev pub name_unbound : (known : List Text) → (names : List (List Text)) → RuleError → Option Text
+name_unbound known names (rules.NotModed name variable) = slice_get (names_in known names name) variable
+name_unbound known names _ = None
 
 -- why the rules are no rule set
 abbrev pub IsNoRules : Outline → List NamedRule → RuleError → Type 0
@@ -109,7 +113,7 @@ pub record HasNoRuleSet (name bytes : Text) (e : RuleError) (unbound : Option Te
   pub rules : List NamedRule
   pub read : AreRules reader (map rule_data outline.rules.items) names rules
   pub refused : IsNoRules outline rules e
-  pub named : unbound ≡ name_unbound rules names e
+  pub named : unbound ≡ name_unbound (map (λ q. q.name) rules) names e
 
 -- why the text states no language, want of memory aside
 abbrev pub IsRefused : (name bytes : Text) → NotationError → Type 0

@@ -1,5 +1,5 @@
 -- Which rows of a language file fit what the file declares.
-use Rattle.std.specs.Prelude.{◌≡◌, ℕ, ◌+◌, ◌≤◌, ◌⊎◌, Bool, true, false, List, [], ◌∷◌, Option, Some, IfSome, map, flat_map, slice_get, Contains}
+use Rattle.std.specs.Prelude.{◌≡◌, ℕ, ◌≤◌, ◌⊎◌, false, List, [], ◌∷◌, Option, Some, IfSome, map, flat_map, slice_get, length, Contains}
 use Rattle.std.specs.List.{find, AllByRecursion}
 use Rattle.std.specs.Str.{bytes_eq}
 use Rattle.sx_term.specs.declared.lex_kind.LexKind.{LexKind}
@@ -20,7 +20,7 @@ use Rattle.sx_directives.specs.declared.rows.MainLine.{MainLine}
 use Rattle.sx_directives.specs.declared.row.Row.{Row}
 use Rattle.sx_directives.specs.declared.row.Row.TheVariants.{Language, Sort, Prod, Var, Form, Main, Rule, Bar, End}
 use Rattle.sx_outline.specs.declared.main_form.MainForm.{MainForm}
-use Rattle.sx_outline.specs.Declared.{Declared, FormData, parts_of}
+use Rattle.sx_outline.specs.Declarations.{Declared, FormData, parts_of}
 
 -- the names of the sorts, the stems, and the names of the forms
 abbrev pub sort_names : Declared → List (List ℕ)
@@ -62,12 +62,7 @@ sorts_at role symbols = flat_map (sort_at role) symbols
 
 -- there is one subject at most
 abbrev pub HasOneSubject : List FormSymbol → Type 0
-HasOneSubject symbols = AtMostOne (sorts_at Sub symbols)
-  where
-    AtMostOne : List SpelledSort → Type 0
-    AtMostOne [] = Unit {0}
-    AtMostOne (x ∷ []) = Unit {0}
-    AtMostOne (x ∷ y ∷ more) = ⊥
+HasOneSubject symbols = length (sorts_at Sub symbols) ≤ 1
 
 -- Among what the whole file declares, and after the lines before it, the row is as it should be. Names that stand twice are left to the
 -- grammar and to the rule set where these refuse them.
@@ -93,13 +88,17 @@ kid_of (Lit text) = []
 kid_of (Lex kind) = of_kind kind ∷ []
 kid_of (Part sort least) = of_sort sort ∷ []
 
+-- the parts among symbols
+abbrev pub kids_of : List Symbol → List Kid
+kids_of symbols = flat_map kid_of symbols
+
 -- the production with this label is the one with this number, and has this sort and these parts
 pub record IsConstructor (d : Declared) (label : List ℕ) (number : ℕ) (sort : List ℕ) (kids : List Kid) : Type 0 where
   pub line : Line
   pub is : slice_get d.productions number ≡ Some line
   pub first : number ≡ number_of (labels (parts_of d)) label
   pub sort_is : line.sort ≡ sort
-  pub kids_are : flat_map kid_of line.symbols ≡ kids
+  pub kids_are : kids_of line.symbols ≡ kids
 
 -- the one place with this role has this sort, at any level
 pub record HasOneAt (f : FormData) (role : Role) (sort : List ℕ) : Type 0 where

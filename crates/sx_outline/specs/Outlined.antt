@@ -1,85 +1,95 @@
--- What a language file states line by line, and its first bad line.
-use Rattle.std.specs.Prelude.{◌≡◌, ℕ, ◌⊎◌, List, [], ◌∷◌, ◌++◌, map, Result, Ok, Err}
-use Rattle.std.specs.Str.{IsUtf8, bytes_eq}
+-- What a language file states line by line, or its first bad line.
+use Rattle.std.specs.Prelude.{◌≡◌, ℕ, ◌⊎◌, List, [], ◌∷◌, map, Result, Ok, Err}
+use Rattle.std.specs.Str.{IsUtf8}
+use Rattle.std.specs.Str.Lossy.{utf8_valid_len}
 use Rattle.sx_lines.specs.Lines.{Lines, over, line, lines_from}
-use Rattle.sx_grammar.specs.Parts.{parts}
-use Rattle.sx_directives.specs.Parts.{parts_of}
-use Rattle.sx_directives.specs.Rows.{IsRow, HasWord}
+use Rattle.sx_grammar.specs.Parts.{Parts, parts}
+use Rattle.sx_directives.specs.declared.rows.VarLine.{VarLine}
 use Rattle.sx_directives.specs.declared.rows.MainLine.{MainLine}
-use Rattle.sx_directives.specs.declared.row.Row.{Row}
-use Rattle.sx_directives.specs.declared.row.Row.TheVariants.{Language, Sort, Prod, Var, Form, Main, Rule, Bar, End}
 use Rattle.sx_core.specs.declared.kind.Kind.{Kind}
-use Rattle.sx_core.specs.declared.kind.Kind.TheVariants as kind
+use Rattle.sx_core.specs.declared.kind.Kind.TheVariants.{Head, Directive, Shape, Order, Unfinished, Main, Variable}
 use Rattle.sx_outline.specs.declared.main_form.MainForm.{MainForm}
-use Rattle.sx_outline.specs.declared.rule_lines.RuleLine.{RuleLine}
-use Rattle.sx_outline.specs.declared.rule_lines.RuleLines.{RuleLines}
 use Rattle.sx_outline.specs.declared.outline.Outline.{Outline}
-use Rattle.sx_outline.specs.Declared.{Declared, nothing, declare} as declared
-use Rattle.sx_outline.specs.Fitting.{Fits, IsMainOf}
+use Rattle.sx_outline.specs.declared.outline_error.OutlineError.{OutlineError}
+use Rattle.sx_outline.specs.declared.outline_error.OutlineError.TheVariants.{Memory, NotUtf8, Notation}
+use Rattle.sx_outline.specs.Declarations.{Declared, FormData, form, nothing}
+use Rattle.sx_outline.specs.Fitting.{IsMainOf}
+use Rattle.sx_outline.specs.Known.{Declares, kept_lines}
+use Rattle.sx_outline.specs.Stages.{RuleData, rule_data, Stage, at_start, at_declarations, at_rules, at_premises, at_conclusion, at_end, State, start, Steps, IsBad}
 
--- a line with its number
-pub record Numbered : Type 0 where
-  pub number : ℕ
-  pub text : List ℕ
-
--- a rule: the number of its first line, its name, its premises and its conclusion
-pub record RuleData : Type 0 where
-  pub number : ℕ
-  pub name : List ℕ
-  pub premises : List Numbered
-  pub conclusion : Numbered
-
-abbrev pub numbered : RuleLine → Numbered
-numbered l = record { number = l.number; text = l.text }
-
-abbrev pub rule_data : RuleLines → RuleData
-rule_data r = record { number = r.number; name = r.name; premises = map numbered r.premises.items; conclusion = numbered r.conclusion }
-
--- a rule that has begun
-pub record Begun : Type 0 where
-  pub number : ℕ
-  pub name : List ℕ
-  pub premises : List Numbered
-
--- where the reading stands: before the first line, among the declarations, between rules, among the premises of a rule, after its `---`, or
--- after its conclusion
-pub data Stage : Type 0 where
-  at_start : Stage
-  at_declarations : Stage
-  at_rules : Stage
-  at_premises : Begun → Stage
-  at_conclusion : Begun → Stage
-  at_end : RuleData → Stage
-
--- what has been read: where the reading stands, what was declared, and the rules
-pub record State : Type 0 where
-  pub stage : Stage
-  pub declared : Declared
+-- an outline as plain data
+pub record OutlineData : Type 0 where
+  pub parts : Parts
+  pub vars : List VarLine
+  pub forms : List FormData
+  pub main : MainForm
   pub rules : List RuleData
 
-abbrev pub start : State
-start = record { stage = at_start; declared = nothing; rules = [] }
+abbrev pub outline : Outline → OutlineData
+outline o = record { parts = parts o.parts; vars = o.vars.items; forms = map form o.forms.items; main = o.main; rules = map rule_data o.rules.items }
 
--- a row is due here
-abbrev pub IsDue : Stage → Type 0
-IsDue at_declarations = Unit {0}
-IsDue at_rules = Unit {0}
-IsDue (at_end r) = Unit {0}
-IsDue _ = ⊥
+-- what a file with this outline and this main line declares
+abbrev pub declared_by : OutlineData → MainLine → Declared
+declared_by o m = record { sorts = o.parts.sorts; productions = o.parts.productions; vars = o.vars; forms = o.forms; mains = m ∷ [] }
 
--- the row may stand here
-abbrev pub MayStand : State → Row → Type 0
-MayStand s row = MayStandAt s.stage s.declared.mains row
-  where
-    MayStandAt : Stage → List MainLine → Row → Type 0
-    MayStandAt at_declarations mains (Sort x) = Unit {0}
-    MayStandAt at_declarations mains (Prod x) = Unit {0}
-    MayStandAt at_declarations mains (Var x) = Unit {0}
-    MayStandAt at_declarations mains (Form x) = Unit {0}
-    MayStandAt at_declarations mains (Main x) = mains ≡ []
-    MayStandAt at_declarations mains (Rule x) = Unit {0}
-    MayStandAt at_rules mains (Rule x) = Unit {0}
-    MayStandAt (at_end r) mains End = Unit {0}
-    MayStandAt _ mains row = ⊥
+-- the outline has what was declared, the main form of the main line, and the rules
+pub record IsOutlineOf (s : State) (o : OutlineData) : Type 0 where
+  pub line : MainLine
+  pub declared : s.declared ≡ declared_by o line
+  pub main : IsMainOf s.declared line o.main
+  pub rules : s.rules ≡ o.rules
 
--- TODO of the owner: Steps, IsBad, Declares, IsOutcome, IsOutlined; see the plan
+-- no rule has begun that is not ended
+abbrev pub IsWhole : Stage → Type 0
+IsWhole at_declarations = Unit {0}
+IsWhole at_rules = Unit {0}
+IsWhole _ = ⊥
+
+-- a rule that begins at this line is not ended
+abbrev pub IsInside : Stage → ℕ → Type 0
+IsInside (at_premises b) number = b.number ≡ number
+IsInside (at_conclusion b) number = b.number ≡ number
+IsInside (at_end r) number = r.number ≡ number
+IsInside _ number = ⊥
+
+-- what is missing where no line is left, and the number of the line: a further one would have the number `end`
+abbrev pub IsMissing : State → (end number : ℕ) → Kind → Type 0
+IsMissing s end number Head = (s.stage ≡ at_start) × (number ≡ end)
+IsMissing s end number Unfinished = IsInside s.stage number
+IsMissing s end number Main = IsWhole s.stage × (s.declared.mains ≡ []) × (number ≡ end)
+IsMissing s end number Directive = ⊥
+IsMissing s end number Shape = ⊥
+IsMissing s end number Order = ⊥
+IsMissing s end number Variable = ⊥
+
+-- what comes of a state where no line is left
+abbrev pub IsEnd : State → ℕ → Result OutlineData OutlineError → Type 0
+IsEnd s end (Ok o) = IsWhole s.stage × IsOutlineOf s o
+IsEnd s end (Err (Notation number kind)) = IsMissing s end number kind
+IsEnd s end (Err _) = ⊥
+
+-- what comes of a state and the lines that are left: the next line leads on, or it is the first bad one
+abbrev pub IsOutcome : (known : Declared) (name : List ℕ) → State → Lines → Result OutlineData OutlineError → Type 0
+IsOutcome known name s (over end) result = IsEnd s end result
+IsOutcome known name s (line number text after more) result =
+    ((t : State) × Steps known name s number text t × IsOutcome known name t more result)
+    ⊎ ((kind : Kind) × IsBad known name s text kind × (result ≡ Err (Notation number kind)))
+
+-- what comes of the bytes of the file of the language with this name, which are UTF-8
+pub record IsReadAs (name bytes : List ℕ) (result : Result OutlineData OutlineError) : Type 0 where
+  pub utf8 : IsUtf8 bytes
+  pub known : Declared
+  pub declares : Declares nothing (kept_lines (lines_from 1 bytes)) known
+  pub outcome : IsOutcome known name start (kept_lines (lines_from 1 bytes)) result
+
+-- what the bytes of the file of the language with this name state, or why they state nothing
+abbrev pub IsOutlineAnswer : (name bytes : List ℕ) → Result OutlineData OutlineError → Type 0
+IsOutlineAnswer name bytes (Ok o) = IsReadAs name bytes (Ok o)
+IsOutlineAnswer name bytes (Err Memory) = Unit {0}
+IsOutlineAnswer name bytes (Err (NotUtf8 place)) = (IsUtf8 bytes → ⊥) × (place ≡ utf8_valid_len bytes)
+IsOutlineAnswer name bytes (Err (Notation number kind)) = IsReadAs name bytes (Err (Notation number kind))
+
+-- what reading a language file answers
+abbrev pub IsOutlined : (name bytes : List ℕ) → Result Outline OutlineError → Type 0
+IsOutlined name bytes (Ok o) = IsOutlineAnswer name bytes (Ok (outline o))
+IsOutlined name bytes (Err e) = IsOutlineAnswer name bytes (Err e)
