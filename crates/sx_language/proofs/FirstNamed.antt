@@ -1,0 +1,54 @@
+-- The names of the first rule with a name, found one by one.
+use Rattle.std.proofs.Common.{◌≡◌, ℕ, zero, suc, ◌+◌, ◌<◌, ◌≤◌, Bool, true, false, List, [], ◌∷◌, Option, Some, None, length, drop, get_or, map, slice_get, refl, ap, ◌∙◌, sym, subst, add-one, arith}
+use Rattle.std.specs.Prelude.{unwrap_or}
+use Rattle.std.specs.Str.{bytes_eq}
+use Rattle.std.proofs.lemmas.List.{drop_more, drop_all}
+use Rattle.sx_grammar.specs.Grammar.{Text}
+use Rattle.sx_outline.specs.declared.rule_lines.RuleLines.{RuleLines}
+use Rattle.sx_language.specs.States.{names_in}
+
+abbrev titles : List RuleLines → List Text
+titles rs = map (λ x. x.name) rs
+
+-- where no names are left
+none_left : (ts : List Text) (name : Text) → names_in ts [] name ≡ []
+none_left [] name = refl
+none_left (t ∷ ts) name = refl
+
+at_once : (t : Text) (ts : List Text) (ns : List (List Text)) (name : Text) → bytes_eq t name ≡ true → names_in (t ∷ ts) ns name ≡ unwrap_or (slice_get ns 0) []
+at_once t ts [] name e = refl
+at_once t ts (n ∷ ns) name e = rw e refl
+
+past_one : (t : Text) (ts : List Text) (ns : List (List Text)) (name : Text) → bytes_eq t name ≡ false → names_in (t ∷ ts) ns name ≡ names_in ts (drop 1 ns) name
+past_one t ts [] name e = sym (none_left ts name)
+past_one t ts (n ∷ ns) name e = rw e refl
+
+get_drop : {X : Type 0} (xs : List X) (i : ℕ) → slice_get (drop i xs) 0 ≡ slice_get xs i
+get_drop [] zero = refl
+get_drop [] (suc i) = refl
+get_drop (x ∷ xs) zero = refl
+get_drop (x ∷ xs) (suc i) = get_drop xs i
+
+drop_one : {X : Type 0} (xs : List X) (i : ℕ) → drop 1 (drop i xs) ≡ drop (suc i) xs
+drop_one xs zero = refl
+drop_one [] (suc i) = refl
+drop_one (x ∷ xs) (suc i) = drop_one xs i
+
+module _ (rs : List RuleLines) (ns : List (List Text)) (i : ℕ) (r : RuleLines) (name : Text) (low : i < length rs) (is : r ≡ get_or rs i r) where
+  split : titles (drop i rs) ≡ r.name ∷ titles (drop (i + 1) rs)
+  split = ap titles (drop_more rs i r low ∙ ap (λ x. x ∷ drop (i + 1) rs) (sym is))
+
+  -- the rule has the name
+  pub name_here : bytes_eq r.name name ≡ true → names_in (titles (drop i rs)) (drop i ns) name ≡ names_in (titles rs) ns name → names_in (titles rs) ns name ≡ unwrap_or (slice_get ns i) []
+  name_here e before =
+      sym before ∙ ap (λ t. names_in t (drop i ns) name) split ∙ at_once r.name (titles (drop (i + 1) rs)) (drop i ns) name e ∙ ap (λ o. unwrap_or o []) (get_drop ns i)
+
+  -- it has another
+  pub name_past : bytes_eq r.name name ≡ false → names_in (titles (drop i rs)) (drop i ns) name ≡ names_in (titles rs) ns name
+      → names_in (titles (drop (i + 1) rs)) (drop (i + 1) ns) name ≡ names_in (titles rs) ns name
+  name_past e before =
+      sym (ap (λ t. names_in t (drop i ns) name) split ∙ past_one r.name (titles (drop (i + 1) rs)) (drop i ns) name e ∙ ap (λ l. names_in (titles (drop (i + 1) rs)) l name) (drop_one ns i ∙ ap (λ n. drop n ns) (sym (add-one i)))) ∙ before
+
+-- no rule has the name
+pub none_named : (rs : List RuleLines) (ns : List (List Text)) (i : ℕ) (name : Text) → length rs ≤ i → names_in (titles (drop i rs)) (drop i ns) name ≡ names_in (titles rs) ns name → names_in (titles rs) ns name ≡ []
+none_named rs ns i name past before = sym before ∙ ap (λ l. names_in (titles l) (drop i ns) name) (drop_all i rs past)

@@ -1,0 +1,12 @@
+pub mod Saying
+pub mod Premising
+pub mod StemNames
+pub mod NamedSorts
+pub mod ShortLines
+pub mod Ruling
+pub mod Judgements
+pub mod KnownForms
+pub mod UsableRules
+pub mod MainForms
+pub mod Stating
+pub mod FirstNamed

@@ -1,0 +1,64 @@
+-- The names of the variables of lines that are read have stems with sorts.
+use Rattle.std.proofs.Common.{◌≡◌, ℕ, zero, suc, ◌⊎◌, inl, inr, true, List, [], ◌∷◌, ◌++◌, drop, map, Contains, refl, ap, sym, subst}
+use Rattle.std.specs.Prelude.{is_some, slice_get, slice_index_or}
+use Rattle.std.specs.List.{AllByRecursion}
+use Rattle.sx_term.specs.Vars.{IsAdded}
+use Rattle.sx_token.specs.declared.token.Token.{Token}
+use Rattle.sx_grammar.specs.Grammar.{Text}
+use Rattle.sx_grammar.specs.Reading.{Reading, Readings, branch, bracket, leaf, variable, done, ◌▸◌}
+use Rattle.sx_earley.specs.Tokens.{Stems, sort_of, without_digits}
+use Rattle.sx_earley.specs.Unknown.{HasStem}
+use Rattle.sx_forest.specs.Text.{texts}
+use Rattle.sx_forest.specs.Names.{IsMetavariable, IsMarked, AreMarked, names_in, names_of, AddsEach}
+use Rattle.sx_rules.specs.Rules.{Premise}
+use Rattle.sx_outline.specs.Stages.{Numbered}
+use Rattle.sx_notation.specs.ReadText.{IsRead}
+use Rattle.sx_notation.proofs.TextReading.{is_marked}
+use Rattle.sx_language.specs.RuleLine.{Reader, judgements, IsLine}
+use Rattle.sx_language.specs.RuleTexts.{HaveStems, ArePremises}
+
+stems_append : (stems : Stems) (xs ys : List Text) → HaveStems stems xs → HaveStems stems ys → HaveStems stems (xs ++ ys)
+stems_append stems [] ys h k = k
+stems_append stems (x ∷ xs) ys h k = (h.0, stems_append stems xs ys h.1 k)
+
+variable_stem : (stems : Stems) (ts : List Token) (n : ℕ) → IsMetavariable (slice_get ts n) → AllByRecursion (HasStem stems) ts
+    → is_some (sort_of stems (without_digits (drop 1 (slice_index_or (texts ts) n [])))) ≡ true
+variable_stem stems [] n h all = absurd h
+variable_stem stems (t ∷ ts) zero h all = all.0 h.1
+variable_stem stems (t ∷ ts) (suc n) h all = variable_stem stems ts n h all.1
+
+module _ (stems : Stems) (ts : List Token) (all : AllByRecursion (HasStem stems) ts) where
+  mutual
+    reading_stems : (r : Reading) → IsMarked ts r → HaveStems stems (names_in ts r)
+    reading_stems (branch label kids from to) h = readings_stems kids h
+    reading_stems (bracket inner from to) h = reading_stems inner h
+    reading_stems (leaf token) h = tt
+    reading_stems (variable token) h = (variable_stem stems ts token h all, tt)
+
+    readings_stems : (ks : Readings) → AreMarked ts ks → HaveStems stems (names_of ts ks)
+    readings_stems done h = tt
+    readings_stems (kid ▸ kids) h = stems_append stems (names_in ts kid) (names_of ts kids) (reading_stems kid h.0) (readings_stems kids h.1)
+
+added_stems : (stems : Stems) (old new : List Text) (name : Text) (number : ℕ) → HaveStems stems old → is_some (sort_of stems (without_digits name)) ≡ true → IsAdded old new name number → HaveStems stems new
+added_stems stems old new name number h k added = by added.list
+  where
+    by : (Contains old name × (new ≡ old)) ⊎ (¬ (Contains old name) × (new ≡ old ++ name ∷ [])) → HaveStems stems new
+    by (inl e) = subst (HaveStems stems) (sym e.1) h
+    by (inr e) = subst (HaveStems stems) (sym e.1) (stems_append stems old (name ∷ []) h (k, tt))
+
+each_stems : (stems : Stems) (old names new : List Text) → HaveStems stems old → HaveStems stems names → AddsEach old names new → HaveStems stems new
+each_stems stems old [] new h k e = subst (HaveStems stems) (sym e) h
+each_stems stems old (name ∷ names) new h k e = each_stems stems e.0 names new (added_stems stems old e.0 name e.1 h k.0 e.2) k.1 e.3
+
+-- the names after a line, and after the premises
+pub line_stems : (r : Reader) (text : Text) (old new : List Text) (q : Premise) → IsLine r text old new q → HaveStems r.stems old → HaveStems r.stems new
+line_stems r text old new q line h =
+    let read = line.read in
+    each_stems r.stems old (names_in read.tokens read.reading) new h
+    (reading_stems r.stems read.tokens read.known.1 read.reading (is_marked r.parts r.stems text read.tokens read.known (judgements r.parts) read.reading read.answer)) read.names
+
+pub premise_stems : (r : Reader) (ls : List Numbered) (old new : List Text) (qs : List Premise) → ArePremises r ls old new qs → HaveStems r.stems old → HaveStems r.stems new
+premise_stems r [] old new [] h k = subst (HaveStems r.stems) (sym h) k
+premise_stems r [] old new (q ∷ qs) h k = absurd h
+premise_stems r (l ∷ ls) old new [] h k = absurd h
+premise_stems r (l ∷ ls) old new (q ∷ qs) h k = premise_stems r ls h.0 new qs h.2 (line_stems r l.text old h.0 q h.1 k)

@@ -1,0 +1,140 @@
+-- What holds of each term of a line holds of the terms of the rules.
+use Rattle.std.proofs.Common.{◌≡◌, ℕ, ◌+◌, ◌≤◌, List, [], ◌∷◌, max, map, length, Contains, refl, ap, ◌∙◌, sym, subst, inl, arith}
+use Rattle.std.specs.List.{AllByRecursion}
+use Rattle.std.proofs.Math.Nat.{le-max_left, le-max_right}
+use Rattle.sx_term.specs.declared.lex_kind.LexKind.TheVariants.{Id, Num, Str}
+use Rattle.sx_term.specs.Tree.{Tree, Trees, node, lexeme, hole, none, ◌▹◌, forest, depth_of, greatest_depth}
+use Rattle.sx_grammar.specs.Grammar.{Text}
+use Rattle.sx_grammar.specs.Parts.{Parts}
+use Rattle.sx_grammar.specs.Tables.{literals_of}
+use Rattle.sx_grammar.proofs.DistinctLaws.{distinct_has, distinct_from}
+use Rattle.sx_grammar.specs.Parts.{literals}
+use Rattle.sx_print.specs.Cut.{HasLexemes, HaveLexemes}
+use Rattle.sx_rules.specs.Rules.{Premise, holds, apart, Rule}
+use Rattle.sx_rules.specs.Views.{NamedRule}
+use Rattle.sx_rules.specs.Deep.{AreShallow, PremisesAreShallow, RuleIsShallow, RulesAreShallow}
+use Rattle.sx_directives.specs.declared.rows.FormLine.{FormLine}
+use Rattle.sx_outline.specs.Stages.{Numbered, RuleData}
+use Rattle.sx_notation.specs.RuleParts.{rule_parts}
+use Rattle.sx_notation.specs.Language.{PremiseHasLexemes, RuleHasLexemes}
+use Rattle.sx_notation.proofs.ReadLexemes.{reads_have_lexemes, reads_are_shallow}
+use Rattle.sx_language.specs.RuleLine.{Reader, judgements, Says, IsLine}
+use Rattle.sx_language.specs.RuleTexts.{ArePremises, IsRule, AreRules}
+use Rattle.sx_language.proofs.KnownForms.{literal_stays}
+
+-- it holds of the terms of the premise
+abbrev pub OfPremise : (Tree → Type 0) → Premise → Type 0
+OfPremise P (holds j) = AllByRecursion P j.places
+OfPremise P (apart t u) = P t × P u
+
+abbrev pub OfRule : (Tree → Type 0) → NamedRule → Type 0
+OfRule P q = AllByRecursion (OfPremise P) q.rule.premises × AllByRecursion P q.rule.conclusion.places
+
+-- a property that passes from a node to its kids, and that holds of what is read
+module _ (r : Reader) (P : Tree → Type 0) (down : (label : ℕ) (ts : List Tree) → P (node label (forest ts)) → AllByRecursion P ts)
+    (read : (text : Text) (old new : List Text) (q : Premise) (h : IsLine r text old new q) → P h.term) where
+  said : (t : Tree) (q : Premise) → Says r t q → P t → OfPremise P q
+  said t (holds j) h k = down _ j.places (subst P h.1 k)
+  said t (apart u v) h k = let both = down _ (u ∷ v ∷ []) (subst P h.2 k) in (both.0, both.1.0)
+
+  of_line : (text : Text) (old new : List Text) (q : Premise) → IsLine r text old new q → OfPremise P q
+  of_line text old new q h = said h.term q h.says (read text old new q h)
+
+  of_premises : (ls : List Numbered) (old new : List Text) (qs : List Premise) → ArePremises r ls old new qs → AllByRecursion (OfPremise P) qs
+  of_premises [] old new [] h = tt
+  of_premises [] old new (q ∷ qs) h = absurd h
+  of_premises (l ∷ ls) old new [] h = absurd h
+  of_premises (l ∷ ls) old new (q ∷ qs) h = (of_line l.text old h.0 q h.1, of_premises ls h.0 new qs h.2)
+
+  pub of_rules : (ls : List RuleData) (names : List (List Text)) (qs : List NamedRule) → AreRules r ls names qs → AllByRecursion (OfRule P) qs
+  of_rules [] [] [] h = tt
+  of_rules [] [] (q ∷ qs) h = absurd h
+  of_rules [] (n ∷ ns) [] h = absurd h
+  of_rules [] (n ∷ ns) (q ∷ qs) h = absurd h
+  of_rules (l ∷ ls) [] [] h = absurd h
+  of_rules (l ∷ ls) [] (q ∷ qs) h = absurd h
+  of_rules (l ∷ ls) (n ∷ ns) [] h = absurd h
+  of_rules (l ∷ ls) (n ∷ ns) (q ∷ qs) h =
+      ((of_premises l.premises [] h.0.middle q.rule.premises h.0.premises, of_line l.conclusion.text h.0.middle n (holds q.rule.conclusion) h.0.conclusion), of_rules ls ns qs h.1)
+
+-- ---- depth
+
+abbrev IsShallow : Tree → Type 0
+IsShallow t = depth_of t ≤ 1000
+
+shallow_kids : (ts : List Tree) → greatest_depth (forest ts) ≤ 1000 → AllByRecursion IsShallow ts
+shallow_kids [] h = tt
+shallow_kids (t ∷ ts) h =
+    let left : depth_of t ≤ max (depth_of t) (greatest_depth (forest ts)) = le-max_left (depth_of t) (greatest_depth (forest ts)) in
+    let right : greatest_depth (forest ts) ≤ max (depth_of t) (greatest_depth (forest ts)) = le-max_right (depth_of t) (greatest_depth (forest ts)) in
+    (omega (arith, left, h), shallow_kids ts (omega (arith, right, h)))
+
+shallow_down : (label : ℕ) (ts : List Tree) → IsShallow (node label (forest ts)) → AllByRecursion IsShallow ts
+shallow_down label ts h = shallow_kids ts (omega (arith, h))
+
+are_shallow : (ts : List Tree) → AllByRecursion IsShallow ts → AreShallow ts
+are_shallow [] h = tt
+are_shallow (t ∷ ts) h = (h.0, are_shallow ts h.1)
+
+premises_shallow : (qs : List Premise) → AllByRecursion (OfPremise IsShallow) qs → PremisesAreShallow qs
+premises_shallow [] h = tt
+premises_shallow (holds j ∷ qs) h = (are_shallow j.places h.0, premises_shallow qs h.1)
+premises_shallow (apart t u ∷ qs) h = (h.0, premises_shallow qs h.1)
+
+bare_shallow : (qs : List NamedRule) → AllByRecursion (OfRule IsShallow) qs → RulesAreShallow (map (λ q. q.rule) qs)
+bare_shallow [] h = tt
+bare_shallow (q ∷ qs) h = ((are_shallow q.rule.conclusion.places h.0.1, premises_shallow q.rule.premises h.0.0), bare_shallow qs h.1)
+
+pub rules_shallow : (r : Reader) (ls : List RuleData) (names : List (List Text)) (qs : List NamedRule) → AreRules r ls names qs → RulesAreShallow (map (λ q. q.rule) qs)
+rules_shallow r ls names qs h =
+    bare_shallow qs (of_rules r IsShallow shallow_down (λ text old new q k. reads_are_shallow r.parts r.stems (judgements r.parts) text old new k.term k.read) ls names qs h)
+
+-- ---- lexemes
+
+lexemes_kids : (few : List Text) (ts : List Tree) → HaveLexemes few (forest ts) → AllByRecursion (HasLexemes few) ts
+lexemes_kids few [] h = tt
+lexemes_kids few (t ∷ ts) h = (h.0, lexemes_kids few ts h.1)
+
+-- tokens that are none of the literals are none of fewer literals
+module _ (many few : List Text) (inside : (text : Text) → Contains few text → ¬ (¬ (Contains many text))) where
+  mutual
+    fewer : (t : Tree) → HasLexemes many t → HasLexemes few t
+    fewer (node label kids) h = fewer_kids kids h
+    fewer (lexeme Id text) h = (λ has. inside text has h.0, h.1)
+    fewer (lexeme Num text) h = h
+    fewer (lexeme Str text) h = h
+    fewer (hole v) h = tt
+
+    fewer_kids : (ts : Trees) → HaveLexemes many ts → HaveLexemes few ts
+    fewer_kids none h = tt
+    fewer_kids (t ▹ ts) h = (fewer t h.0, fewer_kids ts h.1)
+
+lexical_premise : (few : List Text) (qs : List Premise) → AllByRecursion (OfPremise (HasLexemes few)) qs → AllByRecursion (PremiseHasLexemes few) qs
+lexical_premise few [] h = tt
+lexical_premise few (holds j ∷ qs) h = (h.0, lexical_premise few qs h.1)
+lexical_premise few (apart t u ∷ qs) h = (h.0, lexical_premise few qs h.1)
+
+lexical_rules : (few : List Text) (qs : List NamedRule) → AllByRecursion (OfRule (HasLexemes few)) qs → AllByRecursion (RuleHasLexemes few) qs
+lexical_rules few [] h = tt
+lexical_rules few (q ∷ qs) h = (record { premises = lexical_premise few q.rule.premises h.0.0; conclusion = h.0.1 }, lexical_rules few qs h.1)
+
+pub rules_lexical : (p : Parts) (fs : List FormLine) (r : Reader) (ls : List RuleData) (names : List (List Text)) (qs : List NamedRule) → r.parts ≡ rule_parts p fs → AreRules r ls names qs
+    → AllByRecursion (RuleHasLexemes (literals_of p)) qs
+rules_lexical p fs r ls names qs same h =
+    let inside : (text : Text) → Contains (literals_of p) text → ¬ (¬ (Contains (literals_of r.parts) text)) =
+        λ text has. distinct_has (literals r.parts) text (subst (λ x. Contains (literals x) text) (sym same) (literal_stays p fs text (distinct_from (literals p) text has))) in
+    lexical_rules (literals_of p) qs (of_rules r (HasLexemes (literals_of p)) (λ label ts k. lexemes_kids (literals_of p) ts k)
+    (λ text old new q k. fewer (literals_of r.parts) (literals_of p) inside k.term (reads_have_lexemes r.parts r.stems (judgements r.parts) text old new k.term k.read)) ls names qs h)
+
+-- ---- names
+
+-- the rules have the names of their lines
+pub rule_names : (r : Reader) (ls : List RuleData) (names : List (List Text)) (qs : List NamedRule) → AreRules r ls names qs → map (λ q. q.name) qs ≡ map (λ l. l.name) ls
+rule_names r [] [] [] h = refl
+rule_names r [] [] (q ∷ qs) h = absurd h
+rule_names r [] (n ∷ ns) [] h = absurd h
+rule_names r [] (n ∷ ns) (q ∷ qs) h = absurd h
+rule_names r (l ∷ ls) [] [] h = absurd h
+rule_names r (l ∷ ls) [] (q ∷ qs) h = absurd h
+rule_names r (l ∷ ls) (n ∷ ns) [] h = absurd h
+rule_names r (l ∷ ls) (n ∷ ns) (q ∷ qs) h = λ i. h.0.name i ∷ rule_names r ls ns qs h.1 i

@@ -1,0 +1,21 @@
+use Rattle.std.proofs.Common.{map, ap, ◌∙◌, arith}
+use Rattle.std.proofs.lemmas.List.{map-append}
+use Rattle.sx_rules.specs.Views as view
+use Rattle.sx_language.specs.Readers.{reader}
+use Rattle.sx_language.proofs.Premising.{one_more, one_bad, at_end}
+use Rattle.sx_language.proofs.rule_reading.read_premises.Goals as goal
+
+pub loop-i-preserved : goal.loop-i-preserved
+loop-i-preserved c =
+    one_more (reader c.args.by.now) c.args.lines.now c.loop-i.i c.loop-i.vars (map view.premise c.loop-i.premises.items) c.index-lines-i.result (omega arith) c.index-lines-i.is c.loop-i.invariant
+    c.read_line.new.vars (view.premise c.in-Ok.premise) (map view.premise c.push.new.self.items) c.in-Ok.ensures.read c.in-Ok.ensures.grows
+    (ap (map view.premise) c.in_ok-push-in-Ok.ensures.items ∙ map-append view.premise c.loop-i.premises.items _)
+
+pub returns-in-Err-clause-refused : goal.returns-in-Err-clause-refused
+returns-in-Err-clause-refused c =
+    one_bad (reader c.args.by.now) c.args.lines.now c.loop-i.i c.loop-i.vars (map view.premise c.loop-i.premises.items) c.index-lines-i.result (omega arith) c.index-lines-i.is c.loop-i.invariant
+    c.in-Err.error c.in-Err.ensures.refused
+
+pub returns-clause-read : goal.returns-clause-read
+returns-clause-read c =
+    at_end (reader c.args.by.now) c.args.lines.now c.loop-i.i c.loop-i.vars (map view.premise c.loop-i.premises.items) (omega arith) c.loop-i.invariant

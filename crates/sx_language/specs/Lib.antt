@@ -1,0 +1,6 @@
+pub mod RuleLine
+pub mod RuleTexts
+pub mod States
+pub mod Readers
+pub mod StemTables
+pub mod Prepared

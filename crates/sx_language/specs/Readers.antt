@@ -1,0 +1,7 @@
+-- What reads the lines of rules, as plain data.
+use Rattle.std.specs.Prelude.{ℕ}
+use Rattle.sx_language.specs.RuleLine.{Reader}
+use Rattle.sx_language.specs.declared.rule_reader.RuleReader.{RuleReader}
+
+abbrev pub reader : RuleReader → Reader
+reader r = record { parts = r.grammar.parts; stems = r.metas.stems.items; forms = r.forms }

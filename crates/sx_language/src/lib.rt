@@ -1,0 +1,19 @@
+//! Languages, as language files state them.
+//!
+//! - `read_language`: the language that a text states, or why it states none. `specs/States.antt` says what a text states: its outline
+//!   gives the grammars, the stems of metavariables and the forms; each line of a rule has one reading by the grammar of rules, which is
+//!   a judgement or says that two lexemes are to be apart; and the rules are a rule set.
+#![tactic(auto)]
+
+mod language_reading;
+mod premise;
+mod preparing;
+mod rule_line;
+mod rule_naming;
+mod rule_reader;
+mod rule_reading;
+mod rules_reading;
+mod stem_table;
+mod stems;
+
+pub use language_reading::read_language;

@@ -1,0 +1,54 @@
+//! Reading a line of a rule.
+
+ghost use Rattle.std.specs.Prelude.{◌≡◌, ◌+◌, ◌<◌, ◌≤◌, ◌^◌, length, IfOk, IfErr};
+ghost use Rattle.sx_rules.specs.Views as view;
+ghost use Rattle.sx_outline.specs.Stages.{numbered};
+ghost use Rattle.sx_language.specs.RuleLine.{judgements, CanRead, IsLine, IsBadLine};
+ghost use Rattle.sx_language.specs.Readers.{reader};
+
+use crate::premise::premise_of;
+use crate::rule_reader::RuleReader;
+use std::alloc::Global;
+use sx_grammar::Grammar;
+use sx_notation::{NotationError, read_text};
+use sx_outline::RuleLine;
+use sx_rules::Premise;
+use sx_term::{Sort, Vars};
+
+/// The sort of judgements.
+fn judgements(grammar: &Grammar) -> Sort
+    requires { 1 ≤ length grammar.now.parts.sorts }
+    ensures { result ≡ judgements grammar.now.parts }
+{
+    grammar.facts();
+    Sort::Typed((grammar.parts().sorts.len() - 1) as u32)
+}
+
+/// The premise that the line states. Names of variables that `vars` lacks are added.
+pub(crate) fn read_line(
+    alloc: Global,
+    by: &RuleReader,
+    line: &RuleLine,
+    vars: &mut Vars,
+) -> Result<Premise, NotationError>
+    requires can { CanRead (reader by.now) }
+    requires short { length line.now.text ≤ 262144 }
+    requires room { length vars.now + 10000 < 2 ^ 32 }
+    ensures read { IfOk result (λ q. IsLine (reader by.now) line.now.text vars.old vars.new (view.premise q)) }
+    ensures refused { IfErr result (IsBadLine (reader by.now) (numbered line.now)) }
+    ensures grows { length vars.new ≤ length vars.old + 10000 }
+{
+    let sort = judgements(&by.grammar);
+    match read_text(
+        alloc,
+        &by.grammar,
+        sort,
+        &by.metas,
+        line.text.bytes(),
+        line.number,
+        vars,
+    ) {
+        Ok(term) => Ok(premise_of(by, term)),
+        Err(error) => Err(error),
+    }
+}

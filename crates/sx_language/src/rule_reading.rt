@@ -1,0 +1,114 @@
+//! Reading the lines of a rule.
+
+ghost use Rattle.std.specs.Prelude.{◌≡◌, ◌+◌, ◌*◌, ◌<◌, ◌≤◌, ◌^◌, [], map, length, IfOk, IfErr};
+ghost use Rattle.std.specs.List.{AllByRecursion};
+ghost use Rattle.sx_rules.specs.Rules.{holds};
+ghost use Rattle.sx_rules.specs.Views as view;
+ghost use Rattle.sx_outline.specs.Stages.{numbered, rule_data};
+ghost use Rattle.sx_outline.specs.Sized.{HasShortLines};
+ghost use Rattle.sx_language.specs.RuleLine.{CanRead, IsLine};
+ghost use Rattle.sx_language.specs.RuleTexts.{ArePremises, IsRule, IsBadPremise, IsBadConclusion, IsBadRule, OrMemory};
+ghost use Rattle.sx_language.specs.Readers.{reader};
+ghost use Rattle.sx_language.specs.StemTables.{IsTable};
+
+use crate::rule_line::read_line;
+use crate::rule_reader::RuleReader;
+use crate::stem_table::StemTable;
+use std::alloc::Global;
+use sx_core::Kind;
+use sx_notation::NotationError;
+use sx_outline::{RuleLine, RuleLines};
+use sx_rules::{Judgement, Premise, Rule};
+use sx_term::Vars;
+
+/// A rule that was read, and the names of its variables.
+#[derive(Drop)]
+pub(crate) struct ReadRule {
+    pub(crate) rule: Rule,
+    pub(crate) names: Vars,
+}
+
+/// The premises that the lines state.
+fn read_premises(
+    alloc: Global,
+    by: &RuleReader,
+    lines: &[RuleLine],
+    vars: &mut Vars,
+) -> Result<Vec<Premise>, NotationError>
+    requires can { CanRead (reader by.now) }
+    requires short { AllByRecursion (λ l. length l.text ≤ 262144) lines.now }
+    requires few { length lines.now ≤ 262144 }
+    requires none { vars.now ≡ [] }
+    ensures read { IfOk result (λ v. ArePremises (reader by.now) (map numbered lines.now) [] vars.new (map view.premise v.items)) }
+    ensures refused { IfErr result (OrMemory (IsBadPremise (reader by.now) (map numbered lines.now) [])) }
+    ensures grows { length vars.new ≤ 10000 * length lines.now }
+{
+    let mut premises = Vec::with_capacity(alloc, lines.len())?;
+    for i in 0..lines.len() {
+        let line = &lines[i];
+        match read_line(alloc, by, line, vars) {
+            Ok(premise) => premises.push(premise)?,
+            Err(error) => return Err(error),
+        }
+    }
+    Ok(premises)
+}
+
+/// The judgement that the line states.
+fn read_conclusion(
+    alloc: Global,
+    by: &RuleReader,
+    line: &RuleLine,
+    vars: &mut Vars,
+) -> Result<Judgement, NotationError>
+    requires can { CanRead (reader by.now) }
+    requires short { length line.now.text ≤ 262144 }
+    requires room { length vars.now + 10000 < 2 ^ 32 }
+    ensures read { IfOk result (λ j. IsLine (reader by.now) line.now.text vars.old vars.new (holds (view.judgement j))) }
+    ensures refused { IfErr result (IsBadConclusion (reader by.now) (numbered line.now) vars.old) }
+    ensures grows { length vars.new ≤ length vars.old + 10000 }
+{
+    match read_line(alloc, by, line, vars) {
+        Ok(Premise::Holds(judgement)) => Ok(judgement),
+        Ok(Premise::Apart(_, _)) => Err(NotationError::Notation {
+            line: line.number,
+            kind: Kind::Shape,
+        }),
+        Err(error) => Err(error),
+    }
+}
+
+/// The rule that the lines state.
+pub(crate) fn read_rule(
+    alloc: Global,
+    by: &RuleReader,
+    table: &StemTable,
+    lines: &RuleLines,
+) -> Result<ReadRule, NotationError>
+    requires can { CanRead (reader by.now) }
+    requires table { IsTable by.now.metas.stems.items table.now }
+    requires short { HasShortLines 262144 (rule_data lines.now) }
+    ensures read { IfOk result (λ x. IsRule (reader by.now) (rule_data lines.now) x.names (view.named x.rule)) }
+    ensures refused { IfErr result (OrMemory (IsBadRule (reader by.now) (rule_data lines.now))) }
+{
+    let mut names = Vars::new(alloc);
+    let premises = match read_premises(alloc, by, &lines.premises, &mut names) {
+        Ok(premises) => premises,
+        Err(error) => return Err(error),
+    };
+    let conclusion = match read_conclusion(alloc, by, &lines.conclusion, &mut names) {
+        Ok(conclusion) => conclusion,
+        Err(error) => return Err(error),
+    };
+    let vars = table.sorts_of(alloc, &names)?;
+    let name = lines.name.copy(alloc)?;
+    Ok(ReadRule {
+        rule: Rule {
+            name,
+            vars,
+            premises,
+            conclusion,
+        },
+        names,
+    })
+}

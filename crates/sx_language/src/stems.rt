@@ -1,0 +1,75 @@
+//! The stems of metavariables with their sorts.
+
+ghost use Rattle.std.specs.Prelude.{◌≡◌, ◌<◌, length, IfOk, MatchOption};
+ghost use Rattle.std.specs.List.{AllByRecursion};
+ghost use Rattle.sx_grammar.specs.Told as told;
+ghost use Rattle.sx_directives.specs.Spelling.{lex_text, NotLexical};
+ghost use Rattle.sx_language.specs.States.{IsNameOfSort, IsSortNamed, AreStems};
+
+use std::alloc::Global;
+use sx_directives::VarLine;
+use sx_earley::Metas;
+use sx_grammar::Grammar;
+use sx_term::{LexKind, NoMemory, Sort, Text};
+
+/// The lexical kind with this name.
+fn lexical_kind(name: &[u8]) -> Option<LexKind>
+    ensures { MatchOption result (NotLexical name.now) (λ kind. name.now ≡ lex_text kind) }
+{
+    if name == b"id".as_slice() {
+        return Some(LexKind::Id);
+    }
+    if name == b"num".as_slice() {
+        return Some(LexKind::Num);
+    }
+    if name == b"str".as_slice() {
+        return Some(LexKind::Str);
+    }
+    None
+}
+
+/// The sort with this number, plain or typed.
+fn sort_with(grammar: &Grammar, number: u32) -> Sort
+    requires { number < length grammar.now.parts.sorts }
+    ensures { result ≡ told.sort_with grammar.now.parts.sorts number }
+{
+    let sorts = &grammar.parts().sorts;
+    if sorts[number as usize].typed {
+        Sort::Typed(number)
+    } else {
+        Sort::Plain(number)
+    }
+}
+
+/// The sort with this name.
+fn sort_named(grammar: &Grammar, name: &Text) -> Sort
+    requires { IsNameOfSort grammar.now.parts name.now }
+    ensures { IsSortNamed grammar.now.parts name.now result }
+{
+    grammar.facts();
+    match lexical_kind(name.bytes()) {
+        Some(kind) => Sort::Lex(kind),
+        None => match grammar.sort_number(name) {
+            Some(number) => sort_with(grammar, number),
+            None => unreachable!(),
+        },
+    }
+}
+
+/// The stems of the lines, with the sorts that these name.
+pub(crate) fn metas_of(
+    alloc: Global,
+    grammar: &Grammar,
+    vars: &[VarLine],
+) -> Result<Metas, NoMemory>
+    requires { AllByRecursion (λ v. IsNameOfSort grammar.now.parts v.sort) vars.now }
+    ensures { IfOk result (λ m. AreStems grammar.now.parts vars.now m.stems.items) }
+{
+    let mut stems = Vec::with_capacity(alloc, vars.len())?;
+    for i in 0..vars.len() {
+        let var = &vars[i];
+        let stem = var.stem.copy(alloc)?;
+        stems.push((stem, sort_named(grammar, &var.sort)))?;
+    }
+    Ok(Metas { stems })
+}
