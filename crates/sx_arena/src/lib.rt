@@ -16,6 +16,8 @@ mod pairs;
 mod pattern;
 mod places;
 mod set;
+#[cfg(test)]
+mod tests;
 
 pub use arena::{Arena, Cell, Shape};
 pub use binds::{Bind, Binds};

@@ -167,7 +167,7 @@ module _ (one_language : OneLanguage) where
 
   -- the rules of a language that a text states can be followed, as those of each rule set
   stated_followed : (name bytes : List ℕ) (l : Stated) → IsStated name bytes l → IsFollowed l.language
-  stated_followed name bytes l s = 
+  stated_followed name bytes l s =
       subst IsFollowed (sym s.language)
       (subst (λ (rules : List Rule). AllModed (modes_of (forms_in s.whole.rules)) rules) (bare_named s.whole.rules.rules.items)
       (kept_moded (shapes_in s.whole.rules) (forms_in s.whole.rules) s.whole.rules.rules.items s.whole.rules.good))

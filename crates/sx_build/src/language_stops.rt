@@ -43,24 +43,14 @@ fn at_place(
 }
 
 /// A defect of a line as a whole.
-fn at_line(
-    alloc: Global,
-    file: &Text,
-    line: u32,
-    defect: TextDefect,
-) -> Result<Stop, NoMemory>
+fn at_line(alloc: Global, file: &Text, line: u32, defect: TextDefect) -> Result<Stop, NoMemory>
     ensures { IfOk result (λ stop. stop ≡ stops.at_line file.now line defect) }
 {
     refused_at(alloc, file, Place::Line(line), Defect::Text(defect))
 }
 
 /// The refusal of a line that is not cut into tokens.
-fn uncut_line(
-    alloc: Global,
-    file: &Text,
-    line: u32,
-    error: TokenError,
-) -> Result<Stop, NoMemory>
+fn uncut_line(alloc: Global, file: &Text, line: u32, error: TokenError) -> Result<Stop, NoMemory>
     ensures { IfOk result (λ stop. stops.uncut_line file.now line error ≡ Some stop) }
 {
     match error {
@@ -172,10 +162,7 @@ pub fn bad_language(alloc: Global, file: &Text, error: NotationError) -> Result<
         NotationError::Grammar(error) => bad_grammar(alloc, file, error),
         NotationError::Read { line, error } => unread_line(alloc, file, line, error),
         NotationError::Rules { error, variable } => bad_language_rules(
-            alloc,
-            file,
-            error,
-            &variable,
+            alloc, file, error, &variable,
         ),
     }
 }

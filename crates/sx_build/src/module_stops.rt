@@ -9,7 +9,9 @@ use sx_notation::Unread;
 use sx_steps::{Stop, refused, refused_at};
 use sx_term::{NoMemory, Text};
 use sx_token::TokenError;
-use sx_words::{BudgetDefect, Defect, FileDefect, GoalDefect, Place, PrintDefect, PrintedPart, TextDefect};
+use sx_words::{
+    BudgetDefect, Defect, FileDefect, GoalDefect, Place, PrintDefect, PrintedPart, TextDefect,
+};
 
 /// A defect of the text at a line and a column.
 fn at_spot(
@@ -47,11 +49,7 @@ fn uncut_body(
             Defect::File(FileDefect::NotUtf8(u64::from(before))),
         ),
         TokenError::BadToken(_) => at_spot(alloc, file, line, column, TextDefect::BadToken),
-        TokenError::TooManyTokens => refused(
-            alloc,
-            file,
-            Defect::Text(TextDefect::TooManyTokens),
-        ),
+        TokenError::TooManyTokens => refused(alloc, file, Defect::Text(TextDefect::TooManyTokens)),
         TokenError::OpenString(_) => at_spot(alloc, file, line, column, TextDefect::OpenString),
     }
 }
@@ -145,12 +143,7 @@ fn passed_limit(limit: Limit) -> PrintDefect
 }
 
 /// The refusal of a printed text that cannot be written.
-fn unprinted(
-    alloc: Global,
-    file: &Text,
-    part: Part,
-    defect: PrintDefect,
-) -> Result<Stop, NoMemory>
+fn unprinted(alloc: Global, file: &Text, part: Part, defect: PrintDefect) -> Result<Stop, NoMemory>
     ensures { IfOk result (λ stop. stop ≡ stops.unprinted file.now part defect) }
 {
     let part = printed_part(part);

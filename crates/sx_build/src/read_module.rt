@@ -93,9 +93,5 @@ pub fn check_alone(alloc: Global, file: &Text, source: &ModuleFile) -> Result<()
     if source.header.uses.is_empty() && source.header.imports.is_empty() {
         return Ok(());
     }
-    Err(StepError::Stopped(refused(
-        alloc,
-        file,
-        Defect::File(FileDefect::NotYet),
-    )?))
+    Err(StepError::Stopped(refused(alloc, file, Defect::File(FileDefect::NotYet))?))
 }

@@ -18,6 +18,8 @@ mod spanned;
 mod stems;
 mod symbols;
 mod table;
+#[cfg(test)]
+mod tests;
 
 pub use all_known::first_unknown;
 pub use chart_error::ChartError;

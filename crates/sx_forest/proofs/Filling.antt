@@ -7,7 +7,9 @@ use Rattle.sx_grammar.specs.Grammar.{Grammar, Token, is_variable, of_sort}
 use Rattle.sx_grammar.specs.declared.head.Head.{Head}
 use Rattle.sx_grammar.specs.Reading.{Marked}
 use Rattle.sx_earley.specs.Chart.{next_symbol}
-use Rattle.sx_forest.specs.declared.ways.Ways.{Ways}
+use Rattle.sx_forest.specs.declared.row.Row.{Row}
+use Rattle.sx_forest.specs.declared.stretch.Stretch.{Stretch}
+use Rattle.sx_forest.specs.Tallies.{ways_of}
 use Rattle.sx_forest.specs.declared.ways.Ways.TheVariants.{One}
 use Rattle.sx_forest.specs.declared.entry.Maker.TheVariants.{Variable}
 use Rattle.sx_forest.specs.declared.entry.Entry.{Entry}
@@ -16,15 +18,16 @@ use Rattle.std.proofs.lemmas.List.Elements.{Contains-push_cases}
 use Rattle.sx_earley.specs.declared.span.Span.{Span}
 use Rattle.sx_earley.specs.declared.span.SpanOf.TheVariants.{Node}
 use Rattle.sx_forest.specs.declared.ordered.Ordered.{Ordered}
-use Rattle.sx_forest.specs.Rows.{IsRow, AreRows, row_in, row_at, list_in}
+use Rattle.sx_forest.specs.Rows.{FitsPart, IsIn, IsRow, AreRows, row_in, row_at, list_in, stretch_in, stretch_at, Spreads, AreStretches}
 use Rattle.sx_forest.specs.Table.{IsFirstList, IsFirstTable}
 use Rattle.sx_forest.proofs.Pushing.{got_before, got_last, longer_pushed, each_pushed}
 
 -- one more row
-pub rows_on : (g : Grammar) (tokens : List Token) (lists : List (Vec Entry)) (head : Head) (count n from to : ℕ) (rows new : List (Vec Ways)) (r : Vec Ways) →
-    AreRows g tokens lists head count n from to rows → new ≡ rows ++ r ∷ [] → IsRow g tokens lists (next_symbol g head (count - n - 1)) from to (row_at rows n) r.items →
-    AreRows g tokens lists head count (n + 1) from to new
-rows_on g tokens lists head count n from to rows new r so e made = record {
+pub rows_on : (g : Grammar) (tokens : List Token) (lists : List (Vec Entry)) (head : Head) (count n from to : ℕ) (stretches : List Stretch) (rows new : List Row) (r : Row) →
+    AreRows g tokens lists head count n from to stretches rows → new ≡ rows ++ r ∷ [] →
+    IsRow g tokens lists (next_symbol g head (count - n - 1)) from to (stretch_at stretches (count - n - 1)) (row_at rows n) (ways_of r) →
+    AreRows g tokens lists head count (n + 1) from to stretches new
+rows_on g tokens lists head count n from to stretches rows new r so e made = record {
   long = omega (arith, longer_pushed rows new r e, so.long);
   last = rw (old 0 (omega (arith, so.long))) so.last;
   each = λ k low. by_place k (cases_lt k n) low;
@@ -33,17 +36,55 @@ rows_on g tokens lists head count n from to rows new r so e made = record {
     old : (k : ℕ) → k < length rows → row_at new k ≡ row_at rows k
     old k low = ap (λ l. row_at l k) e ∙ ap row_in (got_before rows (r ∷ []) k low)
 
-    newest : row_at new (n + 1) ≡ r.items
+    newest : row_at new (n + 1) ≡ ways_of r
     newest = ap (λ l. row_at l (n + 1)) e ∙ (ap (λ k. row_at (rows ++ r ∷ []) k) (sym so.long) ∙ ap row_in (got_last rows r))
 
     Made : ℕ → Type 0
-    Made k = IsRow g tokens lists (next_symbol g head (count - k - 1)) from to (row_at new k) (row_at new (k + 1))
+    Made k = IsRow g tokens lists (next_symbol g head (count - k - 1)) from to (stretch_at stretches (count - k - 1)) (row_at new k) (row_at new (k + 1))
 
     by_place : (k : ℕ) → (k < n) ⊎ (n ≤ k) → k < n + 1 → Made k
     by_place k (inl h) low = rw (old k (omega (arith, so.long)), old (k + 1) (omega (arith, so.long))) (so.each k h)
     by_place k (inr h) low =
         let same : n ≡ k = omega arith in
         subst Made same (rw (old n (omega (arith, so.long)), newest) made)
+
+-- one more stretch
+pub stretches_on : (g : Grammar) (tokens : List Token) (lists : List (Vec Entry)) (head : Head) (n from to : ℕ) (stretches new : List Stretch) (r : Stretch) →
+    length stretches ≡ suc n → AreStretches g tokens lists head (suc n) from to stretches → new ≡ stretches ++ r ∷ [] →
+    Spreads g tokens lists (next_symbol g head n) to (stretch_at stretches n) r → AreStretches g tokens lists head (suc n + 1) from to new
+stretches_on g tokens lists head n from to stretches new r long so e made = record {
+  first = rw (old 0 (omega (arith, long))) so.first;
+  each = λ dot low. by_place dot (cases_lt dot n) low;
+}
+  where
+    old : (k : ℕ) → k < length stretches → stretch_at new k ≡ stretch_at stretches k
+    old k low = ap (λ l. stretch_at l k) e ∙ ap stretch_in (got_before stretches (r ∷ []) k low)
+
+    newest : stretch_at new (suc n) ≡ r
+    newest = ap (λ l. stretch_at l (suc n)) e ∙ (ap (λ k. stretch_at (stretches ++ r ∷ []) k) (sym long) ∙ ap stretch_in (got_last stretches r))
+
+    Made : ℕ → Type 0
+    Made k = Spreads g tokens lists (next_symbol g head k) to (stretch_at new k) (stretch_at new (suc k))
+
+    by_place : (k : ℕ) → (k < n) ⊎ (n ≤ k) → suc k < suc n + 1 → Made k
+    by_place k (inl h) low = rw (old k (omega (arith, long)), old (suc k) (omega (arith, long))) (so.each k (omega arith))
+    by_place k (inr h) low =
+        let same : n ≡ k = omega arith in
+        subst Made same (rw (old n (omega (arith, long)), newest) made)
+
+-- one more entry over which a part may lead
+pub part_on : (g : Grammar) (sort least to n : ℕ) (old new : Stretch) (entries : List Entry) (e : Entry) → slice_get entries n ≡ Some e → ((p : ℕ) → IsIn old p → IsIn new p) →
+    (FitsPart g e.maker sort least → e.to ≤ to → IsIn new e.to) →
+    ((i : ℕ) (x : Entry) → i < n → slice_get entries i ≡ Some x → FitsPart g x.maker sort least → x.to ≤ to → IsIn old x.to) →
+    (i : ℕ) (x : Entry) → i < n + 1 → slice_get entries i ≡ Some x → FitsPart g x.maker sort least → x.to ≤ to → IsIn new x.to
+part_on g sort least to n old new entries e there kept here before i x low at fits high = by_place (cases_lt i n)
+  where
+    by_place : (i < n) ⊎ (n ≤ i) → IsIn new x.to
+    by_place (inl below) = kept x.to (before i x below at fits high)
+    by_place (inr above) =
+        let same : i ≡ n = omega arith in
+        let is : e ≡ x = same_Some e x (sym there ∙ subst (λ k. slice_get entries k ≡ Some x) same at) in
+        subst (λ y. FitsPart g y.maker sort least → y.to ≤ to → IsIn new y.to) is here fits high
 
 nothing_there : {X : Type 0} (i : ℕ) (x : X) → slice_get [] i ≡ Some x → ⊥
 nothing_there i x e = none-some x e

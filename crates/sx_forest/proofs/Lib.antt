@@ -8,6 +8,8 @@ pub mod Pushing
 pub mod Summing
 pub mod Counting
 pub mod Rows
+pub mod Skipping
+pub mod Covering
 pub mod Spans
 pub mod Filling
 pub mod Apart

@@ -1,4 +1,4 @@
-use Rattle.std.proofs.Common.{◌≡◌, ℕ, zero, suc, ◌+◌, ◌-◌, ◌<◌, ◌≤◌, List, [], ◌∷◌, ◌++◌, ◌⊎◌, inl, inr, Some, None, refl, sym, subst, ap, ◌∙◌, length, take, arith}
+use Rattle.std.proofs.Common.{◌≡◌, ℕ, zero, suc, ◌-◌, ◌<◌, ◌≤◌, List, [], ◌∷◌, ◌++◌, ◌⊎◌, inl, inr, Option, Some, None, refl, sym, subst, ap, ◌∙◌, length, take, arith}
 use Rattle.std.specs.Global.{Vec}
 use Rattle.std.specs.List.{slice_get}
 use Rattle.std.proofs.lemmas.Bool.{cases_lt}
@@ -16,12 +16,13 @@ use Rattle.sx_grammar.proofs.Depth.{forward, forward_all}
 use Rattle.sx_grammar.proofs.Ordering.{kids_before}
 use Rattle.sx_grammar.proofs.Soundness.{items_read, bracket_head}
 use Rattle.sx_grammar.proofs.Completeness.{Left, from_start, later, left_first, found, part_low}
+use Rattle.sx_forest.specs.declared.stretch.Stretch.{Stretch}
 use Rattle.sx_forest.specs.declared.ways.Ways.{Ways}
 use Rattle.sx_forest.specs.declared.entry.Maker.{Maker}
 use Rattle.sx_forest.specs.declared.entry.Maker.TheVariants.{Variable, By}
 use Rattle.sx_forest.specs.declared.entry.Entry.{Entry}
 use Rattle.sx_forest.specs.Tallies.{tally_of, tally_in, ways_at, IsLastRow}
-use Rattle.sx_forest.specs.Rows.{FitsPart, IsPlace, IsRow, list_at}
+use Rattle.sx_forest.specs.Rows.{FitsPart, IsPlace, IsNext, IsIn, IsRow, list_at}
 use Rattle.sx_forest.specs.Table.{IsSoundBy, IsTable, HasBefore, IsRight}
 use Rattle.sx_forest.proofs.Counting.{makes_is, KidOf, part_counted}
 
@@ -33,6 +34,20 @@ none_past (x ∷ xs) (suc k) long = none_past xs k (omega arith)
 -- nothing is read beyond the end of a row
 pub past_row : (row : List Ways) (k : ℕ) → length row ≤ k → ways_at row k ≡ no_way
 past_row row k long = ap tally_in (none_past row k long)
+
+-- where a row has a way, it is made there
+pub row_there : (g : Grammar) (tokens : List Token) (lists : List (Vec Entry)) (symbol : Option Symbol) (from to place : ℕ) (stretch : Stretch) (next row : List Ways) →
+    IsRow g tokens lists symbol from to stretch next row → from ≤ place → (ways_at row (place - from) ≡ no_way → ⊥) →
+    IsNext g tokens (list_at lists place) symbol from place next (ways_at row (place - from))
+row_there g tokens lists symbol from to place stretch next row made ahead some =
+    by_order (cases_lt place stretch.first) (cases_lt place stretch.end) (cases_lt to place)
+  where
+    by_order : (place < stretch.first) ⊎ (stretch.first ≤ place) → (place < stretch.end) ⊎ (stretch.end ≤ place) → (to < place) ⊎ (place ≤ to) →
+        IsNext g tokens (list_at lists place) symbol from place next (ways_at row (place - from))
+    by_order (inl before) h k = absurd (some (made.outside place ahead (λ low is. let first = is.0 in omega arith)))
+    by_order (inr after) (inr past) k = absurd (some (made.outside place ahead (λ low is. let last = is.1 in omega arith)))
+    by_order (inr after) (inl under) (inl beyond) = absurd (some (made.outside place ahead (λ low is. omega arith)))
+    by_order (inr after) (inl under) (inr low) = made.each place ahead low (after, under)
 
 module _ (g : Grammar) (tokens : List Token) (start : ℕ) where
   -- a symbol that reads a token reads one that is there
@@ -135,7 +150,7 @@ module _ (g : Grammar) (tokens : List Token) (start : ℕ) where
         let labelled : production_of g (Labelled label) ≡ Some p = subst (λ x. production_of g x ≡ Some p) same is in
         kids_before g tokens rank ranking label p (take dot p.symbols) sort least rest labelled (before_left left) from place middle to before.0 kid ks before.1 reads more
 
-    covered : (dot place sort least : ℕ) (rest : List Symbol) → Left p.symbols dot (part sort least ∷ rest) → Item g tokens start head dot from place →
+    pub covered : (dot place sort least : ℕ) (rest : List Symbol) → Left p.symbols dot (part sort least ∷ rest) → Item g tokens start head dot from place →
         (middle : ℕ) (kid : Reading) (ks : Readings) → Reads g tokens sort least place middle kid → ReadsAll g tokens rest middle to ks →
         (i : ℕ) × (e : Entry) × (slice_get (list_at lists place) i ≡ Some e) × KidOf g tokens e.maker sort least place middle kid × (e.to ≡ middle)
     covered dot place sort least rest left item middle kid ks reads more = by_case (by_kind g tokens reads low)
@@ -183,17 +198,22 @@ module _ (g : Grammar) (tokens : List Token) (start : ℕ) where
         over (By h) middle u s fits =
             completed item (p, is, left_first (part sort least) rest left) s.0.2 (makes_is g h sort least fits) s.0.1
 
-    -- a row before a right row is right
-    pub row_right : (dot : ℕ) (symbol : Symbol) (rest : List Symbol) (next row : List Ways) → from ≤ to → Left p.symbols dot (symbol ∷ rest) →
-        IsRight g tokens start head (suc dot) from to rest next → IsRow g tokens lists (Some symbol) from to next row → IsRight g tokens start head dot from to (symbol ∷ rest) row
-    row_right dot symbol rest next row along left right made place item = by_order (cases_lt to place)
+    -- a row before a right row is right, where the stretch has each place from which the rest is read
+    pub row_right : (dot : ℕ) (symbol : Symbol) (rest : List Symbol) (stretch : Stretch) (next row : List Ways) → Left p.symbols dot (symbol ∷ rest) →
+        ((place : ℕ) (ks : Readings) → Item g tokens start head dot from place → ReadsAll g tokens (symbol ∷ rest) place to ks → IsIn stretch place) →
+        IsRight g tokens start head (suc dot) from to rest next → IsRow g tokens lists (Some symbol) from to stretch next row → IsRight g tokens start head dot from to (symbol ∷ rest) row
+    row_right dot symbol rest stretch next row left there right made place item = by_order (cases_lt place stretch.first) (cases_lt place stretch.end) (cases_lt to place)
       where
-        by_order : (to < place) ⊎ (place ≤ to) → IsTally (ReadsAll g tokens (symbol ∷ rest) place to) readings_depth (ways_at row (place - from))
-        by_order (inl beyond) =
-            let ahead = item_forward item in let long = made.long in
-            rw (past_row row (place - from) (omega arith)) (λ ks all. let f = forward_all g tokens all in omega arith)
-        by_order (inr low) =
-            let ahead = item_forward item in let long = made.long in
-            let same : from + (place - from) ≡ place = omega arith in
-            let P : ℕ → Type 0 = λ q. IsPlace g tokens (list_at lists q) symbol from q next (ways_at row (place - from)) in
-            place_right dot place symbol rest next row (ways_at row (place - from)) left right item (subst P same (made.each (place - from) (omega arith)))
+        ahead : from ≤ place
+        ahead = item_forward item
+
+        none : (place ≤ to → IsIn stretch place → ⊥) → IsTally (ReadsAll g tokens (symbol ∷ rest) place to) readings_depth (ways_at row (place - from))
+        none out = rw (made.outside place ahead out) (λ ks all. out (forward_all g tokens all) (there place ks item all))
+
+        by_order : (place < stretch.first) ⊎ (stretch.first ≤ place) → (place < stretch.end) ⊎ (stretch.end ≤ place) → (to < place) ⊎ (place ≤ to) →
+            IsTally (ReadsAll g tokens (symbol ∷ rest) place to) readings_depth (ways_at row (place - from))
+        by_order (inl before) h k = none (λ low is. let first = is.0 in omega arith)
+        by_order (inr after) (inr past) k = none (λ low is. let last = is.1 in omega arith)
+        by_order (inr after) (inl under) (inl beyond) = none (λ low is. omega arith)
+        by_order (inr after) (inl under) (inr low) =
+            place_right dot place symbol rest next row (ways_at row (place - from)) left right item (made.each place ahead low (after, under))

@@ -20,14 +20,15 @@ use Rattle.sx_forest.specs.declared.entry.Maker.{Maker}
 use Rattle.sx_forest.specs.declared.entry.Maker.TheVariants.{Variable, By}
 use Rattle.sx_forest.specs.declared.entry.Entry.{Entry}
 use Rattle.sx_forest.specs.declared.opened.Opened.{Opened}
+use Rattle.sx_forest.specs.declared.stretch.Stretch.{Stretch}
 use Rattle.sx_forest.specs.declared.step.Step.{Step}
 use Rattle.sx_forest.specs.declared.step.Step.TheVariants as steps
 use Rattle.sx_forest.specs.Tallies.{tally_of, ways_at}
-use Rattle.sx_forest.specs.Rows.{FitsPart, IsPlace, IsRow, AreRows, count_of, row_at, list_at}
+use Rattle.sx_forest.specs.Rows.{FitsPart, IsPlace, stretch_at, AreStretches, IsRow, AreRows, count_of, row_at, list_at}
 use Rattle.sx_forest.specs.Table.{IsSoundBy, IsFull, IsRight}
 use Rattle.sx_forest.specs.Forests.{symbols_in, symbols_of, depth_in, IsMore, IsBy, IsShallow, IsOpened, row_from, IsAt, IsReadTo, IsUsable, IsFirstUsable, IsOver, IsStep, followed}
 use Rattle.sx_forest.proofs.Counting.{makes_is, KidOf, kid_reads, kid_tally, makes_low}
-use Rattle.sx_forest.proofs.Rows.{past_row, item_forward, span_forward}
+use Rattle.sx_forest.proofs.Rows.{past_row, row_there, item_forward, span_forward}
 use Rattle.sx_forest.proofs.Spans.{rows_right}
 use Rattle.sx_forest.proofs.Tabling.{all_later}
 use Rattle.sx_forest.proofs.Usable.{deepest_of, bounded_by, times_none, sum_usable}
@@ -103,8 +104,14 @@ module _ (g : Grammar) (tokens : List Token) (start : ℕ) (levels : HasLevels g
   along : o.from ≤ o.to
   along = span_forward g tokens start o.head o.from o.to opened.sound.0
 
-  are : AreRows g tokens lists o.head (length p.symbols) (length p.symbols) o.from o.to o.rows.items
-  are = subst (λ c. AreRows g tokens lists o.head c c o.from o.to o.rows.items) (ap count_of is) opened.rows
+  abbrev stretches : List Stretch
+  stretches = opened.rows.stretches
+
+  spread : AreStretches g tokens lists o.head (length p.symbols) o.from o.to stretches
+  spread = subst (λ c. AreStretches g tokens lists o.head c o.from o.to stretches) (ap count_of is) opened.rows.spread
+
+  are : AreRows g tokens lists o.head (length p.symbols) (length p.symbols) o.from o.to stretches o.rows.items
+  are = subst (λ c. AreRows g tokens lists o.head c c o.from o.to stretches o.rows.items) (ap count_of is) opened.rows.are
 
   makes : Makes g o.head p.sort 0
   makes = record { production = p; is = is; same_sort = refl; reaches = omega arith }
@@ -114,7 +121,7 @@ module _ (g : Grammar) (tokens : List Token) (start : ℕ) (levels : HasLevels g
   right dot rest low left =
       let long : n ≡ length p.symbols = ap length symbols in
       rows_right g tokens start levels rank ranking lists full.table o.head p is o.from o.to along (λ head q place to e span before. full.has head place to span)
-      o.rows.items are (n - dot) dot (omega arith) rest (subst (λ xs. Left xs dot rest) symbols left)
+      stretches o.rows.items spread are (n - dot) dot (omega arith) rest (subst (λ xs. Left xs dot rest) symbols left)
 
   -- the ways from a place by the symbol after the dot
   pub place_is : (dot place : ℕ) (x : Symbol) → slice_get (symbols_of g o.head) dot ≡ Some x → IsAt g tokens start o dot place →
@@ -128,17 +135,13 @@ module _ (g : Grammar) (tokens : List Token) (start : ℕ) (levels : HasLevels g
       let m = n - suc dot in
       let there : length p.symbols - m - 1 ≡ dot = omega arith in
       let up : m + 1 ≡ n - dot = omega arith in
-      let symbol : next_symbol g o.head (length p.symbols - m - 1) ≡ Some x = ap (λ d. next_symbol g o.head d) there ∙ (ap (λ q. symbol_after q dot) is ∙ subst (λ xs. slice_get xs dot ≡ Some x) symbols e) in
-      let made : IsRow g tokens lists (next_symbol g o.head (length p.symbols - m - 1)) o.from o.to next (row_at o.rows.items (m + 1)) = are.each m (omega arith) in
-      let made' : IsRow g tokens lists (Some x) o.from o.to next row =
-      subst (λ k. IsRow g tokens lists (Some x) o.from o.to next (row_at o.rows.items k)) up (subst (λ s. IsRow g tokens lists s o.from o.to next (row_at o.rows.items (m + 1))) symbol made) in
-      let same : o.from + (place - o.from) ≡ place = omega arith in
-      let P : ℕ → Type 0 = λ q. IsPlace g tokens (list_at lists q) x o.from q next (ways_at row (place - o.from)) in
-      subst P same (made'.each (place - o.from) (within row (place - o.from) at.some (cases_lt (place - o.from) (length row))))
-    where
-      within : (row : List Ways) (k : ℕ) → (ways_at row k ≡ no_way → ⊥) → (k < length row) ⊎ (length row ≤ k) → k < length row
-      within row k some (inl h) = h
-      within row k some (inr h) = absurd (some (past_row row k h))
+      let symbol : next_symbol g o.head dot ≡ Some x = ap (λ q. symbol_after q dot) is ∙ subst (λ xs. slice_get xs dot ≡ Some x) symbols e in
+      let made = are.each m (omega arith) in
+      let made' : IsRow g tokens lists (Some x) o.from o.to (stretch_at stretches dot) next row =
+      subst (λ k. IsRow g tokens lists (Some x) o.from o.to (stretch_at stretches dot) next (row_at o.rows.items k)) up
+      (subst (λ s. IsRow g tokens lists s o.from o.to (stretch_at stretches dot) next (row_at o.rows.items (m + 1))) symbol
+      (subst (λ d. IsRow g tokens lists (next_symbol g o.head d) o.from o.to (stretch_at stretches d) next (row_at o.rows.items (m + 1))) there made)) in
+      row_there g tokens lists (Some x) o.from o.to place (stretch_at stretches dot) next row made' ahead at.some
 
   next_is : (dot : ℕ) (x : Symbol) → slice_get (symbols_of g o.head) dot ≡ Some x → NextIs g o.head dot x
   next_is dot x e = (p, is, subst (λ xs. slice_get xs dot ≡ Some x) symbols e)

@@ -7,11 +7,13 @@ use Rattle.sx_grammar.specs.Reading.{IsLiteral}
 use Rattle.sx_grammar.specs.Items.{ReadsToken}
 use Rattle.sx_grammar.specs.Tally.{Tally, no_way, one_way, plus, times, deeper}
 use Rattle.sx_earley.specs.Chart.{IsOfSort, next_symbol}
+use Rattle.sx_forest.specs.declared.row.Row.{Row}
+use Rattle.sx_forest.specs.declared.stretch.Stretch.{Stretch}
 use Rattle.sx_forest.specs.declared.ways.Ways.{Ways}
 use Rattle.sx_forest.specs.declared.entry.Maker.{Maker}
 use Rattle.sx_forest.specs.declared.entry.Maker.TheVariants.{Variable, By}
 use Rattle.sx_forest.specs.declared.entry.Entry.{Entry}
-use Rattle.sx_forest.specs.Tallies.{tally_of, ways_at, IsSmall, IsLastRow}
+use Rattle.sx_forest.specs.Tallies.{tally_of, ways_at, ways_of, IsSmall, IsLastRow}
 
 -- the maker makes the sort at least the level
 abbrev pub FitsPart : Grammar → Maker → ℕ → ℕ → Type 0
@@ -55,10 +57,43 @@ list_at lists place = list_in (slice_get lists place)
 abbrev pub AllLater : List (Vec Entry) → Type 0
 AllLater lists = (place i : ℕ) (e : Entry) → slice_get (list_at lists place) i ≡ Some e → place ≤ e.to
 
--- the ways from each place by the symbol, and then those of the next row
-pub record IsRow (g : Grammar) (tokens : List Token) (lists : List (Vec Entry)) (symbol : Option Symbol) (from to : ℕ) (next row : List Ways) : Type 0 where
-  pub long : length row ≡ suc (to - from)
-  pub each : (k : ℕ) → k < length row → IsNext g tokens (list_at lists (from + k)) symbol from (from + k) next (ways_at row k)
+-- the stretch has the place
+abbrev pub IsIn : Stretch → ℕ → Type 0
+IsIn stretch place = (stretch.first ≤ place) × (place < stretch.end)
+
+-- the symbol leads from the place to the end, over a part by an entry
+abbrev pub LeadsOver : Grammar → List Token → List Entry → Symbol → (place end : ℕ) → Type 0
+LeadsOver g tokens entries (literal text) place end = IsLiteral tokens place text × (end ≡ suc place)
+LeadsOver g tokens entries (lexical kind) place end = ReadsToken tokens (lexical kind) place × (end ≡ suc place)
+LeadsOver g tokens entries (part sort least) place end = (i : ℕ) × (e : Entry) × (slice_get entries i ≡ Some e) × FitsPart g e.maker sort least × (e.to ≡ end)
+
+-- the same of a symbol that may be there
+abbrev pub LeadsNext : Grammar → List Token → List Entry → Option Symbol → (place end : ℕ) → Type 0
+LeadsNext g tokens entries None place end = ⊥
+LeadsNext g tokens entries (Some symbol) place end = LeadsOver g tokens entries symbol place end
+
+-- where the symbol leads from the stretch, up to this place, is in the other
+abbrev pub Spreads : Grammar → List Token → List (Vec Entry) → Option Symbol → (to : ℕ) → (stretch other : Stretch) → Type 0
+Spreads g tokens lists symbol to stretch other =
+    (place end : ℕ) → IsIn stretch place → LeadsNext g tokens (list_at lists place) symbol place end → end ≤ to → IsIn other end
+
+-- the stretch at this place of a list of stretches
+abbrev pub stretch_in : Option Stretch → Stretch
+stretch_in None = record { first = 0; end = 0 }
+stretch_in (Some stretch) = stretch
+
+abbrev pub stretch_at : List Stretch → ℕ → Stretch
+stretch_at stretches dot = stretch_in (slice_get stretches dot)
+
+-- the stretch at the head's first symbol has the beginning of the span, and each of the first n symbols but the last leads to the next stretch
+pub record AreStretches (g : Grammar) (tokens : List Token) (lists : List (Vec Entry)) (head : Head) (n from to : ℕ) (stretches : List Stretch) : Type 0 where
+  pub first : IsIn (stretch_at stretches 0) from
+  pub each : (dot : ℕ) → suc dot < n → Spreads g tokens lists (next_symbol g head dot) to (stretch_at stretches dot) (stretch_at stretches (suc dot))
+
+-- the ways from each place of the stretch by the symbol, and then those of the next row; none from other places
+pub record IsRow (g : Grammar) (tokens : List Token) (lists : List (Vec Entry)) (symbol : Option Symbol) (from to : ℕ) (stretch : Stretch) (next row : List Ways) : Type 0 where
+  pub each : (place : ℕ) → from ≤ place → place ≤ to → IsIn stretch place → IsNext g tokens (list_at lists place) symbol from place next (ways_at row (place - from))
+  pub outside : (place : ℕ) → from ≤ place → (place ≤ to → IsIn stretch place → ⊥) → ways_at row (place - from) ≡ no_way
 
 -- how many symbols a production has
 abbrev pub count_of : Option Production → ℕ
@@ -66,26 +101,28 @@ count_of None = 0
 count_of (Some p) = length p.symbols
 
 -- the row at this place of a list of rows
-abbrev pub row_in : Option (Vec Ways) → List Ways
+abbrev pub row_in : Option Row → List Ways
 row_in None = []
-row_in (Some v) = v.items
+row_in (Some row) = ways_of row
 
-abbrev pub row_at : List (Vec Ways) → ℕ → List Ways
+abbrev pub row_at : List Row → ℕ → List Ways
 row_at rows place = row_in (slice_get rows place)
 
 -- the row after all symbols, and the n rows before it, from the last symbol of the head on
-pub record AreRows (g : Grammar) (tokens : List Token) (lists : List (Vec Entry)) (head : Head) (count n from to : ℕ) (rows : List (Vec Ways)) : Type 0 where
+pub record AreRows (g : Grammar) (tokens : List Token) (lists : List (Vec Entry)) (head : Head) (count n from to : ℕ) (stretches : List Stretch) (rows : List Row) : Type 0 where
   pub long : length rows ≡ n + 1
   pub last : IsLastRow from to (row_at rows 0)
-  pub each : (k : ℕ) → k < n → IsRow g tokens lists (next_symbol g head (count - k - 1)) from to (row_at rows k) (row_at rows (k + 1))
+  pub each : (k : ℕ) → k < n → IsRow g tokens lists (next_symbol g head (count - k - 1)) from to (stretch_at stretches (count - k - 1)) (row_at rows k) (row_at rows (k + 1))
 
 -- the rows of a span, from that after all symbols to that before all
-abbrev pub AreSpanRows : Grammar → List Token → List (Vec Entry) → Head → (from to : ℕ) → List (Vec Ways) → Type 0
-AreSpanRows g tokens lists head from to rows = AreRows g tokens lists head (count_of (production_of g head)) (count_of (production_of g head)) from to rows
+pub record AreSpanRows (g : Grammar) (tokens : List Token) (lists : List (Vec Entry)) (head : Head) (from to : ℕ) (rows : List Row) : Type 0 where
+  pub stretches : List Stretch
+  pub spread : AreStretches g tokens lists head (count_of (production_of g head)) from to stretches
+  pub are : AreRows g tokens lists head (count_of (production_of g head)) (count_of (production_of g head)) from to stretches rows
 
 -- the tally is that of the head's rows, one deeper
 pub record IsSpanWays (g : Grammar) (tokens : List Token) (lists : List (Vec Entry)) (head : Head) (from to : ℕ) (t : Tally) : Type 0 where
-  pub rows : List (Vec Ways)
+  pub rows : List Row
   pub are : AreSpanRows g tokens lists head from to rows
   pub is : IsSmall (ways_at (row_at rows (count_of (production_of g head))) 0) → t ≡ deeper (ways_at (row_at rows (count_of (production_of g head))) 0)
 

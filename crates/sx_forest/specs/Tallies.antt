@@ -1,6 +1,7 @@
 -- Tallies of readings in rows of places.
-use Rattle.std.specs.Prelude.{suc, ◌≡◌, ◌<◌, ◌^◌, ℕ, ◌-◌, List, Option, None, Some, length, slice_get}
+use Rattle.std.specs.Prelude.{zero, suc, ◌≡◌, ◌<◌, ◌^◌, ℕ, ◌-◌, List, ◌∷◌, Option, None, Some, length, slice_get}
 use Rattle.sx_grammar.specs.Tally.{Tally, no_way, one_way, more_ways}
+use Rattle.sx_forest.specs.declared.row.Row.{Row}
 use Rattle.sx_forest.specs.declared.ways.Ways.{Ways}
 use Rattle.sx_forest.specs.declared.ways.Ways.TheVariants.{Nothing, One, More}
 
@@ -17,6 +18,15 @@ tally_in (Some w) = tally_of w
 -- the ways at a place of a row, none after its end
 abbrev pub ways_at : List Ways → ℕ → Tally
 ways_at row k = tally_in (slice_get row k)
+
+-- these ways, and none at so many places before them
+abbrev pub after_none : ℕ → List Ways → List Ways
+after_none zero ways = ways
+after_none (suc n) ways = Nothing ∷ after_none n ways
+
+-- the ways of a row from each place of its span
+abbrev pub ways_of : Row → List Ways
+ways_of r = after_none r.skipped r.ways.items
 
 -- one more fits a word
 abbrev pub IsSmall : Tally → Type 0

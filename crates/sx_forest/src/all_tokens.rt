@@ -4,7 +4,7 @@ ghost use Rattle.std.specs.Prelude.{◌≡◌, ◌≢◌, ◌≤◌, IfOk, lengt
 ghost use Rattle.sx_grammar.specs.Reading as plain;
 ghost use Rattle.sx_grammar.specs.Reading.{ReadsWhole, reading_depth};
 ghost use Rattle.sx_forest.specs.Readings.{plain_reading};
-ghost use Rattle.sx_forest.specs.Tallies.{IsLastRow};
+ghost use Rattle.sx_forest.specs.Tallies.{ways_of, IsLastRow};
 ghost use Rattle.sx_forest.specs.Forests.{grammar_in, tokens_in, IsForest};
 
 use crate::building::build;
@@ -12,18 +12,14 @@ use crate::choosing::{first_usable, fork_of};
 use crate::forest::Forest;
 use crate::forking::pair_at;
 use crate::reading::Reading;
-use crate::ways::Ways;
+use crate::row::Row;
 use std::alloc::Global;
 use sx_term::NoMemory;
 
 /// A reading of all tokens, where there is one. The row is that of no symbols, up to the end.
-pub(crate) fn first_reading(
-    alloc: Global,
-    forest: Forest,
-    row: &[Ways],
-) -> Result<Reading, NoMemory>
+pub(crate) fn first_reading(alloc: Global, forest: Forest, row: &Row) -> Result<Reading, NoMemory>
     requires forest { IsForest forest }
-    requires row { IsLastRow 0 (length forest.shown.now) row.now }
+    requires row { IsLastRow 0 (length forest.shown.now) (ways_of row.now) }
     requires low { (r : plain.Reading) → ReadsWhole (grammar_in forest) (tokens_in forest) forest.start r → reading_depth r ≤ 1000 }
     requires some { (r : plain.Reading) × ReadsWhole (grammar_in forest) (tokens_in forest) forest.start r }
     ensures { IfOk result (λ r. ReadsWhole (grammar_in forest.entry) (tokens_in forest.entry) forest.entry.start (plain_reading r)) }
@@ -40,10 +36,10 @@ pub(crate) fn first_reading(
 pub(crate) fn two_readings(
     alloc: Global,
     forest: Forest,
-    row: &[Ways],
+    row: &Row,
 ) -> Result<(Reading, Reading), NoMemory>
     requires forest { IsForest forest }
-    requires row { IsLastRow 0 (length forest.shown.now) row.now }
+    requires row { IsLastRow 0 (length forest.shown.now) (ways_of row.now) }
     requires low { (r : plain.Reading) → ReadsWhole (grammar_in forest) (tokens_in forest) forest.start r → reading_depth r ≤ 1000 }
     requires two { (one : plain.Reading) × (other : plain.Reading) × ReadsWhole (grammar_in forest) (tokens_in forest) forest.start one × ReadsWhole (grammar_in forest) (tokens_in forest) forest.start other × (one ≢ other) }
     ensures one { IfOk result (λ r. ReadsWhole (grammar_in forest.entry) (tokens_in forest.entry) forest.entry.start (plain_reading r.0)) }

@@ -239,8 +239,8 @@ fn trees_of(alloc: Global, one: &[u8], other: &[u8]) -> Result<Option<Told>, Fai
 fn one_reading(rt: HostRuntime) -> Result<(), Fail> {
     let alloc = rt.alloc();
     assert_eq!(rt;
-        numbers(alloc, 3)?,
-        tree_of(alloc, b"seq(1,seq(1,last(1)))")?
+        read_as(alloc, of(alloc, last(alloc)?, seq(alloc)?)?, b"1 2 3")?,
+        tree_of(alloc, b"seq(1,seq(2,last(3)))")?
     );
     assert_eq!(rt;
         summed(alloc, 51, b"1 + 2 + 3")?,

@@ -36,8 +36,10 @@ mod read_shown;
 mod reading;
 mod row;
 mod span_rows;
+mod spreading;
 mod step;
 mod stepping;
+mod stretch;
 mod stripping;
 mod symbol_ways;
 #[cfg(test)]

@@ -6,6 +6,7 @@ ghost use Rattle.sx_forest.specs.Forests.{grammar_in, tokens_in, lists_in, IsFor
 
 use crate::entry::Entry;
 use crate::forest::Forest;
+use crate::row::Row;
 use crate::span_rows::all_rows;
 use crate::ways::Ways;
 use std::alloc::Global;
@@ -19,7 +20,7 @@ pub(crate) struct Opened {
     pub(crate) from: u32,
     pub(crate) to: u32,
     pub(crate) ways: Ways,
-    pub(crate) rows: Vec<Vec<Ways>>,
+    pub(crate) rows: Vec<Row>,
 }
 
 /// The span of the entry, which is by the head and begins at the place.

@@ -3,16 +3,17 @@
 ghost use Rattle.std.specs.Prelude.{◌≡◌, ◌≢◌, ◌≤◌, ◌-◌, ◌↔◌, ℕ, IsTrue, Some, length, slice_get};
 ghost use Rattle.sx_grammar.specs.Tally.{no_way};
 ghost use Rattle.sx_earley.specs.Shown.{plain};
-ghost use Rattle.sx_forest.specs.Tallies.{tally_of};
+ghost use Rattle.sx_forest.specs.Tallies.{tally_of, ways_of};
 ghost use Rattle.sx_forest.specs.Rows.{FitsPart, IsEntryTally, SumTo};
 
 use crate::entry::{Entry, Maker};
-use crate::ways::{Ways, at, both, either};
+use crate::row::{Row, at};
+use crate::ways::{Ways, both, either};
 use sx_earley::makes;
 use sx_grammar::Grammar;
 
 /// Whether there is no way.
-fn is_nothing(ways: Ways) -> bool
+pub(crate) fn is_nothing(ways: Ways) -> bool
     ensures { IsTrue result ↔ (tally_of ways ≡ no_way) }
 {
     matches!(ways, Ways::Nothing)
@@ -36,16 +37,9 @@ pub(crate) fn fits(grammar: &Grammar, entry: Entry, sort: u32, least: u8) -> boo
 }
 
 /// The ways by one entry, and then those of the row.
-fn entry_ways(
-    grammar: &Grammar,
-    entry: Entry,
-    sort: u32,
-    least: u8,
-    next: &[Ways],
-    from: u32,
-) -> Ways
+fn entry_ways(grammar: &Grammar, entry: Entry, sort: u32, least: u8, next: &Row, from: u32) -> Ways
     requires { from ≤ entry.to }
-    ensures { IsEntryTally (plain grammar.now) sort least next.now from entry (tally_of result) }
+    ensures { IsEntryTally (plain grammar.now) sort least (ways_of next.now) from entry (tally_of result) }
 {
     let rest = at(next, from, entry.to);
     if is_nothing(rest) {
@@ -64,11 +58,11 @@ pub(crate) fn part_ways(
     entries: &[Entry],
     sort: u32,
     least: u8,
-    next: &[Ways],
+    next: &Row,
     from: u32,
 ) -> Ways
     requires { (i : ℕ) (e : Entry) → slice_get entries.now i ≡ Some e → from ≤ e.to }
-    ensures { SumTo (plain grammar.now) sort least next.now from entries.now (length entries.now) (tally_of result) }
+    ensures { SumTo (plain grammar.now) sort least (ways_of next.now) from entries.now (length entries.now) (tally_of result) }
 {
     let mut sum = Ways::Nothing;
     for entry in entries {

@@ -1,14 +1,18 @@
 //! The rows of a span.
 
-ghost use Rattle.std.specs.Prelude.{◌≡◌, ◌≤◌, IfOk, IfSome, length, option_map};
+ghost use Rattle.std.specs.Prelude.{◌≡◌, ◌≤◌, ◌<◌, [], IsTrue, IfOk, IfSome, length, option_map};
 ghost use Rattle.sx_grammar.specs.Numbered.{symbol};
 ghost use Rattle.sx_grammar.specs.Grammar.{production_of};
+ghost use Rattle.sx_grammar.specs.Tally.{no_way};
 ghost use Rattle.sx_earley.specs.Shown.{plain, texts, tokens_of, IsBelow, AreBelow};
-ghost use Rattle.sx_forest.specs.Tallies.{tally_of, ways_at};
+ghost use Rattle.sx_forest.specs.Tallies.{tally_of, ways_of};
 ghost use Rattle.sx_forest.specs.Rows.{AllLater, IsRow, count_of, row_at, AreSpanRows, IsSpanWays};
 
 use crate::entries::Entries;
-use crate::row::last_row;
+use crate::part_ways::is_nothing;
+use crate::row::{Row, at, last_row};
+use crate::spreading::{stretch_of, stretches};
+use crate::stretch::{Stretch, clipped};
 use crate::symbol_ways::next_ways;
 use crate::ways::{Ways, inside};
 use std::alloc::Global;
@@ -16,30 +20,44 @@ use sx_earley::{Shown, production_at, symbol_of};
 use sx_grammar::{Grammar, Head, NumberedSymbol};
 use sx_term::NoMemory;
 
-/// The row before the symbol, where `next` is that after it.
+/// Whether a row has no ways yet, and gets none here.
+fn is_idle(ways: &[Ways], here: Ways) -> bool
+    ensures { IsTrue result → (ways.now ≡ []) × (tally_of here ≡ no_way) }
+{
+    ways.is_empty() && is_nothing(here)
+}
+
+/// The row before the symbol, where `next` is that after it: the ways from the places of the stretch, from the first that has any on.
 fn row_before(
     alloc: Global,
     grammar: &Grammar,
     shown: &[Shown],
     table: &Entries,
     expected: Option<NumberedSymbol>,
-    next: &[Ways],
+    next: &Row,
     from: u32,
     to: u32,
-) -> Result<Vec<Ways>, NoMemory>
+    stretch: Stretch,
+) -> Result<Row, NoMemory>
     requires short { to ≤ 10000 }
-    requires along { from ≤ to }
     requires below { IfSome expected (IsBelow (length (texts grammar.now))) }
     requires shown { AreBelow (length (texts grammar.now)) shown.now }
     requires later { AllLater table.now.lists.items }
-    ensures { IfOk result (λ v. IsRow (plain grammar.now) (tokens_of grammar.now shown.now) table.now.lists.items (option_map (symbol (texts grammar.now)) expected) from to next.now v.items) }
+    ensures { IfOk result (λ r. IsRow (plain grammar.now) (tokens_of grammar.now shown.now) table.now.lists.items (option_map (symbol (texts grammar.now)) expected) from to stretch (ways_of next.now) (ways_of r)) }
 {
-    let mut row = Vec::new(alloc);
-    for place in from..to + 1 {
+    let places = clipped(stretch, from, to);
+    let mut skipped = places.first - from;
+    let mut ways = Vec::new(alloc);
+    for place in places.first..places.end {
         let entries = table.from(place);
-        row.push(next_ways(grammar, shown, entries, expected, next, from, place))?;
+        let here = next_ways(grammar, shown, entries, expected, next, from, place);
+        if is_idle(&ways, here) {
+            skipped += 1;
+        } else {
+            ways.push(here)?;
+        }
     }
-    Ok(row)
+    Ok(Row { skipped, ways })
 }
 
 /// How many symbols the head's production has.
@@ -59,13 +77,11 @@ pub(crate) fn symbol_count(grammar: &Grammar, head: Head) -> usize
 }
 
 /// The row at a place.
-pub(crate) fn row_of(rows: &Vec<Vec<Ways>>, place: usize) -> &[Ways]
-    ensures { result.now ≡ row_at rows.now.items place }
+pub(crate) fn row_of(rows: &[Row], place: usize) -> &Row
+    requires { place < length rows.now }
+    ensures { ways_of result.now ≡ row_at rows.now place }
 {
-    match rows.get(place) {
-        None => &[],
-        Some(row) => row,
-    }
+    &rows[place]
 }
 
 /// The rows of a span, from that after all symbols of the head to that before all.
@@ -77,33 +93,28 @@ pub(crate) fn all_rows(
     head: Head,
     from: u32,
     to: u32,
-) -> Result<Vec<Vec<Ways>>, NoMemory>
+) -> Result<Vec<Row>, NoMemory>
     requires short { to ≤ 10000 }
     requires along { from ≤ to }
     requires shown { AreBelow (length (texts grammar.now)) shown.now }
     requires later { AllLater table.now.lists.items }
     ensures { IfOk result (λ v. AreSpanRows (plain grammar.now) (tokens_of grammar.now shown.now) table.now.lists.items head from to v.items) }
 {
+    let count = symbol_count(grammar, head);
+    let stretches = stretches(alloc, grammar, shown, table, head, count, from, to)?;
     let mut rows = Vec::new(alloc);
     rows.push(last_row(alloc, from, to)?)?;
-    let count = symbol_count(grammar, head);
     for done in 0..count {
-        let expected = symbol_of(grammar, head, count - done - 1);
+        let dot = count - done - 1;
+        let expected = symbol_of(grammar, head, dot);
+        let stretch = stretch_of(&stretches, dot);
         let next = row_of(&rows, done);
-        let row = row_before(alloc, grammar, shown, table, expected, next, from, to)?;
+        let row = row_before(
+            alloc, grammar, shown, table, expected, next, from, to, stretch,
+        )?;
         rows.push(row)?;
     }
     Ok(rows)
-}
-
-/// The first ways of a row.
-fn first_ways(row: &[Ways]) -> Ways
-    ensures { tally_of result ≡ ways_at row.now 0 }
-{
-    match row.get(0) {
-        None => Ways::Nothing,
-        Some(ways) => *ways,
-    }
 }
 
 /// The ways of a span.
@@ -124,5 +135,5 @@ pub(crate) fn span_ways(
 {
     let rows = all_rows(alloc, grammar, shown, table, head, from, to)?;
     let count = symbol_count(grammar, head);
-    Ok(inside(first_ways(row_of(&rows, count))))
+    Ok(inside(at(row_of(&rows, count), from, from)))
 }

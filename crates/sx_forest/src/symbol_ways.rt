@@ -3,12 +3,13 @@
 ghost use Rattle.std.specs.Prelude.{◌≡◌, ◌≤◌, ◌<◌, ◌^◌, ℕ, Some, IfSome, length, slice_get, option_map};
 ghost use Rattle.sx_grammar.specs.Numbered.{symbol};
 ghost use Rattle.sx_earley.specs.Shown.{plain, texts, tokens_of, IsBelow, AreBelow};
-ghost use Rattle.sx_forest.specs.Tallies.{tally_of};
+ghost use Rattle.sx_forest.specs.Tallies.{tally_of, ways_of};
 ghost use Rattle.sx_forest.specs.Rows.{IsPlace, IsNext};
 
 use crate::entry::Entry;
 use crate::part_ways::part_ways;
-use crate::ways::{Ways, at, both};
+use crate::row::{Row, at};
+use crate::ways::{Ways, both};
 use sx_earley::{Shown, reads};
 use sx_grammar::{Grammar, NumberedSymbol};
 
@@ -18,7 +19,7 @@ fn symbol_ways(
     shown: &[Shown],
     entries: &[Entry],
     expected: NumberedSymbol,
-    next: &[Ways],
+    next: &Row,
     from: u32,
     place: u32,
 ) -> Ways
@@ -27,7 +28,7 @@ fn symbol_ways(
     requires below { IsBelow (length (texts grammar.now)) expected }
     requires shown { AreBelow (length (texts grammar.now)) shown.now }
     requires later { (i : ℕ) (e : Entry) → slice_get entries.now i ≡ Some e → from ≤ e.to }
-    ensures { IsPlace (plain grammar.now) (tokens_of grammar.now shown.now) entries.now (symbol (texts grammar.now) expected) from place next.now (tally_of result) }
+    ensures { IsPlace (plain grammar.now) (tokens_of grammar.now shown.now) entries.now (symbol (texts grammar.now) expected) from place (ways_of next.now) (tally_of result) }
 {
     match expected {
         NumberedSymbol::Part { sort, least } => {
@@ -56,7 +57,7 @@ pub(crate) fn next_ways(
     shown: &[Shown],
     entries: &[Entry],
     expected: Option<NumberedSymbol>,
-    next: &[Ways],
+    next: &Row,
     from: u32,
     place: u32,
 ) -> Ways
@@ -65,7 +66,7 @@ pub(crate) fn next_ways(
     requires below { IfSome expected (IsBelow (length (texts grammar.now))) }
     requires shown { AreBelow (length (texts grammar.now)) shown.now }
     requires later { (i : ℕ) (e : Entry) → slice_get entries.now i ≡ Some e → from ≤ e.to }
-    ensures { IsNext (plain grammar.now) (tokens_of grammar.now shown.now) entries.now (option_map (symbol (texts grammar.now)) expected) from place next.now (tally_of result) }
+    ensures { IsNext (plain grammar.now) (tokens_of grammar.now shown.now) entries.now (option_map (symbol (texts grammar.now)) expected) from place (ways_of next.now) (tally_of result) }
 {
     match expected {
         None => Ways::Nothing,

@@ -2,7 +2,7 @@
 
 ghost use Rattle.std.specs.Prelude.{◌≡◌, ◌+◌, ◌-◌, ◌<◌, ◌≤◌, ◌^◌, max};
 ghost use Rattle.sx_grammar.specs.Tally.{plus, times, deeper};
-ghost use Rattle.sx_forest.specs.Tallies.{tally_of, ways_at, IsSmall};
+ghost use Rattle.sx_forest.specs.Tallies.{tally_of, IsSmall};
 
 /// How many readings there are, none, one or more, and the greatest depth of them.
 #[derive(Clone, Copy)]
@@ -62,18 +62,5 @@ pub(crate) fn inside(a: Ways) -> Ways
         Ways::Nothing => Ways::Nothing,
         Ways::One(depth) => Ways::One(one_more(depth)),
         Ways::More(depth) => Ways::More(one_more(depth)),
-    }
-}
-
-/// The ways at a place of a row that begins at another.
-pub(crate) fn at(row: &[Ways], from: u32, place: u32) -> Ways
-    ensures { from ≤ place → tally_of result ≡ ways_at row.now (place - from) }
-{
-    if place < from {
-        return Ways::Nothing;
-    }
-    match row.get((place - from) as usize) {
-        None => Ways::Nothing,
-        Some(ways) => *ways,
     }
 }

@@ -14,6 +14,7 @@ pub mod Settling
 pub mod Ranking
 pub mod Linking
 pub mod Searching
+pub mod Climbing
 pub mod FirstLaws
 pub mod DistinctLaws
 pub mod NameLaws

@@ -187,7 +187,7 @@ at_some [] x n e = let clash : None ≡ Some n = e in cc
 at_some (m ∷ numbers) zero n e = cc
 at_some (m ∷ numbers) (suc x) n e = at_some numbers x n e
 
-list_within : (lists : List (Vec ℕ Global)) (s x : ℕ) → Contains (list_at lists s) x → s < length lists
+pub list_within : (lists : List (Vec ℕ Global)) (s x : ℕ) → Contains (list_at lists s) x → s < length lists
 list_within [] s x has = absurd (omega (arith, has.1))
 list_within (v ∷ vs) zero x has = omega arith
 list_within (v ∷ vs) (suc s) x has = let h = list_within vs s x has in omega (arith, h)

@@ -1,5 +1,5 @@
 -- The search for sorts that derive themselves.
-use Rattle.std.specs.Prelude.{◌≡◌, ℕ, zero, suc, ◌<◌, ◌↔◌, Bool, false, not, Option, None, Some, List, [], ◌∷◌, length, slice_get, slice_index_or, count_by, Contains, IsTrue}
+use Rattle.std.specs.Prelude.{◌≡◌, ℕ, zero, suc, ◌<◌, ◌≤◌, ◌↔◌, Bool, false, not, Option, None, Some, List, [], ◌∷◌, length, slice_get, slice_index_or, count_by, Contains, IsTrue}
 use Rattle.std.specs.Global.{Vec}
 use Rattle.sx_grammar.specs.declared.numbered.NumberedSymbol.{NumberedSymbol}
 use Rattle.sx_grammar.specs.declared.numbered.NumberedSymbol.TheVariants.{Lit, Lex, Part}
@@ -96,3 +96,19 @@ AreStepsBelow bound lists = (sort other : ℕ) → Contains (list_at lists sort)
 -- one of the numbers has no rank
 abbrev pub LacksRank : List (Option ℕ) → Type 0
 LacksRank ranks = (x : ℕ) × (x < length ranks) × (rank_in ranks x ≡ None)
+
+-- each of the sorts has this number or a greater one
+abbrev pub AreFrom : List ℕ → ℕ → List ℕ → Type 0
+AreFrom numbers least sorts = (sort : ℕ) → Contains sorts sort → least ≤ slice_index_or numbers sort 0
+
+-- each of the sorts has a greater number than this
+abbrev pub AreAbove : List ℕ → ℕ → List ℕ → Type 0
+AreAbove numbers bound sorts = (sort : ℕ) → Contains sorts sort → bound < slice_index_or numbers sort 0
+
+-- along no step the numbers fall
+abbrev pub NeverFalls : List ℕ → List (Vec ℕ) → Type 0
+NeverFalls numbers lists = (sort : ℕ) → AreFrom numbers (slice_index_or numbers sort 0) (list_at lists sort)
+
+-- along each step from the sort they rise
+abbrev pub Rises : List ℕ → List (Vec ℕ) → ℕ → Type 0
+Rises numbers lists sort = AreAbove numbers (slice_index_or numbers sort 0) (list_at lists sort)

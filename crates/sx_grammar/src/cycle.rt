@@ -3,9 +3,10 @@
 ghost use Rattle.std.specs.Prelude.{◌≡◌, ℕ, ◌+◌, ◌*◌, ◌<◌, ◌≤◌, ◌⊎◌, ◌↔◌, length, slice_index_or, count_by, not, false, Contains, IsTrue, IfOk, OnOk, MatchOption};
 ghost use Rattle.sx_grammar.specs.Grammar.{Grammar};
 ghost use Rattle.sx_grammar.specs.Cyclic.{IsCyclic, IsNotCyclic};
-ghost use Rattle.sx_grammar.specs.Cycles.{list_at, AreStepsOf, AreStepsBelow};
+ghost use Rattle.sx_grammar.specs.Cycles.{list_at, AreStepsOf, AreStepsBelow, NeverFalls};
 
 use crate::empty_sorts::{is_marked_sort, no_marks};
+use crate::rising::{numbers, rises};
 use std::alloc::{AllocError, Global};
 
 /// Marks the sorts, and puts each that was not marked on the stack.
@@ -52,14 +53,33 @@ fn leads_back(alloc: Global, steps: &[Vec<usize>], sort: usize) -> Result<bool, 
     Ok(is_marked_sort(&marks, sort))
 }
 
+/// Whether the sort derives itself: it is searched only where a step from it does not rise.
+fn is_cyclic(
+    alloc: Global,
+    steps: &[Vec<usize>],
+    numbers: &[usize],
+    sort: usize,
+) -> Result<bool, AllocError>
+    requires sort { sort < length steps.now }
+    requires below { AreStepsBelow (length steps.now) steps.now }
+    requires numbers { NeverFalls numbers.now steps.now }
+    ensures { IfOk result (λ r. (g : Grammar) → AreStepsOf g steps.now → IsTrue r ↔ IsCyclic g sort) }
+{
+    if rises(numbers, steps, sort) {
+        return Ok(false);
+    }
+    leads_back(alloc, steps, sort)
+}
+
 /// The first sort that derives itself.
 pub(crate) fn first_cyclic(alloc: Global, steps: &[Vec<usize>]) -> Result<Option<usize>, AllocError>
     requires below { AreStepsBelow (length steps.now) steps.now }
     ensures { IfOk result (λ r. (g : Grammar) → AreStepsOf g steps.now → MatchOption r (IsNotCyclic g)
         (λ sort. (sort < length steps.now) × IsCyclic g sort × ((other : ℕ) → other < sort → ¬ (IsCyclic g other)))) }
 {
+    let numbers = numbers(alloc, steps)?;
     for sort in 0..steps.len() {
-        if leads_back(alloc, steps, sort)? {
+        if is_cyclic(alloc, steps, &numbers, sort)? {
             return Ok(Some(sort));
         }
     }

@@ -160,3 +160,48 @@ fn cyclic(rt: HostRuntime) -> Result<(), Fail> {
     assert_eq!(rt; words.as_str(), "Cyclic Exp");
     Ok(())
 }
+
+/// The number with a letter before it, as a name.
+fn numbered(alloc: Global, letter: &str, number: usize) -> Result<Text, Fail> {
+    let name = format!(in alloc; "{letter}{number}")?;
+    Ok(Text::make(alloc, name.as_bytes())?)
+}
+
+/// A production of the sort that is a part of the other sort alone, by their numbers.
+fn step(alloc: Global, label: usize, of: usize, to: usize) -> Result<Production, Fail> {
+    let mut symbols = Vec::new(alloc);
+    symbols.push(Symbol::Part {
+        sort: numbered(alloc, "s", to)?,
+        least: 0,
+    })?;
+    Ok(Production {
+        label: numbered(alloc, "p", label)?,
+        sort: numbered(alloc, "s", of)?,
+        level: 0,
+        symbols,
+    })
+}
+
+/// Sorts in a row, each with a step to the next; the last leads back to the sort with this number, and the sort before the last to another.
+fn row(alloc: Global, count: usize, back: usize) -> Result<GrammarParts, Fail> {
+    let mut sorts = Vec::new(alloc);
+    let mut productions = Vec::new(alloc);
+    for number in 0..count {
+        sorts.push(SortLine {
+            name: numbered(alloc, "s", number)?,
+            typed: false,
+            brackets: None,
+        })?;
+        let to = if number + 1 < count { number + 1 } else { back };
+        productions.push(step(alloc, number, number, to)?)?;
+    }
+    Ok(GrammarParts { sorts, productions })
+}
+
+#[test]
+fn first_of_the_sorts_that_derive_themselves(rt: HostRuntime) -> Result<(), Fail> {
+    let alloc = rt.alloc();
+    let words = refusal(alloc, row(alloc, 30000, 29998)?)?;
+    assert_eq!(rt; words.as_str(), "Cyclic s29998");
+    Ok(())
+}

@@ -63,7 +63,7 @@ mutual
 pub lists_fit : ListsFit
 lists_fit modes rules goal a list (j, is_goal, is_outs, d) same = (
   all_entries rules (length (bare rules)) (length-map rules (λ r. r.rule) ∙ sym (length-map rules (λ r. r.name))) list
-  (subst (AreOfRules (length (bare rules))) (sym same) (of_rules rules j a.0 d)),
+      (subst (AreOfRules (length (bare rules))) (sym same) (of_rules rules j a.0 d)),
   sym (length-map list entry) ∙ ap length same ∙ order_length a.0,
 )
 

@@ -17,3 +17,8 @@ pub mod Refusing
 pub mod OneAnswer
 pub mod OnePrint
 pub mod OneUnit
+pub mod ModuleTexts
+pub mod ReadSorted
+pub mod TypedBodies
+pub mod Units
+pub mod Tries

@@ -80,7 +80,7 @@ module _ (p : Parts) where
       let all : AllByRecursion (IsKnown p) (sort ∷ []) = subst (λ (sorts : List Sort). AllByRecursion (IsKnown p) sorts) is (sorts_known role form.places (form_known lines n form known there)) in
       all.0
 
-main_sort_is : (forms : List FormData) (n : ℕ) (form : FormData) (role : Role) (sort : Sort) → slice_get forms n ≡ Some form → sorts_with role form.places ≡ sort ∷ []
+pub main_sort_is : (forms : List FormData) (n : ℕ) (form : FormData) (role : Role) (sort : Sort) → slice_get forms n ≡ Some form → sorts_with role form.places ≡ sort ∷ []
     → only_sort (sorts_with role (places_at forms n)) ≡ sort
 main_sort_is forms n form role sort at is = ap (λ f. only_sort (sorts_with role (places_or_none f))) at ∙ ap only_sort is
 

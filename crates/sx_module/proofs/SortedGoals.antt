@@ -33,8 +33,8 @@ module _ (shapes : List Shape) (forms : List FormData) where
 pub outputs_are_sorted : OutputsAreSorted
 outputs_are_sorted shapes forms rules set vars goal a sorted (j, is_goal, is_outs, d) =
     let here = derivations_are_sorted (modes_of forms) (bare rules) no_hypotheses shapes (sorts_of forms) vars
-        (good_moded shapes forms [] rules set.1) (good_sorted shapes forms [] rules set.1) tt j a.0 d
-        (subst (λ (x : Goal). GoalIsSorted shapes (sorts_of forms) (modes_of forms) vars x) (sym is_goal) sorted) in
+    (good_moded shapes forms [] rules set.1) (good_sorted shapes forms [] rules set.1) tt j a.0 d
+    (subst (λ (x : Goal). GoalIsSorted shapes (sorts_of forms) (modes_of forms) vars x) (sym is_goal) sorted) in
     let outs = outputs-sorted shapes vars (modes_of forms j.form) j.places (sorts_of forms j.form) here.0 in
     subst (λ (ts : List Tree). HaveSorts shapes vars ts (outputs (modes_of forms goal.form) (sorts_of forms goal.form))) is_outs
     (subst (λ (x : Goal). HaveSorts shapes vars (outputs_of (modes_of forms) j) (outputs (modes_of forms x.form) (sorts_of forms x.form))) is_goal outs)

@@ -139,7 +139,7 @@ module _ (forms : List FormData) (s : ℕ → Tree) where
       goal_subjects forms goal ≡ map (instance s) (outputs_of (subjects_in forms) conclusion)
   matched_subjects conclusion goal of_form terms =
       let same : goal_of (modes_of forms) (judgement_instance s conclusion) ≡ goal =
-          λ i. record { form = of_form i; terms = (inputs-map s (modes_of forms conclusion.form) conclusion.places ∙ terms) i } in
+      λ i. record { form = of_form i; terms = (inputs-map s (modes_of forms conclusion.form) conclusion.places ∙ terms) i } in
       sym (ap (goal_subjects forms) same) ∙ instance_subjects conclusion
 
   module _ (top : Tree) (rule : Rule) (goal : Goal) (path : List ℕ) (j : Judgement) where
@@ -156,7 +156,7 @@ module _ (forms : List FormData) (s : ℕ → Tree) where
         let whole : instance s t ≡ part = cc in
         let way = some_place v t (omega arith) in
         let longer : path_of (subjects_in forms) path rule j ≡ path ++ way.0 =
-            ap (λ (us : List Tree). path_on path us (outputs_of (subjects_in forms) rule.conclusion)) var ∙ ap (path_on path (hole v ∷ [])) is ∙ ap (longer_path path) way.1 in (
+        ap (λ (us : List Tree). path_on path us (outputs_of (subjects_in forms) rule.conclusion)) var ∙ ap (path_on path (hole v ∷ [])) is ∙ ap (longer_path path) way.1 in (
           s v,
           ap (part_at top) longer ∙ part_at-append top part path way.0 at ∙ ap (λ x. part_at x way.0) (sym whole) ∙ part_at-instance s t (hole v) way.0 way.2,
           inr (instance_subjects j ∙ ap (map (instance s)) var),

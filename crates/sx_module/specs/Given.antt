@@ -1,10 +1,9 @@
 -- What is handed in to compile a module, and what the steps of compiling give.
-use Rattle.std.specs.Prelude.{◌≡◌, ◌⊎◌, ℕ, ◌≤◌, List, [], map, length, Result, Ok, Err}
+use Rattle.std.specs.Prelude.{◌≡◌, ℕ, ◌+◌, ◌≤◌, [], None, map, length, Result, Err}
 use Rattle.sx_term.specs.declared.sort.Sort.{Sort}
 use Rattle.sx_term.specs.Sorts.{HasSort}
 use Rattle.sx_term.specs.Tree.{Tree, depth_of}
 use Rattle.sx_term.specs.Term.{tree}
-use Rattle.sx_grammar.specs.Grammar.{Text}
 use Rattle.sx_grammar.specs.Parts.{Parts}
 use Rattle.sx_grammar.specs.Tables.{literals_of}
 use Rattle.sx_grammar.specs.Told.{shapes_of}
@@ -13,12 +12,19 @@ use Rattle.sx_rules.specs.declared.rule.Role.TheVariants.{Out}
 use Rattle.sx_rules.specs.EntryView.{entries}
 use Rattle.sx_rules.specs.First.{Answer}
 use Rattle.sx_rules.specs.Orders.{order_of}
+use Rattle.sx_rules.specs.Views.{modes_of, subjects_in}
+use Rattle.sx_derive.specs.declared.derive_error.DeriveError.{DeriveError}
+use Rattle.sx_derive.specs.declared.listed.Listed.{Listed}
+use Rattle.sx_derive.specs.Listing.{IsListed}
 use Rattle.sx_interface.specs.HeaderView.{header_view}
 use Rattle.sx_notation.specs.Language.{IsLanguage, language_data}
 use Rattle.sx_module.specs.declared.given.Given.{Given}
 use Rattle.sx_module.specs.declared.typed.Typed.{Typed}
 use Rattle.sx_module.specs.Source.{Source, source, mark, main_sort, IsSource, IsEnvironment}
-use Rattle.sx_module.specs.Unit.{IsTyped}
+use Rattle.sx_module.specs.Outcomes.{no_hypotheses}
+use Rattle.sx_module.specs.Unit.{rules_of, goal, IsTyped}
+use Rattle.sx_module.specs.declared.module_error.ModuleError.{ModuleError}
+use Rattle.sx_module.specs.declared.module_error.ModuleError.TheVariants.{Memory}
 
 abbrev pub source_of : Given → Source
 source_of g = source g.language.now g.digest.now g.bytes.now g.header.now g.imports.now g.environment.now
@@ -42,3 +48,13 @@ pub record IsTypedBy (s : Source) (tries : ℕ) (subject : Tree) (t : Typed) : T
   pub typed : IsTyped s tries subject (tree t.signature) answer
   pub list : entries t.list.items ≡ order_of answer.0
   pub showable : IsShowable s.language.parts (main_sort s.language Out) (tree t.signature)
+
+-- what is found says how the walk of the subject's goal ends
+abbrev pub IsFoundBy : Source → ℕ → Tree → Result Listed DeriveError → Type 0
+IsFoundBy s tries subject found =
+    IsListed (modes_of s.language.forms) (subjects_in s.language.forms) (rules_of s.language) no_hypotheses (goal s subject) None tries found
+
+-- each of so many tries was counted; without memory some of them were
+abbrev pub IsTried : {X : Type 0} → ℕ → ℕ → ℕ → Result X ModuleError → Type 0
+IsTried made first last (Err Memory) = (first ≤ last) × (last ≤ first + made)
+IsTried made first last _ = last ≡ first + made

@@ -12,3 +12,4 @@ pub mod Searched
 pub mod TypeErrors
 pub mod PrintRefused
 pub mod Alike
+pub mod PrintedParts

@@ -33,8 +33,13 @@ pub record UnitData : Type 0 where
 
 abbrev pub unit_of : Compiled → UnitData
 unit_of c = record {
-  base = c.base.items; interface = c.interface.items; derivation = c.derivation.items; list = entries c.list.items;
-  nodes = c.nodes; source_tokens = c.source_tokens; base_tokens = c.base_tokens;
+  base = c.base.items;
+  interface = c.interface.items;
+  derivation = c.derivation.items;
+  list = entries c.list.items;
+  nodes = c.nodes;
+  source_tokens = c.source_tokens;
+  base_tokens = c.base_tokens;
 }
 
 -- the rules of a language without their names

@@ -3,12 +3,14 @@
 
 mod body;
 mod compiled;
+mod compiling;
+mod counting;
 mod given;
 mod goal_laws;
-mod counting;
 mod import;
 mod laws;
 mod module_error;
+mod module_writing;
 mod print_check;
 mod print_limit;
 mod reading;
@@ -20,8 +22,10 @@ mod texts;
 mod type_error;
 mod typed;
 mod typing;
+mod typing_body;
 
 pub use compiled::Compiled;
+pub use compiling::compile;
 pub use goal_laws::{main_goals_fit, outputs_fit, searches_fit, stuck_goals_fit};
 pub use import::Import;
 pub use laws::{one_unit, units_are_made};

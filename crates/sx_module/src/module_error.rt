@@ -16,13 +16,25 @@ pub enum ModuleError {
     Memory,
     /// The body has no tokens: its first defect.
     #[error("a body without tokens")]
-    Token { line: u64, column: u64, error: TokenError },
+    Token {
+        line: u64,
+        column: u64,
+        error: TokenError,
+    },
     /// The body has not one reading.
     #[error("a body without one reading")]
-    Read { line: u64, column: u64, error: Unread },
+    Read {
+        line: u64,
+        column: u64,
+        error: Unread,
+    },
     /// The main goal has no derivation: the stuck goal, and where the part begins that it speaks of.
     #[error("a type error")]
-    TypeError { line: u64, column: u64, stuck: StuckText },
+    TypeError {
+        line: u64,
+        column: u64,
+        stuck: StuckText,
+    },
     /// The walk needs more tries than it may take, so many.
     #[error("more than {0} tries")]
     BudgetSpent(u64),
@@ -37,10 +49,17 @@ pub enum ModuleError {
     TooBig(u64),
     /// A printed text passes a limit.
     #[error("a printed text passes a limit")]
-    PrintLimit { part: Part, limit: Limit },
+    PrintLimit {
+        part: Part,
+        limit: Limit,
+    },
     /// A printed text has two readings: the tree texts of two of them.
     #[error("a printed text with two readings")]
-    PrintAmbiguous { part: Part, one: Text, other: Text },
+    PrintAmbiguous {
+        part: Part,
+        one: Text,
+        other: Text,
+    },
 }
 
 impl From<NoMemory> for ModuleError {

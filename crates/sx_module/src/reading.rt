@@ -125,7 +125,12 @@ pub(crate) fn read_source(alloc: Global, given: &Given) -> Result<Body, ModuleEr
     ensures none { IfErr result (λ e. (e ≡ Memory) ⊎ (HasBody (source_of given.now) → ⊥)) }
 {
     let sort = main_sort(given.language, Role::Sub);
-    match read_body(alloc, &given.language.grammar, sort, body_of(given.bytes, given.header)) {
+    match read_body(
+        alloc,
+        &given.language.grammar,
+        sort,
+        body_of(given.bytes, given.header),
+    ) {
         Ok(body) => Ok(body),
         Err(error) => Err(refusal(given, error)),
     }

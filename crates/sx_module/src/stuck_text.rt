@@ -6,11 +6,23 @@ use sx_term::Text;
 #[derive(Debug, Drop)]
 pub enum StuckText {
     /// No rule concludes the goal.
-    NoRule { goal: Text },
+    NoRule {
+        goal: Text,
+    },
     /// The premise of the rule asks for two terms to be apart that are not.
-    Equal { goal: Text, premise: u64, rule: Text },
+    Equal {
+        goal: Text,
+        premise: u64,
+        rule: Text,
+    },
     /// The goal, shown with the outputs got, is not what the premise of the rule asks for.
-    Mismatch { goal: Text, premise: u64, rule: Text },
+    Mismatch {
+        goal: Text,
+        premise: u64,
+        rule: Text,
+    },
     /// The goal, shown with the outputs got, is not the stated conclusion.
-    NotStated { goal: Text },
+    NotStated {
+        goal: Text,
+    },
 }

@@ -123,7 +123,11 @@ pub(crate) fn interface_text(
 }
 
 /// The derivation file.
-pub(crate) fn derivation_text(alloc: Global, rules: &RuleSet, list: &[Entry]) -> Result<Vec<u8>, NoMemory>
+pub(crate) fn derivation_text(
+    alloc: Global,
+    rules: &RuleSet,
+    list: &[Entry],
+) -> Result<Vec<u8>, NoMemory>
     requires { AllByRecursion (IsEntry (names_in rules.now)) list.now }
     ensures { IfOk result (λ v. v.items ≡ derivation_text (rules_in rules.now) (entries list.now)) }
 {

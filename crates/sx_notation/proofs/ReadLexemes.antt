@@ -33,13 +33,16 @@ front_run p run front rest h = record {
 
 -- a lexeme that stands somewhere is a token of its kind by itself
 lexeme_text : (literals : List Text) (metas : Bool) (kind : LexKind) (text rest : Text) → Stands literals metas (Lex kind) text rest → IsTokenText literals false (Lex kind) text
-lexeme_text literals metas Id text rest h = (h.0, record {
-  first = h.1.first;
-  others = h.1.others;
-  begins = h.1.begins;
-  split = h.1.split;
-  goes_on = front_run _ h.1.others [] rest h.1.goes_on;
-})
+lexeme_text literals metas Id text rest h = (
+  h.0,
+  record {
+    first = h.1.first;
+    others = h.1.others;
+    begins = h.1.begins;
+    split = h.1.split;
+    goes_on = front_run _ h.1.others [] rest h.1.goes_on;
+  },
+)
 lexeme_text literals metas Num text rest h = (h.0, h.1.characters)
 lexeme_text literals metas Str text rest h = (h.0, h.1, front_run is_in_string h.0 (34 ∷ []) rest h.2)
 

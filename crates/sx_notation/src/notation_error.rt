@@ -20,16 +20,25 @@ pub enum NotationError {
     NotUtf8(usize),
     /// The line is bad, and what is bad about it.
     #[error("a bad line")]
-    Notation { line: u32, kind: Kind },
+    Notation {
+        line: u32,
+        kind: Kind,
+    },
     /// The line has no tokens, and its first defect.
     #[error("a line without tokens")]
-    Token { line: u32, error: TokenError },
+    Token {
+        line: u32,
+        error: TokenError,
+    },
     /// The sorts, productions and forms are no grammar, and why.
     #[error("no grammar")]
     Grammar(GrammarError),
     /// The tokens of the line have not one reading, and why. Places count the bytes of the line from 0.
     #[error("a line without one reading")]
-    Read { line: u32, error: Unread },
+    Read {
+        line: u32,
+        error: Unread,
+    },
     /// The rules are no rule set, and why; and the name of the variable that is not bound, exactly where that is why.
     #[error("no rule set")]
     Rules {

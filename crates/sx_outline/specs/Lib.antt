@@ -1,0 +1,12 @@
+pub mod Declarations
+pub mod Known
+pub mod Fitting
+pub mod MainSorts
+pub mod Tables
+pub mod View
+pub mod Stages
+pub mod Outlined
+pub mod Sized
+pub mod Reading
+pub mod Structure
+pub mod Laws

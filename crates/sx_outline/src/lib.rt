@@ -1,6 +1,33 @@
-//! Stub.
+//! Language files, read line by line without a grammar.
 #![tactic(auto)]
 
+mod declared_rows;
+mod finish;
+mod first_pass;
+mod fitting;
+mod kept;
+mod kids;
+mod known;
+mod laws;
+mod main_finding;
 mod main_form;
+mod next_line;
+mod outline;
+mod outline_error;
+mod places;
+mod read;
+mod reader;
+mod role_places;
+mod row_taking;
+mod rule_lines;
+mod stage;
+mod tables;
+#[cfg(test)]
+mod tests;
 
+pub use laws::{lines_have_outlines, one_outline_answer, outlines_have_lines};
 pub use main_form::MainForm;
+pub use outline::Outline;
+pub use outline_error::OutlineError;
+pub use read::read_outline;
+pub use rule_lines::{RuleLine, RuleLines};

@@ -77,11 +77,7 @@ pub fn bad_rules(
     match error {
         RuleError::Memory => Err(NoMemory::Memory),
         RuleError::TooManyRules => refused(alloc, file, Defect::Rule(RuleDefect::TooManyRules)),
-        RuleError::SameRule(name) => refused(
-            alloc,
-            file,
-            Defect::Rule(RuleDefect::SameRule(name)),
-        ),
+        RuleError::SameRule(name) => refused(alloc, file, Defect::Rule(RuleDefect::SameRule(name))),
         RuleError::TooManyVars(name) => of_rule(alloc, file, name, RuleDefect::TooManyVars),
         RuleError::SortDiffers(name) => of_rule(alloc, file, name, RuleDefect::SortDiffers),
         RuleError::Discipline(name, part, premise) => {

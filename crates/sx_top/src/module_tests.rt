@@ -30,10 +30,7 @@ fn shelf_of(
     failing: &[u64],
 ) -> Result<MemShelf, Fail> {
     let mut shelf = shelf_with(alloc, file, language.as_bytes(), failing)?;
-    shelf.put(
-        text(alloc, "Main.mod")?,
-        Vec::from_slice(alloc, module)?,
-    )?;
+    shelf.put(text(alloc, "Main.mod")?, Vec::from_slice(alloc, module)?)?;
     Ok(shelf)
 }
 
@@ -97,7 +94,8 @@ fn is_built(alloc: Global, body: &str, list: &str, base: &str, told: &[u8]) -> R
     let status = run_words(alloc, "build Main", &mut shelf, &mut out)?;
     let printed = module_of(alloc, "Lam", base)?;
     Ok(
-        status == 0 && out.written() == told
+        status == 0
+            && out.written() == told
             && has(alloc, &shelf, "Main.der", list)?
             && shelf.get(&text(alloc, "Main.base")?) == Some(printed.as_slice()),
     )
@@ -133,10 +131,7 @@ fn the_files_of_a_module(rt: HostRuntime) -> Result<(), Fail> {
     let module = module_of(alloc, "Lam", "( \\ x : Int . x ) 1")?;
     let mut shelf = shelf_of(alloc, "Lam.lang", LAM, &module, &[])?;
     let mut out = MemSink::new(alloc);
-    assert_eq!(rt;
-        run_words(alloc, "build Main", &mut shelf, &mut out)?,
-        0
-    );
+    assert_eq!(rt; run_words(alloc, "build Main", &mut shelf, &mut out)?, 0);
     assert!(rt;
         has(
             alloc,
@@ -240,15 +235,7 @@ fn module_files_that_are_refused(rt: HostRuntime) -> Result<(), Fail> {
             b"soundx: Lim.lang: absent\n"
         )?
     );
-    assert!(rt;
-        is_stopped(
-            alloc,
-            "build Other",
-            b"",
-            1,
-            b"soundx: Other.mod: absent\n"
-        )?
-    );
+    assert!(rt; is_stopped(alloc, "build Other", b"", 1, b"soundx: Other.mod: absent\n")?);
     Ok(())
 }
 

@@ -5,7 +5,7 @@ use Rattle.sx_grammar.specs.Reading.{ReadsWhole}
 use Rattle.sx_earley.specs.Shown.{texts, token_of}
 use Rattle.sx_earley.proofs.Sameness.{ok_if}
 use Rattle.sx_forest.specs.Readings.{plain_reading}
-use Rattle.sx_forest.specs.Tallies.{IsLastRow}
+use Rattle.sx_forest.specs.Tallies.{ways_of, IsLastRow}
 use Rattle.sx_forest.specs.Rows.{list_at}
 use Rattle.sx_forest.specs.Forests.{grammar_in, tokens_in, lists_in, IsBy, IsFirstUsable}
 use Rattle.sx_forest.proofs.AllTokens.{by_used, of_used, used_shallow}
@@ -13,7 +13,7 @@ use Rattle.sx_forest.proofs.all_tokens.first_reading.Goals as goal
 
 pub build-requires-clause-entry : goal.build-requires-clause-entry
 build-requires-clause-entry c =
-    let f = c.args.forest in let g = grammar_in f in let ts = tokens_in f in let lists = lists_in f in let row = c.args.row.now in
+    let f = c.args.forest in let g = grammar_in f in let ts = tokens_in f in let lists = lists_in f in let row = ways_of c.args.row.now in
     let long : length ts ≡ length f.shown.now = length-map f.shown.now (token_of (texts f.grammar.now)) in
     let last : IsLastRow 0 (length ts) row = subst (λ n. IsLastRow 0 n row) (sym long) c.requires.row in
     let levels = c.facts.ensures.levels in let full = c.requires.forest.full in
@@ -24,7 +24,7 @@ build-requires-clause-entry c =
 
 pub unreachable-requires : goal.unreachable-requires
 unreachable-requires c =
-    let f = c.args.forest in let g = grammar_in f in let ts = tokens_in f in let lists = lists_in f in let row = c.args.row.now in
+    let f = c.args.forest in let g = grammar_in f in let ts = tokens_in f in let lists = lists_in f in let row = ways_of c.args.row.now in
     let long : length ts ≡ length f.shown.now = length-map f.shown.now (token_of (texts f.grammar.now)) in
     let last : IsLastRow 0 (length ts) row = subst (λ n. IsLastRow 0 n row) (sym long) c.requires.row in
     let levels = c.facts.ensures.levels in let full = c.requires.forest.full in
@@ -35,7 +35,7 @@ unreachable-requires c =
 
 pub returns : goal.returns
 returns c =
-    let f = c.args.forest in let g = grammar_in f in let ts = tokens_in f in let lists = lists_in f in let row = c.args.row.now in
+    let f = c.args.forest in let g = grammar_in f in let ts = tokens_in f in let lists = lists_in f in let row = ways_of c.args.row.now in
     let long : length ts ≡ length f.shown.now = length-map f.shown.now (token_of (texts f.grammar.now)) in
     let last : IsLastRow 0 (length ts) row = subst (λ n. IsLastRow 0 n row) (sym long) c.requires.row in
     let levels = c.facts.ensures.levels in let full = c.requires.forest.full in

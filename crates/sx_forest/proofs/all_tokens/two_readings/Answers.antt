@@ -5,7 +5,7 @@ use Rattle.sx_grammar.specs.Reading.{ReadsWhole}
 use Rattle.sx_earley.specs.Shown.{texts, token_of}
 use Rattle.sx_earley.proofs.Sameness.{ok_if}
 use Rattle.sx_forest.specs.Readings.{plain_reading}
-use Rattle.sx_forest.specs.Tallies.{IsLastRow}
+use Rattle.sx_forest.specs.Tallies.{ways_of, IsLastRow}
 use Rattle.sx_forest.specs.Rows.{list_at}
 use Rattle.sx_forest.specs.Forests.{grammar_in, tokens_in, lists_in, one_of, other_of, IsBy, IsFirstUsable, IsForkOf}
 use Rattle.sx_forest.proofs.AllTokens.{by_used, of_used, not_parted, parted, both_used}
@@ -13,7 +13,7 @@ use Rattle.sx_forest.proofs.all_tokens.two_readings.Goals as goal
 
 pub pair_at-requires-clause-parting : goal.pair_at-requires-clause-parting
 pair_at-requires-clause-parting c =
-    let f = c.args.forest in let g = grammar_in f in let ts = tokens_in f in let lists = lists_in f in let row = c.args.row.now in
+    let f = c.args.forest in let g = grammar_in f in let ts = tokens_in f in let lists = lists_in f in let row = ways_of c.args.row.now in
     let long : length ts ≡ length f.shown.now = length-map f.shown.now (token_of (texts f.grammar.now)) in
     let last : IsLastRow 0 (length ts) row = subst (λ n. IsLastRow 0 n row) (sym long) c.requires.row in
     let levels = c.facts.ensures.levels in let full = c.requires.forest.full in
@@ -27,7 +27,7 @@ pair_at-requires-clause-parting c =
 
 pub unreachable-requires : goal.unreachable-requires
 unreachable-requires c =
-    let f = c.args.forest in let g = grammar_in f in let ts = tokens_in f in let lists = lists_in f in let row = c.args.row.now in
+    let f = c.args.forest in let g = grammar_in f in let ts = tokens_in f in let lists = lists_in f in let row = ways_of c.args.row.now in
     let long : length ts ≡ length f.shown.now = length-map f.shown.now (token_of (texts f.grammar.now)) in
     let last : IsLastRow 0 (length ts) row = subst (λ n. IsLastRow 0 n row) (sym long) c.requires.row in
     let levels = c.facts.ensures.levels in let full = c.requires.forest.full in
@@ -41,7 +41,7 @@ unreachable-requires c =
 
 pub unreachable-requires-in-None : goal.unreachable-requires-in-None
 unreachable-requires-in-None c =
-    let f = c.args.forest in let g = grammar_in f in let ts = tokens_in f in let lists = lists_in f in let row = c.args.row.now in
+    let f = c.args.forest in let g = grammar_in f in let ts = tokens_in f in let lists = lists_in f in let row = ways_of c.args.row.now in
     let long : length ts ≡ length f.shown.now = length-map f.shown.now (token_of (texts f.grammar.now)) in
     let last : IsLastRow 0 (length ts) row = subst (λ n. IsLastRow 0 n row) (sym long) c.requires.row in
     let levels = c.facts.ensures.levels in let full = c.requires.forest.full in
@@ -52,7 +52,7 @@ unreachable-requires-in-None c =
 
 pub returns-clause-one : goal.returns-clause-one
 returns-clause-one c =
-    let f = c.args.forest in let g = grammar_in f in let ts = tokens_in f in let lists = lists_in f in let row = c.args.row.now in
+    let f = c.args.forest in let g = grammar_in f in let ts = tokens_in f in let lists = lists_in f in let row = ways_of c.args.row.now in
     let long : length ts ≡ length f.shown.now = length-map f.shown.now (token_of (texts f.grammar.now)) in
     let last : IsLastRow 0 (length ts) row = subst (λ n. IsLastRow 0 n row) (sym long) c.requires.row in
     let levels = c.facts.ensures.levels in let full = c.requires.forest.full in
@@ -68,7 +68,7 @@ returns-clause-one c =
 
 pub returns-clause-other : goal.returns-clause-other
 returns-clause-other c =
-    let f = c.args.forest in let g = grammar_in f in let ts = tokens_in f in let lists = lists_in f in let row = c.args.row.now in
+    let f = c.args.forest in let g = grammar_in f in let ts = tokens_in f in let lists = lists_in f in let row = ways_of c.args.row.now in
     let long : length ts ≡ length f.shown.now = length-map f.shown.now (token_of (texts f.grammar.now)) in
     let last : IsLastRow 0 (length ts) row = subst (λ n. IsLastRow 0 n row) (sym long) c.requires.row in
     let levels = c.facts.ensures.levels in let full = c.requires.forest.full in

@@ -4,6 +4,7 @@ use Rattle.std.proofs.lemmas.Bool.{cases_lt}
 use Rattle.std.proofs.lemmas.Option.{slice_get_within, slice_get-get_or, same_Some}
 use Rattle.sx_earley.specs.Shown.{plain}
 use Rattle.sx_forest.specs.declared.entry.Entry.{Entry}
+use Rattle.sx_forest.specs.Tallies.{ways_of}
 use Rattle.sx_forest.specs.Forests.{IsUsable}
 use Rattle.sx_forest.proofs.Summing.{no_entry}
 use Rattle.sx_forest.proofs.choosing.first_usable.Goals as goal
@@ -21,7 +22,7 @@ loop-index-preserved c = λ i e after low at used.
     by_place i e after at used within low (cases_lt i n)
   where
     by_place : (i : ℕ) (e : Entry) → c.args.first ≤ i → slice_get c.args.entries.now i ≡ Some e →
-        IsUsable (plain c.args.grammar.now) c.args.sort c.args.least c.args.next.now c.args.from e → c.loop-index.index < length c.args.entries.now →
+        IsUsable (plain c.args.grammar.now) c.args.sort c.args.least (ways_of c.args.next.now) c.args.from e → c.loop-index.index < length c.args.entries.now →
         i < c.loop-index.index + 1 → (i < c.loop-index.index) ⊎ (c.loop-index.index ≤ i) → ⊥
     by_place i e after at used within low (inl h) = c.loop-index.invariant i e after h at used
     by_place i e after at used within low (inr h) =
@@ -29,8 +30,8 @@ loop-index-preserved c = λ i e after low at used.
         let same : i ≡ n = omega arith in
         let here : slice_get entries n ≡ Some e = subst (λ k. slice_get entries k ≡ Some e) same at in
         let is : e ≡ get_or entries n no_entry = same_Some e (get_or entries n no_entry) (sym here ∙ slice_get-get_or entries n no_entry within) in
-        let it : IsUsable (plain c.args.grammar.now) c.args.sort c.args.least c.args.next.now c.args.from (get_or entries n no_entry) =
-        subst (λ x. IsUsable (plain c.args.grammar.now) c.args.sort c.args.least c.args.next.now c.args.from x) is used in
+        let it : IsUsable (plain c.args.grammar.now) c.args.sort c.args.least (ways_of c.args.next.now) c.args.from (get_or entries n no_entry) =
+        subst (λ x. IsUsable (plain c.args.grammar.now) c.args.sort c.args.least (ways_of c.args.next.now) c.args.from x) is used in
         true≢false (sym (c.is_usable.ensures.1 it) ∙ c.if-is_usable.false)
 
 pub returns : goal.returns

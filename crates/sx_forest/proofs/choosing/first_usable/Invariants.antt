@@ -2,8 +2,9 @@ use Rattle.std.proofs.Common.{◌≡◌, ◌<◌, ◌≤◌, ℕ, Some}
 use Rattle.std.specs.List.{slice_get}
 use Rattle.sx_earley.specs.Shown.{plain}
 use Rattle.sx_forest.specs.declared.entry.Entry.{Entry}
+use Rattle.sx_forest.specs.Tallies.{ways_of}
 use Rattle.sx_forest.specs.Forests.{IsUsable}
 use Rattle.sx_forest.proofs.choosing.first_usable.Given as goal
 
 abbrev pub invariant-loop-index : goal.invariant-loop-index
-invariant-loop-index l = (i : ℕ) (e : Entry) → l.first ≤ i → i < l.index → slice_get l.entries i ≡ Some e → IsUsable (plain l.grammar) l.sort l.least l.next l.from e → ⊥
+invariant-loop-index l = (i : ℕ) (e : Entry) → l.first ≤ i → i < l.index → slice_get l.entries i ≡ Some e → IsUsable (plain l.grammar) l.sort l.least (ways_of l.next) l.from e → ⊥

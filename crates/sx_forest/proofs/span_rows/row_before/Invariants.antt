@@ -1,14 +1,10 @@
-use Rattle.std.proofs.Common.{◌≡◌, ◌-◌, ◌+◌, ◌≤◌, ◌<◌, ℕ, length, option_map}
+use Rattle.std.proofs.Common.{option_map}
 use Rattle.sx_grammar.specs.Numbered.{symbol}
 use Rattle.sx_earley.specs.Shown.{plain, texts, tokens_of}
-use Rattle.sx_forest.specs.Tallies.{ways_at}
-use Rattle.sx_forest.specs.Rows.{IsNext, list_at}
+use Rattle.sx_forest.specs.Tallies.{ways_of}
+use Rattle.sx_forest.proofs.Skipping.{IsRowSoFar}
 use Rattle.sx_forest.proofs.span_rows.row_before.Given as goal
 
 abbrev pub invariant-loop-place : goal.invariant-loop-place
-invariant-loop-place l = record {
-  along : l.from ≤ l.place;
-  long : length l.row.items ≡ l.place - l.from;
-  each : (k : ℕ) → k < length l.row.items →
-      IsNext (plain l.grammar) (tokens_of l.grammar l.shown) (list_at l.table.lists.items (l.from + k)) (option_map (symbol (texts l.grammar)) l.expected) l.from (l.from + k) l.next (ways_at l.row.items k);
-}
+invariant-loop-place l =
+    IsRowSoFar (plain l.grammar) (tokens_of l.grammar l.shown) l.table.lists.items (option_map (symbol (texts l.grammar)) l.expected) l.from l.initial.place l.place-end l.place l.skipped (ways_of l.next) l.ways.items

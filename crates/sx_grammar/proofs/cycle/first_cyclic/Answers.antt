@@ -9,11 +9,11 @@ loop-sort-preserved c = λ g are other lt cyclic. elim (cases_lt other c.loop-so
   | inl below ↦ c.loop-sort.invariant g are other below cyclic
   | inr above ↦ (
       let last : other ≡ c.loop-sort.sort = omega (arith, lt, above) in
-      false≢true (sym c.if-branch.false ∙ (c.in_ok-leads_back.ensures g are).1 (subst (IsCyclic g) last cyclic)))
+      false≢true (sym c.if-branch.false ∙ (c.in_ok-is_cyclic.ensures g are).1 (subst (IsCyclic g) last cyclic)))
 ]
 
 pub returns-then-branch : goal.returns-then-branch
-returns-then-branch c = λ g are. (c.loop-sort-test.true, (c.in_ok-leads_back.ensures g are).0 c.if-branch.true, c.loop-sort.invariant g are)
+returns-then-branch c = λ g are. (c.loop-sort-test.true, (c.in_ok-is_cyclic.ensures g are).0 c.if-branch.true, c.loop-sort.invariant g are)
 
 pub returns : goal.returns
 returns c = λ g are sort cyclic.

@@ -34,6 +34,6 @@ returns-in-Read-clause-none c =
     let sort = main_sort s.language Sub in
     let h = subst (IsUnreadBody p sort s.header.body) c.in-Read.is c.requires in
     inr (λ b.
-      let same : b.tokens ≡ h.0 = one_cut p s.header.body b.tokens h.0 b.read.cut h.1 in
-      unread_or_read p sort h.0 (length s.header.body) c.in-Read.error b.reading h.2
-      (subst (λ (ts : List Token). IsAnswer (numbered p) (plain_tokens [] ts) (number_of sort) (only b.reading)) same b.read.answer))
+    let same : b.tokens ≡ h.0 = one_cut p s.header.body b.tokens h.0 b.read.cut h.1 in
+    unread_or_read p sort h.0 (length s.header.body) c.in-Read.error b.reading h.2
+    (subst (λ (ts : List Token). IsAnswer (numbered p) (plain_tokens [] ts) (number_of sort) (only b.reading)) same b.read.answer))

@@ -1,0 +1,196 @@
+-- What a file declares, found by names.
+use Rattle.std.proofs.Common.{◌≡◌, ℕ, ◌<◌, Bool, inl, inr, List, [], ◌∷◌, length, get_or, take, map, Option, Some, None, refl, sym, ap, subst, ◌∙◌, arith, Contains, ◌↔◌, IsTrue}
+use Rattle.std.specs.Prelude.{option_map, slice_get, unwrap_or}
+use Rattle.std.specs.Option.{is_some}
+use Rattle.std.specs.List.{AllByRecursion}
+use Rattle.std.proofs.lemmas.Option.{slice_get-map, slice_get-get_or, slice_get_within}
+use Rattle.std.proofs.lemmas.List.{take-map, length-map}
+use Rattle.std.proofs.lemmas.Bool.{false≢true}
+use Rattle.sx_term.specs.declared.lex_kind.LexKind.{LexKind}
+use Rattle.sx_rules.specs.declared.rule.Role.{Role}
+use Rattle.sx_rules.specs.declared.rule.Role.TheVariants.{In, Sub, Out}
+use Rattle.sx_grammar.specs.Parts.{Line, line, labels, number_of}
+use Rattle.sx_grammar.specs.declared.production.Production.{Production}
+use Rattle.sx_grammar.specs.declared.sort_line.SortLine.{SortLine}
+use Rattle.sx_directives.specs.Spelling.{lex_text}
+use Rattle.sx_directives.specs.declared.spelled.SpelledSort.{SpelledSort}
+use Rattle.sx_directives.specs.declared.spelled.SpelledSort.TheVariants.{Named}
+use Rattle.sx_directives.specs.declared.spelled.FormSymbol.{FormSymbol}
+use Rattle.sx_directives.specs.declared.rows.VarLine.{VarLine}
+use Rattle.sx_directives.specs.declared.rows.FormLine.{FormLine}
+use Rattle.sx_directives.specs.declared.rows.MainLine.{MainLine}
+use Rattle.sx_directives.specs.declared.row.Row.{Row}
+use Rattle.sx_directives.specs.declared.row.Row.TheVariants.{Var, Form}
+use Rattle.sx_outline.specs.declared.main_form.MainForm.{MainForm}
+use Rattle.sx_outline.specs.Declarations.{Declared, FormData, form, parts_of}
+use Rattle.sx_outline.specs.Fitting.{Fits, HasOneSubject, IsConstructor, IsKnownSort, IsMainOf, Kid, SymbolFits, form_names, kids_of, sort_named, sort_names, sorts_at, stems}
+use Rattle.sx_outline.specs.MainSorts.{AreConstructors, AreMainSorts, IsOneName, IsPlain}
+use Rattle.sx_outline.proofs.PlaceLaws.{at, first_at, found_in, none_in, number_found, find_place, find_nothing, position_is}
+
+-- ---- sorts
+
+-- the first sort with the name of a place
+pub typed_found : (sorts : List SortLine) (name : List ℕ) (i : ℕ) (s : SortLine) (d : Declared) → d.sorts ≡ sorts → first_at name (sort_names d) ≡ Some i → s ≡ get_or sorts i s → Some s.typed ≡ option_map (λ x. x.typed) (sort_named d name)
+typed_found sorts name i s d same e is =
+    let there : sort_named d name ≡ Some (get_or d.sorts i s) = find_place (λ (x : SortLine). x.name) d.sorts name i s e in
+    ap (λ (x : SortLine). Some x.typed) (is ∙ ap (λ xs. get_or xs i s) (sym same)) ∙ sym (ap (option_map (λ (x : SortLine). x.typed)) there)
+
+pub typed_none : (name : List ℕ) (d : Declared) → first_at name (sort_names d) ≡ None → None ≡ option_map (λ (x : SortLine). x.typed) (sort_named d name)
+typed_none name d e = sym (ap (option_map (λ (x : SortLine). x.typed)) (find_nothing (λ (x : SortLine). x.name) d.sorts name e))
+
+-- the name of a sort that is not lexical is found
+pub known_sort : (d : Declared) (name : List ℕ) (r : Option ℕ) (b : Bool) → ((kind : LexKind) × (name ≡ lex_text kind) → ⊥) → first_at name (sort_names d) ≡ r → b ≡ is_some r → IsTrue b ↔ IsKnownSort d name
+known_sort d name None b n e f = ((λ t. absurd (false≢true (sym f ∙ t))), λ k. absurd (by k))
+  where
+    by : IsKnownSort d name → ⊥
+    by (inl lexical) = n lexical
+    by (inr there) = none_in (sort_names d) name e there
+known_sort d name (Some i) b n e f = ((λ t. inr (found_in (sort_names d) name i e)), λ k. f)
+
+-- ---- rows
+
+pub fits_var : (known before : Declared) (vars : ℕ) (v : VarLine) (row : Row) (b : Bool) → row ≡ Var v → before.vars ≡ take vars known.vars
+    → IsTrue b ↔ ((Contains (take vars (stems known)) v.stem → ⊥) × IsKnownSort known v.sort) → IsTrue b ↔ Fits known before row
+fits_var known before vars v row b e f h =
+    let same : take vars (stems known) ≡ stems before = take-map (λ (x : VarLine). x.stem) vars known.vars ∙ ap (map (λ (x : VarLine). x.stem)) (sym f) in
+    subst (λ r. IsTrue b ↔ Fits known before r) (sym e) (subst (λ names. IsTrue b ↔ ((Contains names v.stem → ⊥) × IsKnownSort known v.sort)) same h)
+
+pub fits_form : (known before : Declared) (forms : ℕ) (f : FormLine) (row : Row) (b : Bool) → row ≡ Form f → before.forms ≡ take forms known.forms
+    → IsTrue b ↔ ((Contains (take forms (form_names known)) f.name → ⊥) × AllByRecursion (SymbolFits known) f.symbols.items × HasOneSubject f.symbols.items) → IsTrue b ↔ Fits known before row
+fits_form known before forms f row b e g h =
+    let same : take forms (form_names known) ≡ form_names before = take-map (λ (x : FormData). x.name) forms known.forms ∙ ap (map (λ (x : FormData). x.name)) (sym g) in
+    subst (λ r. IsTrue b ↔ Fits known before r) (sym e) (subst (λ names. IsTrue b ↔ ((Contains names f.name → ⊥) × AllByRecursion (SymbolFits known) f.symbols.items × HasOneSubject f.symbols.items)) same h)
+
+-- ---- numbers
+
+-- the number of a name that is found is its place
+pub number_at : (names : List (List ℕ)) (name : List ℕ) (n : ℕ) → first_at name names ≡ Some n → n ≡ number_of names name
+number_at names name n e = sym (ap (λ r. unwrap_or r (length names)) (position_is (at name) names ∙ e))
+
+-- a number that is within the names is a place
+pub number_place : (names : List (List ℕ)) (name : List ℕ) (n : ℕ) → n ≡ number_of names name → n < length names → first_at name names ≡ Some n
+number_place names name n e lt = by (first_at name names) refl
+  where
+    by : (r : Option ℕ) → first_at name names ≡ r → first_at name names ≡ Some n
+    by None f = absurd (let past : number_of names name ≡ length names = ap (λ x. unwrap_or x (length names)) (position_is (at name) names ∙ f) in omega (arith, e, past, lt))
+    by (Some i) f = f ∙ ap Some (number_at names name i f ∙ sym e)
+
+some_same : {X : Type 0} (x y : X) → Some x ≡ Some y → x ≡ y
+some_same x y e = cc
+
+-- an item that is got stands within the names
+got_within : {X : Type 0} (f : X → List ℕ) (xs : List X) (n : ℕ) (x : X) → slice_get xs n ≡ Some x → n < length (map f xs)
+got_within f xs n x e = let lt = slice_get_within xs n x e in omega (arith, lt, length-map xs f)
+
+-- ---- constructors
+
+pub constructor_is : (d : Declared) (label sort : List ℕ) (n : ℕ) (l : Line) → first_at label (labels (parts_of d)) ≡ Some n → slice_get d.productions n ≡ Some l → l.sort ≡ sort → IsConstructor d label n sort (kids_of l.symbols)
+constructor_is d label sort n l e is same = record { line = l; is = is; first = number_at (labels (parts_of d)) label n e; sort_is = same; kids_are = refl }
+
+-- a constructor stands at the first place of its label
+pub constructor_place : (d : Declared) (label sort : List ℕ) (n : ℕ) (kids : List Kid) → IsConstructor d label n sort kids → first_at label (labels (parts_of d)) ≡ Some n
+constructor_place d label sort n kids h = number_place (labels (parts_of d)) label n h.first (got_within (λ (l : Line). l.label) d.productions n h.line h.is)
+
+pub constructor_none : (d : Declared) (label sort : List ℕ) → first_at label (labels (parts_of d)) ≡ None → (n : ℕ) (kids : List Kid) → IsConstructor d label n sort kids → ⊥
+constructor_none d label sort e n kids h = let clash : None ≡ Some n = sym e ∙ constructor_place d label sort n kids h in cc
+
+-- the production at the place is that of the constructor
+pub constructor_line : (d : Declared) (label sort : List ℕ) (place n : ℕ) (l : Line) (kids : List Kid) → first_at label (labels (parts_of d)) ≡ Some place → slice_get d.productions place ≡ Some l → IsConstructor d label n sort kids
+    → (n ≡ place) × (l.sort ≡ sort) × (kids_of l.symbols ≡ kids)
+constructor_line d label sort place n l kids e is h =
+    let same : n ≡ place = some_same n place (sym (constructor_place d label sort n kids h) ∙ e) in
+    let line_same : l ≡ h.line = some_same l h.line (sym is ∙ ap (slice_get d.productions) (sym same) ∙ h.is) in
+    (same, ap (λ (x : Line). x.sort) line_same ∙ h.sort_is, ap (λ (x : Line). kids_of x.symbols) line_same ∙ h.kids_are)
+
+-- a production of a list by its place
+pub line_at : (ps : List Production) (i : ℕ) (p : Production) → i < length ps → p ≡ get_or ps i p → slice_get (map line ps) i ≡ Some (line p)
+line_at ps i p lt is = slice_get-map line ps i ∙ ap (option_map line) (slice_get-get_or ps i p lt) ∙ ap (λ x. Some (line x)) (sym is)
+
+pub form_at : (fs : List FormLine) (i : ℕ) (f : FormLine) → i < length fs → f ≡ get_or fs i f → slice_get (map form fs) i ≡ Some (form f)
+form_at fs i f lt is = slice_get-map form fs i ∙ ap (option_map form) (slice_get-get_or fs i f lt) ∙ ap (λ x. Some (form x)) (sym is)
+
+-- two constructors with one label have the same parts
+pub one_constructor : (d : Declared) (label sort other : List ℕ) (n m : ℕ) (kids more : List Kid) → IsConstructor d label n sort kids → IsConstructor d label m other more → (n ≡ m) × (kids ≡ more)
+one_constructor d label sort other n m kids more h k =
+    let w = constructor_line d label other n m h.line more (constructor_place d label sort n kids h) h.is k in
+    (sym w.0, sym h.kids_are ∙ w.2)
+
+-- ---- main forms
+
+named_same : (a b : List ℕ) (l m : ℕ) (xs ys : List SpelledSort) → Named a l ∷ xs ≡ Named b m ∷ ys → a ≡ b
+named_same a b l m xs ys e = cc
+
+pub one_name : (symbols : List FormSymbol) (role : Role) (a b : List ℕ) → IsOneName symbols role a → IsOneName symbols role b → a ≡ b
+one_name symbols role a b h k = named_same a b h.0 k.0 [] [] (sym h.1 ∙ k.1)
+
+main_place : (d : Declared) (m : MainLine) (main : MainForm) → IsMainOf d m main → first_at m.form (form_names d) ≡ Some main.form
+main_place d m main h = number_place (form_names d) m.form main.form h.form_first (got_within (λ (f : FormData). f.name) d.forms main.form h.form h.form_is)
+
+pub no_main_place : (d : Declared) (m : MainLine) → first_at m.form (form_names d) ≡ None → (main : MainForm) → IsMainOf d m main → ⊥
+no_main_place d m e main h = let clash : None ≡ Some main.form = sym e ∙ main_place d m main h in cc
+
+-- the sorts of the main form are those of the form at the place of its name
+pub main_sorts_at : (d : Declared) (m : MainLine) (place : ℕ) (f : FormData) → first_at m.form (form_names d) ≡ Some place → slice_get d.forms place ≡ Some f → (main : MainForm) → (h : IsMainOf d m main) → AreMainSorts f.symbols h.environment h.signature
+main_sorts_at d m place f e is main h =
+    let same : main.form ≡ place = some_same main.form place (sym (main_place d m main h) ∙ e) in
+    let form_same : h.form ≡ f = some_same h.form f (sym h.form_is ∙ ap (slice_get d.forms) same ∙ is) in
+    subst (λ (x : FormData). AreMainSorts x.symbols h.environment h.signature) form_same
+    (record { input = (h.input.least, h.input.is); subject_sort = h.subject_sort; subject = h.subject; output = (h.output.least, h.output.is) })
+
+pub no_main_plain : (d : Declared) (m : MainLine) (place : ℕ) (f : FormData) (environment signature : List ℕ) → first_at m.form (form_names d) ≡ Some place → slice_get d.forms place ≡ Some f → AreMainSorts f.symbols environment signature
+    → (IsPlain d signature → ⊥) → (main : MainForm) → IsMainOf d m main → ⊥
+no_main_plain d m place f environment signature e is sorts n main h =
+    let same : h.signature ≡ signature = one_name f.symbols Out h.signature signature (main_sorts_at d m place f e is main h).output sorts.output in
+    n (subst (IsPlain d) same (h.signature_line, h.signature_is, h.signature_plain))
+
+pub no_main_constructors : (d : Declared) (m : MainLine) (place : ℕ) (f : FormData) (environment signature : List ℕ) → first_at m.form (form_names d) ≡ Some place → slice_get d.forms place ≡ Some f → AreMainSorts f.symbols environment signature
+    → ((empty add : ℕ) → AreConstructors d m environment signature empty add → ⊥) → (main : MainForm) → IsMainOf d m main → ⊥
+no_main_constructors d m place f environment signature e is sorts n main h =
+    let own = main_sorts_at d m place f e is main h in
+    let same_s : h.signature ≡ signature = one_name f.symbols Out h.signature signature own.output sorts.output in
+    let same_e : h.environment ≡ environment = one_name f.symbols In h.environment environment own.input sorts.input in
+    n main.empty main.add (subst (λ x. AreConstructors d m x signature main.empty main.add) same_e (subst (λ x. AreConstructors d m h.environment x main.empty main.add) same_s (record { empty_is = h.empty; add_is = h.add })))
+
+pub main_is : (d : Declared) (m : MainLine) (place empty add : ℕ) (f : FormData) (environment signature : List ℕ) → first_at m.form (form_names d) ≡ Some place → slice_get d.forms place ≡ Some f → AreMainSorts f.symbols environment signature
+    → IsPlain d signature → AreConstructors d m environment signature empty add → IsMainOf d m (record { form = place; empty = empty; add = add })
+main_is d m place empty add f environment signature e is sorts plain made = record {
+  form = f;
+  form_is = is;
+  form_first = number_at (form_names d) m.form place e;
+  environment = environment;
+  input = record { least = sorts.input.0; is = sorts.input.1 };
+  subject_sort = sorts.subject_sort;
+  subject = sorts.subject;
+  signature = signature;
+  output = record { least = sorts.output.0; is = sorts.output.1 };
+  signature_line = plain.0;
+  signature_is = plain.1;
+  signature_plain = plain.2;
+  empty = made.empty_is;
+  add = made.add_is;
+}
+
+-- ---- at their places
+
+pub line_found : (ps : List Production) (label : List ℕ) (i : ℕ) (p : Production) → first_at label (map (λ l. l.label) (map line ps)) ≡ Some i → p ≡ get_or ps i p → slice_get (map line ps) i ≡ Some (line p)
+line_found ps label i p e is =
+    let lt = number_found (map (λ (l : Line). l.label) (map line ps)) label i e in
+    line_at ps i p (omega (arith, lt, length-map (map line ps) (λ (l : Line). l.label), length-map ps line)) is
+
+pub form_found : (fs : List FormLine) (name : List ℕ) (i : ℕ) (f : FormLine) → first_at name (map (λ x. x.name) (map form fs)) ≡ Some i → f ≡ get_or fs i f → slice_get (map form fs) i ≡ Some (form f)
+form_found fs name i f e is =
+    let lt = number_found (map (λ (x : FormData). x.name) (map form fs)) name i e in
+    form_at fs i f (omega (arith, lt, length-map (map form fs) (λ (x : FormData). x.name), length-map fs form)) is
+
+-- ---- the sorts of main forms
+
+-- a list of one item
+pub one_item : {X : Type 0} (xs : List X) → length xs ≡ 1 → (x : X) × (xs ≡ x ∷ [])
+one_item [] e = absurd (omega arith)
+one_item (x ∷ []) e = (x, refl)
+one_item (x ∷ y ∷ xs) e = absurd (omega arith)
+
+pub main_sorts_are : (symbols : List FormSymbol) (count : ℕ) (environment signature : List ℕ) → count ≡ length (sorts_at Sub symbols) → count ≡ 1 → IsOneName symbols In environment → IsOneName symbols Out signature → AreMainSorts symbols environment signature
+main_sorts_are symbols count environment signature e one input output =
+    let w = one_item (sorts_at Sub symbols) (sym e ∙ one) in
+    record { input = input; subject_sort = w.0; subject = w.1; output = output }

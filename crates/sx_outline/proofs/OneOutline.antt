@@ -1,0 +1,274 @@
+-- A language file has one answer.
+use Rattle.std.proofs.Common.{◌≡◌, ◌≢◌, ℕ, List, [], ◌∷◌, Result, Ok, Err, refl, sym, ap, subst, ◌∙◌, inl, inr}
+use Rattle.sx_lines.specs.Lines.{Lines, over, line, lines_from}
+use Rattle.sx_grammar.specs.Parts.{labels, number_of}
+use Rattle.sx_directives.specs.Parts as directives
+use Rattle.sx_directives.specs.Rows.{IsRow, HasWord}
+use Rattle.sx_directives.specs.declared.rows.MainLine.{MainLine}
+use Rattle.sx_directives.specs.declared.row.Row.{Row}
+use Rattle.sx_directives.specs.declared.row.Row.TheVariants.{Language, Sort, Prod, Var, Form, Main, Rule, Bar, End}
+use Rattle.sx_core.specs.declared.kind.Kind.{Kind}
+use Rattle.sx_core.specs.declared.kind.Kind.TheVariants.{Head, Directive, Shape, Order, Unfinished, Main as NoMain, Variable}
+use Rattle.sx_outline.specs.declared.main_form.MainForm.{MainForm}
+use Rattle.sx_outline.specs.declared.outline_error.OutlineError.{OutlineError}
+use Rattle.sx_outline.specs.declared.outline_error.OutlineError.TheVariants.{Memory, NotUtf8, Notation}
+use Rattle.sx_outline.specs.Declarations.{Declared, nothing, declare, parts_of}
+use Rattle.sx_outline.specs.Fitting.{IsMainOf, form_names}
+use Rattle.sx_outline.specs.Known.{Declares, GoesOn, kept_lines}
+use Rattle.sx_outline.specs.Stages.{RuleData, Stage, at_start, at_declarations, at_rules, at_premises, at_conclusion, at_end, State, start, IsDue, MayStand, Steps, StepsAt, StepsByRow, IsBad, after}
+use Rattle.sx_outline.specs.Outlined.{OutlineData, declared_by, IsOutcome, IsEnd, IsMissing, IsInside, IsWhole, IsOutlineOf, IsReadAs, IsOutlineAnswer}
+use Rattle.sx_outline.proofs.SameRows.{SameRow, same_row}
+use Rattle.sx_outline.proofs.SameLaws.{has_word, same_declare, same_stands, same_main, same_goes}
+
+-- ---- what is known
+
+goes_once : (d : Declared) (row : Row) (a b : Declared) (NextA NextB : Declared → Type 0) → ((next : Declared) → NextA next → NextB next → a ≡ b)
+    → GoesOn d row a NextA → GoesOn d row b NextB → a ≡ b
+goes_once d (Rule name) a b NextA NextB f h k = h ∙ sym k
+goes_once d (Language name) a b NextA NextB f h k = f (declare d (Language name)) h k
+goes_once d (Sort s) a b NextA NextB f h k = f (declare d (Sort s)) h k
+goes_once d (Prod p) a b NextA NextB f h k = f (declare d (Prod p)) h k
+goes_once d (Var v) a b NextA NextB f h k = f (declare d (Var v)) h k
+goes_once d (Form g) a b NextA NextB f h k = f (declare d (Form g)) h k
+goes_once d (Main m) a b NextA NextB f h k = f (declare d (Main m)) h k
+goes_once d Bar a b NextA NextB f h k = f (declare d Bar) h k
+goes_once d End a b NextA NextB f h k = f (declare d End) h k
+
+one_known : (d : Declared) (left : Lines) (a b : Declared) → Declares d left a → Declares d left b → a ≡ b
+one_known d (over n) a b h k = h ∙ sym k
+one_known d (line n text after more) a b (inl h) (inl k) =
+    goes_once d k.0 a b (λ next. Declares next more a) (λ next. Declares next more b) (λ next x y. one_known next more a b x y)
+    (same_goes d h.0 k.0 a (λ next. Declares next more a) (same_row (directives.parts_of text) h.0 k.0 h.1 k.1) h.2) k.2
+one_known d (line n text after more) a b (inl h) (inr k) = absurd (k.0 h.0 h.1)
+one_known d (line n text after more) a b (inr h) (inl k) = absurd (h.0 k.0 k.1)
+one_known d (line n text after more) a b (inr h) (inr k) = one_known d more a b h.1 k.1
+
+-- ---- where a line leads
+
+declared_with : State → Declared → State
+declared_with s d = record { stage = s.stage; declared = d; rules = s.rules }
+
+same_after : (s : State) (n : ℕ) (r q : Row) → SameRow r q → after s n r ≡ after s n q
+unfolding declared_with
+same_after s n (Language a) (Language b) e = refl
+same_after s n (Sort a) (Sort b) e = ap (declared_with s) (same_declare s.declared (Sort a) (Sort b) e)
+same_after s n (Prod a) (Prod b) e = ap (declared_with s) (same_declare s.declared (Prod a) (Prod b) e)
+same_after s n (Var a) (Var b) e = ap (declared_with s) (same_declare s.declared (Var a) (Var b) e)
+same_after s n (Form a) (Form b) e = ap (declared_with s) (same_declare s.declared (Form a) (Form b) e)
+same_after s n (Main a) (Main b) e = ap (declared_with s) (same_declare s.declared (Main a) (Main b) e)
+same_after s n (Rule a) (Rule b) e = ap (λ x. after s n (Rule x)) e
+same_after s n Bar Bar e = refl
+same_after s n End End e = refl
+same_after s n _ _ e = absurd e
+
+one_by_row : (known : Declared) (s : State) (n : ℕ) (text : List ℕ) (t u : State) → StepsByRow known s n text t → StepsByRow known s n text u → t ≡ u
+one_by_row known s n text t u (r, good, e) (q, fine, f) = e ∙ same_after s n r q (same_row (directives.parts_of text) r q good.spelled fine.spelled) ∙ sym f
+
+one_step : (at : Stage) (known : Declared) (name : List ℕ) (s : State) (n : ℕ) (text : List ℕ) (t u : State) → StepsAt at known name s n text t → StepsAt at known name s n text u → t ≡ u
+one_step at_start known name s n text t u h k = h.1 ∙ sym k.1
+one_step at_declarations known name s n text t u h k = one_by_row known s n text t u h k
+one_step at_rules known name s n text t u h k = one_by_row known s n text t u h k
+one_step (at_premises b) known name s n text t u (inl h) (inl k) = h.1 ∙ sym k.1
+one_step (at_premises b) known name s n text t u (inl h) (inr k) = absurd (k.0 h.0)
+one_step (at_premises b) known name s n text t u (inr h) (inl k) = absurd (h.0 k.0)
+one_step (at_premises b) known name s n text t u (inr h) (inr k) = h.1 ∙ sym k.1
+one_step (at_conclusion b) known name s n text t u h k = h ∙ sym k
+one_step (at_end r) known name s n text t u h k = one_by_row known s n text t u h k
+
+-- ---- a bad line
+
+due_row : (at : Stage) (known : Declared) (name : List ℕ) (s : State) (n : ℕ) (text : List ℕ) (t : State) → IsDue at → StepsAt at known name s n text t → StepsByRow known s n text t
+due_row at_start known name s n text t due h = absurd due
+due_row at_declarations known name s n text t due h = h
+due_row at_rules known name s n text t due h = h
+due_row (at_premises b) known name s n text t due h = absurd due
+due_row (at_conclusion b) known name s n text t due h = absurd due
+due_row (at_end r) known name s n text t due h = h
+
+-- a line that leads on is not bad
+good_or_bad : (known : Declared) (name : List ℕ) (s : State) (n : ℕ) (text : List ℕ) (t : State) (kind : Kind) → Steps known name s n text t → IsBad known name s text kind → ⊥
+good_or_bad known name s n text t Head steps bad =
+    let h : StepsAt at_start known name s n text t = subst (λ x. StepsAt x known name s n text t) bad.0 steps in
+    bad.1 h.0
+good_or_bad known name s n text t Directive steps bad =
+    let h = due_row s.stage known name s n text t bad.0 steps in
+    bad.1 (has_word (directives.parts_of text) h.0 h.1.spelled)
+good_or_bad known name s n text t Shape steps bad =
+    let h = due_row s.stage known name s n text t bad.0 steps in
+    bad.2 h.0 h.1.spelled h.1.fits
+good_or_bad known name s n text t Order steps bad =
+    let h = due_row s.stage known name s n text t bad.0 steps in
+    bad.4 (same_stands s.stage s.declared.mains h.0 bad.1 (same_row (directives.parts_of text) h.0 bad.1 h.1.spelled bad.2) h.1.stands)
+good_or_bad known name s n text t NoMain steps bad =
+    let h = due_row s.stage known name s n text t bad.0 steps in
+    let main = same_main known h.0 (Main bad.1) (same_row (directives.parts_of text) h.0 (Main bad.1) h.1.spelled bad.2) h.1.main in
+    bad.4 main.0 main.1
+good_or_bad known name s n text t Unfinished steps bad = absurd bad
+good_or_bad known name s n text t Variable steps bad = absurd bad
+
+not_due : (at : Stage) → at ≡ at_start → IsDue at → ⊥
+not_due at e due = subst IsDue e due
+
+unread_word : (text : List ℕ) (row : Row) → (HasWord (directives.parts_of text) → ⊥) → IsRow (directives.parts_of text) row → ⊥
+unread_word text row n is = n (has_word (directives.parts_of text) row is)
+
+-- the main line may stand there, so another row of it may too
+may_stand : (s : State) (text : List ℕ) (row : Row) (m : MainLine) → IsRow (directives.parts_of text) row → (MayStand s row → ⊥) → IsRow (directives.parts_of text) (Main m) → MayStand s (Main m) → ⊥
+may_stand s text row m is n main stands = n (same_stands s.stage s.declared.mains (Main m) row (same_row (directives.parts_of text) (Main m) row main is) stands)
+
+-- a line is bad in one way
+one_kind : (known : Declared) (name : List ℕ) (s : State) (text : List ℕ) (k l : Kind) → IsBad known name s text k → IsBad known name s text l → k ≡ l
+one_kind known name s text Head Head h m = refl
+one_kind known name s text Head Directive h m = absurd (not_due s.stage h.0 m.0)
+one_kind known name s text Head Shape h m = absurd (not_due s.stage h.0 m.0)
+one_kind known name s text Head Order h m = absurd (not_due s.stage h.0 m.0)
+one_kind known name s text Head NoMain h m = absurd (not_due s.stage h.0 m.0)
+one_kind known name s text Directive Head h m = absurd (not_due s.stage m.0 h.0)
+one_kind known name s text Directive Directive h m = refl
+one_kind known name s text Directive Shape h m = absurd (h.1 m.1)
+one_kind known name s text Directive Order h m = absurd (unread_word text m.1 h.1 m.2)
+one_kind known name s text Directive NoMain h m = absurd (unread_word text (Main m.1) h.1 m.2)
+one_kind known name s text Shape Head h m = absurd (not_due s.stage m.0 h.0)
+one_kind known name s text Shape Directive h m = absurd (m.1 h.1)
+one_kind known name s text Shape Shape h m = refl
+one_kind known name s text Shape Order h m = absurd (h.2 m.1 m.2 m.3)
+one_kind known name s text Shape NoMain h m = absurd (h.2 (Main m.1) m.2 tt)
+one_kind known name s text Order Head h m = absurd (not_due s.stage m.0 h.0)
+one_kind known name s text Order Directive h m = absurd (unread_word text h.1 m.1 h.2)
+one_kind known name s text Order Shape h m = absurd (m.2 h.1 h.2 h.3)
+one_kind known name s text Order Order h m = refl
+one_kind known name s text Order NoMain h m = absurd (may_stand s text h.1 m.1 h.2 h.4 m.2 m.3)
+one_kind known name s text NoMain Head h m = absurd (not_due s.stage m.0 h.0)
+one_kind known name s text NoMain Directive h m = absurd (unread_word text (Main h.1) m.1 h.2)
+one_kind known name s text NoMain Shape h m = absurd (m.2 (Main h.1) h.2 tt)
+one_kind known name s text NoMain Order h m = absurd (may_stand s text m.1 h.1 m.2 m.4 h.2 h.3)
+one_kind known name s text NoMain NoMain h m = refl
+one_kind known name s text Unfinished _ h m = absurd h
+one_kind known name s text Variable _ h m = absurd h
+one_kind known name s text _ Unfinished h m = absurd m
+one_kind known name s text _ Variable h m = absurd m
+
+-- ---- the end
+
+one_form : (d : Declared) (m n : MainLine) (a b : MainForm) → m ≡ n → IsMainOf d m a → IsMainOf d n b → a ≡ b
+one_form d m n a b e h k =
+    let forms : a.form ≡ b.form = h.form_first ∙ ap (λ (x : MainLine). number_of (form_names d) x.form) e ∙ sym k.form_first in
+    let empties : a.empty ≡ b.empty = h.empty.first ∙ ap (λ (x : MainLine). number_of (labels (parts_of d)) x.empty) e ∙ sym k.empty.first in
+    let adds : a.add ≡ b.add = h.add.first ∙ ap (λ (x : MainLine). number_of (labels (parts_of d)) x.add) e ∙ sym k.add.first in
+    ap (λ (x : ℕ). let main : MainForm = record { form = x; empty = a.empty; add = a.add } in main) forms
+    ∙ ap (λ (x : ℕ). let main : MainForm = record { form = b.form; empty = x; add = a.add } in main) empties
+    ∙ ap (λ (x : ℕ). let main : MainForm = record { form = b.form; empty = b.empty; add = x } in main) adds
+
+one_line : (m n : MainLine) → m ∷ [] ≡ n ∷ [] → m ≡ n
+one_line m n e = cc
+
+same_outline : (o p : OutlineData) (m n : MainLine) → declared_by o m ≡ declared_by p n → o.main ≡ p.main → o.rules ≡ p.rules → o ≡ p
+same_outline o p m n e f g =
+    ap (λ (x : Declared). let all : OutlineData = record { parts = parts_of x; vars = x.vars; forms = x.forms; main = o.main; rules = o.rules } in all) e
+    ∙ ap (λ (x : MainForm). let all : OutlineData = record { parts = p.parts; vars = p.vars; forms = p.forms; main = x; rules = o.rules } in all) f
+    ∙ ap (λ (x : List RuleData). let all : OutlineData = record { parts = p.parts; vars = p.vars; forms = p.forms; main = p.main; rules = x } in all) g
+
+one_outline : (s : State) (o p : OutlineData) → IsOutlineOf s o → IsOutlineOf s p → o ≡ p
+one_outline s o p h k =
+    let e : declared_by o h.line ≡ declared_by p k.line = sym h.declared ∙ k.declared in
+    same_outline o p h.line k.line e (one_form s.declared h.line k.line o.main p.main (one_line h.line k.line (ap (λ (x : Declared). x.mains) e)) h.main k.main) (sym h.rules ∙ k.rules)
+
+inside_or_whole : (at : Stage) (n : ℕ) → IsInside at n → IsWhole at → ⊥
+inside_or_whole at_start n h w = h
+inside_or_whole at_declarations n h w = h
+inside_or_whole at_rules n h w = h
+inside_or_whole (at_premises b) n h w = w
+inside_or_whole (at_conclusion b) n h w = w
+inside_or_whole (at_end r) n h w = w
+
+one_inside : (at : Stage) (n m : ℕ) → IsInside at n → IsInside at m → n ≡ m
+one_inside at_start n m h k = absurd h
+one_inside at_declarations n m h k = absurd h
+one_inside at_rules n m h k = absurd h
+one_inside (at_premises b) n m h k = sym h ∙ k
+one_inside (at_conclusion b) n m h k = sym h ∙ k
+one_inside (at_end r) n m h k = sym h ∙ k
+
+start_whole : (at : Stage) → at ≡ at_start → IsWhole at → ⊥
+start_whole at e w = subst IsWhole e w
+
+start_inside : (at : Stage) (n : ℕ) → at ≡ at_start → IsInside at n → ⊥
+start_inside at n e h = subst (λ x. IsInside x n) e h
+
+no_line : (o : OutlineData) (s : State) → IsOutlineOf s o → s.declared.mains ≡ [] → ⊥
+no_line o s h e = none_is h.line (sym (ap (λ (x : Declared). x.mains) h.declared) ∙ e)
+  where
+    none_is : (m : MainLine) → m ∷ [] ≡ [] → ⊥
+    none_is m e = cc
+
+whole_missing : (s : State) (end number : ℕ) (kind : Kind) (o : OutlineData) → IsWhole s.stage → IsOutlineOf s o → IsMissing s end number kind → ⊥
+whole_missing s end number Head o w is h = start_whole s.stage h.0 w
+whole_missing s end number Unfinished o w is h = inside_or_whole s.stage number h w
+whole_missing s end number NoMain o w is h = no_line o s is h.1
+whole_missing s end number Directive o w is h = h
+whole_missing s end number Shape o w is h = h
+whole_missing s end number Order o w is h = h
+whole_missing s end number Variable o w is h = h
+
+bad_at : ℕ → Kind → Result OutlineData OutlineError
+bad_at n kind = Err (Notation n kind)
+
+one_missing : (s : State) (end n m : ℕ) (k l : Kind) → IsMissing s end n k → IsMissing s end m l → bad_at n k ≡ bad_at m l
+one_missing s end n m Head Head h g = ap (λ x. bad_at x Head) (h.1 ∙ sym g.1)
+one_missing s end n m Head Unfinished h g = absurd (start_inside s.stage m h.0 g)
+one_missing s end n m Head NoMain h g = absurd (start_whole s.stage h.0 g.0)
+one_missing s end n m Unfinished Head h g = absurd (start_inside s.stage n g.0 h)
+one_missing s end n m Unfinished Unfinished h g = ap (λ x. bad_at x Unfinished) (one_inside s.stage n m h g)
+one_missing s end n m Unfinished NoMain h g = absurd (inside_or_whole s.stage n h g.0)
+one_missing s end n m NoMain Head h g = absurd (start_whole s.stage g.0 h.0)
+one_missing s end n m NoMain Unfinished h g = absurd (inside_or_whole s.stage m g h.0)
+one_missing s end n m NoMain NoMain h g = ap (λ x. bad_at x NoMain) (h.2 ∙ sym g.2)
+one_missing s end n m Directive _ h g = absurd h
+one_missing s end n m Shape _ h g = absurd h
+one_missing s end n m Order _ h g = absurd h
+one_missing s end n m Variable _ h g = absurd h
+one_missing s end n m _ Directive h g = absurd g
+one_missing s end n m _ Shape h g = absurd g
+one_missing s end n m _ Order h g = absurd g
+one_missing s end n m _ Variable h g = absurd g
+
+one_end : (s : State) (end : ℕ) (a b : Result OutlineData OutlineError) → IsEnd s end a → IsEnd s end b → a ≡ b
+unfolding bad_at
+one_end s end (Ok o) (Ok p) h k = ap (λ x. Ok x) (one_outline s o p h.1 k.1)
+one_end s end (Ok o) (Err (Notation n kind)) h k = absurd (whole_missing s end n kind o h.0 h.1 k)
+one_end s end (Ok o) (Err Memory) h k = absurd k
+one_end s end (Ok o) (Err (NotUtf8 place)) h k = absurd k
+one_end s end (Err (Notation n kind)) (Ok o) h k = absurd (whole_missing s end n kind o k.0 k.1 h)
+one_end s end (Err (Notation n kind)) (Err (Notation m other)) h k = one_missing s end n m kind other h k
+one_end s end (Err (Notation n kind)) (Err Memory) h k = absurd k
+one_end s end (Err (Notation n kind)) (Err (NotUtf8 place)) h k = absurd k
+one_end s end (Err Memory) b h k = absurd h
+one_end s end (Err (NotUtf8 place)) b h k = absurd h
+
+-- ---- the file
+
+one_outcome : (known : Declared) (name : List ℕ) (s : State) (left : Lines) (a b : Result OutlineData OutlineError) → IsOutcome known name s left a → IsOutcome known name s left b → a ≡ b
+one_outcome known name s (over n) a b h k = one_end s n a b h k
+one_outcome known name s (line n text after more) a b (inl h) (inl k) =
+    one_outcome known name k.0 more a b (subst (λ t. IsOutcome known name t more a) (one_step s.stage known name s n text h.0 k.0 h.1 k.1) h.2) k.2
+one_outcome known name s (line n text after more) a b (inl h) (inr k) = absurd (good_or_bad known name s n text h.0 k.0 h.1 k.1)
+one_outcome known name s (line n text after more) a b (inr h) (inl k) = absurd (good_or_bad known name s n text k.0 h.0 k.1 h.1)
+one_outcome known name s (line n text after more) a b (inr h) (inr k) = h.2 ∙ ap (λ x. Err (Notation n x)) (one_kind known name s text h.0 k.0 h.1 k.1) ∙ sym k.2
+
+one_reading : (name bytes : List ℕ) (a b : Result OutlineData OutlineError) → IsReadAs name bytes a → IsReadAs name bytes b → a ≡ b
+one_reading name bytes a b h k =
+    let e : h.known ≡ k.known = one_known nothing (kept_lines (lines_from 1 bytes)) h.known k.known h.declares k.declares in
+    one_outcome k.known name start (kept_lines (lines_from 1 bytes)) a b (subst (λ d. IsOutcome d name start (kept_lines (lines_from 1 bytes)) a) e h.outcome) k.outcome
+
+pub one_answer : (name bytes : List ℕ) (a b : Result OutlineData OutlineError) → IsOutlineAnswer name bytes a → IsOutlineAnswer name bytes b → (a ≢ Err Memory) → (b ≢ Err Memory) → a ≡ b
+one_answer name bytes (Err Memory) b h k n m = absurd (n refl)
+one_answer name bytes a (Err Memory) h k n m = absurd (m refl)
+one_answer name bytes (Ok o) (Ok p) h k n m = one_reading name bytes (Ok o) (Ok p) h k
+one_answer name bytes (Ok o) (Err (NotUtf8 place)) h k n m = absurd (k.0 h.utf8)
+one_answer name bytes (Ok o) (Err (Notation l kind)) h k n m = one_reading name bytes (Ok o) (Err (Notation l kind)) h k
+one_answer name bytes (Err (NotUtf8 place)) (Ok p) h k n m = absurd (h.0 k.utf8)
+one_answer name bytes (Err (NotUtf8 place)) (Err (NotUtf8 other)) h k n m = ap (λ x. Err (NotUtf8 x)) (h.1 ∙ sym k.1)
+one_answer name bytes (Err (NotUtf8 place)) (Err (Notation l kind)) h k n m = absurd (h.0 k.utf8)
+one_answer name bytes (Err (Notation l kind)) (Ok p) h k n m = one_reading name bytes (Err (Notation l kind)) (Ok p) h k
+one_answer name bytes (Err (Notation l kind)) (Err (NotUtf8 place)) h k n m = absurd (k.0 h.utf8)
+one_answer name bytes (Err (Notation l kind)) (Err (Notation i other)) h k n m = one_reading name bytes (Err (Notation l kind)) (Err (Notation i other)) h k

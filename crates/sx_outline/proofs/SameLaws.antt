@@ -1,0 +1,93 @@
+-- Rows of the same parts are as good as each other.
+use Rattle.std.proofs.Common.{◌≡◌, ℕ, List, [], ◌∷◌, ◌++◌, refl, ap, subst}
+use Rattle.std.specs.Prelude.{Contains}
+use Rattle.std.specs.List.{AllByRecursion}
+use Rattle.sx_grammar.specs.Parts.{Line}
+use Rattle.sx_grammar.specs.declared.production.Production.{Production}
+use Rattle.sx_grammar.specs.declared.sort_line.SortLine.{SortLine}
+use Rattle.sx_directives.specs.Rows.{IsRow, HasWord, word_of}
+use Rattle.sx_directives.specs.Spelling.{NotLexical}
+use Rattle.sx_directives.specs.declared.rows.VarLine.{VarLine}
+use Rattle.sx_directives.specs.declared.rows.FormLine.{FormLine}
+use Rattle.sx_directives.specs.declared.rows.MainLine.{MainLine}
+use Rattle.sx_directives.specs.declared.row.Row.{Row}
+use Rattle.sx_directives.specs.declared.row.Row.TheVariants.{Language, Sort, Prod, Var, Form, Main, Rule, Bar, End}
+use Rattle.sx_outline.specs.Declarations.{Declared, FormData, declare}
+use Rattle.sx_outline.specs.Fitting.{Fits, SymbolFits, HasOneSubject, IsKnownSort, stems, form_names}
+use Rattle.sx_outline.specs.Known.{GoesOn}
+use Rattle.sx_outline.specs.Stages.{Stage, at_declarations, MayStandAt, HasMain}
+use Rattle.sx_outline.proofs.SameRows.{SameRow}
+
+pub has_word : (parts : List (List ℕ)) (r : Row) → IsRow parts r → HasWord parts
+has_word parts r h = (word_of r, h.rest, h.parts_are)
+
+prod_stands : (at : Stage) (mains : List MainLine) (p q : Production) → MayStandAt at mains (Prod p) → MayStandAt at mains (Prod q)
+prod_stands at_declarations mains p q h = tt
+prod_stands _ mains p q h = absurd h
+
+form_stands : (at : Stage) (mains : List MainLine) (f g : FormLine) → MayStandAt at mains (Form f) → MayStandAt at mains (Form g)
+form_stands at_declarations mains f g h = tt
+form_stands _ mains f g h = absurd h
+
+pub same_stands : (at : Stage) (mains : List MainLine) (r s : Row) → SameRow r s → MayStandAt at mains r → MayStandAt at mains s
+same_stands at mains (Language n) (Language m) e h = subst (λ x. MayStandAt at mains (Language x)) e h
+same_stands at mains (Sort s) (Sort t) e h = subst (λ x. MayStandAt at mains (Sort x)) e h
+same_stands at mains (Prod p) (Prod q) e h = prod_stands at mains p q h
+same_stands at mains (Var v) (Var w) e h = subst (λ x. MayStandAt at mains (Var x)) e h
+same_stands at mains (Form f) (Form g) e h = form_stands at mains f g h
+same_stands at mains (Main m) (Main n) e h = subst (λ x. MayStandAt at mains (Main x)) e h
+same_stands at mains (Rule n) (Rule m) e h = subst (λ x. MayStandAt at mains (Rule x)) e h
+same_stands at mains Bar Bar e h = h
+same_stands at mains End End e h = h
+same_stands at mains _ _ e h = absurd e
+
+pub same_declare : (d : Declared) (r s : Row) → SameRow r s → declare d r ≡ declare d s
+same_declare d (Language n) (Language m) e = refl
+same_declare d (Sort s) (Sort t) e = ap (λ (x : SortLine). declare d (Sort x)) e
+same_declare d (Prod p) (Prod q) e =
+    ap (λ (x : Line). let all : Declared = record { sorts = d.sorts; productions = d.productions ++ x ∷ []; vars = d.vars; forms = d.forms; mains = d.mains } in all) e
+same_declare d (Var v) (Var w) e = ap (λ (x : VarLine). declare d (Var x)) e
+same_declare d (Form f) (Form g) e =
+    ap (λ (x : FormData). let all : Declared = record { sorts = d.sorts; productions = d.productions; vars = d.vars; forms = d.forms ++ x ∷ []; mains = d.mains } in all) e
+same_declare d (Main m) (Main n) e = ap (λ (x : MainLine). declare d (Main x)) e
+same_declare d (Rule n) (Rule m) e = refl
+same_declare d Bar Bar e = refl
+same_declare d End End e = refl
+same_declare d _ _ e = absurd e
+
+pub same_fits : (known before : Declared) (r s : Row) → SameRow r s → Fits known before r → Fits known before s
+same_fits known before (Language n) (Language m) e h = h
+same_fits known before (Sort s) (Sort t) e h = subst (λ (x : SortLine). NotLexical x.name) e h
+same_fits known before (Prod p) (Prod q) e h = h
+same_fits known before (Var v) (Var w) e h = subst (λ (x : VarLine). (Contains (stems before) x.stem → ⊥) × IsKnownSort known x.sort) e h
+same_fits known before (Form f) (Form g) e h =
+    subst (λ (x : FormData). (Contains (form_names before) x.name → ⊥) × AllByRecursion (SymbolFits known) x.symbols × HasOneSubject x.symbols) e h
+same_fits known before (Main m) (Main n) e h = h
+same_fits known before (Rule n) (Rule m) e h = h
+same_fits known before Bar Bar e h = h
+same_fits known before End End e h = h
+same_fits known before _ _ e h = absurd e
+
+pub same_main : (known : Declared) (r s : Row) → SameRow r s → HasMain known r → HasMain known s
+same_main known (Language n) (Language m) e h = h
+same_main known (Sort s) (Sort t) e h = h
+same_main known (Prod p) (Prod q) e h = h
+same_main known (Var v) (Var w) e h = h
+same_main known (Form f) (Form g) e h = h
+same_main known (Main m) (Main n) e h = subst (λ x. HasMain known (Main x)) e h
+same_main known (Rule n) (Rule m) e h = h
+same_main known Bar Bar e h = h
+same_main known End End e h = h
+same_main known _ _ e h = absurd e
+
+pub same_goes : (d : Declared) (r s : Row) (all : Declared) (Next : Declared → Type 0) → SameRow r s → GoesOn d r all Next → GoesOn d s all Next
+same_goes d (Language n) (Language m) all Next e h = h
+same_goes d (Sort s) (Sort t) all Next e h = subst Next (same_declare d (Sort s) (Sort t) e) h
+same_goes d (Prod p) (Prod q) all Next e h = subst Next (same_declare d (Prod p) (Prod q) e) h
+same_goes d (Var v) (Var w) all Next e h = subst Next (same_declare d (Var v) (Var w) e) h
+same_goes d (Form f) (Form g) all Next e h = subst Next (same_declare d (Form f) (Form g) e) h
+same_goes d (Main m) (Main n) all Next e h = subst Next (same_declare d (Main m) (Main n) e) h
+same_goes d (Rule n) (Rule m) all Next e h = h
+same_goes d Bar Bar all Next e h = h
+same_goes d End End all Next e h = h
+same_goes d _ _ all Next e h = absurd e

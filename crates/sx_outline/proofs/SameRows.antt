@@ -1,0 +1,152 @@
+-- A line spells one row.
+use Rattle.std.proofs.Common.{◌≡◌, ℕ, Bool, true, false, List, [], ◌∷◌, get_or, Option, Some, None, refl, sym, ap, subst, ◌∙◌, arith}
+use Rattle.std.specs.Prelude.{codes}
+use Rattle.sx_lines.specs.Words.{number_within}
+use Rattle.sx_grammar.specs.Parts.{Line, line}
+use Rattle.sx_grammar.specs.declared.sort_line.SortLine.{SortLine}
+use Rattle.sx_directives.specs.Spelling.{Spells, SpellsForm, EachSpelled}
+use Rattle.sx_directives.specs.Rows.{IsRow, IsNameRow, IsSortRow, IsProdRow, IsVarRow, IsFormRow, IsMainRow, AreBrackets, Follows, keyword_text, kind_text, word_of}
+use Rattle.sx_directives.specs.declared.rows.VarLine.{VarLine}
+use Rattle.sx_directives.specs.declared.rows.FormLine.{FormLine}
+use Rattle.sx_directives.specs.declared.rows.MainLine.{MainLine}
+use Rattle.sx_directives.specs.declared.row.Row.{Row}
+use Rattle.sx_directives.specs.declared.row.Row.TheVariants.{Language, Sort, Prod, Var, Form, Main, Rule, Bar, End}
+use Rattle.sx_outline.specs.Declarations.{FormData, form}
+use Rattle.sx_outline.proofs.SpelledOnce.{one_quoted, one_symbol, one_form_symbol, each_same}
+
+-- the rows state the same
+abbrev pub SameRow : Row → Row → Type 0
+SameRow (Language n) (Language m) = n ≡ m
+SameRow (Sort s) (Sort t) = s ≡ t
+SameRow (Prod p) (Prod q) = line p ≡ line q
+SameRow (Var v) (Var w) = v ≡ w
+SameRow (Form f) (Form g) = form f ≡ form g
+SameRow (Main m) (Main n) = m ≡ n
+SameRow (Rule n) (Rule m) = n ≡ m
+SameRow Bar Bar = Unit {0}
+SameRow End End = Unit {0}
+SameRow _ _ = ⊥
+
+-- ---- words
+
+tail_same : (a b : List ℕ) (x y : List (List ℕ)) → a ∷ x ≡ b ∷ y → x ≡ y
+tail_same a b x y e = cc
+
+head_same : (a b : List ℕ) (x y : List (List ℕ)) → a ∷ x ≡ b ∷ y → a ≡ b
+head_same a b x y e = cc
+
+-- the first byte of a row's word, which tells the word
+abbrev told : Row → ℕ
+told r = get_or (keyword_text (word_of r)) 0 0
+
+-- ---- the parts after a word
+
+same_name : (rest : List (List ℕ)) (n m : List ℕ) → IsNameRow rest n → IsNameRow rest m → n ≡ m
+same_name rest n m h k = head_same n m [] [] (sym h.parts_are ∙ k.parts_are)
+
+same_kind : (a b : Bool) → kind_text a ≡ kind_text b → a ≡ b
+same_kind true true e = refl
+same_kind false false e = refl
+same_kind true false e = absurd (let f : get_or (kind_text true) 0 0 ≡ get_or (kind_text false) 0 0 = ap (λ (t : List ℕ). get_or t 0 0) e in omega arith)
+same_kind false true e = absurd (let f : get_or (kind_text false) 0 0 ≡ get_or (kind_text true) 0 0 = ap (λ (t : List ℕ). get_or t 0 0) e in omega arith)
+
+same_pair : (a b : List ℕ × List ℕ) → a.0 ≡ b.0 → a.1 ≡ b.1 → a ≡ b
+same_pair a b e f = λ i. (e i, f i)
+
+same_brackets : (parts : List (List ℕ)) (x y : Option (List ℕ × List ℕ)) → AreBrackets parts x → AreBrackets parts y → x ≡ y
+same_brackets [] None None h k = refl
+same_brackets (left ∷ right ∷ []) (Some a) (Some b) h k = ap Some (same_pair a b (one_quoted left a.0 b.0 h.0 k.0) (one_quoted right a.1 b.1 h.1 k.1))
+same_brackets [] None (Some b) h k = absurd k
+same_brackets [] (Some a) y h k = absurd h
+same_brackets (left ∷ []) x y h k = absurd h
+same_brackets (left ∷ right ∷ []) None y h k = absurd h
+same_brackets (left ∷ right ∷ []) (Some a) None h k = absurd k
+same_brackets (left ∷ right ∷ more ∷ others) x y h k = absurd h
+
+sort_is : (s t : SortLine) → s.name ≡ t.name → s.typed ≡ t.typed → s.brackets ≡ t.brackets → s ≡ t
+sort_is s t e f g = λ i. record { name = e i; typed = f i; brackets = g i }
+
+same_sort : (rest : List (List ℕ)) (s t : SortLine) → IsSortRow rest s → IsSortRow rest t → s ≡ t
+same_sort rest s t h k =
+    let all : s.name ∷ kind_text s.typed ∷ h.brackets ≡ t.name ∷ kind_text t.typed ∷ k.brackets = sym h.parts_are ∙ k.parts_are in
+    let off : kind_text s.typed ∷ h.brackets ≡ kind_text t.typed ∷ k.brackets = tail_same s.name t.name (kind_text s.typed ∷ h.brackets) (kind_text t.typed ∷ k.brackets) all in
+    let pair : h.brackets ≡ k.brackets = tail_same (kind_text s.typed) (kind_text t.typed) h.brackets k.brackets off in
+    sort_is s t (head_same s.name t.name (kind_text s.typed ∷ h.brackets) (kind_text t.typed ∷ k.brackets) all)
+    (same_kind s.typed t.typed (head_same (kind_text s.typed) (kind_text t.typed) h.brackets k.brackets off))
+    (same_brackets h.brackets s.brackets t.brackets h.pair (subst (λ (z : List (List ℕ)). AreBrackets z t.brackets) (sym pair) k.pair))
+
+some_same : (x y : ℕ) → Some x ≡ Some y → x ≡ y
+some_same x y e = cc
+
+line_is : (p q : Line) → p.label ≡ q.label → p.sort ≡ q.sort → p.level ≡ q.level → p.symbols ≡ q.symbols → p ≡ q
+line_is p q e f g h = λ i. record { label = e i; sort = f i; level = g i; symbols = h i }
+
+same_prod : (rest : List (List ℕ)) (p q : Line) → IsProdRow rest p → IsProdRow rest q → p ≡ q
+same_prod rest p q h k =
+    let colon = codes ":" in
+    let one : p.label ∷ p.sort ∷ h.level ∷ colon ∷ h.symbols ≡ q.label ∷ q.sort ∷ k.level ∷ colon ∷ k.symbols = sym h.parts_are ∙ k.parts_are in
+    let two : p.sort ∷ h.level ∷ colon ∷ h.symbols ≡ q.sort ∷ k.level ∷ colon ∷ k.symbols = tail_same p.label q.label (p.sort ∷ h.level ∷ colon ∷ h.symbols) (q.sort ∷ k.level ∷ colon ∷ k.symbols) one in
+    let three : h.level ∷ colon ∷ h.symbols ≡ k.level ∷ colon ∷ k.symbols = tail_same p.sort q.sort (h.level ∷ colon ∷ h.symbols) (k.level ∷ colon ∷ k.symbols) two in
+    let four : colon ∷ h.symbols ≡ colon ∷ k.symbols = tail_same h.level k.level (colon ∷ h.symbols) (colon ∷ k.symbols) three in
+    let five : h.symbols ≡ k.symbols = tail_same colon colon h.symbols k.symbols four in
+    let level : h.level ≡ k.level = head_same h.level k.level (colon ∷ h.symbols) (colon ∷ k.symbols) three in
+    line_is p q (head_same p.label q.label (p.sort ∷ h.level ∷ colon ∷ h.symbols) (q.sort ∷ k.level ∷ colon ∷ k.symbols) one)
+    (head_same p.sort q.sort (h.level ∷ colon ∷ h.symbols) (k.level ∷ colon ∷ k.symbols) two)
+    (some_same p.level q.level (sym h.level_is ∙ ap (number_within 99) level ∙ k.level_is))
+    (each_same Spells one_symbol h.symbols p.symbols q.symbols h.symbols_are (subst (λ (z : List (List ℕ)). EachSpelled Spells z q.symbols) (sym five) k.symbols_are))
+
+var_is : (v w : VarLine) → v.stem ≡ w.stem → v.sort ≡ w.sort → v ≡ w
+var_is v w e f = λ i. record { stem = e i; sort = f i }
+
+same_var : (rest : List (List ℕ)) (v w : VarLine) → IsVarRow rest v → IsVarRow rest w → v ≡ w
+same_var rest v w h k =
+    let colon = codes ":" in
+    let one : v.stem ∷ colon ∷ v.sort ∷ [] ≡ w.stem ∷ colon ∷ w.sort ∷ [] = sym h.parts_are ∙ k.parts_are in
+    let two : colon ∷ v.sort ∷ [] ≡ colon ∷ w.sort ∷ [] = tail_same v.stem w.stem (colon ∷ v.sort ∷ []) (colon ∷ w.sort ∷ []) one in
+    let three : v.sort ∷ [] ≡ w.sort ∷ [] = tail_same colon colon (v.sort ∷ []) (w.sort ∷ []) two in
+    var_is v w (head_same v.stem w.stem (colon ∷ v.sort ∷ []) (colon ∷ w.sort ∷ []) one) (head_same v.sort w.sort [] [] three)
+
+form_is : (f g : FormData) → f.name ≡ g.name → f.symbols ≡ g.symbols → f ≡ g
+form_is f g d e = λ i. record { name = d i; symbols = e i }
+
+same_form : (rest : List (List ℕ)) (f g : FormLine) → IsFormRow rest f → IsFormRow rest g → form f ≡ form g
+same_form rest f g h k =
+    let colon = codes ":" in
+    let one : f.name ∷ colon ∷ h.symbols ≡ g.name ∷ colon ∷ k.symbols = sym h.parts_are ∙ k.parts_are in
+    let two : colon ∷ h.symbols ≡ colon ∷ k.symbols = tail_same f.name g.name (colon ∷ h.symbols) (colon ∷ k.symbols) one in
+    let three : h.symbols ≡ k.symbols = tail_same colon colon h.symbols k.symbols two in
+    form_is (form f) (form g) (head_same f.name g.name (colon ∷ h.symbols) (colon ∷ k.symbols) one)
+    (each_same SpellsForm one_form_symbol h.symbols f.symbols.items g.symbols.items h.symbols_are (subst (λ (z : List (List ℕ)). EachSpelled SpellsForm z g.symbols.items) (sym three) k.symbols_are))
+
+main_is : (m n : MainLine) → m.form ≡ n.form → m.empty ≡ n.empty → m.add ≡ n.add → m ≡ n
+main_is m n e f g = λ i. record { form = e i; empty = f i; add = g i }
+
+same_main : (rest : List (List ℕ)) (m n : MainLine) → IsMainRow rest m → IsMainRow rest n → m ≡ n
+same_main rest m n h k =
+    let one : m.form ∷ m.empty ∷ m.add ∷ [] ≡ n.form ∷ n.empty ∷ n.add ∷ [] = sym h.parts_are ∙ k.parts_are in
+    let two : m.empty ∷ m.add ∷ [] ≡ n.empty ∷ n.add ∷ [] = tail_same m.form n.form (m.empty ∷ m.add ∷ []) (n.empty ∷ n.add ∷ []) one in
+    let three : m.add ∷ [] ≡ n.add ∷ [] = tail_same m.empty n.empty (m.add ∷ []) (n.add ∷ []) two in
+    main_is m n (head_same m.form n.form (m.empty ∷ m.add ∷ []) (n.empty ∷ n.add ∷ []) one) (head_same m.empty n.empty (m.add ∷ []) (n.add ∷ []) two) (head_same m.add n.add [] [] three)
+
+-- ---- rows
+
+-- rows of one word with the same parts state the same
+same_follows : (rest : List (List ℕ)) (r s : Row) → told r ≡ told s → Follows rest r → Follows rest s → SameRow r s
+same_follows rest (Language n) (Language m) e h k = same_name rest n m h k
+same_follows rest (Sort s) (Sort t) e h k = same_sort rest s t h k
+same_follows rest (Prod p) (Prod q) e h k = same_prod rest (line p) (line q) h k
+same_follows rest (Var v) (Var w) e h k = same_var rest v w h k
+same_follows rest (Form f) (Form g) e h k = same_form rest f g h k
+same_follows rest (Main m) (Main n) e h k = same_main rest m n h k
+same_follows rest (Rule n) (Rule m) e h k = same_name rest n m h k
+same_follows rest Bar Bar e h k = tt
+same_follows rest End End e h k = tt
+same_follows rest r s e h k = absurd (omega (arith, e))
+
+-- two rows of the same parts state the same
+pub same_row : (parts : List (List ℕ)) (r s : Row) → IsRow parts r → IsRow parts s → SameRow r s
+same_row parts r s h k =
+    let all : keyword_text (word_of r) ∷ h.rest ≡ keyword_text (word_of s) ∷ k.rest = sym h.parts_are ∙ k.parts_are in
+    let same : keyword_text (word_of r) ≡ keyword_text (word_of s) = head_same (keyword_text (word_of r)) (keyword_text (word_of s)) h.rest k.rest all in
+    let rest : h.rest ≡ k.rest = tail_same (keyword_text (word_of r)) (keyword_text (word_of s)) h.rest k.rest all in
+    same_follows h.rest r s (ap (λ (t : List ℕ). get_or t 0 0) same) h.follows (subst (λ (z : List (List ℕ)). Follows z s) (sym rest) k.follows)

@@ -1,0 +1,5 @@
+use Rattle.sx_outline.proofs.LinesOutlined.{lines_outlined}
+use Rattle.sx_outline.proofs.laws.lines_have_outlines.Goals as goal
+
+pub returns : goal.returns
+returns c = lines_outlined

@@ -1,0 +1,5 @@
+use Rattle.sx_outline.proofs.LinesLaws.{outline_lines}
+use Rattle.sx_outline.proofs.laws.outlines_have_lines.Goals as goal
+
+pub returns : goal.returns
+returns c = outline_lines

@@ -1,0 +1,124 @@
+-- Which rows of a language file fit what the file declares.
+use Rattle.std.specs.Prelude.{◌≡◌, ℕ, ◌≤◌, ◌⊎◌, false, List, [], ◌∷◌, Option, Some, IfSome, map, flat_map, slice_get, length, Contains}
+use Rattle.std.specs.List.{find, AllByRecursion}
+use Rattle.std.specs.Str.{bytes_eq}
+use Rattle.sx_term.specs.declared.lex_kind.LexKind.{LexKind}
+use Rattle.sx_term.specs.declared.lex_kind.LexKind.TheVariants.{Id}
+use Rattle.sx_rules.specs.declared.rule.Role.{Role}
+use Rattle.sx_rules.specs.declared.rule.Role.TheVariants.{In, Sub, Out}
+use Rattle.sx_rules.specs.Views.{is_sub}
+use Rattle.sx_grammar.specs.Parts.{Line, number_of, labels}
+use Rattle.sx_grammar.specs.declared.symbol.Symbol.{Symbol}
+use Rattle.sx_grammar.specs.declared.symbol.Symbol.TheVariants.{Lit, Lex, Part}
+use Rattle.sx_grammar.specs.declared.sort_line.SortLine.{SortLine}
+use Rattle.sx_directives.specs.Spelling.{lex_text, NotLexical}
+use Rattle.sx_directives.specs.declared.spelled.SpelledSort.{SpelledSort}
+use Rattle.sx_directives.specs.declared.spelled.SpelledSort.TheVariants.{Lex as Lexical, Named}
+use Rattle.sx_directives.specs.declared.spelled.FormSymbol.{FormSymbol}
+use Rattle.sx_directives.specs.declared.spelled.FormSymbol.TheVariants.{Lit as FormLit, Place}
+use Rattle.sx_directives.specs.declared.rows.MainLine.{MainLine}
+use Rattle.sx_directives.specs.declared.row.Row.{Row}
+use Rattle.sx_directives.specs.declared.row.Row.TheVariants.{Language, Sort, Prod, Var, Form, Main, Rule, Bar, End}
+use Rattle.sx_outline.specs.declared.main_form.MainForm.{MainForm}
+use Rattle.sx_outline.specs.Declarations.{Declared, FormData, parts_of}
+
+-- the names of the sorts, the stems, and the names of the forms
+abbrev pub sort_names : Declared → List (List ℕ)
+sort_names d = map (λ s. s.name) d.sorts
+
+abbrev pub stems : Declared → List (List ℕ)
+stems d = map (λ v. v.stem) d.vars
+
+abbrev pub form_names : Declared → List (List ℕ)
+form_names d = map (λ f. f.name) d.forms
+
+-- the first sort with this name
+abbrev pub sort_named : Declared → List ℕ → Option SortLine
+sort_named d name = find (λ s. bytes_eq s.name name) d.sorts
+
+-- the name is that of a lexical sort, or of one that is declared
+abbrev pub IsKnownSort : Declared → List ℕ → Type 0
+IsKnownSort d name = ((kind : LexKind) × (name ≡ lex_text kind)) ⊎ Contains (sort_names d) name
+
+-- A subject's sort is typed, and that of another place is not. A sort that is not declared is left to the grammar.
+abbrev pub PlaceFits : Declared → Role → SpelledSort → Type 0
+PlaceFits d role (Lexical kind) = is_sub role ≡ false
+PlaceFits d role (Named sort least) = IfSome (sort_named d sort) (λ s. s.typed ≡ is_sub role)
+
+abbrev pub SymbolFits : Declared → FormSymbol → Type 0
+SymbolFits d (FormLit text) = Unit {0}
+SymbolFits d (Place role sort) = PlaceFits d role sort
+
+-- the sorts of the places among the symbols that have this role
+abbrev pub sort_at : Role → FormSymbol → List SpelledSort
+sort_at role (FormLit text) = []
+sort_at In (Place In sort) = sort ∷ []
+sort_at Sub (Place Sub sort) = sort ∷ []
+sort_at Out (Place Out sort) = sort ∷ []
+sort_at role (Place _ sort) = []
+
+abbrev pub sorts_at : Role → List FormSymbol → List SpelledSort
+sorts_at role symbols = flat_map (sort_at role) symbols
+
+-- there is one subject at most
+abbrev pub HasOneSubject : List FormSymbol → Type 0
+HasOneSubject symbols = length (sorts_at Sub symbols) ≤ 1
+
+-- Among what the whole file declares, and after the lines before it, the row is as it should be. Names that stand twice are left to the
+-- grammar and to the rule set where these refuse them.
+abbrev pub Fits : (known before : Declared) → Row → Type 0
+Fits known before (Sort s) = NotLexical s.name
+Fits known before (Var v) = (Contains (stems before) v.stem → ⊥) × IsKnownSort known v.sort
+Fits known before (Form f) =
+    (Contains (form_names before) f.name → ⊥) × AllByRecursion (SymbolFits known) f.symbols.items × HasOneSubject f.symbols.items
+Fits known before (Language name) = Unit {0}
+Fits known before (Prod p) = Unit {0}
+Fits known before (Main m) = Unit {0}
+Fits known before (Rule name) = Unit {0}
+Fits known before Bar = Unit {0}
+Fits known before End = Unit {0}
+
+-- what a part of a production is: a lexeme of a kind, or of a sort at any level
+pub data Kid : Type 0 where
+  of_kind : LexKind → Kid
+  of_sort : List ℕ → Kid
+
+abbrev pub kid_of : Symbol → List Kid
+kid_of (Lit text) = []
+kid_of (Lex kind) = of_kind kind ∷ []
+kid_of (Part sort least) = of_sort sort ∷ []
+
+-- the parts among symbols
+abbrev pub kids_of : List Symbol → List Kid
+kids_of symbols = flat_map kid_of symbols
+
+-- the production with this label is the one with this number, and has this sort and these parts
+pub record IsConstructor (d : Declared) (label : List ℕ) (number : ℕ) (sort : List ℕ) (kids : List Kid) : Type 0 where
+  pub line : Line
+  pub is : slice_get d.productions number ≡ Some line
+  pub first : number ≡ number_of (labels (parts_of d)) label
+  pub sort_is : line.sort ≡ sort
+  pub kids_are : kids_of line.symbols ≡ kids
+
+-- the one place with this role has this sort, at any level
+pub record HasOneAt (f : FormData) (role : Role) (sort : List ℕ) : Type 0 where
+  pub least : ℕ
+  pub is : sorts_at role f.symbols ≡ Named sort least ∷ []
+
+-- The form has one input, for an environment, one subject and one output, for a signature, whose sort is plain. The empty constructor has no
+-- parts. The other one has an environment, a name and a signature as parts. Both make environments.
+pub record IsMainOf (d : Declared) (m : MainLine) (main : MainForm) : Type 0 where
+  pub form : FormData
+  pub form_is : slice_get d.forms main.form ≡ Some form
+  pub form_first : main.form ≡ number_of (form_names d) m.form
+  pub environment : List ℕ
+  pub input : HasOneAt form In environment
+  pub subject_sort : SpelledSort
+  pub subject : sorts_at Sub form.symbols ≡ subject_sort ∷ []
+  pub signature : List ℕ
+  pub output : HasOneAt form Out signature
+  pub signature_line : SortLine
+  pub signature_is : sort_named d signature ≡ Some signature_line
+  pub signature_plain : signature_line.typed ≡ false
+  pub empty : IsConstructor d m.empty main.empty environment []
+  pub add : IsConstructor d m.add main.add environment (of_sort environment ∷ of_kind Id ∷ of_sort signature ∷ [])

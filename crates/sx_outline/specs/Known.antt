@@ -1,0 +1,31 @@
+-- The lines that a language file keeps, and what they declare.
+use Rattle.std.specs.Prelude.{◌≡◌, ℕ, ◌⊎◌, Bool, true, List, [], ◌∷◌, codes, is_some, if◌then◌else◌}
+use Rattle.sx_lines.specs.Lines.{Lines, over, line}
+use Rattle.sx_lines.specs.Words.{after}
+use Rattle.sx_directives.specs.Parts.{parts_of}
+use Rattle.sx_directives.specs.Rows.{IsRow}
+use Rattle.sx_directives.specs.declared.row.Row.{Row}
+use Rattle.sx_directives.specs.declared.row.Row.TheVariants.{Rule}
+use Rattle.sx_outline.specs.Declarations.{Declared, declare}
+
+-- a line without parts is dropped, and one whose first part begins with `//`
+abbrev pub is_dropped : List (List ℕ) → Bool
+is_dropped [] = true
+is_dropped (part ∷ parts) = is_some (after (codes "//") part)
+
+-- the lines that are not dropped
+unfoldable pub kept_lines : Lines → Lines
+kept_lines (over n) = over n
+kept_lines (line n text after more) = if is_dropped (parts_of text) then kept_lines more else line n text after (kept_lines more)
+
+-- a row of a rule ends the declarations, and after another row they go on
+abbrev pub GoesOn : Declared → Row → Declared → (Declared → Type 0) → Type 0
+GoesOn d (Rule name) all Next = all ≡ d
+GoesOn d row all Next = Next (declare d row)
+
+-- After these declarations the lines up to the first that spells a row of a rule declare the rest of all. A line that spells no row declares nothing.
+abbrev pub Declares : Declared → Lines → Declared → Type 0
+Declares d (over n) all = all ≡ d
+Declares d (line n text after more) all =
+    ((row : Row) × IsRow (parts_of text) row × GoesOn d row all (λ next. Declares next more all))
+    ⊎ (((row : Row) → IsRow (parts_of text) row → ⊥) × Declares d more all)

@@ -1,0 +1,149 @@
+-- The stages of the reading of a language file, and its steps.
+use Rattle.std.specs.Prelude.{◌≡◌, ℕ, ◌⊎◌, List, [], ◌∷◌, ◌++◌, map, codes}
+use Rattle.sx_directives.specs.Parts.{parts_of}
+use Rattle.sx_directives.specs.Rows.{IsRow, HasWord}
+use Rattle.sx_directives.specs.declared.rows.MainLine.{MainLine}
+use Rattle.sx_directives.specs.declared.row.Row.{Row}
+use Rattle.sx_directives.specs.declared.row.Row.TheVariants.{Language, Sort, Prod, Var, Form, Main, Rule, End}
+use Rattle.sx_core.specs.declared.kind.Kind.{Kind}
+use Rattle.sx_core.specs.declared.kind.Kind.TheVariants.{Head, Directive, Shape, Order, Unfinished, Main as NoMain, Variable}
+use Rattle.sx_outline.specs.declared.main_form.MainForm.{MainForm}
+use Rattle.sx_outline.specs.declared.rule_lines.RuleLine.{RuleLine}
+use Rattle.sx_outline.specs.declared.rule_lines.RuleLines.{RuleLines}
+use Rattle.sx_outline.specs.Declarations.{Declared, nothing, declare}
+use Rattle.sx_outline.specs.Fitting.{Fits, IsMainOf}
+
+-- a line with its number
+pub record Numbered : Type 0 where
+  pub number : ℕ
+  pub text : List ℕ
+
+-- a rule: the number of its first line, its name, its premises and its conclusion
+pub record RuleData : Type 0 where
+  pub number : ℕ
+  pub name : List ℕ
+  pub premises : List Numbered
+  pub conclusion : Numbered
+
+abbrev pub numbered : RuleLine → Numbered
+numbered l = record { number = l.number; text = l.text }
+
+abbrev pub rule_data : RuleLines → RuleData
+rule_data r = record { number = r.number; name = r.name; premises = map numbered r.premises.items; conclusion = numbered r.conclusion }
+
+-- a rule that has begun
+pub record Begun : Type 0 where
+  pub number : ℕ
+  pub name : List ℕ
+  pub premises : List Numbered
+
+-- where the reading stands: before the first line, among the declarations, between rules, among the premises of a rule, after its `---`, or
+-- after its conclusion
+pub data Stage : Type 0 where
+  at_start : Stage
+  at_declarations : Stage
+  at_rules : Stage
+  at_premises : Begun → Stage
+  at_conclusion : Begun → Stage
+  at_end : RuleData → Stage
+
+-- what has been read: where the reading stands, what was declared, and the rules
+pub record State : Type 0 where
+  pub stage : Stage
+  pub declared : Declared
+  pub rules : List RuleData
+
+abbrev pub start : State
+start = record { stage = at_start; declared = nothing; rules = [] }
+
+-- a row is due here
+abbrev pub IsDue : Stage → Type 0
+IsDue at_declarations = Unit {0}
+IsDue at_rules = Unit {0}
+IsDue (at_end r) = Unit {0}
+IsDue _ = ⊥
+
+-- the row may stand at this stage, after these main lines
+abbrev pub MayStandAt : Stage → List MainLine → Row → Type 0
+MayStandAt at_declarations mains (Sort x) = Unit {0}
+MayStandAt at_declarations mains (Prod x) = Unit {0}
+MayStandAt at_declarations mains (Var x) = Unit {0}
+MayStandAt at_declarations mains (Form x) = Unit {0}
+MayStandAt at_declarations mains (Main x) = mains ≡ []
+MayStandAt at_declarations mains (Rule x) = Unit {0}
+MayStandAt at_rules mains (Rule x) = Unit {0}
+MayStandAt (at_end r) mains End = Unit {0}
+MayStandAt _ mains row = ⊥
+
+abbrev pub MayStand : State → Row → Type 0
+MayStand s row = MayStandAt s.stage s.declared.mains row
+
+-- a main line is of some main form
+abbrev pub HasMain : Declared → Row → Type 0
+HasMain known (Main m) = (main : MainForm) × IsMainOf known m main
+HasMain known _ = Unit {0}
+
+-- the line spells the row, which fits and may stand there, and is of a main form where it is a main line
+pub record IsGoodRow (known : Declared) (s : State) (text : List ℕ) (row : Row) : Type 0 where
+  pub spelled : IsRow (parts_of text) row
+  pub fits : Fits known s.declared row
+  pub stands : MayStand s row
+  pub main : HasMain known row
+
+-- at another stage, all else as before
+abbrev pub at : State → Stage → State
+at s stage = record { stage = stage; declared = s.declared; rules = s.rules }
+
+-- the rule is ended, if one has its conclusion
+abbrev pub ended : State → Stage → State
+ended s (at_end r) = record { stage = at_rules; declared = s.declared; rules = s.rules ++ r ∷ [] }
+ended s _ = s
+
+-- after a row: a rule has begun or is ended, or more is declared
+abbrev pub after : State → ℕ → Row → State
+after s number (Rule name) = at s (at_premises (record { number = number; name = name; premises = [] }))
+after s number End = ended s s.stage
+after s number row = record { stage = s.stage; declared = declare s.declared row; rules = s.rules }
+
+-- the only part of the line is `---`
+abbrev pub IsBar : List ℕ → Type 0
+IsBar text = parts_of text ≡ codes "---" ∷ []
+
+-- a rule with one more premise
+abbrev pub with_premise : Begun → Numbered → Begun
+with_premise b line = record { number = b.number; name = b.name; premises = b.premises ++ line ∷ [] }
+
+-- a rule with its conclusion
+abbrev pub concluded : Begun → Numbered → RuleData
+concluded b line = record { number = b.number; name = b.name; premises = b.premises; conclusion = line }
+
+-- a line where a row is due leads from one state to the other
+abbrev pub StepsByRow : Declared → State → ℕ → List ℕ → State → Type 0
+StepsByRow known s number text t = (row : Row) × IsGoodRow known s text row × (t ≡ after s number row)
+
+-- at this stage the line with this number and text leads from one state to the other
+abbrev pub StepsAt : Stage → Declared → List ℕ → State → ℕ → List ℕ → State → Type 0
+StepsAt at_start known name s number text t = IsRow (parts_of text) (Language name) × (t ≡ at s at_declarations)
+StepsAt at_declarations known name s number text t = StepsByRow known s number text t
+StepsAt at_rules known name s number text t = StepsByRow known s number text t
+StepsAt (at_premises b) known name s number text t =
+    (IsBar text × (t ≡ at s (at_conclusion b)))
+    ⊎ ((IsBar text → ⊥) × (t ≡ at s (at_premises (with_premise b (record { number = number; text = text })))))
+StepsAt (at_conclusion b) known name s number text t = t ≡ at s (at_end (concluded b (record { number = number; text = text })))
+StepsAt (at_end r) known name s number text t = StepsByRow known s number text t
+
+-- in a file with these declarations, which is to be of the language with this name, the line leads from one state to the other
+abbrev pub Steps : (known : Declared) (name : List ℕ) (s : State) (number : ℕ) (text : List ℕ) (t : State) → Type 0
+Steps known name s number text t = StepsAt s.stage known name s number text t
+
+-- what is bad about a line
+abbrev pub IsBad : (known : Declared) (name : List ℕ) (s : State) (text : List ℕ) → Kind → Type 0
+IsBad known name s text Head = (s.stage ≡ at_start) × (IsRow (parts_of text) (Language name) → ⊥)
+IsBad known name s text Directive = IsDue s.stage × (HasWord (parts_of text) → ⊥)
+IsBad known name s text Shape =
+    IsDue s.stage × HasWord (parts_of text) × ((row : Row) → IsRow (parts_of text) row → Fits known s.declared row → ⊥)
+IsBad known name s text Order = IsDue s.stage × (row : Row) × IsRow (parts_of text) row × Fits known s.declared row × (MayStand s row → ⊥)
+IsBad known name s text NoMain =
+    IsDue s.stage × (m : MainLine) × IsRow (parts_of text) (Main m) × MayStand s (Main m) × ((main : MainForm) → IsMainOf known m main → ⊥)
+IsBad known name s text Unfinished = ⊥
+IsBad known name s text Variable = ⊥

@@ -1,0 +1,77 @@
+//! The end of the reading of a language file.
+
+ghost use Rattle.std.specs.Prelude.{◌≡◌, map};
+ghost use Rattle.sx_outline.specs.Stages.{State, rule_data};
+ghost use Rattle.sx_outline.specs.Outlined.{IsWhole};
+ghost use Rattle.sx_outline.specs.Reading.{IsReader, IsMainRead, IsEndRead};
+ghost use Rattle.sx_outline.specs.View as view;
+
+use crate::known::Known;
+use crate::main_form::MainForm;
+use crate::outline::Outline;
+use crate::outline_error::OutlineError;
+use crate::reader::Reader;
+use crate::rule_lines::RuleLines;
+use crate::stage::Stage;
+use sx_core::Kind;
+
+/// The outline of what is known, if a main line was read. A further line would have this number.
+fn finish_whole(
+    known: Known,
+    main: Option<MainForm>,
+    rules: Vec<RuleLines>,
+    number: u32,
+) -> Result<Outline, OutlineError>
+    ensures { (s : State) → IsWhole s.stage → s.declared ≡ view.known known → IsMainRead (view.known known) main s.declared.mains
+        → map rule_data rules.items ≡ s.rules → IsEndRead s number result }
+{
+    match main {
+        Some(main) => {
+            let (parts, vars, forms) = known.into_parts();
+            Ok(Outline {
+                parts,
+                vars,
+                forms,
+                main,
+                rules,
+            })
+        }
+        None => Err(OutlineError::Notation {
+            line: number,
+            kind: Kind::Main,
+        }),
+    }
+}
+
+/// What comes of a reader where no line is left. A further line would have this number.
+pub(crate) fn finish(known: Known, reader: Reader, number: u32) -> Result<Outline, OutlineError>
+    ensures { (s : State) → IsReader (view.known known) reader s → (IsWhole s.stage → s.declared ≡ view.known known) → IsEndRead s number result }
+{
+    let Reader {
+        stage,
+        forms: _,
+        vars: _,
+        main,
+        rules,
+    } = reader;
+    match stage {
+        Stage::Start => Err(OutlineError::Notation {
+            line: number,
+            kind: Kind::Head,
+        }),
+        Stage::Declarations => finish_whole(known, main, rules, number),
+        Stage::Rules => finish_whole(known, main, rules, number),
+        Stage::Premises(begun) => Err(OutlineError::Notation {
+            line: begun.number,
+            kind: Kind::Unfinished,
+        }),
+        Stage::Conclusion(begun) => Err(OutlineError::Notation {
+            line: begun.number,
+            kind: Kind::Unfinished,
+        }),
+        Stage::End(rule) => Err(OutlineError::Notation {
+            line: rule.number,
+            kind: Kind::Unfinished,
+        }),
+    }
+}

@@ -1,0 +1,50 @@
+//! What is known of a language file before its lines are judged.
+
+ghost use Rattle.std.specs.Prelude.{◌≡◌, map, IfOk};
+ghost use Rattle.sx_grammar.specs.Parts.{parts};
+ghost use Rattle.sx_outline.specs.Declarations.{form, parts_of};
+ghost use Rattle.sx_outline.specs.Tables.{AreTables, AreFew, declared_in};
+
+use crate::declared_rows::DeclaredRows;
+use crate::tables::Tables;
+use std::alloc::Global;
+use sx_directives::{FormLine, VarLine};
+use sx_grammar::GrammarParts;
+use sx_term::NoMemory;
+
+/// What the lines of a file declare, found by the hash of the names.
+#[derive(Drop)]
+pub(crate) struct Known {
+    pub(crate) rows: DeclaredRows,
+    pub(crate) tables: Tables,
+    ghost tabled: { AreTables (declared_in rows) tables },
+    ghost few: { AreFew (declared_in rows) },
+}
+
+impl Known {
+    /// What the rows declare.
+    pub(crate) fn make(alloc: Global, rows: DeclaredRows) -> Result<Known, NoMemory>
+        requires { AreFew (declared_in rows) }
+        ensures { IfOk result (λ k. declared_in k.rows ≡ declared_in rows) }
+    {
+        let tables = Tables::make(alloc, &rows)?;
+        Ok(Known { rows, tables })
+    }
+
+    /// The parts of the grammar, the stems and the forms.
+    pub(crate) fn into_parts(self) -> (GrammarParts, Vec<VarLine>, Vec<FormLine>)
+        ensures parts { parts result.0 ≡ parts_of (declared_in self.rows) }
+        ensures vars { result.1.items ≡ (declared_in self.rows).vars }
+        ensures forms { map form result.2.items ≡ (declared_in self.rows).forms }
+    {
+        let Known { rows, tables: _ } = self;
+        let DeclaredRows {
+            sorts,
+            productions,
+            vars,
+            forms,
+            mains: _,
+        } = rows;
+        (GrammarParts { sorts, productions }, vars, forms)
+    }
+}

@@ -1,0 +1,225 @@
+//! Reading the next line of a language file.
+
+ghost use Rattle.std.specs.Prelude.{◌≡◌, ◌↔◌, List, ℕ, IsTrue, IfOk, MatchResult};
+ghost use Rattle.std.specs.Str.{IsUtf8};
+ghost use Rattle.sx_directives.specs.Parts.{parts_of};
+ghost use Rattle.sx_directives.specs.Rows.{IsRow};
+ghost use Rattle.sx_directives.specs.declared.row.Row.TheVariants as rows;
+ghost use Rattle.sx_outline.specs.declared.outline_error.OutlineError.TheVariants as errors;
+ghost use Rattle.sx_outline.specs.Declarations.{Declared};
+ghost use Rattle.sx_outline.specs.Stages.{IsDue, IsBar, at_end, concluded, numbered};
+ghost use Rattle.sx_outline.specs.Reading.{IsCounted, GrowsByOne, IsLineRead, IsHeadRefused, AddsPremise, begun as begun_of, stage as stage_of};
+ghost use Rattle.sx_outline.specs.View as view;
+
+use crate::known::Known;
+use crate::outline_error::OutlineError;
+use crate::reader::Reader;
+use crate::rule_lines::{RuleLine, RuleLines};
+use crate::stage::{Begun, Stage};
+use std::alloc::Global;
+use sx_core::Kind;
+use sx_directives::{Row, RowError, read_row};
+use sx_term::{NoMemory, Text, TextError};
+
+/// The refusal of a line.
+fn bad_line(number: u32, kind: Kind) -> OutlineError
+    ensures { result ≡ errors.Notation number kind }
+{
+    OutlineError::Notation { line: number, kind }
+}
+
+/// Whether a row is due.
+fn is_due(stage: &Stage) -> bool
+    ensures { IsTrue result ↔ IsDue (stage_of stage.now) }
+{
+    match stage {
+        Stage::Start => false,
+        Stage::Declarations => true,
+        Stage::Rules => true,
+        Stage::Premises(_) => false,
+        Stage::Conclusion(_) => false,
+        Stage::End(_) => true,
+    }
+}
+
+/// Whether the row is just `---`.
+fn is_bar_row(row: Row) -> bool
+    ensures { IsTrue result ↔ (row ≡ rows.Bar) }
+{
+    matches!(row, Row::Bar)
+}
+
+/// Whether the only part of the line is `---`.
+fn is_bar(alloc: Global, text: &[u8]) -> Result<bool, NoMemory>
+    ensures { IfOk result (λ b. IsTrue b ↔ IsBar text.now) }
+{
+    match read_row(alloc, text) {
+        Ok(Some(row)) => Ok(is_bar_row(row)),
+        Ok(None) => Ok(false),
+        Err(RowError::Shape) => Ok(false),
+        Err(RowError::Memory) => Err(NoMemory::Memory),
+    }
+}
+
+/// The line with this number as a line of a rule.
+fn rule_line(alloc: Global, number: u32, text: &[u8]) -> Result<RuleLine, NoMemory>
+    requires { IsUtf8 text.now }
+    ensures { IfOk result (λ l. numbered l ≡ record { number = number; text = text.now }) }
+{
+    match Text::make(alloc, text) {
+        Ok(text) => Ok(RuleLine { number, text }),
+        Err(TextError::Memory) => Err(NoMemory::Memory),
+        Err(TextError::NotUtf8(_)) => unreachable!(),
+    }
+}
+
+/// Whether the row is the first one of the file of the language with this name.
+fn is_head(name: &Text, row: Row) -> bool
+    ensures { IsTrue result ↔ (row ≡ rows.Language name.now) }
+{
+    match row {
+        Row::Language(given) => given.same(name),
+        _ => false,
+    }
+}
+
+/// Reads the first line.
+fn first_line(alloc: Global, name: &Text, number: u32, text: &[u8]) -> Result<(), OutlineError>
+    ensures { MatchResult result (λ _. IsRow (parts_of text.now) (rows.Language name.now)) (λ e. IsHeadRefused name.now number text.now e) }
+{
+    match read_row(alloc, text) {
+        Ok(Some(row)) => {
+            if is_head(name, row) {
+                return Ok(());
+            }
+            Err(bad_line(number, Kind::Head))
+        }
+        Ok(None) => Err(bad_line(number, Kind::Head)),
+        Err(RowError::Shape) => Err(bad_line(number, Kind::Head)),
+        Err(RowError::Memory) => Err(OutlineError::Memory),
+    }
+}
+
+/// Reads a line among the premises of a rule.
+fn premise_line(alloc: Global, begun: Begun, number: u32, text: &[u8]) -> Result<Stage, NoMemory>
+    requires { IsUtf8 text.now }
+    ensures { IfOk result (λ next. AddsPremise (begun_of begun) number text.now (stage_of next)) }
+{
+    if is_bar(alloc, text)? {
+        return Ok(Stage::Conclusion(begun));
+    }
+    let Begun {
+        number: first,
+        name,
+        mut premises,
+    } = begun;
+    premises.push(rule_line(alloc, number, text)?)?;
+    Ok(Stage::Premises(Begun {
+        number: first,
+        name,
+        premises,
+    }))
+}
+
+/// Reads the conclusion of a rule.
+fn conclusion_line(alloc: Global, begun: Begun, number: u32, text: &[u8]) -> Result<Stage, NoMemory>
+    requires { IsUtf8 text.now }
+    ensures { IfOk result (λ next. stage_of next ≡ at_end (concluded (begun_of begun) (record { number = number; text = text.now }))) }
+{
+    let Begun {
+        number: first,
+        name,
+        premises,
+    } = begun;
+    let conclusion = rule_line(alloc, number, text)?;
+    Ok(Stage::End(RuleLines {
+        number: first,
+        name,
+        premises,
+        conclusion,
+    }))
+}
+
+/// Reads a line where a row is due.
+fn row_line(
+    alloc: Global,
+    known: &Known,
+    reader: Reader,
+    number: u32,
+    text: &[u8],
+) -> Result<Reader, OutlineError>
+    requires due { IsDue (stage_of reader.stage) }
+    requires counted { IsCounted reader }
+    ensures read { (name : List ℕ) → IsLineRead (view.known known.now) name reader number text.now result }
+    ensures grows { IfOk result (GrowsByOne reader) }
+{
+    match read_row(alloc, text) {
+        Ok(Some(row)) => {
+            if !known.fits(reader.forms, reader.vars, &row) {
+                return Err(bad_line(number, Kind::Shape));
+            }
+            reader.take_row(alloc, known, number, row)
+        }
+        Ok(None) => Err(bad_line(number, Kind::Directive)),
+        Err(RowError::Shape) => Err(bad_line(number, Kind::Shape)),
+        Err(RowError::Memory) => Err(OutlineError::Memory),
+    }
+}
+
+/// Reads a line where no row is due.
+fn other_line(
+    alloc: Global,
+    name: &Text,
+    reader: Reader,
+    number: u32,
+    text: &[u8],
+) -> Result<Reader, OutlineError>
+    requires other { IsDue (stage_of reader.stage) → ⊥ }
+    requires utf8 { IsUtf8 text.now }
+    ensures read { (known : Declared) → IsLineRead known name.now reader number text.now result }
+    ensures grows { IfOk result (GrowsByOne reader) }
+{
+    let Reader {
+        stage,
+        forms,
+        vars,
+        main,
+        rules,
+    } = reader;
+    let stage = match stage {
+        Stage::Start => {
+            first_line(alloc, name, number, text)?;
+            Stage::Declarations
+        }
+        Stage::Premises(begun) => premise_line(alloc, begun, number, text)?,
+        Stage::Conclusion(begun) => conclusion_line(alloc, begun, number, text)?,
+        _ => unreachable!(),
+    };
+    Ok(Reader {
+        stage,
+        forms,
+        vars,
+        main,
+        rules,
+    })
+}
+
+/// Reads the next line, which has this number and this text.
+pub(crate) fn read_next(
+    alloc: Global,
+    known: &Known,
+    name: &Text,
+    reader: Reader,
+    number: u32,
+    text: &[u8],
+) -> Result<Reader, OutlineError>
+    requires counted { IsCounted reader }
+    requires utf8 { IsUtf8 text.now }
+    ensures read { IsLineRead (view.known known.now) name.now reader number text.now result }
+    ensures grows { IfOk result (GrowsByOne reader) }
+{
+    if is_due(&reader.stage) {
+        return row_line(alloc, known, reader, number, text);
+    }
+    other_line(alloc, name, reader, number, text)
+}

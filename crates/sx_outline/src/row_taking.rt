@@ -1,0 +1,183 @@
+//! Taking the rows of a language file.
+
+ghost use Rattle.std.specs.Prelude.{◌≡◌, ◌≤◌, IfOk};
+ghost use Rattle.sx_directives.specs.declared.row.Row.{Row as RowOf};
+ghost use Rattle.sx_directives.specs.declared.row.Row.TheVariants as rows;
+ghost use Rattle.sx_core.specs.declared.kind.Kind.TheVariants as kinds;
+ghost use Rattle.sx_outline.specs.declared.outline_error.OutlineError.TheVariants as errors;
+ghost use Rattle.sx_outline.specs.Declarations.{Declared};
+ghost use Rattle.sx_outline.specs.Reading.{IsCounted, GrowsByOne, IsDeclaration, IsRowTaken};
+ghost use Rattle.sx_outline.specs.View as view;
+
+use crate::known::Known;
+use crate::outline_error::OutlineError;
+use crate::reader::Reader;
+use crate::stage::{Begun, Stage};
+use std::alloc::Global;
+use sx_core::Kind;
+use sx_directives::{MainLine, Row};
+use sx_term::Text;
+
+/// The refusal of a line that may not stand there.
+fn out_of_order(number: u32) -> OutlineError
+    ensures { result ≡ errors.Notation number kinds.Order }
+{
+    OutlineError::Notation {
+        line: number,
+        kind: Kind::Order,
+    }
+}
+
+impl Reader {
+    /// Takes a row that declares so many forms and stems.
+    fn take_declaration(
+        self,
+        number: u32,
+        more_forms: usize,
+        more_vars: usize,
+    ) -> Result<Reader, OutlineError>
+        requires counted { IsCounted self }
+        requires few { (more_forms ≤ 1) × (more_vars ≤ 1) }
+        ensures taken { (known : Declared) (row : RowOf) → IsDeclaration more_forms more_vars row → IsRowTaken known self number row result }
+        ensures grows { IfOk result (GrowsByOne self) }
+    {
+        let Reader {
+            stage,
+            forms,
+            vars,
+            main,
+            rules,
+        } = self;
+        match stage {
+            Stage::Declarations => Ok(Reader {
+                stage: Stage::Declarations,
+                forms: forms + more_forms,
+                vars: vars + more_vars,
+                main,
+                rules,
+            }),
+            _ => Err(out_of_order(number)),
+        }
+    }
+
+    /// Takes a main line.
+    fn take_main(self, known: &Known, number: u32, line: MainLine) -> Result<Reader, OutlineError>
+        ensures taken { IsRowTaken (view.known known.now) self number (rows.Main line) result }
+        ensures grows { IfOk result (GrowsByOne self) }
+    {
+        let Reader {
+            stage,
+            forms,
+            vars,
+            main,
+            rules,
+        } = self;
+        match stage {
+            Stage::Declarations => match main {
+                Some(_) => Err(out_of_order(number)),
+                None => match known.main_of(&line) {
+                    Some(main) => Ok(Reader {
+                        stage: Stage::Declarations,
+                        forms,
+                        vars,
+                        main: Some(main),
+                        rules,
+                    }),
+                    None => Err(OutlineError::Notation {
+                        line: number,
+                        kind: Kind::Main,
+                    }),
+                },
+            },
+            _ => Err(out_of_order(number)),
+        }
+    }
+
+    /// Takes the first line of a rule.
+    fn take_rule(self, alloc: Global, number: u32, name: Text) -> Result<Reader, OutlineError>
+        ensures taken { (known : Declared) → IsRowTaken known self number (rows.Rule name) result }
+        ensures grows { IfOk result (GrowsByOne self) }
+    {
+        let Reader {
+            stage,
+            forms,
+            vars,
+            main,
+            rules,
+        } = self;
+        let begun = Begun {
+            number,
+            name,
+            premises: Vec::new(alloc),
+        };
+        match stage {
+            Stage::Declarations => Ok(Reader {
+                stage: Stage::Premises(begun),
+                forms,
+                vars,
+                main,
+                rules,
+            }),
+            Stage::Rules => Ok(Reader {
+                stage: Stage::Premises(begun),
+                forms,
+                vars,
+                main,
+                rules,
+            }),
+            _ => Err(out_of_order(number)),
+        }
+    }
+
+    /// Takes the last line of a rule.
+    fn take_end(self, number: u32) -> Result<Reader, OutlineError>
+        ensures taken { (known : Declared) → IsRowTaken known self number rows.End result }
+        ensures grows { IfOk result (GrowsByOne self) }
+    {
+        let Reader {
+            stage,
+            forms,
+            vars,
+            main,
+            mut rules,
+        } = self;
+        match stage {
+            Stage::End(rule) => {
+                rules.push(rule)?;
+                Ok(Reader {
+                    stage: Stage::Rules,
+                    forms,
+                    vars,
+                    main,
+                    rules,
+                })
+            }
+            _ => Err(out_of_order(number)),
+        }
+    }
+
+    /// Takes a row that fits.
+    pub(crate) fn take_row(
+        self,
+        alloc: Global,
+        known: &Known,
+        number: u32,
+        row: Row,
+    ) -> Result<Reader, OutlineError>
+        requires { IsCounted self }
+        ensures taken { IsRowTaken (view.known known.now) self number row result }
+        ensures grows { IfOk result (GrowsByOne self) }
+    {
+        match row {
+            Row::Sort(_) => self.take_declaration(number, 0, 0),
+            Row::Prod(_) => self.take_declaration(number, 0, 0),
+            Row::Var(_) => self.take_declaration(number, 0, 1),
+            Row::Form(_) => self.take_declaration(number, 1, 0),
+            Row::Main(line) => self.take_main(known, number, line),
+            Row::Rule(name) => self.take_rule(alloc, number, name),
+            Row::End => self.take_end(number),
+            Row::Language(_) => Err(out_of_order(number)),
+            Row::Bar => Err(out_of_order(number)),
+        }
+    }
+}
