@@ -36,7 +36,9 @@ use Rattle.sx_rules.specs.Views.{modes_of, named, rule}
 use Rattle.sx_rules.specs.Sets.{shapes_in, forms_in}
 use Rattle.sx_notation.specs.Language.{LanguageData}
 use Rattle.sx_steps.proofs.StepsOn.{went}
-use Rattle.sx_build.specs.Laws.{ShowOthers, OneLanguage, ReadOthers, PrintOthers, IsFollowed, OneUnit, BuildsAgree}
+use Rattle.sx_build.specs.Laws.{ShowOthers, OneLanguage, IsFollowed, BuildsAgree}
+use Rattle.sx_module.specs.Alike.{ReadOthers, PrintOthers, AreAlike}
+use Rattle.sx_module.proofs.OneUnit.{one_unit}
 use Rattle.sx_build.proofs.FirstLines.{bad_states_none, one_first_bad}
 
 -- ---- the module's file
@@ -112,7 +114,7 @@ print_readings file e d s t show h k =
     readings_as (unprinted file show.part (print_defect.Ambiguous show.one show.other)) (unprinted file show.part (print_defect.Ambiguous show.some show.more)) s t (record { file = refl; place = refl; shown = refl })
     (sym (ap (module_stop file) show.first) ∙ h) (sym (ap (module_stop file) show.second) ∙ k)
 
-module_alike : {A : Type 0} (file : List ℕ) (e d : ModuleError) (s t : Stop) → (e ≡ d) ⊎ ReadOthers e d ⊎ PrintOthers e d → module_stop file e ≡ Some s → module_stop file d ≡ Some t → Agree {A = A} (Err s) (Err t)
+module_alike : {A : Type 0} (file : List ℕ) (e d : ModuleError) (s t : Stop) → AreAlike e d → module_stop file e ≡ Some s → module_stop file d ≡ Some t → Agree {A = A} (Err s) (Err t)
 module_alike file e d s t (inl same) h k = inl (ap Err (same_refusal (module_stop file) module_error.Memory refl e d s t same h k))
 module_alike file e d s t (inr (inl show)) h k = inr (body_readings file e d s t show h k)
 module_alike file e d s t (inr (inr show)) h k = inr (print_readings file e d s t show h k)
@@ -123,7 +125,7 @@ bare_named : (rs : List RuleOf) → map rule rs ≡ map (λ r. r.rule) (map name
 bare_named [] = refl
 bare_named (r ∷ rs) = ap (λ (l : List Rule). rule r ∷ l) (bare_named rs)
 
-module _ (one_language : OneLanguage) (one_unit : OneUnit) where
+module _ (one_language : OneLanguage) where
   stated_same : (name bytes : List ℕ) (l k : Stated) → IsStated name bytes l → IsStated name bytes k → l ≡ k
   stated_same name bytes l k s t = λ i. record { language = (s.language ∙ one_language.found name bytes s.whole t.whole s.states t.states ∙ sym t.language) i; digest = (s.digest ∙ sym t.digest) i }
 

@@ -1,11 +1,16 @@
 -- The tries of a module that is not compiled.
-use Rattle.std.proofs.Common.{◌≡◌, ◌⊎◌, ℕ, ◌+◌, ◌≤◌, inl, inr, arith}
-use Rattle.std.specs.Prelude.{Err}
+use Rattle.std.proofs.Common.{◌≡◌, ◌⊎◌, ℕ, ◌+◌, ◌≤◌, List, inl, inr, arith}
+use Rattle.std.specs.Prelude.{Ok, Err, Some, None}
 use Rattle.sx_module.specs.declared.module_error.ModuleError.{ModuleError}
 use Rattle.sx_module.specs.declared.module_error.ModuleError.TheVariants as errors
 use Rattle.sx_module.specs.Source.{Source}
-use Rattle.sx_module.specs.Refused.{HasWalked, IsCounted}
+use Rattle.sx_module.specs.declared.compiled.Compiled.{Compiled}
+use Rattle.sx_module.specs.Refused.{IsBadModule, HasWalked, IsCounted}
+use Rattle.sx_steps.specs.declared.stop.Stop.{Stop}
 use Rattle.sx_steps.specs.Stop.{RisesBy, RisesUpTo}
+use Rattle.sx_steps.proofs.Ones.{none_some}
+use Rattle.sx_build.specs.ModuleStops.{module_stop}
+use Rattle.sx_build.specs.CompileModule.{IsUncompiled}
 
 module _ (s : Source) (tries before after : ℕ) where
   just : RisesBy (HasWalked s tries) before after → (after ≡ before) ⊎ RisesUpTo (HasWalked s tries) before after
@@ -24,3 +29,24 @@ module _ (s : Source) (tries before after : ℕ) where
   counted_short (errors.TooBig size) counted = just counted
   counted_short (errors.PrintLimit part limit) counted = just counted
   counted_short (errors.PrintAmbiguous part one other) counted = just counted
+
+  -- they rose by those of the walk, where the module was compiled
+  pub counted_unit : (c : Compiled) → IsCounted s tries (Ok c) before after → RisesBy (HasWalked s tries) before after
+  counted_unit c counted = counted
+
+  -- and where it was refused
+  pub counted_stop : (file : List ℕ) (e : ModuleError) (stop : Stop) → module_stop file e ≡ Some stop → IsCounted s tries (Err e) before after → (after ≡ before) ⊎ RisesBy (HasWalked s tries) before after
+  counted_stop file errors.Memory stop is counted = absurd (none_some stop is)
+  counted_stop file (errors.Token line column e) stop is counted = inr counted
+  counted_stop file (errors.Read line column e) stop is counted = inr counted
+  counted_stop file (errors.TypeError line column text) stop is counted = inr counted
+  counted_stop file (errors.BudgetSpent budget) stop is counted = inr counted
+  counted_stop file errors.DepthSpent stop is counted = inr counted
+  counted_stop file (errors.TooDeep depth) stop is counted = inr counted
+  counted_stop file (errors.TooBig size) stop is counted = inr counted
+  counted_stop file (errors.PrintLimit part limit) stop is counted = inr counted
+  counted_stop file (errors.PrintAmbiguous part one other) stop is counted = inr counted
+
+-- a refusal and its stop
+pub uncompiled : (file : List ℕ) (s : Source) (tries : ℕ) (e : ModuleError) (stop : Stop) → IsBadModule s tries e → module_stop file e ≡ Some stop → IsUncompiled file s tries stop
+uncompiled file s tries e stop bad is = record { error = e; refused = bad; is = is }

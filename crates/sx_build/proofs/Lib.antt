@@ -4,3 +4,4 @@ mod FirstLines
 pub mod Agreeing
 pub mod Promise
 mod Counted
+mod Stating

@@ -1,5 +1,5 @@
 -- What is proved of `build NAME`.
-use Rattle.std.specs.Prelude.{◌≡◌, ◌≢◌, ◌⊎◌, ℕ, List, Result, map}
+use Rattle.std.specs.Prelude.{◌≡◌, ◌≢◌, ◌⊎◌, ℕ, List, Result}
 use Rattle.sx_rules.specs.Modes.{AllModed}
 use Rattle.sx_rules.specs.Views.{modes_of}
 use Rattle.sx_notation.specs.declared.language.Language.{Language}
@@ -8,12 +8,7 @@ use Rattle.sx_notation.specs.declared.notation_error.NotationError.TheVariants a
 use Rattle.sx_notation.specs.declared.unread.Unread.TheVariants.{Ambiguous}
 use Rattle.sx_notation.specs.Language.{LanguageData, language_data}
 use Rattle.sx_language.specs.States.{States, IsRefused}
-use Rattle.sx_module.specs.declared.module_error.ModuleError.{ModuleError}
-use Rattle.sx_module.specs.declared.module_error.ModuleError.TheVariants as module_error
-use Rattle.sx_module.specs.declared.print_limit.Part.{Part}
-use Rattle.sx_module.specs.Source.{Source}
-use Rattle.sx_module.specs.Unit.{UnitData, IsMade}
-use Rattle.sx_module.specs.Refused.{IsBadModule}
+use Rattle.sx_module.specs.Unit.{rules_of}
 use Rattle.sx_outside.specs.Files.{Files}
 use Rattle.sx_steps.specs.declared.stop.Stop.{Stop}
 use Rattle.sx_steps.specs.Agree.{IsNoReadFault, Agree}
@@ -40,37 +35,9 @@ pub record OneLanguage : Type 0 where
 
 -- ---- modules
 
--- both say that the body has more than one reading, and show two of them
-pub record ReadOthers (e d : ModuleError) : Type 0 where
-  pub line : ℕ
-  pub column : ℕ
-  pub one : List ℕ
-  pub other : List ℕ
-  pub some : List ℕ
-  pub more : List ℕ
-  pub first : e ≡ module_error.Read line column (Ambiguous one other)
-  pub second : d ≡ module_error.Read line column (Ambiguous some more)
-
--- both say that the same printed text has more than one reading, and show two of them
-pub record PrintOthers (e d : ModuleError) : Type 0 where
-  pub part : Part
-  pub one : List ℕ
-  pub other : List ℕ
-  pub some : List ℕ
-  pub more : List ℕ
-  pub first : e ≡ module_error.PrintAmbiguous part one other
-  pub second : d ≡ module_error.PrintAmbiguous part some more
-
 -- the rules of the language can be followed
 abbrev pub IsFollowed : LanguageData → Type 0
-IsFollowed language = AllModed (modes_of language.forms) (map (λ r. r.rule) language.rules)
-
--- a module has one unit, or one refusal, but for the two readings that it shows; want of memory is free
-pub record OneUnit : Type 0 where
-  pub found : (s : Source) (tries : ℕ) (u v : UnitData) → IsMade s tries u → IsMade s tries v → u ≡ v
-  pub either : (s : Source) (tries : ℕ) (u : UnitData) (e : ModuleError) → IsMade s tries u → IsBadModule s tries e → e ≡ module_error.Memory
-  pub refused : (s : Source) (tries : ℕ) (e d : ModuleError) → IsFollowed s.language → IsBadModule s tries e → IsBadModule s tries d → e ≢ module_error.Memory → d ≢ module_error.Memory
-      → (e ≡ d) ⊎ ReadOthers e d ⊎ PrintOthers e d
+IsFollowed language = AllModed (modes_of language.forms) (rules_of language)
 
 -- ---- builds
 

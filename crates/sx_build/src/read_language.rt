@@ -41,7 +41,10 @@ fn state_language(
             language,
             digest: digest(bytes),
         }),
-        Err(error) => Err(StepError::Stopped(bad_language(alloc, file, error)?)),
+        Err(error) => match bad_language(alloc, file, error) {
+            Ok(stop) => Err(StepError::Stopped(stop)),
+            Err(_) => Err(StepError::Memory),
+        },
     }
 }
 

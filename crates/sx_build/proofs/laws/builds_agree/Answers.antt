@@ -2,4 +2,4 @@ use Rattle.sx_build.proofs.Agreeing.{builds_nearly}
 use Rattle.sx_build.proofs.laws.builds_agree.Goals as goal
 
 pub returns : goal.returns
-returns c = λ languages units. builds_nearly languages units
+returns c = builds_nearly
