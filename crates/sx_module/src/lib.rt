@@ -32,3 +32,6 @@ pub use laws::{one_unit, units_are_made};
 pub use module_error::ModuleError;
 pub use print_limit::{Limit, Part};
 pub use stuck_text::StuckText;
+
+#[cfg(test)]
+mod tests;
