@@ -138,7 +138,11 @@ fn printed(
     requires showable { IsShowable grammar.now.parts sort (tree term.now) }
 {
     let shown = show(alloc, grammar, term)?;
-    let size = if shown.len() < least { least } else { shown.len() };
+    let size = if shown.len() < least {
+        least
+    } else {
+        shown.len()
+    };
     match check_print(alloc, grammar, sort, size, term, &shown) {
         Ok(tokens) => Ok(Told::Print(shown, tokens)),
         Err(refusal) => print_told(alloc, refusal),
