@@ -82,11 +82,7 @@ fn make_grammars(
 }
 
 /// What the text states before the lines of its rules are read.
-pub(crate) fn prepare(
-    alloc: Global,
-    name: &Text,
-    bytes: &[u8],
-) -> Result<Prepared, NotationError>
+pub(crate) fn prepare(alloc: Global, name: &Text, bytes: &[u8]) -> Result<Prepared, NotationError>
     requires { length bytes.now ≤ 262144 }
     ensures prepared { IfOk result (IsPrepared name.now bytes.now) }
     ensures refused { IfErr result (IsRefused name.now bytes.now) }

@@ -18,10 +18,7 @@ pub(crate) struct StemTable<'a> {
 }
 
 /// The table of the stems. It is made from the last to the first, so that of equal stems the first counts.
-pub(crate) fn stem_table<'a>(
-    alloc: Global,
-    metas: &'a Metas,
-) -> Result<StemTable<'a>, AllocError>
+pub(crate) fn stem_table<'a>(alloc: Global, metas: &'a Metas) -> Result<StemTable<'a>, AllocError>
     ensures { IfOk result (λ s. IsTable metas.entry.now.stems.items s) }
 {
     let mut sorts = HashMap::new(alloc);
