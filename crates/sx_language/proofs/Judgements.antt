@@ -142,7 +142,7 @@ module _ (p : Parts) (fs : List FormLine) (is : IsGrammar p) where
           let l = get_or p.productions label d in
           let q = numbered_line (names p) l in
           let here : slice_get (numbered p).productions label ≡ Some q =
-              slice_get-map (numbered_line (names p)) p.productions label ∙ ap (option_map (numbered_line (names p))) (slice_get-get_or p.productions label d lt) in
+          slice_get-map (numbered_line (names p)) p.productions label ∙ ap (option_map (numbered_line (names p))) (slice_get-get_or p.productions label d lt) in
           let same : Some q ≡ Some r = sym (productions_stay p fs label q is here) ∙ at in
           let e : q ≡ r = cc in
           absurd (omega (arith, sort_below p label q is here, ap (λ x. x.sort) e, sort))
@@ -155,13 +155,13 @@ module _ (p : Parts) (fs : List FormLine) (is : IsGrammar p) where
       let one : label ≡ length p.productions + (length fs + m) = omega (arith, past) in
       let two : length fs + m ≡ length (map form_line fs) + m = omega (arith, length-map fs form_line) in
       let here : slice_get apart_lines m ≡ Some l.0 =
-          sym (got_behind-at (map form_line fs) apart_lines (length fs + m) m two) ∙ sym (got_behind-at p.productions (map form_line fs ++ apart_lines) label (length fs + m) one) ∙ l.1 in
+      sym (got_behind-at (map form_line fs) apart_lines (length fs + m) m two) ∙ sym (got_behind-at p.productions (map form_line fs ++ apart_lines) label (length fs + m) one) ∙ l.1 in
       subst (λ x. IsPair x.symbols) l.2 (apart_pairs (names (rule_parts p fs)) m l.0 here)
 
   no_brackets : (pair : plain.Brackets) → pair_of (numbered (rule_parts p fs)) (length p.sorts) ≡ Some pair → ⊥
   no_brackets pair e =
       let here : slice_get (numbered (rule_parts p fs)).sorts (length p.sorts) ≡ Some (numbered_sort judgement_sort) =
-          slice_get-map numbered_sort (p.sorts ++ judgement_sort ∷ []) (length p.sorts) ∙ ap (option_map numbered_sort) (got_behind-at p.sorts (judgement_sort ∷ []) (length p.sorts) 0 (omega arith)) in
+      slice_get-map numbered_sort (p.sorts ++ judgement_sort ∷ []) (length p.sorts) ∙ ap (option_map numbered_sort) (got_behind-at p.sorts (judgement_sort ∷ []) (length p.sorts) 0 (omega arith)) in
       let none : pair_of (numbered (rule_parts p fs)) (length p.sorts) ≡ None = ap plain.brackets_of here in
       absurd (none-some pair (sym none ∙ e))
 

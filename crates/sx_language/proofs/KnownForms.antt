@@ -57,7 +57,7 @@ module _ (p : Parts) (fs : List FormLine) (is : IsGrammar (rule_parts p fs)) whe
       let two : Contains (map symbol_for f.symbols.items) (TheSymbol.Part name least) = contains_map symbol_for f.symbols.items (Place role (Named name least)) one in
       let three : Contains (flat_map symbol_sorts (map symbol_for f.symbols.items)) name = in_flat_map symbol_sorts (map symbol_for f.symbols.items) (TheSymbol.Part name least) name two (is_head name []) in
       let four : Contains (sorts_named (rule_parts p fs)) name =
-          in_flat_map (λ l. l.sort ∷ flat_map symbol_sorts l.symbols) (rule_parts p fs).productions (form_line f) name has (past_head (form_line f).sort (flat_map symbol_sorts (form_line f).symbols) name three) in
+      in_flat_map (λ l. l.sort ∷ flat_map symbol_sorts l.symbols) (rule_parts p fs).productions (form_line f) name has (past_head (form_line f).sort (flat_map symbol_sorts (form_line f).symbols) name three) in
       (known_name name four named.0, symbols_known f has ss (λ s h. inside s (past_head (Place role (Named name least)) ss s h)) named.1)
 
   forms_known : (gs : List FormLine) → ((f : FormLine) → Contains gs f → Contains (rule_parts p fs).productions (form_line f)) → AllByRecursion (λ f. AllByRecursion HasName f.symbols) (map form gs)
@@ -91,9 +91,13 @@ few_literals (Place role (Named name least) ∷ ss) = omega (arith, few_literals
 
 few_form_literals : (fs : List FormLine) → length (flat_map (λ r. flat_map symbol_literals r.symbols) (map form_line fs)) ≤ length (flat_map (λ f. f.symbols) (map form fs))
 few_form_literals [] = omega arith
-few_form_literals (f ∷ fs) = omega (arith, few_literals f.symbols.items, few_form_literals fs,
+few_form_literals (f ∷ fs) = omega (
+  arith,
+  few_literals f.symbols.items,
+  few_form_literals fs,
   length-append (flat_map symbol_literals (map symbol_for f.symbols.items)) (flat_map (λ r. flat_map symbol_literals r.symbols) (map form_line fs)),
-  length-append f.symbols.items (flat_map (λ g. g.symbols) (map form fs)))
+  length-append f.symbols.items (flat_map (λ g. g.symbols) (map form fs)),
+)
 
 module _ (p : Parts) (fs : List FormLine) where
   abbrev S : Parts → List Text
@@ -188,7 +192,7 @@ module _ (p : Parts) (fs : List FormLine) where
     rule_limits =
         let sorts : length (S (rule_parts p fs)) ≡ length (S p) + 0 = ap length sort_literals ∙ length-append (S p) [] in
         let lines : length (L (rule_parts p fs).productions) ≡ length (L p.productions) + (length (L (map form_line fs)) + 3) =
-            ap length line_literals ∙ length-append (L p.productions) (L (map form_line fs) ++ L apart_lines) ∙ ap (λ n. length (L p.productions) + n) (length-append (L (map form_line fs)) (L apart_lines)) in
+        ap length line_literals ∙ length-append (L p.productions) (L (map form_line fs) ++ L apart_lines) ∙ ap (λ n. length (L p.productions) + n) (length-append (L (map form_line fs)) (L apart_lines)) in
         let all : length (literals (rule_parts p fs)) ≡ length (S (rule_parts p fs)) + length (L (rule_parts p fs).productions) = length-append (S (rule_parts p fs)) (L (rule_parts p fs).productions) in
         let base : length (literals p) ≡ length (S p) + length (L p.productions) = length-append (S p) (L p.productions) in
         let forms : length (L (map form_line fs)) ≤ length (flat_map (λ f. f.symbols) (map form fs)) = few_form_literals fs in

@@ -151,7 +151,7 @@ module _ (p : Parts) where
       let two : slice_get (shapes_of p) number ≡ Some (shape_of p.sorts (numbered_line (names p) line)) = slice_get-map (shape_of p.sorts) (numbered p).productions number ∙ ap (option_map (shape_of p.sorts)) one in
       let right : flat_map (kid_sorts p.sorts) (map (numbered_symbol (names p)) line.symbols) ≡ map kid_sort kids = kids_are line.symbols ∙ ap (map kid_sort) h.kids_are in
       let same_shape : shape_of p.sorts (numbered_line (names p) line) ≡ record { sort = sort_with p.sorts (number_of (names p) sort); kids = map kid_sort kids } =
-          λ i. record { sort = sort_with p.sorts (number_of (names p) (h.sort_is i)); kids = right i } in
+      λ i. record { sort = sort_with p.sorts (number_of (names p) (h.sort_is i)); kids = right i } in
       two ∙ ap Some same_shape
 
 fits_of : (d : Declared) (fs : List FormLine) (n : ℕ) (f : FormLine) → slice_get fs n ≡ Some f → AllByRecursion (λ x. AllByRecursion (SymbolFits d) x.symbols) (map form fs) → AllByRecursion (SymbolFits d) f.symbols.items

@@ -1,7 +1,6 @@
 -- The premises that were read so far, and those that are left.
 use Rattle.std.proofs.Common.{◌≡◌, ℕ, ◌+◌, ◌*◌, ◌<◌, ◌≤◌, List, [], ◌∷◌, ◌++◌, length, drop, get_or, map, inl, inr, refl, ap, ◌∙◌, sym, subst, append_assoc, arith}
 use Rattle.std.proofs.lemmas.List.{drop_more, drop_all, append-nil}
-
 use Rattle.sx_grammar.specs.Grammar.{Text}
 use Rattle.sx_rules.specs.Rules.{Premise}
 use Rattle.sx_outline.specs.declared.rule_lines.RuleLine.{RuleLine}

@@ -122,7 +122,7 @@ pub rules_lexical : (p : Parts) (fs : List FormLine) (r : Reader) (ls : List Rul
     → AllByRecursion (RuleHasLexemes (literals_of p)) qs
 rules_lexical p fs r ls names qs same h =
     let inside : (text : Text) → Contains (literals_of p) text → ¬ (¬ (Contains (literals_of r.parts) text)) =
-        λ text has. distinct_has (literals r.parts) text (subst (λ x. Contains (literals x) text) (sym same) (literal_stays p fs text (distinct_from (literals p) text has))) in
+    λ text has. distinct_has (literals r.parts) text (subst (λ x. Contains (literals x) text) (sym same) (literal_stays p fs text (distinct_from (literals p) text has))) in
     lexical_rules (literals_of p) qs (of_rules r (HasLexemes (literals_of p)) (λ label ts k. lexemes_kids (literals_of p) ts k)
     (λ text old new q k. fewer (literals_of r.parts) (literals_of p) inside k.term (reads_have_lexemes r.parts r.stems (judgements r.parts) text old new k.term k.read)) ls names qs h)
 

@@ -20,7 +20,7 @@ apart-requires c =
     let e : first ≡ length c.args.by.now.grammar.parts.productions - (c.args.by.now.forms + 3) = omega (arith, as_many c.args.by.now.grammar.parts c.productions.result.now c.productions.ensures.same) in
     let past : c.args.by.now.forms ≤ c.in-Node.label - first = omega (arith, c.if-number-by.false) in
     let two = two_apart (reader c.args.by.now) (tree c.args.term) c.in-Node.label first (map tree c.in-Node.kids.items) e (tree-at_node c.args.term c.in-Node.label c.in-Node.kids c.in-Node.is)
-        c.requires.says.0 c.requires.says.1 past in
+    c.requires.says.0 c.requires.says.1 past in
     omega (arith, two, length-map c.in-Node.kids.items tree)
 
 pub returns : goal.returns
