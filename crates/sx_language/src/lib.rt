@@ -15,5 +15,7 @@ mod rule_reading;
 mod rules_reading;
 mod stem_table;
 mod stems;
+#[cfg(test)]
+mod tests;
 
 pub use language_reading::read_language;
