@@ -1,8 +1,6 @@
 -- `build NAME` has one result, read faults and the readings that a stop shows aside.
 use Rattle.std.proofs.Common.{◌≡◌, ◌≢◌, ℕ, List, [], ◌∷◌, map, refl, sym, ap, ◌∙◌, subst, inl, inr, ◌⊎◌}
-use Rattle.std.specs.Prelude.{Result, Ok, Err, Option, Some, None}
-use Rattle.std.specs.Str.Lossy.{utf8_valid_len}
-use Rattle.sha2.specs.Sha256.{sha256}
+use Rattle.std.specs.Prelude.{Ok, Err, Option, Some, None}
 use Rattle.sx_lines.specs.Lines.{lines_from}
 use Rattle.sx_lines.specs.Reading.{kept}
 use Rattle.sx_interface.specs.Headers.{HeaderParts}
@@ -17,24 +15,21 @@ use Rattle.sx_module.specs.declared.module_error.ModuleError.TheVariants as modu
 use Rattle.sx_words.specs.declared.print_defect.PrintDefect.TheVariants as print_defect
 use Rattle.sx_steps.specs.declared.stop.Stop.{Stop}
 use Rattle.sx_steps.specs.Held.{Held, most_bytes}
-use Rattle.sx_steps.specs.Stops.{not_utf8}
-use Rattle.sx_steps.specs.Agree.{IsNoReadFault, AreReadings, Agree}
-use Rattle.sx_steps.specs.Work.{Plan}
-use Rattle.sx_steps.proofs.Ones.{IsOne, IsNearlyOne, nearly, then_nearly, held_one, ok_same, err_same, ok_no_err, some_same, none_some}
+use Rattle.sx_steps.specs.Agree.{AreReadings, Agree}
+use Rattle.sx_steps.proofs.Ones.{IsOne, IsNearlyOne, nearly, then_nearly, held_one, ok_same, some_same, none_some}
 use Rattle.sx_build.specs.ModuleFiles.{module_file, language_file}
-use Rattle.sx_build.specs.ReadModule.{Module, HasHeader, StatesModule, ReadsModule, StandsAlone, IsAlone, bad_header}
+use Rattle.sx_build.specs.ReadModule.{Module, HasHeader, StatesModule, ReadsModule, IsAlone, bad_header}
 use Rattle.sx_build.specs.LanguageStops.{unread_line, language_stop}
 use Rattle.sx_build.specs.ModuleStops.{unread_body, unprinted, module_stop}
-use Rattle.sx_build.specs.ReadLanguage.{Stated, IsStated, IsStopped, StatesLanguage, ReadsLanguage}
-use Rattle.sx_build.specs.CompileModule.{source_of, IsUncompiled, Compiles}
-use Rattle.sx_build.specs.BuildModule.{unit_plan, BuildsUnit, BuildsOver, BuildsRead, BuildsModule}
+use Rattle.sx_build.specs.ReadLanguage.{Stated, IsStated, StatesLanguage, ReadsLanguage}
+use Rattle.sx_build.specs.CompileModule.{source_of, Compiles}
+use Rattle.sx_build.specs.BuildModule.{unit_plan, BuildsUnit, BuildsOver, BuildsRead}
 use Rattle.sx_rules.proofs.Facts.{kept_moded}
 use Rattle.sx_rules.specs.declared.rule.Rule.{Rule as RuleOf}
 use Rattle.sx_rules.specs.Rules.{Rule}
 use Rattle.sx_rules.specs.Modes.{AllModed}
 use Rattle.sx_rules.specs.Views.{modes_of, named, rule}
 use Rattle.sx_rules.specs.Sets.{shapes_in, forms_in}
-use Rattle.sx_notation.specs.Language.{LanguageData}
 use Rattle.sx_steps.proofs.StepsOn.{went}
 use Rattle.sx_language.specs.Alike.{ShowOthers}
 use Rattle.sx_language.proofs.OneLanguage.{one_language}
