@@ -36,7 +36,7 @@ use Rattle.sx_language.proofs.OneOutline.{outline_one, defect_one, outline_or_de
 
 -- ---- rules
 
--- rules that are no rule set are so for one reason, and those of a rule set for none
+-- the refusal of rules, which is not want of memory
 no_rules : (o : Outline) (qs : List NamedRule) (e : RuleError) → IsNoRules o qs e → IsNoRuleSet (shapes_of (parts o.parts)) (forms_of o) qs e × (e ≢ rules.Memory)
 no_rules o qs rules.Memory h = absurd h
 no_rules o qs rules.TooManyRules h = (h, λ e. cc)
