@@ -7,6 +7,7 @@ from tokens import stem_of
 
 MOST_ITEMS = 2000000
 BRACKET_LEVEL = 100
+MOST_SHOWN = 200
 
 # A reading is ("node", label, kids, from, to), ("bracket", inner, from, to), ("lex", place) or ("var", place).
 
@@ -113,10 +114,13 @@ class Chart:
 
 
 class Readings:
-    """All readings of a part of the tokens as a sort at least a level, counted; with the greatest depth."""
+    """All readings of a part of the tokens as a sort at least a level, counted; with the greatest depth.
 
-    def __init__(self, chart):
+    At most `most` of them are built."""
+
+    def __init__(self, chart, most):
         self.chart = chart
+        self.most = most
         self.rows = chart.rows
         self.counts = {}
         self.built = {}
@@ -171,17 +175,17 @@ class Readings:
         return number, deepest
 
     def build(self, symbol, start, end):
-        """Up to two readings of a symbol that is no literal."""
+        """Some readings of a symbol that is no literal."""
         found = []
         if end == start + 1 and self.chart.reads_one(symbol, start):
             found.append(("var" if self.chart.tokens[start].mark == "meta" else "lex", start))
         if symbol[0] == "part":
             for row in self.spans(symbol[1], symbol[2], start, end):
                 found.extend(self.build_row(row, start, end))
-        return found[:2]
+        return found[:self.most]
 
     def build_row(self, row, start, end):
-        """Up to two readings by a production or a bracket pair."""
+        """Some readings by a production or a bracket pair."""
         if (row, start, end) not in self.built:
             rows = self.build_front(row, len(self.rows.symbols[row]), start, end)
             if row < self.rows.productions:
@@ -191,7 +195,7 @@ class Readings:
         return self.built[row, start, end]
 
     def build_front(self, row, dot, start, end):
-        """Up to two lists of kids for the first `dot` symbols of a row."""
+        """Some lists of kids for the first `dot` symbols of a row."""
         if dot == 0:
             return [[]] if start == end else []
         symbol = self.rows.symbols[row][dot - 1]
@@ -203,9 +207,9 @@ class Readings:
                 lasts = self.build(symbol, place, end)
                 fronts = self.build_front(row, dot - 1, start, place) if lasts else []
                 found.extend(front + [last] for front in fronts for last in lasts)
-            if len(found) >= 2:
+            if len(found) >= self.most:
                 break
-        return found[:2]
+        return found[:self.most]
 
 
 class NoReading(Exception):
@@ -219,6 +223,9 @@ class NoReading(Exception):
 class TwoReadings(Exception):
     """The tokens have two readings; their tree texts, in order."""
 
+    number = 0
+    texts = []
+
     def __init__(self, one, other):
         super().__init__(one, other)
         self.text = b"two readings: %s and %s" % (one, other)
@@ -227,7 +234,7 @@ class TwoReadings(Exception):
 def read_one(grammar, start, stems, tokens):
     """The only reading of all the tokens as the sort; `stems` has for each stem the name of its sort."""
     chart = Chart(grammar, start, stems, tokens)
-    readings = Readings(chart)
+    readings = Readings(chart, 2)
     whole = ("part", start, 0)
     number, deepest = readings.count(whole, 0, len(tokens))
     if number == 0:
@@ -236,6 +243,9 @@ def read_one(grammar, start, stems, tokens):
         raise too_deep(deepest)
     found = readings.build(whole, 0, len(tokens))
     if number > 1:
+        every = Readings(chart, MOST_SHOWN).build(whole, 0, len(tokens)) if number <= MOST_SHOWN else []
+        TwoReadings.number = number
+        TwoReadings.texts = [tree_text(grammar, reading, tokens) for reading in every]
         raise TwoReadings(*sorted(tree_text(grammar, reading, tokens) for reading in found))
     return found[0]
 
