@@ -30,10 +30,12 @@ def random_signature(rng):
     if rng.random() < 0.3:
         rng.shuffle(cons)
     forms = []
-    for n in range(rng.choice((1, 1, 2, 3))):
+    subjects = typed if rng.random() < 0.9 else typed[:1]
+    for n in range(len(subjects) + rng.choice((0, 0, 1, 2))):
         places = [("in", rng.choice(plain + lexical)) for _ in range(rng.randrange(3))]
-        if n == 0 or rng.random() < 0.3:
-            places.insert(rng.randrange(len(places) + 1), ("sub", rng.choice(typed) if n else typed[0]))
+        if n < len(subjects) or rng.random() < 0.3:
+            sort = subjects[n] if n < len(subjects) else rng.choice(typed)
+            places.insert(rng.randrange(len(places) + 1), ("sub", sort))
         places.extend(("out", rng.choice(plain + plain + lexical)) for _ in range(rng.choice((0, 1, 1, 1, 2))))
         if rng.random() < 0.15:
             rng.shuffle(places)

@@ -63,7 +63,7 @@ def random_grammar(rng):
             kids = [rng.choice(typed * 3 + plain + list(KINDS)) for _ in range(rng.choice((0, 1, 2, 2, 3)))]
             rows.append(random_production(rng, b"p%d" % len(rows), sort, kids))
     for sort, literal in ((b"Exp", b"+"), (b"Ty", b"*")):
-        if rng.random() < 0.12:
+        if rng.random() < 0.2:
             rows.append(Production(b"sum" + sort, sort, 20, [("part", sort, rng.choice((0, 20))), ("literal", literal),
                                                              ("part", sort, rng.choice((0, 20, 21)))]))
     return sorts, rows

@@ -82,7 +82,7 @@ class Maker:
             elif role == "in":
                 places.append(self.over_bound(sort))
             else:
-                places.append(self.pattern(sort, 1 if self.rng.random() < 0.45 else 0))
+                places.append(self.pattern(sort, 1 if self.rng.random() < 0.6 else 0))
         for (role, _), term in zip(self.signature.forms[form].places, places):
             if role == "out":
                 self.bind(term)
@@ -175,7 +175,7 @@ def random_rules(signature, most):
             sort = plain[0] if plain else None
         labels = signature.makers(sort) if sort else [None]
         for label in labels:
-            for _ in range(rng.choice((0, 1, 1, 1, 1, 1, 1, 2))):
+            for _ in range(rng.choice((0, 1, 1, 1, 1, 1, 1, 1, 2, 2))):
                 name = b"R%d" % len(rules)
                 rules.append(Maker(signature).rule(name, number, label))
     if rng.random() < 0.08 and signature.forms:
