@@ -258,7 +258,7 @@ def module_input(rng):
         text = draft.text()
         if rng.random() < 0.15 or is_read(text):
             break
-    if rng.random() < 0.12:
+    if rng.random() < 0.16:
         text = spoiled(rng, text)
     pieces, needed = chosen_body(rng, draft, text)
     if rng.random() < 0.18:

@@ -28,7 +28,7 @@ def core_rules(*rules):
 AXIOM = (b"A", b"then f (1) (2)")
 COPY = (b"B E T", b"if f ?0 ?1", b"then f (0 ?0) ?1")
 DEEPEN = (b"D E T", b"if f ?0 ?1", b"then f (0 ?0) (3 ?1)")
-DOUBLE = (b"D E T", b"if f ?0 ?1", b"then f (0 ?0) (4 ?1 ?1)")
+DOUBLE = (b"D2 E T", b"if f ?0 ?1", b"then f (0 ?0) (4 ?1 ?1)")
 ENDLESS = (b"Z T T", b"if g ?0 ?1", b"then g ?0 ?1")
 CALL = (b"A T", b"if g (2) ?0", b"then f (1) ?0")
 
@@ -63,18 +63,15 @@ def core_limit(rng):
 def replay_limit(rng):
     """A list near a limit."""
     rules, steps = core_rules(AXIOM, COPY, DEEPEN, DOUBLE, ENDLESS, CALL, (b"G", b"then g (2) (2)")), [b"A"]
-    what = rng.randrange(3)
     goal = b"(1)"
-    if what == 0:
-        rules = rules.replace(b"rule A\n", b"rule A0\n").replace(b"rule A T\n", b"rule A T\n")
-        number = rng.choice((2996, 2997, 2998, 2999, 3000))
-        steps = [b"A"] + [b"Z"] * number + rng.choice(([b"G"], [], [b"Z"], [b"A0"]))
+    if rng.random() < 0.4:
+        rules = rules.replace(b"rule A\n", b"rule A0\n")
+        steps += [b"Z"] * rng.choice((2996, 2997, 2998, 2999, 3000)) + rng.choice(([b"G"], [], [b"Z"], [b"A0"]))
     else:
         rules = rules.replace(b"rule A T\n", b"rule A1 T\n")
-        number = rng.choice((18, 19, 25, 997, 998, 999))
-        rules = rules.replace(b"rule D E T\nif f ?0 ?1\nthen f (0 ?0) (4 ?1 ?1)", b"rule D2 E T\nif f ?0 ?1\nthen f (0 ?0) (4 ?1 ?1)")
+        number = rng.choice((18, 19, 25, 997, 998, 999, 1000))
         goal = nested(b"(0 ", b"(1)", b")", number)
-        steps = [rng.choice((b"D", b"D2"))] * (number - 1) + [rng.choice((b"D", b"D2", b"B")), b"A"]
+        steps = [rng.choice((b"D", b"D", b"D2"))] * (number - 1) + [rng.choice((b"D", b"D2", b"B"))] + steps
         if rng.random() < 0.3:
             steps[rng.randrange(len(steps))] = b"B"
     text = b"sxder 1\n" + b"".join(step + b"\n" for step in steps)
@@ -92,7 +89,8 @@ def module_limit(rng):
     elif what == 1:
         body = b"row " + b" ".join([b"1"] * rng.choice((996, 997, 998, 999, 1990, 2500)))
     elif what == 2:
-        body = b"w " * rng.choice((300, 498, 499, 500, 997, 998, 999)) + b"1"
+        loose = leasts[0] != b"@10" or leasts[1] != b"@11"
+        body = b"w " * (rng.choice((20, 60)) if loose else rng.choice((300, 498, 499, 500, 997, 998, 999))) + b"1"
     elif what == 3:
         body = b"s " * rng.choice((8, 12, 13, 17, 18, 19)) + b"1"
     elif what == 4:

@@ -10,7 +10,7 @@ SPOILING = (b'sort Ty plain', b'sort Ty typed', b'sort Zz plain "(" ")"', b'prod
             b'main typing none bind', b'main typing none none', b'main lookup none bind', b'main zz none bind',
             b'main typing zz bind', b'main typing bind none', b'rule Zz', b'---', b'end', b'~zz |- ~e : ~T', b'~C |- ~e : ~T',
             b'~x != ~x1', b'~x != ~n', b'language L', b'~x : ~', b'use A', b'// note', b'\t// note', b'~C |- ~e : ~T // note', b'~C |- ~',
-            b'~C |- "a', b'~C |- ~e :', b'~C ? ~e', b'~C |- ~e1 : ~T1', b'rule', b'end end', b'--- ---', b'main', b'end x')
+            b'~C |- "a', b'~C |- ~e : "', b'~C |- ~e :', b'~C |- ~C', b'~C ? ~e', b'~C |- ~e1 : ~T1', b'rule', b'end end', b'--- ---', b'main', b'end x')
 
 
 def spoiled(rng, text):
