@@ -1,4 +1,4 @@
-use Rattle.std.proofs.Common.{◌≡◌, ℕ, zero, suc, ◌+◌, ◌-◌, ◌<◌, ◌≤◌, ◌⊎◌, inl, inr, refl, sym, ap, ◌∙◌, Option, None, Some, List, subst, length, get_or, arith, add-one}
+use Rattle.std.proofs.Common.{◌≡◌, ℕ, zero, suc, ◌+◌, ◌-◌, ◌<◌, ◌≤◌, ◌⊎◌, inl, inr, refl, sym, ap, ◌∙◌, Option, None, Some, List, max, subst, length, get_or, arith, add-one}
 use Rattle.std.proofs.lemmas.Bool.{cases_lt}
 use Rattle.std.specs.List.{slice_get}
 use Rattle.std.proofs.lemmas.Option.{slice_get-get_or}
@@ -62,7 +62,28 @@ no_rest g sort least next from e t none is = by_case (fits_or_not g e.maker sort
     by_case (inl fits) = inl (fits, sym (nothing_after (tally_of e.ways)) ∙ ap (times (tally_of e.ways)) (sym none ∙ is))
     by_case (inr not_fits) = inr (not_fits, refl)
 
-nothing_more : (t : Tally) → plus t no_way ≡ t
+greater_again : (a b c : ℕ) → max (max a b) c ≡ max a (max b c)
+greater_again a b c = omega arith
+
+-- sums may be taken together from either end
+pub sum_again : (t u v : Tally) → plus (plus t u) v ≡ plus t (plus u v)
+sum_again no_way u v = refl
+sum_again (one_way a) no_way v = refl
+sum_again (one_way a) (one_way b) no_way = refl
+sum_again (one_way a) (one_way b) (one_way c) = ap more_ways (greater_again a b c)
+sum_again (one_way a) (one_way b) (more_ways c) = ap more_ways (greater_again a b c)
+sum_again (one_way a) (more_ways b) no_way = refl
+sum_again (one_way a) (more_ways b) (one_way c) = ap more_ways (greater_again a b c)
+sum_again (one_way a) (more_ways b) (more_ways c) = ap more_ways (greater_again a b c)
+sum_again (more_ways a) no_way v = refl
+sum_again (more_ways a) (one_way b) no_way = refl
+sum_again (more_ways a) (one_way b) (one_way c) = ap more_ways (greater_again a b c)
+sum_again (more_ways a) (one_way b) (more_ways c) = ap more_ways (greater_again a b c)
+sum_again (more_ways a) (more_ways b) no_way = refl
+sum_again (more_ways a) (more_ways b) (one_way c) = ap more_ways (greater_again a b c)
+sum_again (more_ways a) (more_ways b) (more_ways c) = ap more_ways (greater_again a b c)
+
+pub nothing_more : (t : Tally) → plus t no_way ≡ t
 nothing_more no_way = refl
 nothing_more (one_way d) = refl
 nothing_more (more_ways d) = refl

@@ -1,13 +1,13 @@
 //! The ways to read a part, and then the symbols after it.
 
 ghost use Rattle.std.specs.Prelude.{◌≡◌, ◌≢◌, ◌≤◌, ◌<◌, ◌-◌, ◌↔◌, ℕ, IsTrue, Some, length, slice_get};
-ghost use Rattle.sx_grammar.specs.Tally.{no_way};
+ghost use Rattle.sx_grammar.specs.Tally.{Tally, no_way, plus};
 ghost use Rattle.sx_earley.specs.Shown.{plain};
 ghost use Rattle.sx_forest.specs.Tallies.{tally_of, ways_at, ways_of};
 ghost use Rattle.sx_forest.specs.Rows.{FitsPart, IsEntryTally, SumTo, AreSorted};
 
 use crate::entry::{Entry, Maker};
-use crate::row::{Row, at, is_ahead, is_past};
+use crate::row::{Row, at, is_ahead};
 use crate::ways::{Ways, both, either};
 use sx_earley::makes;
 use sx_grammar::Grammar;
@@ -52,50 +52,31 @@ fn entry_ways(grammar: &Grammar, entry: Entry, sort: u32, least: u8, next: &Row,
     }
 }
 
-/// From which entry on, the first one aside, the row may have ways at their ends.
-fn first_reaching(entries: &[Entry], next: &Row, from: u32) -> usize
-    requires sorted { AreSorted entries.now }
-    requires later { (i : ℕ) (e : Entry) → slice_get entries.now i ≡ Some e → from ≤ e.to }
-    requires some { 1 ≤ length entries.now }
-    ensures after { 1 ≤ result }
-    ensures within { result ≤ length entries.now }
-    ensures before { (i : ℕ) (e : Entry) → 1 ≤ i → i < result → slice_get entries.now i ≡ Some e → ways_at (ways_of next.now) (e.to - from) ≡ no_way }
-{
-    let mut first = entries.len();
-    while first > 1 {
-        if is_ahead(next, from, entries[first - 1].to) {
-            return first;
-        }
-        first -= 1;
-    }
-    first
-}
-
-/// The sum, which is that of the entries before this one, with the others up to the last at whose end the row may have ways.
-fn summed_on(
+/// The ways by the entries after the first, and then those of the row. It goes from the last entry back to one that ends before the
+/// row has ways.
+fn later_ways(
     grammar: &Grammar,
     entries: &[Entry],
     sort: u32,
     least: u8,
     next: &Row,
     from: u32,
-    first: usize,
-    sum: Ways,
 ) -> Ways
     requires sorted { AreSorted entries.now }
     requires later { (i : ℕ) (e : Entry) → slice_get entries.now i ≡ Some e → from ≤ e.to }
-    requires after { 1 ≤ first }
-    requires within { first ≤ length entries.now }
-    requires so_far { SumTo (plain grammar.now) sort least (ways_of next.now) from entries.now first (tally_of sum) }
-    ensures { SumTo (plain grammar.now) sort least (ways_of next.now) from entries.now (length entries.now) (tally_of result) }
+    requires some { 1 ≤ length entries.now }
+    ensures { (t : Tally) → SumTo (plain grammar.now) sort least (ways_of next.now) from entries.now 1 t → SumTo (plain grammar.now) sort least (ways_of next.now) from entries.now (length entries.now) (plus t (tally_of result)) }
 {
-    let mut all = sum;
-    for index in first..entries.len() {
-        let entry = entries[index];
-        if is_past(next, from, entry.to) {
+    let mut all = Ways::Nothing;
+    let mut left = entries.len();
+    while left > 1 {
+        let entry = entries[left - 1];
+        if is_ahead(next, from, entry.to) {
             return all;
         }
-        all = either(all, entry_ways(grammar, entry, sort, least, next, from));
+        let here = entry_ways(grammar, entry, sort, least, next, from);
+        all = either(here, all);
+        left -= 1;
     }
     all
 }
@@ -116,7 +97,7 @@ pub(crate) fn part_ways(
     if entries.is_empty() {
         return Ways::Nothing;
     }
-    let sum = entry_ways(grammar, entries[0], sort, least, next, from);
-    let first = first_reaching(entries, next, from);
-    summed_on(grammar, entries, sort, least, next, from, first, sum)
+    let first = entry_ways(grammar, entries[0], sort, least, next, from);
+    let others = later_ways(grammar, entries, sort, least, next, from);
+    either(first, others)
 }
