@@ -1,8 +1,6 @@
 -- `build NAME` has one result, read faults and the readings that a stop shows aside.
 use Rattle.std.proofs.Common.{◌≡◌, ◌≢◌, ℕ, List, [], ◌∷◌, map, refl, sym, ap, ◌∙◌, subst, inl, inr, ◌⊎◌}
-use Rattle.std.specs.Prelude.{Result, Ok, Err, Option, Some, None}
-use Rattle.std.specs.Str.Lossy.{utf8_valid_len}
-use Rattle.sha2.specs.Sha256.{sha256}
+use Rattle.std.specs.Prelude.{Ok, Err, Option, Some, None}
 use Rattle.sx_lines.specs.Lines.{lines_from}
 use Rattle.sx_lines.specs.Reading.{kept}
 use Rattle.sx_interface.specs.Headers.{HeaderParts}
@@ -17,26 +15,25 @@ use Rattle.sx_module.specs.declared.module_error.ModuleError.TheVariants as modu
 use Rattle.sx_words.specs.declared.print_defect.PrintDefect.TheVariants as print_defect
 use Rattle.sx_steps.specs.declared.stop.Stop.{Stop}
 use Rattle.sx_steps.specs.Held.{Held, most_bytes}
-use Rattle.sx_steps.specs.Stops.{not_utf8}
-use Rattle.sx_steps.specs.Agree.{IsNoReadFault, AreReadings, Agree}
-use Rattle.sx_steps.specs.Work.{Plan}
-use Rattle.sx_steps.proofs.Ones.{IsOne, IsNearlyOne, nearly, then_nearly, held_one, ok_same, err_same, ok_no_err, some_same, none_some}
+use Rattle.sx_steps.specs.Agree.{AreReadings, Agree}
+use Rattle.sx_steps.proofs.Ones.{IsOne, IsNearlyOne, nearly, then_nearly, held_one, ok_same, some_same, none_some}
 use Rattle.sx_build.specs.ModuleFiles.{module_file, language_file}
-use Rattle.sx_build.specs.ReadModule.{Module, HasHeader, StatesModule, ReadsModule, StandsAlone, IsAlone, bad_header}
+use Rattle.sx_build.specs.ReadModule.{Module, HasHeader, StatesModule, ReadsModule, IsAlone, bad_header}
 use Rattle.sx_build.specs.LanguageStops.{unread_line, language_stop}
 use Rattle.sx_build.specs.ModuleStops.{unread_body, unprinted, module_stop}
-use Rattle.sx_build.specs.ReadLanguage.{Stated, IsStated, IsStopped, StatesLanguage, ReadsLanguage}
-use Rattle.sx_build.specs.CompileModule.{source_of, IsUncompiled, Compiles}
-use Rattle.sx_build.specs.BuildModule.{unit_plan, BuildsUnit, BuildsOver, BuildsRead, BuildsModule}
+use Rattle.sx_build.specs.ReadLanguage.{Stated, IsStated, StatesLanguage, ReadsLanguage}
+use Rattle.sx_build.specs.CompileModule.{source_of, Compiles}
+use Rattle.sx_build.specs.BuildModule.{unit_plan, BuildsUnit, BuildsOver, BuildsRead}
 use Rattle.sx_rules.proofs.Facts.{kept_moded}
 use Rattle.sx_rules.specs.declared.rule.Rule.{Rule as RuleOf}
 use Rattle.sx_rules.specs.Rules.{Rule}
 use Rattle.sx_rules.specs.Modes.{AllModed}
 use Rattle.sx_rules.specs.Views.{modes_of, named, rule}
 use Rattle.sx_rules.specs.Sets.{shapes_in, forms_in}
-use Rattle.sx_notation.specs.Language.{LanguageData}
 use Rattle.sx_steps.proofs.StepsOn.{went}
-use Rattle.sx_build.specs.Laws.{ShowOthers, OneLanguage, IsFollowed, BuildsAgree}
+use Rattle.sx_language.specs.Alike.{ShowOthers}
+use Rattle.sx_language.proofs.OneLanguage.{one_language}
+use Rattle.sx_build.specs.Laws.{IsFollowed, BuildsAgree}
 use Rattle.sx_module.specs.Alike.{ReadOthers, PrintOthers, AreAlike}
 use Rattle.sx_module.proofs.OneUnit.{one_unit}
 use Rattle.sx_build.proofs.FirstLines.{bad_states_none, one_first_bad}
@@ -125,65 +122,64 @@ bare_named : (rs : List RuleOf) → map rule rs ≡ map (λ r. r.rule) (map name
 bare_named [] = refl
 bare_named (r ∷ rs) = ap (λ (l : List Rule). rule r ∷ l) (bare_named rs)
 
-module _ (one_language : OneLanguage) where
-  stated_same : (name bytes : List ℕ) (l k : Stated) → IsStated name bytes l → IsStated name bytes k → l ≡ k
-  stated_same name bytes l k s t = λ i. record { language = (s.language ∙ one_language.found name bytes s.whole t.whole s.states t.states ∙ sym t.language) i; digest = (s.digest ∙ sym t.digest) i }
+stated_same : (name bytes : List ℕ) (l k : Stated) → IsStated name bytes l → IsStated name bytes k → l ≡ k
+stated_same name bytes l k s t = λ i. record { language = (s.language ∙ one_language.found name bytes s.whole t.whole s.states t.states ∙ sym t.language) i; digest = (s.digest ∙ sym t.digest) i }
 
-  module _ (name bytes : List ℕ) where
-    lacks : (stop : Stop) (e : NotationError) → language_stop (language_file name) e ≡ Some stop → e ≢ notation_error.Memory
-    lacks stop e is = not_lacking (language_stop (language_file name)) notation_error.Memory refl e stop is
+module _ (name bytes : List ℕ) where
+  lacks : (stop : Stop) (e : NotationError) → language_stop (language_file name) e ≡ Some stop → e ≢ notation_error.Memory
+  lacks stop e is = not_lacking (language_stop (language_file name)) notation_error.Memory refl e stop is
 
-    language_nearly : IsNearlyOne (StatesLanguage name bytes)
-    language_nearly (Ok l) (Ok k) s t f g = inl (ap Ok (stated_same name bytes l k s t))
-    language_nearly (Ok l) (Err t) s r f g = absurd (lacks t r.error r.is (one_language.either name bytes s.whole r.error s.states r.refused))
-    language_nearly (Err s) (Ok k) r t f g = absurd (lacks s r.error r.is (one_language.either name bytes t.whole r.error t.states r.refused))
-    language_nearly (Err s) (Err t) r q f g =
-        agree_alike (language_file name) r.error q.error s t (one_language.refused name bytes r.error q.error r.refused q.refused (lacks s r.error r.is) (lacks t q.error q.is)) r.is q.is
+  language_nearly : IsNearlyOne (StatesLanguage name bytes)
+  language_nearly (Ok l) (Ok k) s t f g = inl (ap Ok (stated_same name bytes l k s t))
+  language_nearly (Ok l) (Err t) s r f g = absurd (lacks t r.error r.is (one_language.either name bytes s.whole r.error s.states r.refused))
+  language_nearly (Err s) (Ok k) r t f g = absurd (lacks s r.error r.is (one_language.either name bytes t.whole r.error t.states r.refused))
+  language_nearly (Err s) (Err t) r q f g =
+      agree_alike (language_file name) r.error q.error s t (one_language.refused name bytes r.error q.error r.refused q.refused (lacks s r.error r.is) (lacks t q.error q.is)) r.is q.is
 
-  reads_language_nearly : (name : List ℕ) (files : Files) → IsNearlyOne (ReadsLanguage name files)
-  reads_language_nearly name files =
-      then_nearly (Held most_bytes (language_file name) files) (StatesLanguage name) (nearly (Held most_bytes (language_file name) files) (held_one most_bytes (language_file name) files))
-      (λ bytes held. language_nearly name bytes)
+reads_language_nearly : (name : List ℕ) (files : Files) → IsNearlyOne (ReadsLanguage name files)
+reads_language_nearly name files =
+    then_nearly (Held most_bytes (language_file name) files) (StatesLanguage name) (nearly (Held most_bytes (language_file name) files) (held_one most_bytes (language_file name) files))
+    (λ bytes held. language_nearly name bytes)
 
-  -- ---- the unit
+-- ---- the unit
 
-  module _ (file : List ℕ) (budget : ℕ) (m : Module) (l : Stated) (followed : IsFollowed l.language) where
-    wants : (stop : Stop) (e : ModuleError) → module_stop file e ≡ Some stop → e ≢ module_error.Memory
-    wants stop e is = not_lacking (module_stop file) module_error.Memory refl e stop is
+module _ (file : List ℕ) (budget : ℕ) (m : Module) (l : Stated) (followed : IsFollowed l.language) where
+  wants : (stop : Stop) (e : ModuleError) → module_stop file e ≡ Some stop → e ≢ module_error.Memory
+  wants stop e is = not_lacking (module_stop file) module_error.Memory refl e stop is
 
-    compiles_nearly : IsNearlyOne (Compiles file budget m l)
-    compiles_nearly (Ok u) (Ok v) s t f g = inl (ap Ok (one_unit.found (source_of m l) budget u v s.made t.made))
-    compiles_nearly (Ok u) (Err t) s r f g = absurd (wants t r.error r.is (one_unit.either (source_of m l) budget u r.error s.made r.refused))
-    compiles_nearly (Err s) (Ok v) r t f g = absurd (wants s r.error r.is (one_unit.either (source_of m l) budget v r.error t.made r.refused))
-    compiles_nearly (Err s) (Err t) r q f g =
-        module_alike file r.error q.error s t (one_unit.refused (source_of m l) budget r.error q.error followed r.refused q.refused (wants s r.error r.is) (wants t q.error q.is)) r.is q.is
+  compiles_nearly : IsNearlyOne (Compiles file budget m l)
+  compiles_nearly (Ok u) (Ok v) s t f g = inl (ap Ok (one_unit.found (source_of m l) budget u v s.made t.made))
+  compiles_nearly (Ok u) (Err t) s r f g = absurd (wants t r.error r.is (one_unit.either (source_of m l) budget u r.error s.made r.refused))
+  compiles_nearly (Err s) (Ok v) r t f g = absurd (wants s r.error r.is (one_unit.either (source_of m l) budget v r.error t.made r.refused))
+  compiles_nearly (Err s) (Err t) r q f g =
+      module_alike file r.error q.error s t (one_unit.refused (source_of m l) budget r.error q.error followed r.refused q.refused (wants s r.error r.is) (wants t q.error q.is)) r.is q.is
 
-  -- ---- the command
+-- ---- the command
 
-  unit_nearly : (name : List ℕ) (budget : ℕ) (m : Module) (l : Stated) → IsFollowed l.language → IsNearlyOne (BuildsUnit name budget m l)
-  unit_nearly name budget m l followed =
-      then_nearly (Compiles (module_file name) budget m l) (λ unit result. result ≡ Ok (unit_plan name unit)) (compiles_nearly (module_file name) budget m l followed)
-      (λ unit compiled x y h k f g. inl (h ∙ sym k))
+unit_nearly : (name : List ℕ) (budget : ℕ) (m : Module) (l : Stated) → IsFollowed l.language → IsNearlyOne (BuildsUnit name budget m l)
+unit_nearly name budget m l followed =
+    then_nearly (Compiles (module_file name) budget m l) (λ unit result. result ≡ Ok (unit_plan name unit)) (compiles_nearly (module_file name) budget m l followed)
+    (λ unit compiled x y h k f g. inl (h ∙ sym k))
 
-  -- the rules of a language that a text states can be followed, as those of each rule set
-  stated_followed : (name bytes : List ℕ) (l : Stated) → IsStated name bytes l → IsFollowed l.language
-  stated_followed name bytes l s =
-      subst IsFollowed (sym s.language)
-      (subst (λ (rules : List Rule). AllModed (modes_of (forms_in s.whole.rules)) rules) (bare_named s.whole.rules.rules.items)
-      (kept_moded (shapes_in s.whole.rules) (forms_in s.whole.rules) s.whole.rules.rules.items s.whole.rules.good))
+-- the rules of a language that a text states can be followed, as those of each rule set
+stated_followed : (name bytes : List ℕ) (l : Stated) → IsStated name bytes l → IsFollowed l.language
+stated_followed name bytes l s =
+    subst IsFollowed (sym s.language)
+    (subst (λ (rules : List Rule). AllModed (modes_of (forms_in s.whole.rules)) rules) (bare_named s.whole.rules.rules.items)
+    (kept_moded (shapes_in s.whole.rules) (forms_in s.whole.rules) s.whole.rules.rules.items s.whole.rules.good))
 
-  read_followed : (name : List ℕ) (files : Files) (l : Stated) → ReadsLanguage name files (Ok l) → IsFollowed l.language
-  read_followed name files l read = let at = went _ _ _ read in stated_followed name at.given l at.goes
+read_followed : (name : List ℕ) (files : Files) (l : Stated) → ReadsLanguage name files (Ok l) → IsFollowed l.language
+read_followed name files l read = let at = went _ _ _ read in stated_followed name at.given l at.goes
 
-  over_nearly : (name : List ℕ) (budget : ℕ) (files : Files) (m : Module) → IsNearlyOne (BuildsOver name budget files m)
-  over_nearly name budget files m =
-      then_nearly (ReadsLanguage m.header.language files) (BuildsUnit name budget m) (reads_language_nearly m.header.language files) (λ l read. unit_nearly name budget m l (read_followed m.header.language files l read))
+over_nearly : (name : List ℕ) (budget : ℕ) (files : Files) (m : Module) → IsNearlyOne (BuildsOver name budget files m)
+over_nearly name budget files m =
+    then_nearly (ReadsLanguage m.header.language files) (BuildsUnit name budget m) (reads_language_nearly m.header.language files) (λ l read. unit_nearly name budget m l (read_followed m.header.language files l read))
 
-  read_nearly : (name : List ℕ) (budget : ℕ) (files : Files) (m : Module) → IsNearlyOne (BuildsRead name budget files m)
-  read_nearly name budget files m =
-      then_nearly (IsAlone (module_file name) m.header) (λ done. BuildsOver name budget files m) (nearly (IsAlone (module_file name) m.header) (alone_one (module_file name) m.header))
-      (λ done alone. over_nearly name budget files m)
+read_nearly : (name : List ℕ) (budget : ℕ) (files : Files) (m : Module) → IsNearlyOne (BuildsRead name budget files m)
+read_nearly name budget files m =
+    then_nearly (IsAlone (module_file name) m.header) (λ done. BuildsOver name budget files m) (nearly (IsAlone (module_file name) m.header) (alone_one (module_file name) m.header))
+    (λ done alone. over_nearly name budget files m)
 
-  pub builds_nearly : BuildsAgree
-  builds_nearly name budget files =
-      then_nearly (ReadsModule (module_file name) name files) (BuildsRead name budget files) (reads_nearly (module_file name) name files) (λ m read. read_nearly name budget files m)
+pub builds_nearly : BuildsAgree
+builds_nearly name budget files =
+    then_nearly (ReadsModule (module_file name) name files) (BuildsRead name budget files) (reads_nearly (module_file name) name files) (λ m read. read_nearly name budget files m)

@@ -1,9 +1,8 @@
 //! What is proved of `build NAME`.
 
-ghost use Rattle.sx_build.specs.Laws.{OneLanguage, BuildsAgree};
+ghost use Rattle.sx_build.specs.Laws.{BuildsAgree};
 
-/// Where a text states one language, there is by the name and the files one result, read faults and the readings that a refusal shows
-/// aside.
+/// By the name and the files there is one result, read faults and the readings that a refusal shows aside.
 pub fn builds_agree()
-    ensures { OneLanguage → BuildsAgree }
+    ensures { BuildsAgree }
 {}

@@ -10,6 +10,7 @@ use crate::ask::Ask;
 use crate::chart_error::ChartError;
 use crate::filed::{befores, file_complete, file_waiting, fillings};
 use crate::growing::{predict_once, treat};
+use crate::hints::Hints;
 use crate::openings::openings;
 use crate::shown::Shown;
 use crate::table::Table;
@@ -18,7 +19,7 @@ use std::alloc::Global;
 use sx_grammar::{Grammar, Item};
 
 /// The item at a place.
-fn item_at(found: &IndexSet<Item>, place: usize) -> Option<Item>
+pub(crate) fn item_at(found: &IndexSet<Item>, place: usize) -> Option<Item>
     ensures { result ≡ slice_get found.now.keys place }
 {
     found.get_index(place).copied()
@@ -42,6 +43,7 @@ pub(crate) fn all_items(
     let mut asked = IndexSet::new(alloc);
     let mut waiting = Table::new(alloc);
     let mut complete = Table::new(alloc);
+    let mut hints = Hints::new(alloc, shown.len() + 1)?;
     let first = Ask {
         sort: start,
         least: 0,
@@ -58,7 +60,7 @@ pub(crate) fn all_items(
         let before = befores(grammar, &waiting, item);
         let filling = fillings(grammar, &complete, item);
         if let Err(error) = treat(
-            grammar, &openings, shown, &mut found, &mut asked, before, filling, item,
+            grammar, &openings, shown, &mut found, &mut hints, &mut asked, before, filling, item,
         ) {
             let _count = found.len();
             return Err(error);

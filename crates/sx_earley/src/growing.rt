@@ -9,6 +9,7 @@ ghost use Rattle.sx_earley.specs.Chart.{HasOpenings, HasAllOpenings, AllAsked, F
 
 use crate::ask::Ask;
 use crate::chart_error::ChartError;
+use crate::hints::Hints;
 use crate::shown::Shown;
 use crate::slot::Slot;
 use crate::symbols::{ends_at, makes, next_part, reads_next};
@@ -37,6 +38,26 @@ fn add(found: &mut IndexSet<Item>, item: Item) -> Result<(), ChartError>
         }
         Err(_) => Err(ChartError::Memory),
     }
+}
+
+/// Adds the item, if it is not there, where hints may say that it is.
+fn add_hinted(found: &mut IndexSet<Item>, hints: &mut Hints, item: Item) -> Result<(), ChartError>
+    requires { length found.old.keys ≤ 2000000 }
+    ensures added { OnOk result (Contains found.new.keys item) }
+    ensures extends { Extends found.old.keys found.new.keys }
+    ensures only { Only found.old.keys found.new.keys (λ i. i ≡ item) }
+    ensures few { OnOk result (length found.new.keys ≤ 2000000) }
+    ensures hard { result ≡ Err ChartError.TooHard → 2000000 < length found.new.keys }
+{
+    if hints.is_right(found, item) {
+        return Ok(());
+    }
+    let place = found.len();
+    add(found, item)?;
+    if place < found.len() {
+        hints.note(item, place);
+    }
+    Ok(())
 }
 
 /// Predicts the head's production at the place, if it is of the sort and at least of the level.
@@ -157,6 +178,7 @@ fn predict_next(
 fn join(
     grammar: &Grammar,
     found: &mut IndexSet<Item>,
+    hints: &mut Hints,
     before: Item,
     filling: Item,
 ) -> Result<(), ChartError>
@@ -174,8 +196,9 @@ fn join(
                 && ends_at(grammar, filling.head, filling.dot)
                 && makes(grammar, filling.head, sort, least)
             {
-                add(
+                add_hinted(
                     found,
+                    hints,
                     Item {
                         head: before.head,
                         dot: before.dot + 1,
@@ -194,6 +217,7 @@ fn join(
 fn join_each(
     grammar: &Grammar,
     found: &mut IndexSet<Item>,
+    hints: &mut Hints,
     befores: &[Item],
     filling: Item,
 ) -> Result<(), ChartError>
@@ -205,7 +229,7 @@ fn join_each(
     ensures hard { result ≡ Err ChartError.TooHard → 2000000 < length found.new.keys }
 {
     for before in befores {
-        join(grammar, found, *before, filling)?;
+        join(grammar, found, hints, *before, filling)?;
     }
     Ok(())
 }
@@ -214,6 +238,7 @@ fn join_each(
 fn join_over(
     grammar: &Grammar,
     found: &mut IndexSet<Item>,
+    hints: &mut Hints,
     before: Item,
     fillings: &[Item],
 ) -> Result<(), ChartError>
@@ -225,7 +250,7 @@ fn join_over(
     ensures hard { result ≡ Err ChartError.TooHard → 2000000 < length found.new.keys }
 {
     for filling in fillings {
-        join(grammar, found, before, *filling)?;
+        join(grammar, found, hints, before, *filling)?;
     }
     Ok(())
 }
@@ -267,6 +292,7 @@ pub(crate) fn treat(
     openings: &Table,
     shown: &[Shown],
     found: &mut IndexSet<Item>,
+    hints: &mut Hints,
     asked: &mut IndexSet<Ask>,
     befores: &[Item],
     fillings: &[Item],
@@ -286,6 +312,6 @@ pub(crate) fn treat(
 {
     predict_next(grammar, openings, found, asked, item)?;
     scan(grammar, shown, found, item)?;
-    join_each(grammar, found, befores, item)?;
-    join_over(grammar, found, item, fillings)
+    join_each(grammar, found, hints, befores, item)?;
+    join_over(grammar, found, hints, item, fillings)
 }

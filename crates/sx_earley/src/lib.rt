@@ -9,6 +9,7 @@ mod charting;
 mod completed;
 mod filed;
 mod growing;
+mod hints;
 mod metas;
 mod openings;
 mod shown;

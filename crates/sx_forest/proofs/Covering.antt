@@ -1,7 +1,6 @@
 -- The places at which the symbols of a span can begin are in its stretches.
 use Rattle.std.proofs.Common.{◌≡◌, ℕ, zero, suc, ◌<◌, ◌≤◌, List, ◌∷◌, Some, refl, sym, subst, ap, ◌∙◌, length, take, arith}
 use Rattle.std.specs.Global.{Vec}
-use Rattle.std.specs.Prelude.{◌-◌}
 use Rattle.std.specs.List.{slice_get}
 use Rattle.std.proofs.lemmas.Option.{same_Some}
 use Rattle.sx_grammar.specs.Grammar.{Symbol, literal, lexical, part, Production, Grammar, Token, production_of, HasLevels}
@@ -26,7 +25,7 @@ left_before {dot = zero} x e (later {x = y} {xs = xs} from_start) = subst (λ z.
 left_before {dot = suc dot} x e (later l) = later (left_before x e l)
 
 module _ (g : Grammar) (tokens : List Token) (start : ℕ) (levels : HasLevels g) (rank : ℕ → ℕ) (ranking : IsRanking g rank) (lists : List (Vec Entry)) (table : IsTable g tokens start lists)
-    (head : Head) (p : Production) (is : production_of g head ≡ Some p) (from to : ℕ) (has : HasBefore g tokens start rank lists (to - from) (rank p.sort))
+    (head : Head) (p : Production) (is : production_of g head ≡ Some p) (from to : ℕ) (has : HasBefore g tokens start rank lists from to (rank p.sort))
     (stretches : List Stretch) (spread : AreStretches g tokens lists head (length p.symbols) from to stretches) where
   -- a complete span has a reading
   span_reading : {other : Head} {full middle end sort least : ℕ} → Item g tokens start other full middle end → Makes g other sort least → AtEnd g other full →

@@ -121,7 +121,7 @@ module _ (g : Grammar) (tokens : List Token) (start : ℕ) where
       rw k.1.0.1 (subst (λ x. HasSpan g sort (bracket k.1.0.0 place middle) (Bracketed x) place middle) (sym same) at_bracket)
 
   module _ (levels : HasLevels g) (rank : ℕ → ℕ) (ranking : IsRanking g rank) (lists : List (Vec Entry)) (table : IsTable g tokens start lists)
-      (head : Head) (p : Production) (is : production_of g head ≡ Some p) (from to : ℕ) (has : HasBefore g tokens start rank lists (to - from) (rank p.sort)) where
+      (head : Head) (p : Production) (is : production_of g head ≡ Some p) (from to : ℕ) (has : HasBefore g tokens start rank lists from to (rank p.sort)) where
     -- the symbols before a place
     before_left : {xs : List Symbol} {dot : ℕ} {rest : List Symbol} → Left xs dot rest → xs ≡ take dot xs ++ rest
     before_left from_start = refl
@@ -170,7 +170,7 @@ module _ (g : Grammar) (tokens : List Token) (start : ℕ) where
             let span = found g tokens start levels reads h.0 place middle low (λ other m. predicted item next m) (kid_span sort least place middle h.0 kid h.1) in
             let makes = h.1.0 in
             let before = kid_before head refl dot place middle sort least rest kid ks left item reads more in
-            let entry = has h.0 makes.production place middle makes.is span (subst (λ x. ComesBefore (middle - place) (rank x) (to - from) (rank p.sort)) (sym makes.same_sort) before) in
+            let entry = has h.0 makes.production place middle makes.is span (item_forward item) (forward_all g tokens more) (subst (λ x. ComesBefore (middle - place) (rank x) (to - from) (rank p.sort)) (sym makes.same_sort) before) in
             (entry.0, entry.1, entry.2, subst (λ m. KidOf g tokens m sort least place middle kid) (sym entry.3) h.1, entry.4)
 
     -- the ways at a place are those of the symbol's readings

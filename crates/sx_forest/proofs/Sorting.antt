@@ -1,4 +1,4 @@
--- Spans in order: by width, and then by rank.
+-- Spans in order: by end, then by width, and then by rank.
 use Rattle.std.proofs.Common.{◌≡◌, ℕ, zero, suc, ◌+◌, ◌<◌, ◌≤◌, false, true≢false, List, [], ◌∷◌, ◌⊎◌, inl, inr, refl, sym, subst, ◌∙◌, length, map, take, get_or, Contains, Ordering, Less, Equal, Greater, is_lt, arith, add-one}
 use Rattle.std.specs.Cmp.{ranks}
 use Rattle.std.specs.List.Sorted.{IsPermutation, IsSortedByKey}
@@ -11,48 +11,62 @@ use Rattle.sx_grammar.specs.Grammar.{Grammar}
 use Rattle.sx_grammar.specs.Tally.{EachOnce}
 use Rattle.sx_earley.specs.declared.span.Span.{Span}
 use Rattle.sx_forest.specs.declared.ordered.Ordered.{Ordered}
-use Rattle.sx_forest.specs.Ordering.{IsOrdered, IsInOrder, AreOrdered}
+use Rattle.sx_forest.specs.Ordering.{IsOrdered, IsAhead, IsInOrder, AreOrdered}
 use Rattle.sx_forest.proofs.Apart.{once_sorted}
 
 abbrev pub Key : Type 0
-Key = ℕ × ℕ
+Key = ℕ × (ℕ × ℕ)
 
 abbrev pub by_key : Key → Key → Ordering
-by_key x y = ordering_then (nat_cmp x.0 y.0) (nat_cmp x.1 y.1)
+by_key x y = ordering_then (nat_cmp x.0 y.0) (ordering_then (nat_cmp x.1.0 y.1.0) (nat_cmp x.1.1 y.1.1))
 
 abbrev pub key : Ordered → Key
-key o = (o.width, o.rank)
+key o = (o.span.to, (o.width, o.rank))
 
 -- the second does not come before the first
 abbrev UpTo : Key → Key → Type 0
-UpTo x y = (x.0 < y.0) ⊎ ((x.0 ≡ y.0) × (x.1 ≤ y.1))
+UpTo x y = (x.0 < y.0) ⊎ ((x.0 ≡ y.0) × ((x.1.0 < y.1.0) ⊎ ((x.1.0 ≡ y.1.0) × (x.1.1 ≤ y.1.1))))
 
 not_before : (x y : Key) → is_lt (by_key y x) ≡ false → UpTo x y
-not_before x y = by (nat_cmp y.0 x.0) (nat_cmp y.1 x.1) (ranks y.0 x.0) (ranks y.1 x.1)
+not_before x y = by (nat_cmp y.0 x.0) (nat_cmp y.1.0 x.1.0) (nat_cmp y.1.1 x.1.1) (ranks y.0 x.0) (ranks y.1.0 x.1.0) (ranks y.1.1 x.1.1)
   where
-    by : (o p : Ordering) → MatchOrdering o (y.0 < x.0) (y.0 ≡ x.0) (x.0 < y.0) → MatchOrdering p (y.1 < x.1) (y.1 ≡ x.1) (x.1 < y.1) →
-        is_lt (ordering_then o p) ≡ false → UpTo x y
-    by Less p h k e = absurd (true≢false e)
-    by Equal Less h k e = absurd (true≢false e)
-    by Equal Equal h k e = inr (sym h, omega arith)
-    by Equal Greater h k e = inr (sym h, omega arith)
-    by Greater p h k e = inl h
+    by : (o p q : Ordering) → MatchOrdering o (y.0 < x.0) (y.0 ≡ x.0) (x.0 < y.0) → MatchOrdering p (y.1.0 < x.1.0) (y.1.0 ≡ x.1.0) (x.1.0 < y.1.0) →
+        MatchOrdering q (y.1.1 < x.1.1) (y.1.1 ≡ x.1.1) (x.1.1 < y.1.1) → is_lt (ordering_then o (ordering_then p q)) ≡ false → UpTo x y
+    by Less p q h k l e = absurd (true≢false e)
+    by Equal Less q h k l e = absurd (true≢false e)
+    by Equal Equal Less h k l e = absurd (true≢false e)
+    by Equal Equal Equal h k l e = inr (sym h, inr (sym k, omega arith))
+    by Equal Equal Greater h k l e = inr (sym h, inr (sym k, omega arith))
+    by Equal Greater q h k l e = inr (sym h, inl k)
+    by Greater p q h k l e = inl h
 
 up_again : (x : Key) → UpTo x x
-up_again x = inr (refl, omega arith)
+up_again x = inr (refl, inr (refl, omega arith))
 
 up_on : (x y z : Key) → UpTo x y → UpTo y z → UpTo x z
 up_on x y z (inl h) (inl k) = inl (omega arith)
 up_on x y z (inl h) (inr k) = inl (omega (arith, k.0))
 up_on x y z (inr h) (inl k) = inl (omega (arith, h.0))
-up_on x y z (inr h) (inr k) = inr (h.0 ∙ k.0, omega (arith, h.1, k.1))
+up_on x y z (inr h) (inr k) = inr (h.0 ∙ k.0, within h.1 k.1)
+  where
+    within : (x.1.0 < y.1.0) ⊎ ((x.1.0 ≡ y.1.0) × (x.1.1 ≤ y.1.1)) → (y.1.0 < z.1.0) ⊎ ((y.1.0 ≡ z.1.0) × (y.1.1 ≤ z.1.1)) → (x.1.0 < z.1.0) ⊎ ((x.1.0 ≡ z.1.0) × (x.1.1 ≤ z.1.1))
+    within (inl a) (inl b) = inl (omega arith)
+    within (inl a) (inr b) = inl (omega (arith, b.0))
+    within (inr a) (inl b) = inl (omega (arith, a.0))
+    within (inr a) (inr b) = inr (a.0 ∙ b.0, omega (arith, a.1, b.1))
 
--- what comes before does not come after
-not_both : (a b : Ordered) → (a.width < b.width) ⊎ ((a.width ≡ b.width) × (a.rank < b.rank)) → UpTo (key b) (key a) → ⊥
+-- what is ahead does not come after
+not_both : (a b : Ordered) → IsAhead a b → UpTo (key b) (key a) → ⊥
 not_both a b (inl h) (inl k) = omega arith
 not_both a b (inl h) (inr k) = omega (arith, k.0)
 not_both a b (inr h) (inl k) = omega (arith, h.0)
-not_both a b (inr h) (inr k) = omega (arith, h.1, k.1)
+not_both a b (inr h) (inr k) = within h.1 k.1
+  where
+    within : (a.width < b.width) ⊎ ((a.width ≡ b.width) × (a.rank < b.rank)) → (b.width < a.width) ⊎ ((b.width ≡ a.width) × (b.rank ≤ a.rank)) → ⊥
+    within (inl x) (inl y) = omega arith
+    within (inl x) (inr y) = omega (arith, y.0)
+    within (inr x) (inl y) = omega (arith, x.0)
+    within (inr x) (inr y) = omega (arith, x.1, y.1)
 
 module _ (xs : List Ordered) (up : IsSortedByKey key by_key xs) where
   far : (i j : ℕ) (d : Ordered) → i ≤ j → j < length xs → UpTo (key (get_or xs i d)) (key (get_or xs j d))

@@ -120,7 +120,7 @@ module _ (g : Grammar) (tokens : List Token) (start : ℕ) (levels : HasLevels g
   pub right : (dot : ℕ) (rest : List Symbol) → dot ≤ n → Left (symbols_of g o.head) dot rest → IsRight g tokens start o.head dot o.from o.to rest (row_from g o dot)
   right dot rest low left =
       let long : n ≡ length p.symbols = ap length symbols in
-      rows_right g tokens start levels rank ranking lists full.table o.head p is o.from o.to along (λ head q place to e span before. full.has head place to span)
+      rows_right g tokens start levels rank ranking lists full.table o.head p is o.from o.to along (λ head q place end e span after within before. full.has head place end span)
       stretches o.rows.items spread are (n - dot) dot (omega arith) rest (subst (λ xs. Left xs dot rest) symbols left)
 
   -- the ways from a place by the symbol after the dot

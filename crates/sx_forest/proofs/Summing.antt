@@ -1,5 +1,6 @@
-use Rattle.std.proofs.Common.{◌≡◌, ℕ, ◌+◌, ◌-◌, ◌<◌, ◌≤◌, ◌⊎◌, inl, inr, refl, sym, ap, ◌∙◌, Option, None, Some, List, subst, length, get_or, arith, add-one}
+use Rattle.std.proofs.Common.{◌≡◌, ℕ, zero, suc, ◌+◌, ◌-◌, ◌<◌, ◌≤◌, ◌⊎◌, inl, inr, refl, sym, ap, ◌∙◌, Option, None, Some, List, max, subst, length, get_or, arith, add-one}
 use Rattle.std.proofs.lemmas.Bool.{cases_lt}
+use Rattle.std.specs.List.{slice_get}
 use Rattle.std.proofs.lemmas.Option.{slice_get-get_or}
 use Rattle.sx_grammar.specs.Grammar.{Grammar, Production, production_of}
 use Rattle.sx_grammar.specs.Tally.{Tally, no_way, one_way, more_ways, plus, times}
@@ -60,3 +61,48 @@ no_rest g sort least next from e t none is = by_case (fits_or_not g e.maker sort
     by_case : FitsPart g e.maker sort least ⊎ (FitsPart g e.maker sort least → ⊥) → IsEntryTally g sort least next from e no_way
     by_case (inl fits) = inl (fits, sym (nothing_after (tally_of e.ways)) ∙ ap (times (tally_of e.ways)) (sym none ∙ is))
     by_case (inr not_fits) = inr (not_fits, refl)
+
+greater_again : (a b c : ℕ) → max (max a b) c ≡ max a (max b c)
+greater_again a b c = omega arith
+
+-- sums may be taken together from either end
+pub sum_again : (t u v : Tally) → plus (plus t u) v ≡ plus t (plus u v)
+sum_again no_way u v = refl
+sum_again (one_way a) no_way v = refl
+sum_again (one_way a) (one_way b) no_way = refl
+sum_again (one_way a) (one_way b) (one_way c) = ap more_ways (greater_again a b c)
+sum_again (one_way a) (one_way b) (more_ways c) = ap more_ways (greater_again a b c)
+sum_again (one_way a) (more_ways b) no_way = refl
+sum_again (one_way a) (more_ways b) (one_way c) = ap more_ways (greater_again a b c)
+sum_again (one_way a) (more_ways b) (more_ways c) = ap more_ways (greater_again a b c)
+sum_again (more_ways a) no_way v = refl
+sum_again (more_ways a) (one_way b) no_way = refl
+sum_again (more_ways a) (one_way b) (one_way c) = ap more_ways (greater_again a b c)
+sum_again (more_ways a) (one_way b) (more_ways c) = ap more_ways (greater_again a b c)
+sum_again (more_ways a) (more_ways b) no_way = refl
+sum_again (more_ways a) (more_ways b) (one_way c) = ap more_ways (greater_again a b c)
+sum_again (more_ways a) (more_ways b) (more_ways c) = ap more_ways (greater_again a b c)
+
+pub nothing_more : (t : Tally) → plus t no_way ≡ t
+nothing_more no_way = refl
+nothing_more (one_way d) = refl
+nothing_more (more_ways d) = refl
+
+module _ (g : Grammar) (sort least : ℕ) (next : List Ways) (from : ℕ) (entries : List Entry) (n : ℕ) (t : Tally) (sum : SumTo g sort least next from entries n t) where
+  skip_by : (d : ℕ) → n + d ≤ length entries →
+      ((i : ℕ) (e : Entry) → n ≤ i → i < n + d → slice_get entries i ≡ Some e → ways_at next (e.to - from) ≡ no_way) → SumTo g sort least next from entries (n + d) t
+  skip_by zero low none = let e : n ≡ n + 0 = omega arith in subst (λ m. SumTo g sort least next from entries m t) e sum
+  skip_by (suc d) low none =
+      let x = get_or entries (n + d) no_entry in
+      let there : slice_get entries (n + d) ≡ Some x = slice_get-get_or entries (n + d) no_entry (omega arith) in
+      let e : n + d + 1 ≡ n + suc d = omega arith in
+      subst (λ m. SumTo g sort least next from entries m t) e
+      (sum_on g sort least next from entries (n + d) t no_way t (omega arith) (skip_by d (omega arith) (λ i y a b. none i y a (omega arith)))
+      (no_rest g sort least next from x no_way refl (sym (none (n + d) x (omega arith) (omega arith) there))) (sym (nothing_more t)))
+
+  -- entries at whose ends the row has no way add none
+  pub skip_to : (m : ℕ) → n ≤ m → m ≤ length entries →
+      ((i : ℕ) (e : Entry) → n ≤ i → i < m → slice_get entries i ≡ Some e → ways_at next (e.to - from) ≡ no_way) → SumTo g sort least next from entries m t
+  skip_to m high low none =
+      let e : n + (m - n) ≡ m = omega arith in
+      subst (λ k. SumTo g sort least next from entries k t) e (skip_by (m - n) (omega arith) (λ i y a b. none i y a (omega arith)))

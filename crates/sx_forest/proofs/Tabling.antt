@@ -72,16 +72,33 @@ module _ (g : Grammar) (tokens : List Token) (start : ℕ) where
             (got_cases (list_at old p) e x i (subst (λ l. slice_get l i ≡ Some x) there at))
         by_place (inr differ) = inl (subst (λ l. slice_get l i ≡ Some x) (put.others p differ) at)
 
-    -- a table with one more entry
-    pub table_on : IsTable g tokens start old → (HasEntry old place e.maker e.to → ⊥) → IsSoundBy g tokens start e.maker place e.to (tally_of e.ways) → IsTable g tokens start new
-    table_on table fresh sound = record {
+    -- a table with one more entry, which ends no earlier than those by heads that begin there
+    pub table_on : IsTable g tokens start old → (HasEntry old place e.maker e.to → ⊥) → IsSoundBy g tokens start e.maker place e.to (tally_of e.ways) →
+        ((head : Head) × (e.maker ≡ By head)) → ((i : ℕ) (x : Entry) (head : Head) → slice_get (list_at old place) i ≡ Some x → x.maker ≡ By head → x.to ≤ e.to) → IsTable g tokens start new
+    table_on table fresh sound by last = record {
       sound = λ p i x at. ⊎_elim (λ h. table.sound p i x h)
           (λ h. subst (λ y. IsSoundBy g tokens start y.maker p y.to (tally_of y.ways)) h.2
           (subst (λ q. IsSoundBy g tokens start e.maker q e.to (tally_of e.ways)) (sym h.0) sound)) (got_either p i x at);
       once = λ p i j a b at bt makers ends. by_both p i j a b makers ends (got_either p i a at) (got_either p j b bt);
       variables = λ p sort marked. still_has p (Variable sort) (suc p) (table.variables p sort marked);
+      heads = λ p i x low at. ⊎_elim (λ h. table.heads p i x low h) (λ h. (by.0, ap (λ y. y.maker) (sym h.2) ∙ by.1)) (got_either p i x at);
+      sorted = λ p i j a b low up at bt. in_ends p i j a b low up (got_either p i a at) (got_either p j b bt);
     }
       where
+        in_ends : (p i j : ℕ) (a b : Entry) → 0 < i → i ≤ j →
+            (slice_get (list_at old p) i ≡ Some a) ⊎ ((p ≡ place) × (i ≡ length (list_at old place)) × (e ≡ a)) →
+            (slice_get (list_at old p) j ≡ Some b) ⊎ ((p ≡ place) × (j ≡ length (list_at old place)) × (e ≡ b)) → a.to ≤ b.to
+        in_ends p i j a b low up (inl h) (inl k) = table.sorted p i j a b low up h k
+        in_ends p i j a b low up (inl h) (inr k) =
+            let head = table.heads p i a low h in
+            let end : a.to ≤ e.to = last i a head.0 (subst (λ q. slice_get (list_at old q) i ≡ Some a) k.0 h) head.1 in
+            subst (λ y. a.to ≤ y.to) k.2 end
+        in_ends p i j a b low up (inr h) (inl k) =
+            let within = slice_get_within (list_at old p) j b k in
+            let long : length (list_at old p) ≡ length (list_at old place) = ap (λ q. length (list_at old q)) h.0 in
+            absurd (omega (arith, h.1))
+        in_ends p i j a b low up (inr h) (inr k) = let same : a ≡ b = sym h.2 ∙ k.2 in subst (λ y. a.to ≤ y.to) same (omega arith)
+
         by_both : (p i j : ℕ) (a b : Entry) → a.maker ≡ b.maker → a.to ≡ b.to →
             (slice_get (list_at old p) i ≡ Some a) ⊎ ((p ≡ place) × (i ≡ length (list_at old place)) × (e ≡ a)) →
             (slice_get (list_at old p) j ≡ Some b) ⊎ ((p ≡ place) × (j ≡ length (list_at old place)) × (e ≡ b)) → i ≡ j
@@ -115,6 +132,8 @@ module _ (g : Grammar) (tokens : List Token) (start : ℕ) where
     variables = λ p sort marked.
         let within = slice_get_within tokens p _ marked.1 in
         let h = (first.each p (omega (arith, first.long))).every sort marked in (h.0, h.1, h.2, h.3, h.4 ∙ add-one p);
+    heads = λ p i x low at. let o = (first.each p (list_there lists p i x at)).only i x at in absurd (omega (arith, o.0));
+    sorted = λ p i j a b low up at bt. let o = (first.each p (list_there lists p i a at)).only i a at in absurd (omega (arith, o.0));
   }
 
 there_at : {X : Type 0} (xs : List X) (n : ℕ) (x : X) → slice_get xs n ≡ Some x → Contains xs x
@@ -162,25 +181,27 @@ module _ (g : Grammar) (tokens : List Token) (start : ℕ) (rank : ℕ → ℕ) 
       let i = index_of list e.0 e.1 in
       (i.0, e.0, i.2, ap (λ x. head_of x.of) e.2 ∙ head_back head, ap (λ x. x.from) e.2, ap (λ x. x.to) e.2)
 
-  -- a span that comes before stands before
+  -- a span that ends no later and comes before stands before
   earlier : (n i : ℕ) (o o' : Ordered) (p q : Production) → slice_get list n ≡ Some o → slice_get list i ≡ Some o' →
       production_of g (head_of o.span.of) ≡ Some p → production_of g (head_of o'.span.of) ≡ Some q →
-      ComesBefore (o'.span.to - o'.span.from) (rank q.sort) (o.span.to - o.span.from) (rank p.sort) → i < n
-  earlier n i o o' p q at at' is is' before =
+      o'.span.to ≤ o.span.to → ComesBefore (o'.span.to - o'.span.from) (rank q.sort) (o.span.to - o.span.from) (rank p.sort) → i < n
+  earlier n i o o' p q at at' is is' end before =
       let w = (ordered.only o (there_at list n o at)).1 in
       let w' = (ordered.only o' (there_at list i o' at')).1 in
       let r : o.rank ≡ rank p.sort = w.1 ∙ ap (λ x. rank (sort_in x)) is in
       let r' : o'.rank ≡ rank q.sort = w'.1 ∙ ap (λ x. rank (sort_in x)) is' in
-      ordered.sorted i n o' o at' at (rw (w.0, w'.0, r, r') before)
+      let before' : ComesBefore o'.width o'.rank o.width o.rank = rw (w.0, w'.0, r, r') before in
+      ordered.sorted i n o' o at' at (⊎_elim (λ low. inl low) (λ high. inr ((let e : o'.span.to ≡ o.span.to = omega arith in e), before')) (cases_lt o'.span.to o.span.to))
 
   -- the spans before a place are those that come before its span
   before_has : (lists : List (Vec Entry)) (n : ℕ) (o : Ordered) (p : Production) → slice_get list n ≡ Some o → production_of g (head_of o.span.of) ≡ Some p →
-      IsSoFar g tokens start list n lists → HasBefore g tokens start rank lists (o.span.to - o.span.from) (rank p.sort)
-  before_has lists n o p at is so = λ head q place to is' span before.
+      IsSoFar g tokens start list n lists → HasBefore g tokens start rank lists o.span.from o.span.to (rank p.sort)
+  before_has lists n o p at is so = λ head q place to is' span after within before.
       let l = listed head place to span in
       let is'' : production_of g (head_of l.1.span.of) ≡ Some q = ap (production_of g) l.3 ∙ is' in
       let before' : ComesBefore (l.1.span.to - l.1.span.from) (rank q.sort) (o.span.to - o.span.from) (rank p.sort) = rw (l.4, l.5) before in
-      let index : l.0 < n = earlier n l.0 o l.1 p q at l.2 is is'' before' in
+      let end : l.1.span.to ≤ o.span.to = omega (arith, l.5) in
+      let index : l.0 < n = earlier n l.0 o l.1 p q at l.2 is is'' end before' in
       let h = so.has l.0 l.1 index l.2 in
       subst (λ x. HasEntry lists place (By x) to) l.3 (subst (λ x. HasEntry lists place (By (head_of l.1.span.of)) x) l.5
       (subst (λ x. HasEntry lists x (By (head_of l.1.span.of)) l.1.span.to) l.4 h))
@@ -223,6 +244,13 @@ module _ (g : Grammar) (tokens : List Token) (start : ℕ) (rank : ℕ → ℕ) 
       by_head : (a b : Head) → By a ≡ By b → a ≡ b
       by_head a b e = cc
 
+  -- an entry of a span so far ends no later than a span that stands after it
+  ends_on : (lists : List (Vec Entry)) (n : ℕ) (o : Ordered) → slice_get list n ≡ Some o → IsSoFar g tokens start list n lists →
+      (i : ℕ) (x : Entry) (head : Head) → slice_get (list_at lists o.span.from) i ≡ Some x → x.maker ≡ By head → x.to ≤ o.span.to
+  ends_on lists n o at so i x head got by =
+      let u = so.only o.span.from i x head got by in
+      ⊎_elim (λ low. absurd (let back : n < u.0 = ordered.sorted n u.0 o u.1 at u.3 (inl low) in omega (arith, u.2))) (λ high. omega (arith, u.6)) (cases_lt o.span.to u.1.span.to)
+
   -- one more span has its entry
   pub so_far_on : (old new : List (Vec Entry)) (n : ℕ) (o : Ordered) → HasLevels g → IsRanking g rank → length g.productions < 2 ^ 32 → length tokens ≤ 10000 →
       slice_get list n ≡ Some o → IsSoFar g tokens start list n old → IsAdded g tokens old new o.span → IsSoFar g tokens start list (n + 1) new
@@ -235,7 +263,7 @@ module _ (g : Grammar) (tokens : List Token) (start : ℕ) (rank : ℕ → ℕ) 
       let along = span_forward g tokens start (head_of s.of) s.from s.to span in
       let sound = span_sound g tokens start levels rank ranking old so.table (head_of s.of) p is s.from s.to along (before_has old n o p at is so) span many short (tally_of ways) added.counted in
       record {
-        table = table_on g tokens start old new s.from e added.put so.table (fresh old n o at so) sound;
+        table = table_on g tokens start old new s.from e added.put so.table (fresh old n o at so) sound (head_of s.of, refl) (ends_on old n o at so);
         long = added.put.same ∙ so.long;
         has = has_on new n o at (now_has g tokens start old new s.from e added.put)
             (λ q o' low at'. still_has g tokens start old new s.from e added.put o'.span.from (By (head_of o'.span.of)) o'.span.to (so.has q o' low at'));

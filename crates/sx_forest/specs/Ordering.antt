@@ -1,5 +1,5 @@
 -- Complete spans in the order in which they are counted.
-use Rattle.std.specs.Prelude.{◌≡◌, ◌<◌, ℕ, ◌+◌, ◌-◌, ◌*◌, Contains, List, Option, None, Some, length, slice_get}
+use Rattle.std.specs.Prelude.{◌≡◌, ◌⊎◌, ◌<◌, ℕ, ◌+◌, ◌-◌, ◌*◌, Contains, List, Option, None, Some, length, slice_get}
 use Rattle.std.specs.Global.{Vec}
 use Rattle.sx_grammar.specs.declared.head.Head.{Head}
 use Rattle.sx_grammar.specs.Grammar.{Grammar, Token, Production, production_of}
@@ -21,9 +21,13 @@ sort_in (Some p) = p.sort
 abbrev pub IsOrdered : Grammar → (ℕ → ℕ) → Ordered → Type 0
 IsOrdered g rank o = (o.width ≡ o.span.to - o.span.from) × (o.rank ≡ rank (sort_in (production_of g (head_of o.span.of))))
 
--- what comes before stands before
+-- the first ends before the second, or they end together and it comes before
+abbrev pub IsAhead : Ordered → Ordered → Type 0
+IsAhead a b = (a.span.to < b.span.to) ⊎ ((a.span.to ≡ b.span.to) × ComesBefore a.width a.rank b.width b.rank)
+
+-- what is ahead stands before
 abbrev pub IsInOrder : List Ordered → Type 0
-IsInOrder list = (i j : ℕ) (a b : Ordered) → slice_get list i ≡ Some a → slice_get list j ≡ Some b → ComesBefore a.width a.rank b.width b.rank → i < j
+IsInOrder list = (i j : ℕ) (a b : Ordered) → slice_get list i ≡ Some a → slice_get list j ≡ Some b → IsAhead a b → i < j
 
 -- the spans in order, each once
 pub record AreOrdered (g : Grammar) (rank : ℕ → ℕ) (spans : List Span) (list : List Ordered) : Type 0 where

@@ -57,6 +57,14 @@ list_at lists place = list_in (slice_get lists place)
 abbrev pub AllLater : List (Vec Entry) → Type 0
 AllLater lists = (place i : ℕ) (e : Entry) → slice_get (list_at lists place) i ≡ Some e → place ≤ e.to
 
+-- from the second on they are in the order of their ends
+abbrev pub AreSorted : List Entry → Type 0
+AreSorted entries = (i j : ℕ) (a b : Entry) → 0 < i → i ≤ j → slice_get entries i ≡ Some a → slice_get entries j ≡ Some b → a.to ≤ b.to
+
+-- so are those of each place
+abbrev pub AllSorted : List (Vec Entry) → Type 0
+AllSorted lists = (place : ℕ) → AreSorted (list_at lists place)
+
 -- the stretch has the place
 abbrev pub IsIn : Stretch → ℕ → Type 0
 IsIn stretch place = (stretch.first ≤ place) × (place < stretch.end)

@@ -1,5 +1,5 @@
 -- The table of the tallies of all complete spans.
-use Rattle.std.specs.Prelude.{suc, ◌≡◌, ◌<◌, ℕ, ◌+◌, ◌-◌, ◌++◌, List, [], ◌∷◌, Some, length, slice_get}
+use Rattle.std.specs.Prelude.{suc, ◌≡◌, ◌<◌, ◌≤◌, ℕ, ◌+◌, ◌-◌, ◌++◌, List, [], ◌∷◌, Some, length, slice_get}
 use Rattle.std.specs.Global.{Vec}
 use Rattle.sx_grammar.specs.declared.head.Head.{Head}
 use Rattle.sx_grammar.specs.Grammar.{Symbol, Grammar, Token, Production, production_of, is_variable, of_sort}
@@ -15,7 +15,7 @@ use Rattle.sx_forest.specs.declared.entry.Maker.{Maker}
 use Rattle.sx_forest.specs.declared.entry.Maker.TheVariants.{Variable, By}
 use Rattle.sx_forest.specs.declared.entry.Entry.{Entry}
 use Rattle.sx_forest.specs.Tallies.{tally_of, ways_at}
-use Rattle.sx_forest.specs.Rows.{list_at, IsSpanWays}
+use Rattle.sx_forest.specs.Rows.{list_at, AllSorted, IsSpanWays}
 
 -- the readings by the maker between these places are counted
 abbrev pub IsSoundBy : Grammar → List Token → (start : ℕ) → Maker → (place to : ℕ) → Tally → Type 0
@@ -31,23 +31,25 @@ HasIn entries maker to = (i : ℕ) × (e : Entry) × (slice_get entries i ≡ So
 abbrev pub HasEntry : List (Vec Entry) → (place : ℕ) → Maker → (to : ℕ) → Type 0
 HasEntry lists place maker to = HasIn (list_at lists place) maker to
 
--- each entry is counted and stands once, and each metavariable has one
+-- each entry is counted and stands once, and each metavariable has one; from the second on they are by heads, in the order of their ends
 pub record IsTable (g : Grammar) (tokens : List Token) (start : ℕ) (lists : List (Vec Entry)) : Type 0 where
   pub sound : (place i : ℕ) (e : Entry) → slice_get (list_at lists place) i ≡ Some e → IsSoundBy g tokens start e.maker place e.to (tally_of e.ways)
   pub once : (place i j : ℕ) (a b : Entry) → slice_get (list_at lists place) i ≡ Some a → slice_get (list_at lists place) j ≡ Some b →
       a.maker ≡ b.maker → a.to ≡ b.to → i ≡ j
   pub variables : (place sort : ℕ) → Marked tokens place (is_variable (of_sort sort)) → HasEntry lists place (Variable sort) (suc place)
+  pub heads : (place i : ℕ) (e : Entry) → 0 < i → slice_get (list_at lists place) i ≡ Some e → (head : Head) × (e.maker ≡ By head)
+  pub sorted : AllSorted lists
 
 -- the table has an entry for each complete span
 pub record IsFull (g : Grammar) (tokens : List Token) (start : ℕ) (lists : List (Vec Entry)) : Type 0 where
   pub table : IsTable g tokens start lists
   pub has : (head : Head) (from to : ℕ) → Span g tokens start head from to → HasEntry lists from (By head) to
 
--- each complete span that comes before has an entry
-abbrev pub HasBefore : Grammar → List Token → (start : ℕ) → (rank : ℕ → ℕ) → List (Vec Entry) → (width sort_rank : ℕ) → Type 0
-HasBefore g tokens start rank lists width sort_rank =
-    (head : Head) (q : Production) (place to : ℕ) → production_of g head ≡ Some q → Span g tokens start head place to →
-    ComesBefore (to - place) (rank q.sort) width sort_rank → HasEntry lists place (By head) to
+-- each complete span inside these places that comes before has an entry
+abbrev pub HasBefore : Grammar → List Token → (start : ℕ) → (rank : ℕ → ℕ) → List (Vec Entry) → (from to sort_rank : ℕ) → Type 0
+HasBefore g tokens start rank lists from to sort_rank =
+    (head : Head) (q : Production) (place end : ℕ) → production_of g head ≡ Some q → Span g tokens start head place end → from ≤ place → end ≤ to →
+    ComesBefore (end - place) (rank q.sort) (to - from) sort_rank → HasEntry lists place (By head) end
 
 -- the row has the tally of the readings of the symbols from each place that the items reach
 abbrev pub IsRight : Grammar → List Token → (start : ℕ) → Head → (dot from to : ℕ) → List Symbol → List Ways → Type 0

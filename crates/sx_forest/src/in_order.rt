@@ -53,16 +53,17 @@ fn ordered(grammar: &Grammar, ranks: &[u32], span: Span) -> Ordered
     }
 }
 
-/// Sorts the spans by their widths, and spans of one width by their ranks.
+/// Sorts the spans by their ends, spans of one end by their widths, and those of one width too by their ranks.
 fn sort(list: &mut Vec<Ordered>) -> Result<(), NoMemory>
     ensures permutation { IsPermutation list.old.items list.new.items }
     ensures sorted { OnOk result (IsInOrder list.new.items) }
 {
-    list.sort_by_key(|o| (o.width, o.rank))?;
+    list.sort_by_key(|o| (o.span.to, (o.width, o.rank)))?;
     Ok(())
 }
 
-/// The spans in the order in which they are counted: narrower ones first, and of one width those of a lower rank.
+/// The spans in the order in which they are counted: those that end earlier first, of one end the narrower ones, and of one width those
+/// of a lower rank. So the entries from each place stand in the order of their ends.
 pub(crate) fn in_order(
     alloc: Global,
     grammar: &Grammar,

@@ -7,7 +7,7 @@ ghost use Rattle.sx_grammar.specs.Tally.{IsTally};
 ghost use Rattle.sx_grammar.specs.ReadOne.{MoreHold, IsGreatestEnd};
 ghost use Rattle.sx_earley.specs.Shown.{plain, tokens_of};
 ghost use Rattle.sx_forest.specs.Tallies.{tally_of};
-ghost use Rattle.sx_forest.specs.Rows.{AllLater, IsWholeWays};
+ghost use Rattle.sx_forest.specs.Rows.{AllSorted, IsWholeWays};
 ghost use Rattle.sx_forest.specs.Table.{IsFull};
 ghost use Rattle.sx_forest.specs.Verdict.{IsVerdict};
 
@@ -28,7 +28,8 @@ pub(crate) fn whole_ways(
     count: u32,
     table: &Entries,
 ) -> Result<Ways, NoMemory>
-    requires { count ≤ 10000 }
+    requires short { count ≤ 10000 }
+    requires sorted { AllSorted table.now.lists.items }
     ensures { IfOk result (λ w. IsWholeWays (plain grammar.now) start count table.now.lists.items (tally_of w)) }
 {
     let row = last_row(alloc, 0, count)?;

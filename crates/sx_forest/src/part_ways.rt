@@ -1,13 +1,13 @@
 //! The ways to read a part, and then the symbols after it.
 
-ghost use Rattle.std.specs.Prelude.{◌≡◌, ◌≢◌, ◌≤◌, ◌-◌, ◌↔◌, ℕ, IsTrue, Some, length, slice_get};
-ghost use Rattle.sx_grammar.specs.Tally.{no_way};
+ghost use Rattle.std.specs.Prelude.{◌≡◌, ◌≢◌, ◌≤◌, ◌<◌, ◌-◌, ◌↔◌, ℕ, IsTrue, Some, length, slice_get};
+ghost use Rattle.sx_grammar.specs.Tally.{Tally, no_way, plus};
 ghost use Rattle.sx_earley.specs.Shown.{plain};
-ghost use Rattle.sx_forest.specs.Tallies.{tally_of, ways_of};
-ghost use Rattle.sx_forest.specs.Rows.{FitsPart, IsEntryTally, SumTo};
+ghost use Rattle.sx_forest.specs.Tallies.{tally_of, ways_at, ways_of};
+ghost use Rattle.sx_forest.specs.Rows.{FitsPart, IsEntryTally, SumTo, AreSorted};
 
 use crate::entry::{Entry, Maker};
-use crate::row::{Row, at};
+use crate::row::{Row, at, is_ahead};
 use crate::ways::{Ways, both, either};
 use sx_earley::makes;
 use sx_grammar::Grammar;
@@ -52,6 +52,35 @@ fn entry_ways(grammar: &Grammar, entry: Entry, sort: u32, least: u8, next: &Row,
     }
 }
 
+/// The ways by the entries after the first, and then those of the row. It goes from the last entry back to one that ends before the
+/// row has ways.
+fn later_ways(
+    grammar: &Grammar,
+    entries: &[Entry],
+    sort: u32,
+    least: u8,
+    next: &Row,
+    from: u32,
+) -> Ways
+    requires sorted { AreSorted entries.now }
+    requires later { (i : ℕ) (e : Entry) → slice_get entries.now i ≡ Some e → from ≤ e.to }
+    requires some { 1 ≤ length entries.now }
+    ensures { (t : Tally) → SumTo (plain grammar.now) sort least (ways_of next.now) from entries.now 1 t → SumTo (plain grammar.now) sort least (ways_of next.now) from entries.now (length entries.now) (plus t (tally_of result)) }
+{
+    let mut all = Ways::Nothing;
+    let mut left = entries.len();
+    while left > 1 {
+        let entry = entries[left - 1];
+        if is_ahead(next, from, entry.to) {
+            return all;
+        }
+        let here = entry_ways(grammar, entry, sort, least, next, from);
+        all = either(here, all);
+        left -= 1;
+    }
+    all
+}
+
 /// The ways by the entries, and then those of the row.
 pub(crate) fn part_ways(
     grammar: &Grammar,
@@ -61,12 +90,14 @@ pub(crate) fn part_ways(
     next: &Row,
     from: u32,
 ) -> Ways
-    requires { (i : ℕ) (e : Entry) → slice_get entries.now i ≡ Some e → from ≤ e.to }
+    requires sorted { AreSorted entries.now }
+    requires later { (i : ℕ) (e : Entry) → slice_get entries.now i ≡ Some e → from ≤ e.to }
     ensures { SumTo (plain grammar.now) sort least (ways_of next.now) from entries.now (length entries.now) (tally_of result) }
 {
-    let mut sum = Ways::Nothing;
-    for entry in entries {
-        sum = either(sum, entry_ways(grammar, *entry, sort, least, next, from));
+    if entries.is_empty() {
+        return Ways::Nothing;
     }
-    sum
+    let first = entry_ways(grammar, entries[0], sort, least, next, from);
+    let others = later_ways(grammar, entries, sort, least, next, from);
+    either(first, others)
 }

@@ -1,6 +1,7 @@
 //! Rows: the ways to read some symbols from each of the places of a span up to its end.
 
-ghost use Rattle.std.specs.Prelude.{◌≡◌, ◌≤◌, ◌-◌, IfOk};
+ghost use Rattle.std.specs.Prelude.{◌≡◌, ◌≤◌, ◌-◌, ℕ, IsTrue, IfOk};
+ghost use Rattle.sx_grammar.specs.Tally.{no_way};
 ghost use Rattle.sx_forest.specs.Tallies.{tally_of, ways_at, ways_of, IsLastRow};
 
 use crate::ways::Ways;
@@ -48,4 +49,11 @@ pub(crate) fn at(row: &Row, from: u32, place: u32) -> Ways
         return Ways::Nothing;
     }
     numbered(&row.ways, number - row.skipped)
+}
+
+/// Whether the place is before the first that may have ways, in a row of a span that begins at another.
+pub(crate) fn is_ahead(row: &Row, from: u32, place: u32) -> bool
+    ensures { IsTrue result → (p : ℕ) → from ≤ p → p ≤ place → ways_at (ways_of row.now) (p - from) ≡ no_way }
+{
+    place < from || place - from < row.skipped
 }

@@ -6,7 +6,7 @@ ghost use Rattle.sx_grammar.specs.Grammar.{production_of};
 ghost use Rattle.sx_grammar.specs.Tally.{no_way};
 ghost use Rattle.sx_earley.specs.Shown.{plain, texts, tokens_of, IsBelow, AreBelow};
 ghost use Rattle.sx_forest.specs.Tallies.{tally_of, ways_of};
-ghost use Rattle.sx_forest.specs.Rows.{AllLater, IsRow, count_of, row_at, AreSpanRows, IsSpanWays};
+ghost use Rattle.sx_forest.specs.Rows.{AllLater, AllSorted, IsRow, count_of, row_at, AreSpanRows, IsSpanWays};
 
 use crate::entries::Entries;
 use crate::part_ways::is_nothing;
@@ -43,6 +43,7 @@ fn row_before(
     requires below { IfSome expected (IsBelow (length (texts grammar.now))) }
     requires shown { AreBelow (length (texts grammar.now)) shown.now }
     requires later { AllLater table.now.lists.items }
+    requires sorted { AllSorted table.now.lists.items }
     ensures { IfOk result (λ r. IsRow (plain grammar.now) (tokens_of grammar.now shown.now) table.now.lists.items (option_map (symbol (texts grammar.now)) expected) from to stretch (ways_of next.now) (ways_of r)) }
 {
     let places = clipped(stretch, from, to);
@@ -98,6 +99,7 @@ pub(crate) fn all_rows(
     requires along { from ≤ to }
     requires shown { AreBelow (length (texts grammar.now)) shown.now }
     requires later { AllLater table.now.lists.items }
+    requires sorted { AllSorted table.now.lists.items }
     ensures { IfOk result (λ v. AreSpanRows (plain grammar.now) (tokens_of grammar.now shown.now) table.now.lists.items head from to v.items) }
 {
     let count = symbol_count(grammar, head);
@@ -131,6 +133,7 @@ pub(crate) fn span_ways(
     requires along { from ≤ to }
     requires shown { AreBelow (length (texts grammar.now)) shown.now }
     requires later { AllLater table.now.lists.items }
+    requires sorted { AllSorted table.now.lists.items }
     ensures { IfOk result (λ w. IsSpanWays (plain grammar.now) (tokens_of grammar.now shown.now) table.now.lists.items head from to (tally_of w)) }
 {
     let rows = all_rows(alloc, grammar, shown, table, head, from, to)?;

@@ -4,7 +4,7 @@ ghost use Rattle.std.specs.Prelude.{◌≡◌, ◌≤◌, ◌<◌, ◌^◌, ℕ,
 ghost use Rattle.sx_grammar.specs.Numbered.{symbol};
 ghost use Rattle.sx_earley.specs.Shown.{plain, texts, tokens_of, IsBelow, AreBelow};
 ghost use Rattle.sx_forest.specs.Tallies.{tally_of, ways_of};
-ghost use Rattle.sx_forest.specs.Rows.{IsPlace, IsNext};
+ghost use Rattle.sx_forest.specs.Rows.{AreSorted, IsPlace, IsNext};
 
 use crate::entry::Entry;
 use crate::part_ways::part_ways;
@@ -27,6 +27,7 @@ fn symbol_ways(
     requires short { place ≤ 10000 }
     requires below { IsBelow (length (texts grammar.now)) expected }
     requires shown { AreBelow (length (texts grammar.now)) shown.now }
+    requires sorted { AreSorted entries.now }
     requires later { (i : ℕ) (e : Entry) → slice_get entries.now i ≡ Some e → from ≤ e.to }
     ensures { IsPlace (plain grammar.now) (tokens_of grammar.now shown.now) entries.now (symbol (texts grammar.now) expected) from place (ways_of next.now) (tally_of result) }
 {
@@ -65,6 +66,7 @@ pub(crate) fn next_ways(
     requires short { place ≤ 10000 }
     requires below { IfSome expected (IsBelow (length (texts grammar.now))) }
     requires shown { AreBelow (length (texts grammar.now)) shown.now }
+    requires sorted { AreSorted entries.now }
     requires later { (i : ℕ) (e : Entry) → slice_get entries.now i ≡ Some e → from ≤ e.to }
     ensures { IsNext (plain grammar.now) (tokens_of grammar.now shown.now) entries.now (option_map (symbol (texts grammar.now)) expected) from place (ways_of next.now) (tally_of result) }
 {

@@ -10,3 +10,11 @@ pub mod UsableRules
 pub mod MainForms
 pub mod Stating
 pub mod FirstNamed
+pub mod Stepwise
+pub mod OneGrammar
+pub mod OneCut
+pub mod OneReading
+pub mod OneLine
+pub mod OneRules
+pub mod OneOutline
+pub mod OneLanguage

@@ -1,10 +1,8 @@
 -- What the term of a line says, by its label.
-use Rattle.std.proofs.Common.{◌≡◌, ℕ, ◌+◌, ◌-◌, ◌<◌, ◌≤◌, List, [], ◌∷◌, ◌++◌, length, length-append, map, refl, ap, ◌∙◌, sym, subst, arith}
+use Rattle.std.proofs.Common.{◌≡◌, ℕ, ◌+◌, ◌-◌, ◌<◌, ◌≤◌, List, [], ◌∷◌, ◌++◌, length, length-append, ap, ◌∙◌, sym, arith}
 use Rattle.std.proofs.lemmas.List.{length-map}
-use Rattle.sx_term.specs.declared.term.Term.{Term}
 use Rattle.sx_term.specs.Tree.{Tree, Trees, node, forest, listed}
-use Rattle.sx_term.specs.Term.{tree}
-use Rattle.sx_term.proofs.Kids.{trees, listed-forest}
+use Rattle.sx_term.proofs.Kids.{listed-forest}
 use Rattle.sx_grammar.specs.declared.numbered.NumberedProduction.{NumberedProduction}
 use Rattle.sx_grammar.specs.Parts.{Parts, names, numbered_line}
 use Rattle.sx_grammar.specs.Tables.{AreNumbered, literals_of}
@@ -21,10 +19,10 @@ two_kids xs ys (z ∷ zs) left right e f two = absurd (omega (arith, two, ap len
 pub as_many : (p : Parts) (ps : List NumberedProduction) → AreNumbered p ps → length ps ≡ length p.productions
 as_many p ps e = omega (arith, ap length e, length-map ps (production (literals_of p)), length-map p.productions (numbered_line (names p)))
 
-same_label : (a b : ℕ) (ts us : Trees) → node a ts ≡ node b us → a ≡ b
+pub same_label : (a b : ℕ) (ts us : Trees) → node a ts ≡ node b us → a ≡ b
 same_label a b ts us e = cc
 
-same_kids : (a b : ℕ) (ts us : List Tree) → node a (forest ts) ≡ node b (forest us) → ts ≡ us
+pub same_kids : (a b : ℕ) (ts us : List Tree) → node a (forest ts) ≡ node b (forest us) → ts ≡ us
 same_kids a b ts us e = let q : forest ts ≡ forest us = cc in sym (listed-forest ts) ∙ ap listed q ∙ listed-forest us
 
 module _ (r : Reader) (t : Tree) (label first : ℕ) (kids : List Tree) (first_is : first ≡ length r.parts.productions - (r.forms + 3)) (is : t ≡ node label (forest kids)) where

@@ -4,3 +4,5 @@ pub mod States
 pub mod Readers
 pub mod StemTables
 pub mod Prepared
+pub mod Alike
+pub mod Laws

@@ -124,7 +124,8 @@ fn are_vars(terms: &[Term], one: u32, two: u32, three: u32) -> bool {
 /// Whether the term is a node with this label and these variables as its kids.
 fn is_node_of(term: Option<&Term>, label: u32, one: u32, two: u32, three: u32) -> bool {
     match term {
-        Some(Term::Node { label: found, kids }) => *found == label && are_vars(kids, one, two, three),
+        Some(Term::Node { label: found, kids }) => *found == label
+            && are_vars(kids, one, two, three),
         _ => false,
     }
 }
@@ -278,8 +279,14 @@ fn a_line_with_two_readings(rt: HostRuntime) -> Result<(), Fail> {
                 error: Unread::Ambiguous(one, other),
             },
         ) => {
-            assert_eq!(rt; one.as_str(), "form typing(~C,plus(num(1),plus(num(2),num(3))),int)");
-            assert_eq!(rt; other.as_str(), "form typing(~C,plus(plus(num(1),num(2)),num(3)),int)");
+            assert_eq!(rt;
+                one.as_str(),
+                "form typing(~C,plus(num(1),plus(num(2),num(3))),int)"
+            );
+            assert_eq!(rt;
+                other.as_str(),
+                "form typing(~C,plus(plus(num(1),num(2)),num(3)),int)"
+            );
         }
         _ => assert!(rt; false, "not two readings"),
     }

@@ -339,12 +339,18 @@ fn lines_are_refused(rt: HostRuntime) -> Result<(), Fail> {
         refused(alloc, 51, "~C |- ~e ? : ~T")?.as_str(),
         "7: bad token at 9"
     );
-    assert_eq!(rt; refused(alloc, 51, "~C |- ~x : ~T")?.as_str(), "7: variable");
+    assert_eq!(rt;
+        refused(alloc, 51, "~C |- ~x : ~T")?.as_str(),
+        "7: variable"
+    );
     assert_eq!(rt;
         refused(alloc, 51, "~C |- ~e + 1 : ~T")?.as_str(),
         "7: no reading at 9"
     );
-    assert_eq!(rt; refused(alloc, 51, "~C |- ~e :")?.as_str(), "7: no reading at 10");
+    assert_eq!(rt;
+        refused(alloc, 51, "~C |- ~e :")?.as_str(),
+        "7: no reading at 10"
+    );
     assert_eq!(rt;
         refused(alloc, 50, "~C |- (1 + 2 + 3) : ~T")?.as_str(),
         "7: form typing(~C,[plus(num(1),plus(num(2),num(3)))],~T) and form typing(~C,[plus(plus(num(1),num(2)),num(3))],~T)"
@@ -480,7 +486,15 @@ fn goal_texts(
     let goal = Goal { form: 0, inputs };
     print_goal(alloc, language, grammar, &goal, None, vars, &mut into)?;
     into.extend_from_slice(b" / ")?;
-    print_goal(alloc, language, grammar, &goal, Some(&outputs), vars, &mut into)?;
+    print_goal(
+        alloc,
+        language,
+        grammar,
+        &goal,
+        Some(&outputs),
+        vars,
+        &mut into,
+    )?;
     Ok(into)
 }
 

@@ -37,7 +37,6 @@ use Rattle.sx_words.proofs.CommandLaws.{one_command}
 use Rattle.sx_words.proofs.OneAnswer.{one_misfit, no_misfit}
 use Rattle.sx_top.specs.Commands.{by_now, Commands}
 use Rattle.sx_top.specs.Outcome.{Runs, Outcome}
-use Rattle.sx_build.specs.Laws.{OneLanguage}
 use Rattle.sx_top.specs.Laws.{IsNoBuild, OneCoreOutcome, OneOutcome}
 use Rattle.sx_steps.proofs.StepsOn.{went}
 use Rattle.sx_build.proofs.Agreeing.{builds_nearly}
@@ -139,17 +138,16 @@ module _ (core_one : (bytes : List ℕ) (a b : Result Problem CoreFileError) →
   core_outcome_by words none files =
       then_one (Commands words) (λ command. Runs command files) (commands_one words) (λ command read. runs_one command files (none command read))
 
-  module _ (languages : OneLanguage) where
-    runs_nearly : (command : Meant) (files : Files) → IsNearlyOne (Runs command files)
-    runs_nearly (builds true name tries nodes audits) files x y h k n m = nearly (BuildsWhole name tries files) (builds_one name tries files) x y h k n m
-    runs_nearly (builds false name tries nodes audits) files x y h k n m = builds_nearly languages name tries files x y h k n m
-    runs_nearly (compiles name tries nodes audits) files x y h k n m = absurd h
-    runs_nearly (checks name tries) files x y h k n m = absurd h
-    runs_nearly (verifies true name) files x y h k n m = nearly (VerifiesWhole name files) (verifies_one name files) x y h k n m
-    runs_nearly (verifies false name) files x y h k n m = absurd h
-    runs_nearly (samples number) files x y h k n m = absurd h
+  runs_nearly : (command : Meant) (files : Files) → IsNearlyOne (Runs command files)
+  runs_nearly (builds true name tries nodes audits) files x y h k n m = nearly (BuildsWhole name tries files) (builds_one name tries files) x y h k n m
+  runs_nearly (builds false name tries nodes audits) files x y h k n m = builds_nearly name tries files x y h k n m
+  runs_nearly (compiles name tries nodes audits) files x y h k n m = absurd h
+  runs_nearly (checks name tries) files x y h k n m = absurd h
+  runs_nearly (verifies true name) files x y h k n m = nearly (VerifiesWhole name files) (verifies_one name files) x y h k n m
+  runs_nearly (verifies false name) files x y h k n m = absurd h
+  runs_nearly (samples number) files x y h k n m = absurd h
 
   pub one_outcome_by : OneOutcome
   unfolding Outcome
-  one_outcome_by languages words files =
-      then_nearly (Commands words) (λ command. Runs command files) (nearly (Commands words) (commands_one words)) (λ command read. runs_nearly languages command files)
+  one_outcome_by words files =
+      then_nearly (Commands words) (λ command. Runs command files) (nearly (Commands words) (commands_one words)) (λ command read. runs_nearly command files)

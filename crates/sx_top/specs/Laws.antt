@@ -5,7 +5,6 @@ use Rattle.sx_words.specs.Commands.{Meant, builds}
 use Rattle.sx_steps.specs.declared.stop.Stop.{Stop}
 use Rattle.sx_steps.specs.Agree.{IsNoReadFault, Agree}
 use Rattle.sx_steps.specs.Work.{Plan}
-use Rattle.sx_build.specs.Laws.{OneLanguage}
 use Rattle.sx_top.specs.Commands.{Spelled}
 use Rattle.sx_top.specs.Outcome.{Outcome}
 
@@ -20,9 +19,8 @@ OneCoreOutcome =
     (words : List (List ℕ)) → ((command : Meant) → Spelled words command → IsNoBuild command) → (files : Files) (a b : Result Plan Stop) →
     Outcome words files a → Outcome words files b → IsNoReadFault a → IsNoReadFault b → a ≡ b
 
--- Words and files have one outcome, read faults aside, where a text states one language. Where a text has more than two readings, a refusal may show
--- any two of them.
+-- Words and files have one outcome, read faults aside. Where a text has more than two readings, a refusal may show any two of them.
 abbrev pub OneOutcome : Type 0
 OneOutcome =
-    OneLanguage → (words : List (List ℕ)) (files : Files) (a b : Result Plan Stop) →
+    (words : List (List ℕ)) (files : Files) (a b : Result Plan Stop) →
     Outcome words files a → Outcome words files b → IsNoReadFault a → IsNoReadFault b → Agree a b

@@ -63,6 +63,9 @@ pub add_span-requires-clause-later : goal.add_span-requires-clause-later
 add_span-requires-clause-later c =
     all_later (plain c.args.grammar.now) (tokens_of c.args.grammar.now c.args.shown.now) c.args._start c.loop-item.table.lists.items c.loop-item.invariant.table
 
+pub add_span-requires-clause-sorted : goal.add_span-requires-clause-sorted
+add_span-requires-clause-sorted c = c.loop-item.invariant.table.sorted
+
 pub loop-item-preserved : goal.loop-item-preserved
 loop-item-preserved c =
     let gr = plain c.args.grammar.now in let ts = tokens_of c.args.grammar.now c.args.shown.now in

@@ -26,3 +26,6 @@ all_rows-requires-clause-along c =
 pub all_rows-requires-clause-later : goal.all_rows-requires-clause-later
 all_rows-requires-clause-later c =
     let F = c.args.forest in all_later (grammar_in F) (tokens_in F) F.start (lists_in F) c.requires.forest.full.table
+
+pub all_rows-requires-clause-sorted : goal.all_rows-requires-clause-sorted
+all_rows-requires-clause-sorted c = c.requires.forest.full.table.sorted

@@ -1,23 +1,22 @@
-use Rattle.std.proofs.Common.{◌<◌, length, arith}
+use Rattle.std.proofs.Common.{◌≡◌, ◌<◌, refl, sym, subst, length, arith}
+use Rattle.std.proofs.lemmas.Bool.Decides.{nat_tests}
 use Rattle.sx_earley.specs.Shown.{plain}
+use Rattle.sx_grammar.specs.Tally.{no_way}
 use Rattle.sx_forest.specs.Tallies.{tally_of, ways_of}
-use Rattle.sx_forest.specs.Rows.{sum_none}
-use Rattle.sx_forest.proofs.Summing.{sum_on, sum_all}
+use Rattle.sx_forest.specs.Rows.{SumTo, sum_none}
+use Rattle.sx_forest.proofs.Summing.{sum_on}
 use Rattle.sx_forest.proofs.part_ways.part_ways.Goals as goal
 
-pub loop-entry-init : goal.loop-entry-init
-loop-entry-init c = sum_none
-
-pub loop-entry-preserved : goal.loop-entry-preserved
-loop-entry-preserved c =
-    let n = c.loop-entry.entry-index in let entries = c.args.entries.now in
-    let low : n < length entries = omega arith in
-    sum_on (plain c.args.grammar.now) c.args.sort c.args.least (ways_of c.args.next.now) c.args.from entries n
-    (tally_of c.loop-entry.sum) (tally_of c.entry_ways.result) (tally_of c.either-sum.result) low c.loop-entry.invariant
-    c.entry_ways.ensures
-    c.either-sum.ensures
+pub returns-then-is_empty : goal.returns-then-is_empty
+returns-then-is_empty c =
+    let entries = c.args.entries.now in
+    let none : 0 ≡ length entries = grind (arith, nat_tests, c.is_empty.ensures, c.if-is_empty.true) in
+    subst (λ n. SumTo (plain c.args.grammar.now) c.args.sort c.args.least (ways_of c.args.next.now) c.args.from entries n no_way) none sum_none
 
 pub returns : goal.returns
 returns c =
-    sum_all (plain c.args.grammar.now) c.args.sort c.args.least (ways_of c.args.next.now) c.args.from c.args.entries.now c.loop-entry.entry-index
-    (tally_of c.loop-entry.sum) (omega arith) c.loop-entry.invariant
+    let entries = c.args.entries.now in let g = plain c.args.grammar.now in let next = ways_of c.args.next.now in
+    let t = tally_of c.entry_ways-first.result in
+    let some : 0 < length entries = grind (arith, nat_tests, c.is_empty.ensures, c.if-is_empty.false) in
+    subst (λ u. SumTo g c.args.sort c.args.least next c.args.from entries (length entries) u) (sym c.either.ensures)
+    (c.later_ways-others.ensures t (sum_on g c.args.sort c.args.least next c.args.from entries 0 no_way t t some sum_none c.entry_ways-first.ensures refl))

@@ -41,6 +41,7 @@ next_ways-here-requires c =
       short = (let s = c.requires.short in omega arith);
       below = c.requires.below;
       shown = c.requires.shown;
+      sorted = rw c.from-entries.ensures (c.requires.sorted c.loop-place.place);
       later = λ i e at.
           let after = c.requires.later c.loop-place.place i e (subst (λ l. slice_get l i ≡ Some e) c.from-entries.ensures at) in omega arith;
     }

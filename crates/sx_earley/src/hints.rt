@@ -1,0 +1,58 @@
+//! Where items were found.
+
+ghost use Rattle.std.specs.Prelude.{◌≤◌, ◌<◌, ◌^◌, IsTrue, Contains};
+
+use crate::all_items::item_at;
+use indexmap::IndexSet;
+use std::alloc::{AllocError, Global};
+use sx_grammar::{Head, Item};
+
+/// The places of some items among those that are found. A right one spares a search, and a wrong one costs nothing but the look.
+#[derive(Drop)]
+pub(crate) struct Hints {
+    places: Vec<usize>,
+}
+
+/// The number of the head's production, or of its sort.
+fn number_in(head: Head) -> u32 {
+    match head {
+        Head::Labelled(label) => label,
+        Head::Bracketed(sort) => sort,
+    }
+}
+
+/// Where the place of the item is kept. Items with other ends may share it.
+fn slot_of(item: Item) -> usize {
+    item.origin as usize * 16 + item.dot % 4 * 4 + (number_in(item.head) % 4) as usize
+}
+
+impl Hints {
+    /// No hints, for items that begin at the first places, so many.
+    pub(crate) fn new(alloc: Global, origins: usize) -> Result<Hints, AllocError>
+        requires { origins ≤ 10001 }
+    {
+        Ok(Hints {
+            places: Vec::from_elem(alloc, 0, origins * 16)?,
+        })
+    }
+
+    /// Whether the item is found where it is said to be.
+    pub(crate) fn is_right(&self, found: &IndexSet<Item>, item: Item) -> bool
+        ensures { IsTrue result → Contains found.now.keys item }
+    {
+        let Some(place) = self.places.get(slot_of(item)) else {
+            return false;
+        };
+        match item_at(found, *place) {
+            None => false,
+            Some(other) => other == item,
+        }
+    }
+
+    /// Keeps the place of the item.
+    pub(crate) fn note(&mut self, item: Item, place: usize) {
+        if let Some(hint) = self.places.get_mut(slot_of(item)) {
+            *hint = place;
+        }
+    }
+}
