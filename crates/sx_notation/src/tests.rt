@@ -1,7 +1,7 @@
 //! A language of sums: the grammar by which its rules are read, a line that is read and lines that are refused, and a goal that is printed, all
 //! worked out by hand.
 
-ghost use Rattle.std.specs.Prelude.{◌≡◌, ◌≤◌, ◌+◌, ◌<◌, ◌^◌, ℕ, List, IfOk, IfSome, IsTrue, length, map};
+ghost use Rattle.std.specs.Prelude.{◌≡◌, ◌≤◌, ◌+◌, ◌<◌, ◌^◌, ℕ, List, Some, IfOk, IfSome, IsTrue, length, map, slice_get};
 ghost use Rattle.sx_term.specs.Term.{tree};
 ghost use Rattle.sx_term.specs.Shapes.{shapes as shapes_in};
 ghost use Rattle.sx_term.specs.Sorts.{HaveSorts};
@@ -11,8 +11,9 @@ ghost use Rattle.sx_earley.specs.Completed.{IsSort};
 ghost use Rattle.sx_rules.specs.Deep.{AreShallow};
 ghost use Rattle.sx_rules.specs.Modes as modes;
 ghost use Rattle.sx_rules.specs.Sets.{forms_in};
-ghost use Rattle.sx_rules.specs.Views.{is_out};
+ghost use Rattle.sx_rules.specs.Views.{form as form_data, is_out};
 ghost use Rattle.sx_directives.specs.declared.rows.FormLine.{FormLine as FormLineOf};
+ghost use Rattle.sx_notation.specs.ReadText.{IsKnownCut};
 ghost use Rattle.sx_notation.specs.RuleLaws as laws;
 ghost use Rattle.sx_notation.specs.RuleParts as rules;
 
@@ -23,9 +24,9 @@ use sx_directives::{FormLine, FormSymbol, SpelledSort};
 use sx_earley::{Metas, first_unknown};
 use sx_forest::read_one;
 use sx_grammar::{Grammar, GrammarParts, Production, SortLine, Symbol};
-use sx_rules::{Goal, Place, Role, RuleSet};
+use sx_rules::{Form, Goal, Place, Role, RuleSet};
 use sx_term::{LexKind, NoMemory, Shapes, Sort, Term, Text, Vars, read_core};
-use sx_token::{TokenError, tokens};
+use sx_token::{Token, TokenError, tokens};
 
 fn text(alloc: Global, bytes: &str) -> Result<Text, Fail> {
     Ok(Text::make(alloc, bytes.as_bytes())?)
@@ -358,23 +359,54 @@ fn lines_are_refused(rt: HostRuntime) -> Result<(), Fail> {
     Ok(())
 }
 
-/// Why the text has not one reading as the sort; empty where it has one.
+/// The tokens of the text, where the stem of each metavariable is known.
+fn known_tokens(
+    alloc: Global,
+    grammar: &Grammar,
+    metas: &Metas,
+    text: &[u8],
+) -> Result<Option<Vec<Token>>, Fail>
+    requires { length text.now ≤ 262144 }
+    ensures { IfOk result (λ o. IfSome o (λ ts. IsKnownCut grammar.now.parts metas.now.stems.items text.now ts.items)) }
+{
+    grammar.facts();
+    let tokens = tokens(alloc, text, grammar.literals(), true)?;
+    match first_unknown(alloc, metas, &tokens)? {
+        None => Ok(Some(tokens)),
+        Some(_) => Ok(None),
+    }
+}
+
+/// Why tokens of a text of so many bytes have not one reading as the sort; empty where they have one.
+fn unread_tokens(
+    alloc: Global,
+    grammar: &Grammar,
+    sort: Sort,
+    metas: &Metas,
+    tokens: &[Token],
+    size: usize,
+) -> Result<String, Fail>
+    requires sort { IsSort grammar.now.parts sort }
+    requires known { (text : List ℕ) × IsKnownCut grammar.now.parts metas.now.stems.items text tokens.now }
+{
+    match read_one(alloc, grammar, sort, metas, tokens) {
+        Ok(_) => Ok(String::new(alloc)),
+        Err(error) => {
+            let error = why_unread(alloc, grammar, tokens, size, error)?;
+            told(alloc, NotationError::Read { line: 0, error })
+        }
+    }
+}
+
+/// The same of the text, whose metavariables have known stems.
 fn unread(alloc: Global, grammar: &Grammar, sort: Sort, text: &[u8]) -> Result<String, Fail>
     requires sort { IsSort grammar.now.parts sort }
     requires short { length text.now ≤ 262144 }
 {
-    grammar.facts();
     let metas = stems(alloc)?;
-    let tokens = tokens(alloc, text, grammar.literals(), true)?;
-    if first_unknown(alloc, &metas, &tokens)?.is_some() {
-        return Ok(String::new(alloc));
-    }
-    match read_one(alloc, grammar, sort, &metas, &tokens) {
-        Ok(_) => Ok(String::new(alloc)),
-        Err(error) => {
-            let error = why_unread(alloc, grammar, &tokens, text.len(), error)?;
-            told(alloc, NotationError::Read { line: 0, error })
-        }
+    match known_tokens(alloc, grammar, &metas, text)? {
+        Some(tokens) => unread_tokens(alloc, grammar, sort, &metas, &tokens, text.len()),
+        None => Ok(String::from_str(alloc, "an unknown stem")?),
     }
 }
 
@@ -459,7 +491,39 @@ fn fit(all: &Shapes, vars: &[Sort], places: &[Place], inputs: &[Term], outputs: 
     }
 }
 
-/// The text of the goal with these inputs, and behind ` / ` the same with these outputs got.
+/// The text of the goal of the first form with these inputs, and behind ` / ` the same with these outputs got.
+fn put_goals(
+    alloc: Global,
+    language: &Language,
+    form: &Form,
+    sorts: &[Sort],
+    inputs: Vec<Term>,
+    outputs: Vec<Term>,
+    vars: &Vars,
+) -> Result<Vec<u8>, Fail>
+    requires known { (known : List FormLineOf) × laws.HaveSortsOf language.now.grammar.parts known
+        × (language.now.rule_grammar.parts ≡ rules.rule_parts language.now.grammar.parts known)
+        × (forms_in language.now.rules ≡ map (laws.form_of language.now.grammar.parts) known) }
+    requires first { slice_get (forms_in language.now.rules) 0 ≡ Some (form_data form.now) }
+    requires names { length sorts.now ≤ length vars.now }
+    requires inputs { AreShallow (map tree inputs.items) }
+    requires outputs { AreShallow (map tree outputs.items) }
+{
+    let mut into = Vec::new(alloc);
+    language.grammar.facts();
+    let shapes = language.grammar.shapes(alloc)?;
+    if !fit(&shapes, sorts, &form.places, &inputs, &outputs) {
+        return Ok(into);
+    }
+    let grammar = &language.rule_grammar;
+    let goal = Goal { form: 0, inputs };
+    print_goal(alloc, language, grammar, &goal, None, vars, &mut into)?;
+    into.extend_from_slice(b" / ")?;
+    print_goal(alloc, language, grammar, &goal, Some(&outputs), vars, &mut into)?;
+    Ok(into)
+}
+
+/// The same, where the language has a form.
 fn goal_texts(
     alloc: Global,
     language: &Language,
@@ -475,27 +539,10 @@ fn goal_texts(
     requires inputs { AreShallow (map tree inputs.items) }
     requires outputs { AreShallow (map tree outputs.items) }
 {
-    let mut into = Vec::new(alloc);
-    language.grammar.facts();
-    let shapes = language.grammar.shapes(alloc)?;
-    let form = language.rules.forms().first().ok_or("a form")?;
-    if !fit(&shapes, sorts, &form.places, &inputs, &outputs) {
-        return Ok(into);
+    match language.rules.forms().first() {
+        Some(form) => put_goals(alloc, language, form, sorts, inputs, outputs, vars),
+        None => Ok(Vec::new(alloc)),
     }
-    let grammar = &language.rule_grammar;
-    let goal = Goal { form: 0, inputs };
-    print_goal(alloc, language, grammar, &goal, None, vars, &mut into)?;
-    into.extend_from_slice(b" / ")?;
-    print_goal(
-        alloc,
-        language,
-        grammar,
-        &goal,
-        Some(&outputs),
-        vars,
-        &mut into,
-    )?;
-    Ok(into)
 }
 
 #[test]
