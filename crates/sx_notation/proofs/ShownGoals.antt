@@ -1,5 +1,5 @@
 -- A goal of the first form whose terms have the sorts of its places can be printed.
-use Rattle.std.proofs.Common.{◌≡◌, ℕ, ◌≤◌, List, Option, Some, None, map, length, slice_get, ap, sym, subst}
+use Rattle.std.proofs.Common.{◌≡◌, ℕ, ◌≤◌, List, Option, Some, None, map, length, slice_get, ap, ◌∙◌, sym, subst}
 use Rattle.sx_term.specs.declared.sort.Sort.{Sort}
 use Rattle.sx_term.specs.declared.term.Term.{Term}
 use Rattle.sx_term.specs.Tree.{Tree}
@@ -51,3 +51,14 @@ checked_fits p q known forms form sorts variables shapes places us ts vs ws is s
     let outs3 = subst (λ (xs : List Term). HaveSorts (shapes_of p) sorts (map tree xs) (outputs (map (λ (q : Place). is_out q.role) form.places) (map (λ (q : Place). q.sort) form.places))) other outs2 in
     (first_goal_fits p q known forms form sorts variables (map tree ts) None is same enough first ins3 tt,
      first_goal_fits p q known forms form sorts variables (map tree ts) (Some (map tree ws)) is same enough first ins3 outs3)
+
+-- what is equal to grammars and forms of some lines is so too
+pub over_lines : (a b q r : Parts) (fs gs : List FormData) (xs ys zs : List FormLine) → a ≡ b → q ≡ r → fs ≡ gs → ys ≡ xs → zs ≡ xs →
+    r ≡ rule_parts b ys → HaveSortsOf b zs → gs ≡ map (form_of b) zs →
+    (known : List FormLine) × HaveSortsOf a known × (q ≡ rule_parts a known) × (fs ≡ map (form_of a) known)
+over_lines a b q r fs gs xs ys zs ab qr fg yx zx made have each = (
+  xs,
+  subst (λ (p : Parts). HaveSortsOf p xs) (sym ab) (subst (λ (ls : List FormLine). HaveSortsOf b ls) zx have),
+  qr ∙ made ∙ ap (λ (p : Parts). rule_parts p ys) (sym ab) ∙ ap (λ (ls : List FormLine). rule_parts a ls) yx,
+  fg ∙ each ∙ ap (λ (p : Parts). map (form_of p) zs) (sym ab) ∙ ap (λ (ls : List FormLine). map (form_of a) ls) zx,
+)

@@ -153,6 +153,13 @@ fn rules_over(alloc: Global, grammar: &Grammar, lines: &[FormLine]) -> Result<Gr
     Ok(rule_grammar(alloc, grammar, lines)?)
 }
 
+/// The grammar by which rules over such sums are read.
+fn rules_of(alloc: Global, least: u8) -> Result<Grammar, Fail> {
+    let grammar = grammar_of(alloc, least)?;
+    let lines = lines(alloc, "Ty")?;
+    rules_over(alloc, &grammar, &lines)
+}
+
 /// The sort with this number, if there is one.
 fn sort_at(grammar: &Grammar, number: u32) -> Option<Sort>
     ensures { IfSome result (IsSort grammar.now.parts) }
@@ -300,13 +307,21 @@ fn name_at(vars: &Vars, number: u32) -> &str {
     }
 }
 
+/// The name `e`.
+fn one_name(alloc: Global) -> Result<Vars, Fail>
+    ensures { IfOk result (λ v. length v ≤ 1) }
+{
+    let mut vars = Vars::new(alloc);
+    vars.add(text(alloc, "e")?)?;
+    Ok(vars)
+}
+
 #[test]
 fn a_line_is_read(rt: HostRuntime) -> Result<(), Fail> {
     let alloc = rt.alloc();
-    let grammar = rules_over(alloc, &grammar_of(alloc, 51)?, &lines(alloc, "Ty")?)?;
+    let grammar = rules_of(alloc, 51)?;
     let sort = sort_at(&grammar, 3).ok_or("a sort")?;
-    let mut vars = Vars::new(alloc);
-    vars.add(text(alloc, "e")?)?;
+    let mut vars = one_name(alloc)?;
     let line = b"~C |- (~e + 1):~T12 // a comment".as_slice();
     let core = "(4 ?1 (3 ?0 (2 n1:1)) ?2)";
     assert!(rt; is_read(alloc, &grammar, sort, line, core, &mut vars)?);
@@ -317,20 +332,28 @@ fn a_line_is_read(rt: HostRuntime) -> Result<(), Fail> {
     Ok(())
 }
 
-/// Why the line is refused; or empty where it is read, or where names do not stay as they were.
+/// Why the line is refused; empty where it is read, or where names do not stay as they were.
+fn refused_by(alloc: Global, grammar: &Grammar, sort: Sort, line: &[u8]) -> Result<String, Fail>
+    requires sort { IsSort grammar.now.parts sort }
+    requires short { length line.now ≤ 262144 }
+{
+    let mut vars = one_name(alloc)?;
+    let words = refusal(alloc, grammar, sort, line, &mut vars)?;
+    if vars.name(0).is_some() && vars.name(1).is_none() {
+        return Ok(words);
+    }
+    Ok(String::new(alloc))
+}
+
+/// The same by the rules over sums whose right sides have at least this level.
 fn refused(alloc: Global, least: u8, line: &str) -> Result<String, Fail> {
-    let grammar = rules_over(alloc, &grammar_of(alloc, least)?, &lines(alloc, "Ty")?)?;
-    let sort = sort_at(&grammar, 3).ok_or("a sort")?;
-    let mut vars = Vars::new(alloc);
-    vars.add(text(alloc, "e")?)?;
-    if line.len() > 262144 {
-        return Ok(String::new(alloc));
+    let grammar = rules_of(alloc, least)?;
+    match sort_at(&grammar, 3) {
+        Some(sort) if line.len() <= 262144 => {
+            refused_by(alloc, &grammar, sort, line.as_bytes())
+        }
+        _ => Ok(String::new(alloc)),
     }
-    let words = refusal(alloc, &grammar, sort, line.as_bytes(), &mut vars)?;
-    if name_at(&vars, 0) != "e" || name_at(&vars, 1) != "" {
-        return Ok(String::new(alloc));
-    }
-    Ok(words)
 }
 
 #[test]
@@ -427,22 +450,33 @@ fn texts_without_one_reading(rt: HostRuntime) -> Result<(), Fail> {
     Ok(())
 }
 
-/// The language of sums, without rules.
-fn language(alloc: Global) -> Result<Language, Fail>
-    ensures { IfOk result (λ l. (known : List FormLineOf) × laws.HaveSortsOf l.grammar.parts known
-        × (l.rule_grammar.parts ≡ rules.rule_parts l.grammar.parts known) × (forms_in l.rules ≡ map (laws.form_of l.grammar.parts) known)) }
+/// No rules over these forms.
+fn no_rules(alloc: Global, grammar: &Grammar, lines: &[FormLine]) -> Result<RuleSet, Fail>
+    ensures { IfOk result (λ set. laws.HaveSortsOf grammar.now.parts lines.now × (forms_in set ≡ map (laws.form_of grammar.now.parts) lines.now)) }
 {
-    let grammar = grammar_of(alloc, 51)?;
-    let lines = lines(alloc, "Ty")?;
-    let rule_grammar = rules_over(alloc, &grammar, &lines)?;
-    let forms = forms_of(alloc, &grammar, &lines)?.ok_or("the forms")?;
     let shapes = grammar.shapes(alloc)?;
-    let rules = RuleSet::make(alloc, &shapes, forms, Vec::new(alloc))?;
+    match forms_of(alloc, grammar, lines)? {
+        Some(forms) => Ok(RuleSet::make(alloc, &shapes, forms, Vec::new(alloc))?),
+        None => Err(NoMemory::Memory.into()),
+    }
+}
+
+/// The language with these grammars and rules.
+fn language_of(
+    alloc: Global,
+    grammar: Grammar,
+    rule_grammar: Grammar,
+    rules: RuleSet,
+) -> Result<Language, Fail>
+    ensures { IfOk result (λ l. (l.grammar ≡ grammar) × (l.rule_grammar ≡ rule_grammar) × (l.rules ≡ rules)) }
+{
+    let name = text(alloc, "Sums")?;
+    let metas = stems(alloc)?;
     Ok(Language {
-        name: text(alloc, "Sums")?,
+        name,
         grammar,
         rule_grammar,
-        metas: stems(alloc)?,
+        metas,
         rules,
         names: Vec::new(alloc),
         main: MainForm {
@@ -451,6 +485,19 @@ fn language(alloc: Global) -> Result<Language, Fail>
             add: 0,
         },
     })
+}
+
+/// The language of sums, without rules.
+fn language(alloc: Global) -> Result<Language, Fail>
+    ensures { IfOk result (λ l. (known : List FormLineOf) × laws.HaveSortsOf l.grammar.parts known
+        × (l.rule_grammar.parts ≡ rules.rule_parts l.grammar.parts known) × (forms_in l.rules ≡ map (laws.form_of l.grammar.parts) known)) }
+{
+    let grammar = grammar_of(alloc, 51)?;
+    let lines = lines(alloc, "Ty")?;
+    let rule_grammar = rules_over(alloc, &grammar, &lines)?;
+    let rules = no_rules(alloc, &grammar, &lines)?;
+    let language = language_of(alloc, grammar, rule_grammar, rules)?;
+    Ok(language)
 }
 
 /// The terms with these core texts.
