@@ -30,9 +30,9 @@ pub first_goal_fits : (p q : Parts) (known : List FormLine) (forms : List FormDa
 first_goal_fits p q known forms form sorts variables terms got is same enough first ins outs =
     let at : places_at forms 0 ≡ form.places = ap places_or_none first in
     let sorted : GoalIsSorted (shapes_of p) (sorts_of forms) (modes_of forms) sorts (record { form = 0; terms = terms }) =
-          subst (λ (ps : List Place). HaveSorts (shapes_of p) sorts terms (inputs (map (λ (q : Place). is_out q.role) ps) (map (λ (q : Place). q.sort) ps))) (sym at) ins in
+    subst (λ (ps : List Place). HaveSorts (shapes_of p) sorts terms (inputs (map (λ (q : Place). is_out q.role) ps) (map (λ (q : Place). q.sort) ps))) (sym at) ins in
     let may : MayHaveSorts (shapes_of p) sorts got (outputs (modes_of forms 0) (sorts_of forms 0)) =
-          subst (λ (ps : List Place). MayHaveSorts (shapes_of p) sorts got (outputs (map (λ (q : Place). is_out q.role) ps) (map (λ (q : Place). q.sort) ps))) (sym at) outs in
+    subst (λ (ps : List Place). MayHaveSorts (shapes_of p) sorts got (outputs (map (λ (q : Place). is_out q.role) ps) (map (λ (q : Place). q.sort) ps))) (sym at) outs in
     subst (λ (r : Parts). GoalFits (numbered r) variables forms (record { form = 0; terms = terms }) got) (sym same)
     (sorted_goals_fit p known forms form sorts variables (record { form = 0; terms = terms }) got is enough first sorted may)
 
@@ -48,9 +48,10 @@ checked_fits p q known forms form sorts variables shapes places us ts vs ws is s
     let ins3 = subst (λ (xs : List Term). HaveSorts (shapes_of p) sorts (map tree xs) (inputs (map (λ (q : Place). is_out q.role) form.places) (map (λ (q : Place). q.sort) form.places))) one ins2 in
     let outs1 = subst (λ (s : List Shape). HaveSorts s sorts (map tree vs) (outputs (map (λ (q : Place). is_out q.role) places) (map (λ (q : Place). q.sort) places))) by outs in
     let outs2 = subst (λ (ps : List Place). HaveSorts (shapes_of p) sorts (map tree vs) (outputs (map (λ (q : Place). is_out q.role) ps) (map (λ (q : Place). q.sort) ps))) at outs1 in
-    let outs3 = subst (λ (xs : List Term). HaveSorts (shapes_of p) sorts (map tree xs) (outputs (map (λ (q : Place). is_out q.role) form.places) (map (λ (q : Place). q.sort) form.places))) other outs2 in
-    (first_goal_fits p q known forms form sorts variables (map tree ts) None is same enough first ins3 tt,
-     first_goal_fits p q known forms form sorts variables (map tree ts) (Some (map tree ws)) is same enough first ins3 outs3)
+    let outs3 = subst (λ (xs : List Term). HaveSorts (shapes_of p) sorts (map tree xs) (outputs (map (λ (q : Place). is_out q.role) form.places) (map (λ (q : Place). q.sort) form.places))) other outs2 in (
+      first_goal_fits p q known forms form sorts variables (map tree ts) None is same enough first ins3 tt,
+      first_goal_fits p q known forms form sorts variables (map tree ts) (Some (map tree ws)) is same enough first ins3 outs3,
+    )
 
 -- what is equal to grammars and forms of some lines is so too
 pub over_lines : (a b q r : Parts) (fs gs : List FormData) (xs ys zs : List FormLine) → a ≡ b → q ≡ r → fs ≡ gs → ys ≡ xs → zs ≡ xs →

@@ -379,9 +379,7 @@ fn refused_by(alloc: Global, grammar: &Grammar, sort: Sort, line: &[u8]) -> Resu
 fn refused(alloc: Global, least: u8, line: &str) -> Result<String, Fail> {
     let grammar = rules_of(alloc, least)?;
     match sort_at(&grammar, 3) {
-        Some(sort) if line.len() <= 262144 => {
-            refused_by(alloc, &grammar, sort, line.as_bytes())
-        }
+        Some(sort) if line.len() <= 262144 => { refused_by(alloc, &grammar, sort, line.as_bytes()) }
         _ => Ok(String::new(alloc)),
     }
 }
@@ -476,7 +474,10 @@ fn unread_sum(alloc: Global, text: &str) -> Result<String, Fail> {
 fn texts_without_one_reading(rt: HostRuntime) -> Result<(), Fail> {
     let alloc = rt.alloc();
     assert_eq!(rt; unread_sum(alloc, "1 + 2")?.as_str(), "");
-    assert_eq!(rt; unread_sum(alloc, "1 +  + 2")?.as_str(), "0: no reading at 5");
+    assert_eq!(rt;
+        unread_sum(alloc, "1 +  + 2")?.as_str(),
+        "0: no reading at 5"
+    );
     assert_eq!(rt;
         unread_sum(alloc, "1 + 2 + ~e")?.as_str(),
         "0: plus(num(1),plus(num(2),~e)) and plus(plus(num(1),num(2)),~e)"
@@ -600,7 +601,15 @@ fn put_goals(
     let goal = Goal { form: 0, inputs };
     print_goal(alloc, language, grammar, &goal, None, vars, &mut into)?;
     into.extend_from_slice(b" / ")?;
-    print_goal(alloc, language, grammar, &goal, Some(&outputs), vars, &mut into)?;
+    print_goal(
+        alloc,
+        language,
+        grammar,
+        &goal,
+        Some(&outputs),
+        vars,
+        &mut into,
+    )?;
     Ok(into)
 }
 
