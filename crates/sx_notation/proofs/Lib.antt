@@ -8,3 +8,4 @@ pub mod Copied
 pub mod TextReading
 pub mod TreeTexts
 pub mod ReadLexemes
+pub mod ShownGoals

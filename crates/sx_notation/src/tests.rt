@@ -1,7 +1,7 @@
 //! A language of sums: the grammar by which its rules are read, a line that is read and lines that are refused, and a goal that is printed, all
 //! worked out by hand.
 
-ghost use Rattle.std.specs.Prelude.{◌≡◌, ◌≤◌, ◌+◌, ◌<◌, ◌^◌, ℕ, List, IfOk, IfSome, IsTrue, length, map};
+ghost use Rattle.std.specs.Prelude.{◌≡◌, ◌≤◌, ◌+◌, ◌<◌, ◌^◌, ℕ, List, Some, IfOk, IfSome, IsTrue, length, map, slice_get};
 ghost use Rattle.sx_term.specs.Term.{tree};
 ghost use Rattle.sx_term.specs.Shapes.{shapes as shapes_in};
 ghost use Rattle.sx_term.specs.Sorts.{HaveSorts};
@@ -11,8 +11,9 @@ ghost use Rattle.sx_earley.specs.Completed.{IsSort};
 ghost use Rattle.sx_rules.specs.Deep.{AreShallow};
 ghost use Rattle.sx_rules.specs.Modes as modes;
 ghost use Rattle.sx_rules.specs.Sets.{forms_in};
-ghost use Rattle.sx_rules.specs.Views.{is_out};
+ghost use Rattle.sx_rules.specs.Views.{form as form_data, is_out};
 ghost use Rattle.sx_directives.specs.declared.rows.FormLine.{FormLine as FormLineOf};
+ghost use Rattle.sx_notation.specs.ReadText.{IsKnownCut};
 ghost use Rattle.sx_notation.specs.RuleLaws as laws;
 ghost use Rattle.sx_notation.specs.RuleParts as rules;
 
@@ -23,9 +24,9 @@ use sx_directives::{FormLine, FormSymbol, SpelledSort};
 use sx_earley::{Metas, first_unknown};
 use sx_forest::read_one;
 use sx_grammar::{Grammar, GrammarParts, Production, SortLine, Symbol};
-use sx_rules::{Goal, Place, Role, RuleSet};
+use sx_rules::{Form, Goal, Place, Role, RuleSet};
 use sx_term::{LexKind, NoMemory, Shapes, Sort, Term, Text, Vars, read_core};
-use sx_token::{TokenError, tokens};
+use sx_token::{Token, TokenError, tokens};
 
 fn text(alloc: Global, bytes: &str) -> Result<Text, Fail> {
     Ok(Text::make(alloc, bytes.as_bytes())?)
@@ -150,6 +151,13 @@ fn rules_over(alloc: Global, grammar: &Grammar, lines: &[FormLine]) -> Result<Gr
         return Err(NoMemory::Memory.into());
     }
     Ok(rule_grammar(alloc, grammar, lines)?)
+}
+
+/// The grammar by which rules over such sums are read.
+fn rules_of(alloc: Global, least: u8) -> Result<Grammar, Fail> {
+    let grammar = grammar_of(alloc, least)?;
+    let lines = lines(alloc, "Ty")?;
+    rules_over(alloc, &grammar, &lines)
 }
 
 /// The sort with this number, if there is one.
@@ -299,13 +307,21 @@ fn name_at(vars: &Vars, number: u32) -> &str {
     }
 }
 
+/// The name `e`.
+fn one_name(alloc: Global) -> Result<Vars, Fail>
+    ensures { IfOk result (λ v. length v ≤ 1) }
+{
+    let mut vars = Vars::new(alloc);
+    vars.add(text(alloc, "e")?)?;
+    Ok(vars)
+}
+
 #[test]
 fn a_line_is_read(rt: HostRuntime) -> Result<(), Fail> {
     let alloc = rt.alloc();
-    let grammar = rules_over(alloc, &grammar_of(alloc, 51)?, &lines(alloc, "Ty")?)?;
+    let grammar = rules_of(alloc, 51)?;
     let sort = sort_at(&grammar, 3).ok_or("a sort")?;
-    let mut vars = Vars::new(alloc);
-    vars.add(text(alloc, "e")?)?;
+    let mut vars = one_name(alloc)?;
     let line = b"~C |- (~e + 1):~T12 // a comment".as_slice();
     let core = "(4 ?1 (3 ?0 (2 n1:1)) ?2)";
     assert!(rt; is_read(alloc, &grammar, sort, line, core, &mut vars)?);
@@ -316,20 +332,26 @@ fn a_line_is_read(rt: HostRuntime) -> Result<(), Fail> {
     Ok(())
 }
 
-/// Why the line is refused; or empty where it is read, or where names do not stay as they were.
+/// Why the line is refused; empty where it is read, or where names do not stay as they were.
+fn refused_by(alloc: Global, grammar: &Grammar, sort: Sort, line: &[u8]) -> Result<String, Fail>
+    requires sort { IsSort grammar.now.parts sort }
+    requires short { length line.now ≤ 262144 }
+{
+    let mut vars = one_name(alloc)?;
+    let words = refusal(alloc, grammar, sort, line, &mut vars)?;
+    if vars.name(0).is_some() && vars.name(1).is_none() {
+        return Ok(words);
+    }
+    Ok(String::new(alloc))
+}
+
+/// The same by the rules over sums whose right sides have at least this level.
 fn refused(alloc: Global, least: u8, line: &str) -> Result<String, Fail> {
-    let grammar = rules_over(alloc, &grammar_of(alloc, least)?, &lines(alloc, "Ty")?)?;
-    let sort = sort_at(&grammar, 3).ok_or("a sort")?;
-    let mut vars = Vars::new(alloc);
-    vars.add(text(alloc, "e")?)?;
-    if line.len() > 262144 {
-        return Ok(String::new(alloc));
+    let grammar = rules_of(alloc, least)?;
+    match sort_at(&grammar, 3) {
+        Some(sort) if line.len() <= 262144 => { refused_by(alloc, &grammar, sort, line.as_bytes()) }
+        _ => Ok(String::new(alloc)),
     }
-    let words = refusal(alloc, &grammar, sort, line.as_bytes(), &mut vars)?;
-    if name_at(&vars, 0) != "e" || name_at(&vars, 1) != "" {
-        return Ok(String::new(alloc));
-    }
-    Ok(words)
 }
 
 #[test]
@@ -358,23 +380,54 @@ fn lines_are_refused(rt: HostRuntime) -> Result<(), Fail> {
     Ok(())
 }
 
-/// Why the text has not one reading as the sort; empty where it has one.
+/// The tokens of the text, where the stem of each metavariable is known.
+fn known_tokens(
+    alloc: Global,
+    grammar: &Grammar,
+    metas: &Metas,
+    text: &[u8],
+) -> Result<Option<Vec<Token>>, Fail>
+    requires { length text.now ≤ 262144 }
+    ensures { IfOk result (λ o. IfSome o (λ ts. IsKnownCut grammar.now.parts metas.now.stems.items text.now ts.items)) }
+{
+    grammar.facts();
+    let tokens = tokens(alloc, text, grammar.literals(), true)?;
+    match first_unknown(alloc, metas, &tokens)? {
+        None => Ok(Some(tokens)),
+        Some(_) => Ok(None),
+    }
+}
+
+/// Why tokens of a text of so many bytes have not one reading as the sort; empty where they have one.
+fn unread_tokens(
+    alloc: Global,
+    grammar: &Grammar,
+    sort: Sort,
+    metas: &Metas,
+    tokens: &[Token],
+    size: usize,
+) -> Result<String, Fail>
+    requires sort { IsSort grammar.now.parts sort }
+    requires known { (text : List ℕ) × IsKnownCut grammar.now.parts metas.now.stems.items text tokens.now }
+{
+    match read_one(alloc, grammar, sort, metas, tokens) {
+        Ok(_) => Ok(String::new(alloc)),
+        Err(error) => {
+            let error = why_unread(alloc, grammar, tokens, size, error)?;
+            told(alloc, NotationError::Read { line: 0, error })
+        }
+    }
+}
+
+/// The same of the text, whose metavariables have known stems.
 fn unread(alloc: Global, grammar: &Grammar, sort: Sort, text: &[u8]) -> Result<String, Fail>
     requires sort { IsSort grammar.now.parts sort }
     requires short { length text.now ≤ 262144 }
 {
-    grammar.facts();
     let metas = stems(alloc)?;
-    let tokens = tokens(alloc, text, grammar.literals(), true)?;
-    if first_unknown(alloc, &metas, &tokens)?.is_some() {
-        return Ok(String::new(alloc));
-    }
-    match read_one(alloc, grammar, sort, &metas, &tokens) {
-        Ok(_) => Ok(String::new(alloc)),
-        Err(error) => {
-            let error = why_unread(alloc, grammar, &tokens, text.len(), error)?;
-            told(alloc, NotationError::Read { line: 0, error })
-        }
+    match known_tokens(alloc, grammar, &metas, text)? {
+        Some(tokens) => unread_tokens(alloc, grammar, sort, &metas, &tokens, text.len()),
+        None => Ok(String::from_str(alloc, "an unknown stem")?),
     }
 }
 
@@ -395,22 +448,33 @@ fn texts_without_one_reading(rt: HostRuntime) -> Result<(), Fail> {
     Ok(())
 }
 
-/// The language of sums, without rules.
-fn language(alloc: Global) -> Result<Language, Fail>
-    ensures { IfOk result (λ l. (known : List FormLineOf) × laws.HaveSortsOf l.grammar.parts known
-        × (l.rule_grammar.parts ≡ rules.rule_parts l.grammar.parts known) × (forms_in l.rules ≡ map (laws.form_of l.grammar.parts) known)) }
+/// No rules over these forms.
+fn no_rules(alloc: Global, grammar: &Grammar, lines: &[FormLine]) -> Result<RuleSet, Fail>
+    ensures { IfOk result (λ set. laws.HaveSortsOf grammar.now.parts lines.now × (forms_in set ≡ map (laws.form_of grammar.now.parts) lines.now)) }
 {
-    let grammar = grammar_of(alloc, 51)?;
-    let lines = lines(alloc, "Ty")?;
-    let rule_grammar = rules_over(alloc, &grammar, &lines)?;
-    let forms = forms_of(alloc, &grammar, &lines)?.ok_or("the forms")?;
     let shapes = grammar.shapes(alloc)?;
-    let rules = RuleSet::make(alloc, &shapes, forms, Vec::new(alloc))?;
+    match forms_of(alloc, grammar, lines)? {
+        Some(forms) => Ok(RuleSet::make(alloc, &shapes, forms, Vec::new(alloc))?),
+        None => Err(NoMemory::Memory.into()),
+    }
+}
+
+/// The language with these grammars and rules.
+fn language_of(
+    alloc: Global,
+    grammar: Grammar,
+    rule_grammar: Grammar,
+    rules: RuleSet,
+) -> Result<Language, Fail>
+    ensures { IfOk result (λ l. (l.grammar ≡ grammar) × (l.rule_grammar ≡ rule_grammar) × (l.rules ≡ rules)) }
+{
+    let name = text(alloc, "Sums")?;
+    let metas = stems(alloc)?;
     Ok(Language {
-        name: text(alloc, "Sums")?,
+        name,
         grammar,
         rule_grammar,
-        metas: stems(alloc)?,
+        metas,
         rules,
         names: Vec::new(alloc),
         main: MainForm {
@@ -419,6 +483,19 @@ fn language(alloc: Global) -> Result<Language, Fail>
             add: 0,
         },
     })
+}
+
+/// The language of sums, without rules.
+fn language(alloc: Global) -> Result<Language, Fail>
+    ensures { IfOk result (λ l. (known : List FormLineOf) × laws.HaveSortsOf l.grammar.parts known
+        × (l.rule_grammar.parts ≡ rules.rule_parts l.grammar.parts known) × (forms_in l.rules ≡ map (laws.form_of l.grammar.parts) known)) }
+{
+    let grammar = grammar_of(alloc, 51)?;
+    let lines = lines(alloc, "Ty")?;
+    let rule_grammar = rules_over(alloc, &grammar, &lines)?;
+    let rules = no_rules(alloc, &grammar, &lines)?;
+    let language = language_of(alloc, grammar, rule_grammar, rules)?;
+    Ok(language)
 }
 
 /// The terms with these core texts.
@@ -459,10 +536,11 @@ fn fit(all: &Shapes, vars: &[Sort], places: &[Place], inputs: &[Term], outputs: 
     }
 }
 
-/// The text of the goal with these inputs, and behind ` / ` the same with these outputs got.
-fn goal_texts(
+/// The text of the goal of the first form with these inputs, and behind ` / ` the same with these outputs got.
+fn put_goals(
     alloc: Global,
     language: &Language,
+    form: &Form,
     sorts: &[Sort],
     inputs: Vec<Term>,
     outputs: Vec<Term>,
@@ -471,6 +549,7 @@ fn goal_texts(
     requires known { (known : List FormLineOf) × laws.HaveSortsOf language.now.grammar.parts known
         × (language.now.rule_grammar.parts ≡ rules.rule_parts language.now.grammar.parts known)
         × (forms_in language.now.rules ≡ map (laws.form_of language.now.grammar.parts) known) }
+    requires first { slice_get (forms_in language.now.rules) 0 ≡ Some (form_data form.now) }
     requires names { length sorts.now ≤ length vars.now }
     requires inputs { AreShallow (map tree inputs.items) }
     requires outputs { AreShallow (map tree outputs.items) }
@@ -478,7 +557,6 @@ fn goal_texts(
     let mut into = Vec::new(alloc);
     language.grammar.facts();
     let shapes = language.grammar.shapes(alloc)?;
-    let form = language.rules.forms().first().ok_or("a form")?;
     if !fit(&shapes, sorts, &form.places, &inputs, &outputs) {
         return Ok(into);
     }
@@ -496,6 +574,28 @@ fn goal_texts(
         &mut into,
     )?;
     Ok(into)
+}
+
+/// The same, where the language has a form.
+fn goal_texts(
+    alloc: Global,
+    language: &Language,
+    sorts: &[Sort],
+    inputs: Vec<Term>,
+    outputs: Vec<Term>,
+    vars: &Vars,
+) -> Result<Vec<u8>, Fail>
+    requires known { (known : List FormLineOf) × laws.HaveSortsOf language.now.grammar.parts known
+        × (language.now.rule_grammar.parts ≡ rules.rule_parts language.now.grammar.parts known)
+        × (forms_in language.now.rules ≡ map (laws.form_of language.now.grammar.parts) known) }
+    requires names { length sorts.now ≤ length vars.now }
+    requires inputs { AreShallow (map tree inputs.items) }
+    requires outputs { AreShallow (map tree outputs.items) }
+{
+    match language.rules.forms().first() {
+        Some(form) => put_goals(alloc, language, form, sorts, inputs, outputs, vars),
+        None => Ok(Vec::new(alloc)),
+    }
 }
 
 #[test]
