@@ -212,7 +212,7 @@ class Outline:
             return False
         places = dict(form.places)
         environment, signature = places["in"], places["out"]
-        if environment[0] == "lex" or self._kind(signature) not in ("plain", None):
+        if environment[0] == "lex" or self._kind(signature) != "plain":
             return False
         if empty.sort != environment[1] or add.sort != environment[1] or parts_of(empty):
             return False
