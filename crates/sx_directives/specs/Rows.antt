@@ -4,7 +4,7 @@ use Rattle.sx_lines.specs.Words.{number_within}
 use Rattle.sx_grammar.specs.Parts.{Line, line}
 use Rattle.sx_grammar.specs.declared.sort_line.SortLine.{SortLine}
 use Rattle.sx_directives.specs.Parts.{parts_of}
-use Rattle.sx_directives.specs.Spelling.{IsName, IsStem, IsQuoted, Spells, SpellsForm, EachSpelled}
+use Rattle.sx_directives.specs.Spelling.{IsName, IsStem, NotLexical, IsQuoted, Spells, SpellsForm, EachSpelled}
 use Rattle.sx_directives.specs.declared.keyword.Keyword.{Keyword}
 use Rattle.sx_directives.specs.declared.keyword.Keyword.TheVariants.{Language, Sort, Prod, Var, Form, Main, Rule, Bar, End}
 use Rattle.sx_directives.specs.declared.row_error.RowError.{RowError}
@@ -40,11 +40,12 @@ AreBrackets [] None = Unit {0}
 AreBrackets (left ∷ right ∷ []) (Some pair) = IsQuoted left pair.0 × IsQuoted right pair.1
 AreBrackets _ _ = ⊥
 
--- `NAME plain` or `NAME typed`, then perhaps two literals in quotes
+-- `NAME plain` or `NAME typed`, where NAME is no lexical sort, then perhaps two literals in quotes
 pub record IsSortRow (parts : List (List ℕ)) (s : SortLine) : Type 0 where
   pub brackets : List (List ℕ)
   pub parts_are : parts ≡ s.name ∷ kind_text s.typed ∷ brackets
   pub name : IsName s.name
+  pub lexical : NotLexical s.name
   pub pair : AreBrackets brackets s.brackets
 
 -- `LABEL SORT LEVEL : SYMBOL..`

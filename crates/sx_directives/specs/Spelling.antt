@@ -48,6 +48,7 @@ IsTextOf bytes text = (bytes ≡ text) × IsUtf8 text
 
 -- ---- literals
 
+-- the byte is no quote
 abbrev pub is_plain_byte : ℕ → Bool
 is_plain_byte b = if b == 34 then false else true
 
@@ -68,6 +69,10 @@ lex_text Str = codes "str"
 -- none of these
 abbrev pub NotLexical : List ℕ → Type 0
 NotLexical part = (kind : LexKind) → part ≡ lex_text kind → ⊥
+
+-- the part is this name, of a sort that is not lexical
+abbrev pub IsSortName : List ℕ → List ℕ → Type 0
+IsSortName part name = IsNamed part name × NotLexical name
 
 -- no byte is `@`
 abbrev pub NoAt : List ℕ → Type 0

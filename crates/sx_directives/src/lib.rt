@@ -21,8 +21,10 @@ mod symbols;
 mod tests;
 
 pub use directive::Directive;
+pub use parts::is_blank;
 pub use reading::{read_directive, read_row};
 pub use row::Row;
 pub use row_error::RowError;
 pub use rows::{FormLine, MainLine, VarLine};
+pub use sorts::lexical_kind;
 pub use spelled::{FormSymbol, SpelledSort};

@@ -7,8 +7,8 @@ ghost use Rattle.sx_directives.specs.Parts.{parts_of, texts, IsBlankFront, IsPar
 use std::alloc::Global;
 use sx_term::NoMemory;
 
-/// Whether the byte is a blank: a space, a tab or a carriage return.
-fn is_blank(c: u8) -> bool
+/// Whether the byte is a blank, which stands between the parts of a line: a space, a tab or a carriage return.
+pub fn is_blank(c: u8) -> bool
     ensures { result ≡ spec.is_blank c }
 {
     c == b' ' || c == b'\t' || c == b'\r'

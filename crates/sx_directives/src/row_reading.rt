@@ -10,6 +10,7 @@ ghost use Rattle.sx_directives.specs.Rows.{kind_text, AreBrackets, IsSortRow, Is
 use crate::names::{literal_of, name_of, stem_of};
 use crate::row_error::RowError;
 use crate::rows::{FormLine, MainLine, VarLine};
+use crate::sorts::sort_name_of;
 use crate::symbols::{form_symbols_of, symbols_of};
 use std::alloc::Global;
 use sx_grammar::{Production, SortLine};
@@ -144,14 +145,14 @@ fn brackets_of(alloc: Global, parts: &[&[u8]]) -> Result<Option<(Text, Text)>, R
     }
 }
 
-/// Reads `NAME plain` or `NAME typed`, with or without two literals in quotes.
+/// Reads `NAME plain` or `NAME typed`, where the name is that of no lexical sort, with or without two literals in quotes.
 pub(crate) fn read_sort(alloc: Global, parts: &[&[u8]]) -> Result<SortLine, RowError>
     ensures { MatchResult result (IsSortRow (texts parts.now)) (NoneIs (IsSortRow (texts parts.now))) }
 {
     match parts {
         [name, kind, brackets @ ..] => match kind_of(*kind) {
             Some(typed) => {
-                let name = name_of(alloc, *name)?;
+                let name = sort_name_of(alloc, *name)?;
                 match brackets_of(alloc, brackets) {
                     Ok(brackets) => Ok(SortLine {
                         name,

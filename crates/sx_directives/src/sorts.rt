@@ -1,17 +1,17 @@
 //! Reading sorts as they are spelled in symbols.
 
 ghost use Rattle.std.specs.Prelude.{◌≡◌, List, ℕ, ◌++◌, ◌∷◌, MatchOption, MatchResult};
-ghost use Rattle.sx_directives.specs.Spelling.{lex_text, NotLexical, NoAt, IsLevelled, SpellsSort, NoneIs};
+ghost use Rattle.sx_directives.specs.Spelling.{lex_text, NotLexical, NoAt, IsLevelled, IsSortName, SpellsSort, NoneIs};
 
 use crate::names::name_of;
 use crate::row_error::RowError;
 use crate::spelled::SpelledSort;
 use std::alloc::Global;
 use sx_lines::number_within;
-use sx_term::LexKind;
+use sx_term::{LexKind, Text};
 
-/// The lexical kind that a part names.
-fn lex_kind_of(part: &[u8]) -> Option<LexKind>
+/// The lexical kind that a part names: `id`, `num` or `str`. `None` comes exactly where it is none of these.
+pub fn lexical_kind(part: &[u8]) -> Option<LexKind>
     ensures { MatchOption result (NotLexical part.now) (λ kind. part.now ≡ lex_text kind) }
 {
     if part == b"id".as_slice() {
@@ -24,6 +24,16 @@ fn lex_kind_of(part: &[u8]) -> Option<LexKind>
         return Some(LexKind::Str);
     }
     None
+}
+
+/// The name of a sort that is not lexical.
+pub(crate) fn sort_name_of(alloc: Global, part: &[u8]) -> Result<Text, RowError>
+    ensures { MatchResult result (IsSortName part.now) (NoneIs (IsSortName part.now)) }
+{
+    if lexical_kind(part).is_some() {
+        return Err(RowError::Shape);
+    }
+    name_of(alloc, part)
 }
 
 /// What stands before the first `@`, and what stands after it.
@@ -60,7 +70,7 @@ fn levelled(alloc: Global, name: &[u8], digits: &[u8]) -> Result<SpelledSort, Ro
 pub(crate) fn sort_of(alloc: Global, part: &[u8]) -> Result<SpelledSort, RowError>
     ensures { MatchResult result (SpellsSort part.now) (NoneIs (SpellsSort part.now)) }
 {
-    if let Some(kind) = lex_kind_of(part) {
+    if let Some(kind) = lexical_kind(part) {
         return Ok(SpelledSort::Lex(kind));
     }
     match split_level(part) {

@@ -122,6 +122,37 @@ fn bad_rows(rt: HostRuntime) {
 }
 
 #[test]
+fn lexical_sorts(rt: HostRuntime) {
+    assert!(rt; is_bad(&rt, b"sort id plain"));
+    assert!(rt; is_bad(&rt, b"sort num typed"));
+    assert!(rt; is_bad(&rt, b"sort str plain \"(\" \")\""));
+    assert!(rt; is_row(&rt, b"sort ids plain"));
+}
+
+#[test]
+fn lexical_kinds(rt: HostRuntime) {
+    assert!(rt; matches!(lexical_kind(b"num"), Some(LexKind::Num)));
+    assert!(rt; lexical_kind(b"nu").is_none());
+}
+
+/// Whether the line is a `prod` line.
+fn is_prod(rt: &HostRuntime, line: &[u8]) -> bool {
+    matches!(read_directive(rt.alloc(), line), Ok(Directive::Prod(_)))
+}
+
+/// Whether the line is no directive.
+fn is_no_directive(rt: &HostRuntime, line: &[u8]) -> bool {
+    matches!(read_directive(rt.alloc(), line), Err(RowError::Shape))
+}
+
+#[test]
+fn other_directives(rt: HostRuntime) {
+    assert!(rt; is_prod(&rt, b"prod a Exp 5 :"));
+    assert!(rt; is_no_directive(&rt, b"form f :"));
+    assert!(rt; is_no_directive(&rt, b"sorts Exp typed"));
+}
+
+#[test]
 fn a_directive(rt: HostRuntime) {
     match read_directive(rt.alloc(), b"var e : Exp") {
         Ok(Directive::Var { stem, sort }) => {
