@@ -1,5 +1,5 @@
 -- A text states one language, or has one refusal, but for the two readings that it may show.
-use Rattle.std.proofs.Common.{◌≡◌, ◌≢◌, List, ◌⊎◌, inl, inr, map, refl, ap, ◌∙◌, sym, subst}
+use Rattle.std.proofs.Common.{◌≡◌, ◌≢◌, List, ◌⊎◌, inl, inr, length, map, refl, ap, ◌∙◌, sym, subst}
 use Rattle.std.specs.Prelude.{Option, Ok, Err}
 use Rattle.sx_term.specs.Sorts.{Shape}
 use Rattle.sx_grammar.specs.declared.grammar_error.GrammarError.{GrammarError}
@@ -22,12 +22,11 @@ use Rattle.sx_outline.specs.Outlined.{OutlineData, outline, IsOutlined}
 use Rattle.sx_notation.specs.declared.language.Language.{Language}
 use Rattle.sx_notation.specs.declared.notation_error.NotationError.{NotationError}
 use Rattle.sx_notation.specs.declared.notation_error.NotationError.TheVariants.{Memory, NotUtf8, Notation, Token, Grammar, Read, Rules}
-use Rattle.sx_notation.specs.Language.{language_data}
 use Rattle.sx_notation.specs.RuleParts.{rule_parts}
 use Rattle.sx_language.specs.RuleLine.{Reader}
 use Rattle.sx_language.specs.RuleTexts.{AreRules, IsFirstBad}
 use Rattle.sx_language.specs.States.{IsReadable, forms_of, States, IsNoGrammar, HasNoGrammar, HasBadRule, name_unbound, IsNoRules, HasNoRuleSet, IsRefused}
-use Rattle.sx_language.specs.Laws.{OneLanguage}
+use Rattle.sx_language.specs.Laws.{SameLanguage, OneLanguage}
 use Rattle.sx_language.proofs.Stepwise.{AreAlike, Step, step_alike, step_none}
 use Rattle.sx_language.proofs.OneGrammar.{no_grammar_one, grammar_or_not}
 use Rattle.sx_language.proofs.OneLine.{Alike}
@@ -244,19 +243,32 @@ module _ (name bytes : Text) where
         (step_none ByGrammars HasReader ByReader not_grammars (s.outline, s.reader, s.readable)
         (step_none ByRuleLines HasRules ByRules not_rule_lines (s.outline, s.reader, l.names.items, rules_in l.rules, s.readable, s.rules) no_rules_due))
 
-  found : (l k : Language) → States name bytes l → States name bytes k → language_data l ≡ language_data k
-  found l k s t = λ i. record { parts = whole i; rule_parts = of_rules i; forms = forms i; rules = stated.1 i; main = main i }
+  -- the grammar of these parts, all of whose productions are base
+  abbrev whole_of : Parts → GrammarData
+  whole_of p = record { parts = p; base = length p.productions }
+
+  found : (l k : Language) → States name bytes l → States name bytes k → SameLanguage l k
+  found l k s t = record {
+    content = λ i. record { parts = (grammar i).parts; rule_parts = (rule_grammar i).parts; forms = forms i; rules = stated.1 i; main = main i };
+    name = s.named ∙ sym t.named;
+    grammar = grammar;
+    rule_grammar = rule_grammar;
+    stems = s.metas ∙ ap (λ (r : Reader). r.stems) read_by ∙ sym t.metas;
+    shapes = s.shapes ∙ shapes_same s.outline t.outline same ∙ sym t.shapes;
+    names = stated.0;
+  }
     where
       same : outline s.outline ≡ outline t.outline
       same = outline_one name bytes s.outline t.outline s.readable.outlined t.readable.outlined
 
-      whole : l.grammar.parts ≡ k.grammar.parts
-      whole = ap (λ (g : GrammarData). g.parts) s.grammar ∙ parts_same s.outline t.outline same ∙ sym (ap (λ (g : GrammarData). g.parts) t.grammar)
+      read_by : s.reader ≡ t.reader
+      read_by = reader_one name bytes s.outline t.outline s.reader t.reader s.readable t.readable
 
-      of_rules : l.rule_grammar.parts ≡ k.rule_grammar.parts
-      of_rules =
-          ap (λ (g : GrammarData). g.parts) s.rule_grammar ∙ ap (λ (r : Reader). r.parts) (reader_one name bytes s.outline t.outline s.reader t.reader s.readable t.readable)
-          ∙ sym (ap (λ (g : GrammarData). g.parts) t.rule_grammar)
+      grammar : l.grammar ≡ k.grammar
+      grammar = s.grammar ∙ ap whole_of (parts_same s.outline t.outline same) ∙ sym t.grammar
+
+      rule_grammar : l.rule_grammar ≡ k.rule_grammar
+      rule_grammar = s.rule_grammar ∙ ap (λ (r : Reader). whole_of r.parts) read_by ∙ sym t.rule_grammar
 
       forms : forms_in l.rules ≡ forms_in k.rules
       forms = s.forms ∙ forms_same s.outline t.outline same ∙ sym t.forms

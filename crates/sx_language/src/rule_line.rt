@@ -10,7 +10,7 @@ use crate::premise::premise_of;
 use crate::rule_reader::RuleReader;
 use std::alloc::Global;
 use sx_grammar::Grammar;
-use sx_notation::{NotationError, read_text};
+use sx_notation::{NotationError, read_into};
 use sx_outline::RuleLine;
 use sx_rules::Premise;
 use sx_term::{Sort, Vars};
@@ -39,7 +39,7 @@ pub(crate) fn read_line(
     ensures grows { length vars.new ≤ length vars.old + 10000 }
 {
     let sort = judgements(&by.grammar);
-    match read_text(
+    match read_into(
         alloc,
         &by.grammar,
         sort,

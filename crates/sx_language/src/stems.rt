@@ -1,8 +1,7 @@
 //! The stems of metavariables with their sorts.
 
-ghost use Rattle.std.specs.Prelude.{◌≡◌, ◌<◌, length, IfOk, MatchOption};
+ghost use Rattle.std.specs.Prelude.{◌≡◌, IfOk, MatchOption};
 ghost use Rattle.std.specs.List.{AllByRecursion};
-ghost use Rattle.sx_grammar.specs.Told as told;
 ghost use Rattle.sx_directives.specs.Spelling.{lex_text, NotLexical};
 ghost use Rattle.sx_language.specs.States.{IsNameOfSort, IsSortNamed, AreStems};
 
@@ -10,6 +9,7 @@ use std::alloc::Global;
 use sx_directives::VarLine;
 use sx_earley::Metas;
 use sx_grammar::Grammar;
+use sx_notation::sort_with;
 use sx_term::{LexKind, NoMemory, Sort, Text};
 
 /// The lexical kind with this name.
@@ -26,19 +26,6 @@ fn lexical_kind(name: &[u8]) -> Option<LexKind>
         return Some(LexKind::Str);
     }
     None
-}
-
-/// The sort with this number, plain or typed.
-fn sort_with(grammar: &Grammar, number: u32) -> Sort
-    requires { number < length grammar.now.parts.sorts }
-    ensures { result ≡ told.sort_with grammar.now.parts.sorts number }
-{
-    let sorts = &grammar.parts().sorts;
-    if sorts[number as usize].typed {
-        Sort::Typed(number)
-    } else {
-        Sort::Plain(number)
-    }
 }
 
 /// The sort with this name.

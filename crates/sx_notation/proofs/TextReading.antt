@@ -1,5 +1,5 @@
 -- The tokens that a line is cut into can be read, and their only reading can be stripped.
-use Rattle.std.proofs.Common.{◌≡◌, ℕ, zero, suc, ◌+◌, ◌<◌, ◌≤◌, ◌^◌, Bool, List, [], ◌∷◌, ◌++◌, Contains, length, ap, ◌∙◌, sym, subst, arith}
+use Rattle.std.proofs.Common.{◌≡◌, ℕ, zero, suc, ◌+◌, ◌<◌, ◌≤◌, ◌^◌, Bool, List, [], ◌∷◌, ◌++◌, Contains, length, length-append, ap, ◌∙◌, sym, subst, arith}
 use Rattle.std.specs.Prelude.{Result, Ok, Err, IfErr}
 use Rattle.std.specs.Result.{IsErrAnd}
 use Rattle.std.specs.List.{AllByRecursion}
@@ -22,7 +22,7 @@ use Rattle.sx_earley.specs.Unknown.{HasStem}
 use Rattle.sx_earley.specs.Completed.{number_of}
 use Rattle.sx_earley.proofs.Known.{cut_known}
 use Rattle.sx_forest.specs.Fitting.{HaveNames}
-use Rattle.sx_forest.specs.Names.{IsMarked, names_in, AddsEach}
+use Rattle.sx_forest.specs.Names.{IsMarked, names_in, AddsEach, AddsFront}
 use Rattle.sx_forest.proofs.Fits.{readings_marked, readings_few}
 use Rattle.sx_forest.proofs.Naming.{each_long}
 use Rattle.sx_notation.specs.ReadText.{IsKnownCut, IsRead}
@@ -81,12 +81,18 @@ module _ (p : Parts) (stems : Stems) (line : Text) (ts : List Token) (known : Is
         omega (arith, few, same, few_tokens)
 
     -- there is room for the names
-    pub has_room : (old now : List Text) → now ≡ old → length old + 10000 < 2 ^ 32 → length now + length (names_in ts r) < 2 ^ 32
-    has_room old now same room = omega (arith, room, few_names, ap length same)
+    pub has_room : (old : List Text) → length old + 10000 < 2 ^ 32 → length old + length (names_in ts r) < 2 ^ 32
+    has_room old room = omega (arith, room, few_names)
 
-    module _ (old now new : List Text) (same : now ≡ old) (names : AddsEach now (names_in ts r) new) where
+    -- the first of some names are no more than these
+    pub grown_front : (old new : List Text) → AddsFront old (names_in ts r) new → length new ≤ length old + 10000
+    grown_front old new a =
+        let names : length (names_in ts r) ≡ length a.0 + length a.1 = ap length a.2 ∙ length-append a.0 a.1 in
+        omega (arith, each_long old a.0 new a.3, names, few_names)
+
+    module _ (old new : List Text) (names : AddsEach old (names_in ts r) new) where
       pub grown : length new ≤ length old + 10000
-      grown = omega (arith, each_long now (names_in ts r) new names, few_names, ap length same)
+      grown = omega (arith, each_long old (names_in ts r) new names, few_names)
 
       -- the term of the reading is that of the line
       pub is_read : (t : Tree) → t ≡ term_of (plain_tokens stems ts) (new ++ []) r → IsRead p stems sort line old new t
@@ -95,6 +101,6 @@ module _ (p : Parts) (stems : Stems) (line : Text) (ts : List Token) (known : Is
         known = known;
         reading = r;
         answer = answer;
-        names = subst (λ l. AddsEach l (names_in ts r) new) same names;
+        names = names;
         term = is ∙ ap (λ l. term_of (plain_tokens stems ts) l r) (append-nil new);
       }

@@ -19,6 +19,7 @@ abbrev pub printer : Grammar → List Text → Option Tree → Printer
 printer g names None = λ place least. literal_token (codes "_") ∷ []
 printer g names (Some t) = print g names t
 
+-- the symbols of the production, if there is one
 abbrev pub symbols_of : Option Production → List Symbol
 symbols_of None = []
 symbols_of (Some r) = r.symbols

@@ -21,13 +21,14 @@ use Rattle.sx_notation.specs.RuleLaws.{form_of, HaveSortsOf}
 use Rattle.sx_notation.specs.declared.language.Language.{Language}
 use Rattle.sx_outline.specs.declared.main_form.MainForm.{MainForm}
 
--- the sorts of the places with this role
+-- the sort, where the first role is the second
 abbrev pub sort_when : Role → Role → Sort → List Sort
 sort_when In In sort = sort ∷ []
 sort_when Sub Sub sort = sort ∷ []
 sort_when Out Out sort = sort ∷ []
 sort_when _ _ sort = []
 
+-- the sorts of the places with this role, in order
 abbrev pub sorts_with : Role → List Place → List Sort
 sorts_with role places = flat_map (λ p. sort_when role p.role p.sort) places
 
@@ -76,5 +77,6 @@ pub record LanguageData : Type 0 where
   pub rules : List NamedRule
   pub main : MainForm
 
+-- the data of a language
 abbrev pub language_data : Language → LanguageData
 language_data l = record { parts = l.grammar.parts; rule_parts = l.rule_grammar.parts; forms = forms_in l.rules; rules = rules_in l.rules; main = l.main }

@@ -7,3 +7,4 @@ pub mod Language
 pub mod WhyUnread
 pub mod ReadText
 pub mod ReadLaws
+pub mod Directives

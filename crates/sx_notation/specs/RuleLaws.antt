@@ -40,11 +40,12 @@ abbrev pub IsSortOf : Parts → SpelledSort → Type 0
 IsSortOf p (Lexical kind) = Unit {0}
 IsSortOf p (Named name least) = Contains (names p) name
 
+-- so it is of a place; a literal has no sort
 abbrev pub HasSortOf : Parts → FormSymbol → Type 0
 HasSortOf p (Lit text) = Unit {0}
 HasSortOf p (Place role sort) = IsSortOf p sort
 
--- so it is of the places of each form
+-- so it is of the symbols of each form
 abbrev pub HaveSortsOf : Parts → List FormLine → Type 0
 HaveSortsOf p fs = AllByRecursion (λ f. AllByRecursion (HasSortOf p) f.symbols.items) fs
 

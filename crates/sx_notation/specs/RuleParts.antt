@@ -5,8 +5,8 @@ use Rattle.sx_term.specs.declared.lex_kind.LexKind.TheVariants.{Id, Num, Str}
 use Rattle.sx_grammar.specs.declared.symbol.Symbol.{Symbol}
 use Rattle.sx_grammar.specs.declared.symbol.Symbol.TheVariants.{Lit, Lex, Part}
 use Rattle.sx_grammar.specs.declared.sort_line.SortLine.{SortLine}
-use Rattle.sx_grammar.specs.Grammar.{Text}
 use Rattle.sx_grammar.specs.Parts.{Line, Parts}
+use Rattle.sx_directives.specs.Spelling.{lex_text}
 use Rattle.sx_directives.specs.declared.spelled.SpelledSort.{SpelledSort}
 use Rattle.sx_directives.specs.declared.spelled.SpelledSort.TheVariants.{Lex as Lexical, Named}
 use Rattle.sx_directives.specs.declared.spelled.FormSymbol.{FormSymbol}
@@ -31,16 +31,12 @@ symbol_for (Place role sort) = symbol_of_sort sort
 abbrev pub form_line : FormLine → Line
 form_line f = record { label = codes "form " ++ f.name; sort = codes "a judgement"; level = 0; symbols = map symbol_for f.symbols.items }
 
-abbrev pub kind_name : LexKind → Text
-kind_name Id = codes "id"
-kind_name Num = codes "num"
-kind_name Str = codes "str"
-
 -- two lexemes of the kind with `!=` between them
 abbrev pub apart_line : LexKind → Line
 apart_line kind =
-    record { label = codes "apart " ++ kind_name kind; sort = codes "a judgement"; level = 0; symbols = Lex kind ∷ Lit (codes "!=") ∷ Lex kind ∷ [] }
+    record { label = codes "apart " ++ lex_text kind; sort = codes "a judgement"; level = 0; symbols = Lex kind ∷ Lit (codes "!=") ∷ Lex kind ∷ [] }
 
+-- one of these for each lexical kind
 abbrev pub apart_lines : List Line
 apart_lines = apart_line Id ∷ apart_line Num ∷ apart_line Str ∷ []
 

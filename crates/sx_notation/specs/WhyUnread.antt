@@ -19,6 +19,7 @@ abbrev pub begin_of : Option Token → (size : ℕ) → ℕ
 begin_of None size = size
 begin_of (Some t) size = t.from
 
+-- the same of the token with this number
 abbrev pub place_in : List Token → (size : ℕ) → (number : ℕ) → ℕ
 place_in ts size number = begin_of (slice_get ts number) size
 

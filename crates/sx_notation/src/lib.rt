@@ -1,4 +1,4 @@
-//! Language files.
+//! Texts in the notation of a language.
 //!
 //! - `print_goal` appends the text of a goal: the symbols of its form with the goal's inputs in their places, and its outputs as they
 //!   were got or as `_`.
@@ -6,12 +6,15 @@
 //!   sorts of a grammar.
 //! - `rule_grammars_go_on`: productions keep their labels in the grammar of rules, and the forms follow them in order. `sorted_goals_fit`:
 //!   a goal that is well sorted by the language's grammar meets the conditions of `print_goal`.
-//! - `read_text`: the term of a line's only reading by a grammar, or why the line is refused. `why_unread`: why tokens have not one
-//!   reading, with places and texts in place of tokens and readings. `read_terms_are_usable`: lexemes and depth of what is read.
+//! - `read_text`: the term of a line's only reading by a grammar, or why the line is refused. `read_into`: the same without a copy of the
+//!   names. `why_unread`: why tokens have not one reading, with places and texts in place of tokens and readings.
+//!   `read_terms_are_usable`: lexemes and depth of what is read.
+//! - `read_directive`: the production or the stem that a line states, by which it extends a language.
 #![tactic(auto)]
 
 mod content;
 mod copying;
+mod directive_reading;
 mod goal_printing;
 mod language;
 mod laws;
@@ -26,14 +29,16 @@ mod text_reading;
 mod unread;
 mod walk;
 
+pub use directive_reading::read_directive;
 pub use goal_printing::print_goal;
 pub use language::Language;
 pub use laws::{read_terms_are_usable, rule_grammars_go_on, sorted_goals_fit};
 pub use notation_error::NotationError;
-pub use resolving::forms_of;
+pub use resolving::{forms_of, sort_with};
 pub use rule_productions::{rule_grammar, rule_parts};
 pub use sx_core::Kind;
+pub use sx_directives::Directive;
 pub use sx_outline::MainForm;
 pub use telling::why_unread;
-pub use text_reading::read_text;
+pub use text_reading::{read_into, read_text};
 pub use unread::Unread;

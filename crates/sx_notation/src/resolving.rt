@@ -12,8 +12,8 @@ use sx_grammar::Grammar;
 use sx_rules::{Form, Place};
 use sx_term::{NoMemory, Sort};
 
-/// The sort with this number, plain or typed.
-fn sort_with(grammar: &Grammar, number: u32) -> Sort
+/// The sort with this number, plain or typed as its line says.
+pub fn sort_with(grammar: &Grammar, number: u32) -> Sort
     requires { number < length grammar.now.parts.sorts }
     ensures { result ≡ told.sort_with grammar.now.parts.sorts number }
 {

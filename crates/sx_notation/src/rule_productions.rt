@@ -4,7 +4,8 @@ ghost use Rattle.std.specs.Prelude.{◌≡◌, ◌++◌, ◌∷◌, [], IfOk, On
 ghost use Rattle.std.specs.Str.{IsUtf8};
 ghost use Rattle.sx_grammar.specs.Parts.{line, parts};
 ghost use Rattle.sx_grammar.specs.Tables.{IsWithinLimits, IsMade};
-ghost use Rattle.sx_notation.specs.RuleParts.{symbol_for, judgement_sort, form_line, kind_name, apart_line, apart_lines, rule_parts};
+ghost use Rattle.sx_directives.specs.Spelling.{lex_text};
+ghost use Rattle.sx_notation.specs.RuleParts.{symbol_for, judgement_sort, form_line, apart_line, apart_lines, rule_parts};
 
 use crate::copying::{copy_productions, copy_sorts};
 use std::alloc::Global;
@@ -68,7 +69,7 @@ fn form_production(alloc: Global, form: &FormLine) -> Result<Production, NoMemor
 
 /// The label of the production of two lexemes of the kind that are to be apart.
 fn apart_label(kind: LexKind) -> &'static [u8]
-    ensures same { result.now ≡ codes "apart " ++ kind_name kind }
+    ensures same { result.now ≡ codes "apart " ++ lex_text kind }
     ensures utf8 { IsUtf8 result.now }
 {
     match kind {

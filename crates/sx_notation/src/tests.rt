@@ -650,3 +650,30 @@ fn a_goal_is_printed(rt: HostRuntime) -> Result<(), Fail> {
     );
     Ok(())
 }
+
+/// Whether the line with the number 7 states this stem of this sort.
+fn states_stem(alloc: Global, line: &[u8], stem: &str, sort: &str) -> bool {
+    match read_directive(alloc, line, 7) {
+        Ok(
+            Directive::Var {
+                stem: found,
+                sort: of,
+            },
+        ) => found.as_str() == stem && of.as_str() == sort,
+        _ => false,
+    }
+}
+
+/// Whether the line with the number 7 states nothing.
+fn states_nothing(alloc: Global, line: &[u8]) -> bool {
+    match read_directive(alloc, line, 7) {
+        Err(NotationError::Notation { line, kind }) => line == 7 && kind == Kind::Shape,
+        _ => false,
+    }
+}
+
+#[test]
+fn lines_that_extend_a_language(rt: HostRuntime) {
+    assert!(rt; states_stem(rt.alloc(), b"var x : id", "x", "id"));
+    assert!(rt; states_nothing(rt.alloc(), b"form f :"));
+}

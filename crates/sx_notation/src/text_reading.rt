@@ -1,6 +1,6 @@
 //! Reading a line of text.
 
-ghost use Rattle.std.specs.Prelude.{◌≡◌, ◌+◌, ◌<◌, ◌≤◌, ◌^◌, ℕ, List, None, length, IfOk, IfErr, OnErr};
+ghost use Rattle.std.specs.Prelude.{◌≡◌, ◌≢◌, ◌+◌, ◌<◌, ◌≤◌, ◌^◌, ℕ, List, None, length, IfOk, IfErr, OnErr};
 ghost use Rattle.sx_term.specs.declared.sort.Sort.{Sort};
 ghost use Rattle.sx_term.specs.Term.{tree};
 ghost use Rattle.sx_grammar.specs.Parts.{numbered};
@@ -10,6 +10,7 @@ ghost use Rattle.sx_earley.specs.Unknown.{IsFirstUnknown};
 ghost use Rattle.sx_earley.specs.Completed.{IsSort, number_of};
 ghost use Rattle.sx_forest.specs.Readings.{plain_reading};
 ghost use Rattle.sx_notation.specs.WhyUnread.{IsReadError};
+ghost use Rattle.sx_notation.specs.declared.notation_error.NotationError.TheVariants.{Memory};
 ghost use Rattle.sx_notation.specs.ReadText.{IsCut, IsKnownCut, IsRead, IsRefused, IsUnreadLine, of_token_error};
 
 use crate::names::copy_names;
@@ -115,7 +116,31 @@ fn reading_of(
 
 /// The term of the line's only reading as the sort. Names of metavariables that `vars` lacks are added in order of standing. The line is
 /// refused, with its number, where it has no tokens, where the stem of a metavariable is unknown, and where its tokens have not one
-/// reading, in this order; `vars` is then as before.
+/// reading, in this order; `vars` is then as before. Where memory is lacking, `vars` may have some of the names that it lacks.
+pub fn read_into(
+    alloc: Global,
+    grammar: &Grammar,
+    sort: Sort,
+    metas: &Metas,
+    line: &[u8],
+    number: u32,
+    vars: &mut Vars,
+) -> Result<Term, NotationError>
+    requires sort { IsSort grammar.now.parts sort }
+    requires short { length line.now ≤ 262144 }
+    requires room { length vars.now + 10000 < 2 ^ 32 }
+    ensures read { IfOk result (λ t. IsRead grammar.now.parts metas.now.stems.items sort line.now vars.old vars.new (tree t)) }
+    ensures refused { IfErr result (IsRefused grammar.now.parts metas.now.stems.items sort line.now number) }
+    ensures kept { IfErr result (λ e. e ≢ Memory → vars.new ≡ vars.old) }
+    ensures grows { length vars.new ≤ length vars.old + 10000 }
+{
+    let tokens = known_tokens(alloc, grammar, metas, line, number)?;
+    let reading = reading_of(alloc, grammar, sort, metas, &tokens, line.len(), number)?;
+    let term = strip(alloc, &reading, &tokens, vars)?;
+    Ok(term)
+}
+
+/// The same of a copy of the names: after each refusal, also where memory is lacking, `vars` is as before.
 pub fn read_text(
     alloc: Global,
     grammar: &Grammar,
@@ -133,10 +158,8 @@ pub fn read_text(
     ensures err { OnErr result (vars.new ≡ vars.old) }
     ensures grows { length vars.new ≤ length vars.old + 10000 }
 {
-    let tokens = known_tokens(alloc, grammar, metas, line, number)?;
-    let reading = reading_of(alloc, grammar, sort, metas, &tokens, line.len(), number)?;
     let mut names = copy_names(alloc, vars)?;
-    let term = strip(alloc, &reading, &tokens, &mut names)?;
+    let term = read_into(alloc, grammar, sort, metas, line, number, &mut names)?;
     *vars = names;
     Ok(term)
 }
