@@ -168,7 +168,7 @@ stated_followed name bytes l s =
     (subst (λ (rules : List Rule). AllModed (modes_of (forms_in s.whole.rules)) rules) (bare_named s.whole.rules.rules.items)
     (kept_moded (shapes_in s.whole.rules) (forms_in s.whole.rules) s.whole.rules.rules.items s.whole.rules.good))
 
-read_followed : (name : List ℕ) (files : Files) (l : Stated) → ReadsLanguage name files (Ok l) → IsFollowed l.language
+pub read_followed : (name : List ℕ) (files : Files) (l : Stated) → ReadsLanguage name files (Ok l) → IsFollowed l.language
 read_followed name files l read = let at = went _ _ _ read in stated_followed name at.given l at.goes
 
 over_nearly : (name : List ℕ) (budget : ℕ) (files : Files) (m : Module) → IsNearlyOne (BuildsOver name budget files m)

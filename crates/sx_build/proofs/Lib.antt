@@ -5,3 +5,4 @@ pub mod Agreeing
 pub mod Promise
 mod Counted
 mod Stating
+pub mod TypeErrors

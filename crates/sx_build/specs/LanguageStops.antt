@@ -58,6 +58,7 @@ grammar_defect_of (grammar_error.PlainHasTyped label) = Some (grammar_defect.Pla
 grammar_defect_of (grammar_error.NoBrackets sort) = Some (grammar_defect.NoBrackets sort)
 grammar_defect_of (grammar_error.Cyclic sort) = Some (grammar_defect.Cyclic sort)
 
+-- the sorts, productions and forms are no grammar
 abbrev pub bad_grammar : List ℕ → Option GrammarDefect → Option Stop
 bad_grammar file None = None
 bad_grammar file (Some what) = Some (about file (defect.Grammar what))
@@ -69,6 +70,7 @@ abbrev pub metavariable : Option (List ℕ) → List ℕ
 metavariable None = []
 metavariable (Some name) = codes "~" ++ name
 
+-- the rules are no rule set; a variable that is not bound is told by its name
 abbrev pub bad_language_rules : List ℕ → RuleError → Option (List ℕ) → Option Stop
 bad_language_rules file e variable = bad_rules file (λ number. metavariable variable) e
 

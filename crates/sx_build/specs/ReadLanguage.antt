@@ -18,6 +18,7 @@ pub record Stated : Type 0 where
   pub language : LanguageData
   pub digest : List ℕ
 
+-- what was read, without where it lies in memory
 abbrev pub stated_of : LanguageFile → Stated
 stated_of l = record { language = language_data l.language; digest = l.digest.bytes }
 

@@ -26,6 +26,7 @@ pub record Module : Type 0 where
   pub bytes : List ℕ
   pub header : HeaderParts
 
+-- what was read, without where it lies in memory
 abbrev pub module_of : ModuleFile → Module
 module_of m = record { bytes = m.bytes.items; header = header_view m.bytes.items m.header }
 

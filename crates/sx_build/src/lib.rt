@@ -3,6 +3,7 @@
 //! - `plan_build_module`: what is to be written, or why nothing is. The module's file is read, then that of its language; the module is
 //!   compiled; and its three files and the line are planned.
 //! - `builds_agree`: by the name and the files there is one result, read faults and the readings that a refusal shows aside.
+//! - `type_errors_are_final`: a type error comes only where the body's goal has no derivation at all.
 #![tactic(auto)]
 
 mod build_module;
@@ -13,4 +14,4 @@ mod read_language;
 mod read_module;
 
 pub use build_module::plan_build_module;
-pub use laws::builds_agree;
+pub use laws::{builds_agree, type_errors_are_final};

@@ -22,3 +22,4 @@ pub mod ReadSorted
 pub mod TypedBodies
 pub mod Units
 pub mod Tries
+pub mod Untyped

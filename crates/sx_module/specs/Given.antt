@@ -26,6 +26,7 @@ use Rattle.sx_module.specs.Unit.{rules_of, goal, IsTyped}
 use Rattle.sx_module.specs.declared.module_error.ModuleError.{ModuleError}
 use Rattle.sx_module.specs.declared.module_error.ModuleError.TheVariants.{Memory}
 
+-- what a module is compiled from, as plain data
 abbrev pub source_of : Given → Source
 source_of g = source g.language.now g.digest.now g.bytes.now g.header.now g.imports.now g.environment.now
 

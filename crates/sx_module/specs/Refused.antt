@@ -13,8 +13,8 @@ use Rattle.sx_earley.specs.Tokens.{plain_tokens}
 use Rattle.sx_earley.specs.Completed.{number_of}
 use Rattle.sx_forest.specs.Places.{place_at}
 use Rattle.sx_rules.specs.declared.rule.Role.TheVariants.{Sub, Out}
-use Rattle.sx_rules.specs.First.{Answer}
-use Rattle.sx_rules.specs.Modes.{Goal}
+use Rattle.sx_rules.specs.First.{Answer, IsUnderivable}
+use Rattle.sx_rules.specs.Modes.{AllModed, Goal}
 use Rattle.sx_rules.specs.Views.{NamedRule, modes_of, subjects_in}
 use Rattle.sx_derive.specs.Walk.{Cause, depth_spent, too_deep as passes_depth, too_big as passes_size}
 use Rattle.sx_derive.specs.Search.{found, stopped, spent, exhausted, walk, tries_of}
@@ -153,6 +153,22 @@ IsBadModule s tries (PrintAmbiguous part one other) =
 abbrev pub IsCompiled : Source → ℕ → Result Compiled ModuleError → Type 0
 IsCompiled s tries (Ok c) = IsMade s tries (unit_of c)
 IsCompiled s tries (Err e) = IsBadModule s tries e
+
+-- ---- type errors
+
+-- the body has only one reading, and the goal with its term has no derivation, of whatever depth and size
+abbrev pub IsUntyped : Source → Type 0
+IsUntyped s = (b : HasBody s) × IsUnderivable (modes_of s.language.forms) (rules_of s.language) no_hypotheses (goal s b.subject) None
+
+-- where the refusal is a type error the module is untyped
+abbrev pub IsFinal : Source → ModuleError → Type 0
+IsFinal s (TypeError line column text) = IsUntyped s
+IsFinal s _ = Unit {0}
+
+-- a module is refused for a type error, by rules that can be followed, only where it is untyped
+abbrev pub TypeErrorsAreFinal : Type 0
+TypeErrorsAreFinal =
+    (s : Source) (tries line column : ℕ) (text : StuckText) → AllModed (modes_of s.language.forms) (rules_of s.language) → IsBadModule s tries (TypeError line column text) → IsUntyped s
 
 -- ---- tries
 

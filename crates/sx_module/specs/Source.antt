@@ -35,9 +35,11 @@ pub record Source : Type 0 where
   pub marks : List Mark
   pub environment : Tree
 
+-- an import as its row in an interface: its name, and the digest of its file
 abbrev pub mark : Import → Mark
 mark i = record { name = i.interface.module; digest = i.digest.bytes }
 
+-- what is handed in to compile a module, without where it lies in memory
 abbrev pub source : Language → Digest → List ℕ → headers.Header → List Import → Term → Source
 source l digest bytes h imports t =
     record { language = language_data l; digest = digest.bytes; bytes = bytes; header = header_view bytes h; marks = map mark imports; environment = tree t }

@@ -31,6 +31,7 @@ pub record UnitData : Type 0 where
   pub source_tokens : ℕ
   pub base_tokens : ℕ
 
+-- what a compiled module holds
 abbrev pub unit_of : Compiled → UnitData
 unit_of c = record {
   base = c.base.items;

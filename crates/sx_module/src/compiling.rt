@@ -9,7 +9,7 @@ ghost use Rattle.sx_notation.specs.Language.{IsLanguage, language_data};
 ghost use Rattle.sx_module.specs.Source.{source, mark, main_sort, IsSource, IsEnvironment};
 ghost use Rattle.sx_module.specs.Unit.{IsBody, IsUnit, unit_of};
 ghost use Rattle.sx_module.specs.Given.{source_of, CanCompile, IsShowable};
-ghost use Rattle.sx_module.specs.Refused.{IsCompiled, IsCounted};
+ghost use Rattle.sx_module.specs.Refused.{IsCompiled, IsFinal, IsCounted};
 
 use crate::body::Body;
 use crate::compiled::Compiled;
@@ -85,6 +85,8 @@ pub fn compile<L: Ledger>(
     ensures answer { IsCompiled (source language.now language_digest.now bytes.now header.now imports.now environment.now) tries result }
     // What is made are the texts of the first derivation among all.
     ensures unit { IfOk result (λ c. IsUnit (source language.now language_digest.now bytes.now header.now imports.now environment.now) (unit_of c)) }
+    // A type error comes only where the main goal has no derivation at all.
+    ensures untyped { IfErr result (IsFinal (source language.now language_digest.now bytes.now header.now imports.now environment.now)) }
     // The steps rise by the tries of the goal's walk.
     ensures tries { IsCounted (source language.now language_digest.now bytes.now header.now imports.now environment.now) tries result steps.old steps.new }
     ensures most { steps.new ≤ steps.old + tries }

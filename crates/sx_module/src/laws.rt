@@ -1,11 +1,17 @@
 //! Laws of compiling.
 
 ghost use Rattle.sx_module.specs.Alike.{OneUnit};
+ghost use Rattle.sx_module.specs.Refused.{TypeErrorsAreFinal};
 ghost use Rattle.sx_module.specs.Unit.{UnitsAreMade};
 
 /// What a walk finds is the first derivation, so what is made is the unit of the module.
 pub fn units_are_made()
     ensures { UnitsAreMade }
+{}
+
+/// A type error comes only where the module's main goal has no derivation at all.
+pub fn type_errors_are_final()
+    ensures { TypeErrorsAreFinal }
 {}
 
 /// What compiling answers is determined by what it is compiled from, want of memory and the readings that a refusal shows aside.

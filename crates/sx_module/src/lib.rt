@@ -28,7 +28,7 @@ pub use compiled::Compiled;
 pub use compiling::compile;
 pub use goal_laws::{main_goals_fit, outputs_fit, searches_fit, stuck_goals_fit};
 pub use import::Import;
-pub use laws::{one_unit, units_are_made};
+pub use laws::{one_unit, type_errors_are_final, units_are_made};
 pub use module_error::ModuleError;
 pub use print_limit::{Limit, Part};
 pub use stuck_text::StuckText;

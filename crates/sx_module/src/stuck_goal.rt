@@ -1,7 +1,6 @@
 //! Texts of stuck goals.
 
 ghost use Rattle.std.specs.Prelude.{◌≡◌, ◌+◌, [], Option, None, Some, map, option_map, slice_index_or, IfOk};
-ghost use Rattle.std.specs.Str.{IsUtf8};
 ghost use Rattle.sx_term.specs.Term.{tree};
 ghost use Rattle.sx_rules.specs.Sets.{forms_in, rules_in};
 ghost use Rattle.sx_rules.specs.Views.{goal as goal_of};
@@ -13,23 +12,12 @@ ghost use Rattle.sx_module.specs.Refused as refused;
 ghost use Rattle.sx_module.specs.TypeErrors.{shown_got, CanShow};
 
 use crate::stuck_text::StuckText;
+use crate::texts::text_of;
 use std::alloc::Global;
 use sx_derive::{Blame, Cause};
 use sx_notation::{Language, print_goal};
 use sx_rules::{Goal, RuleSet};
-use sx_term::{NoMemory, Term, Text, TextError, Vars};
-
-/// The text of UTF-8 bytes.
-fn utf8_text(alloc: Global, bytes: &[u8]) -> Result<Text, NoMemory>
-    requires { IsUtf8 bytes.now }
-    ensures { IfOk result (λ text. text ≡ bytes.now) }
-{
-    match Text::make(alloc, bytes) {
-        Ok(text) => Ok(text),
-        Err(TextError::Memory) => Err(NoMemory::Memory),
-        Err(TextError::NotUtf8(_)) => unreachable!(),
-    }
-}
+use sx_term::{NoMemory, Term, Text, Vars};
 
 /// The name of the rule with this number; empty where there is no such rule.
 fn rule_name(alloc: Global, rules: &RuleSet, number: u32) -> Result<Text, NoMemory>
@@ -37,7 +25,7 @@ fn rule_name(alloc: Global, rules: &RuleSet, number: u32) -> Result<Text, NoMemo
 {
     match rules.rule(number) {
         Some(rule) => rule.name.copy(alloc),
-        None => utf8_text(alloc, "".as_bytes()),
+        None => text_of(alloc, "".as_bytes()),
     }
 }
 
@@ -72,7 +60,7 @@ fn shown_goal(
         &vars,
         &mut bytes,
     )?;
-    utf8_text(alloc, &bytes)
+    text_of(alloc, &bytes)
 }
 
 /// The text of a goal whose outputs got are not what the premise of a rule asks for, or else not the stated ones.

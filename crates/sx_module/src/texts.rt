@@ -71,7 +71,7 @@ fn import_marks(alloc: Global, imports: &[Import]) -> Result<Vec<ImportMark>, No
 }
 
 /// The text with these bytes.
-fn text_of(alloc: Global, bytes: &[u8]) -> Result<Text, NoMemory>
+pub(crate) fn text_of(alloc: Global, bytes: &[u8]) -> Result<Text, NoMemory>
     requires { IsUtf8 bytes.now }
     ensures { IfOk result (λ t. t ≡ bytes.now) }
 {
