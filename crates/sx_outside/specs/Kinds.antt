@@ -17,6 +17,7 @@ pub record ShelfData : Type 0 where
   pub read_faults : ℕ
   pub write_faults : ℕ
 
+-- no files, no calls and no faults
 abbrev pub new_shelf : ShelfData
 new_shelf = record { files = no_files; calls = no_calls; read_faults = 0; write_faults = 0 }
 
@@ -26,6 +27,7 @@ pub record SinkData : Type 0 where
   pub calls : Calls
   pub faults : ℕ
 
+-- no bytes, no calls and no faults
 abbrev pub new_sink : SinkData
 new_sink = record { bytes = []; calls = no_calls; faults = 0 }
 
@@ -35,6 +37,7 @@ pub record SourceData : Type 0 where
   pub calls : Calls
   pub faults : ℕ
 
+-- these bytes are left, no calls and no faults
 abbrev pub new_source : List ℕ → SourceData
 new_source bytes = record { bytes = bytes; calls = no_calls; faults = 0 }
 
