@@ -1,5 +1,5 @@
 -- Complete spans in the order in which they are counted.
-use Rattle.std.specs.Prelude.{◌≡◌, ◌⊎◌, ◌<◌, ℕ, ◌+◌, ◌-◌, ◌*◌, Contains, List, Option, None, Some, length, slice_get}
+use Rattle.std.specs.Prelude.{◌≡◌, ◌⊎◌, ◌<◌, ℕ, ◌+◌, ◌-◌, Contains, List, Option, None, Some, length, slice_get}
 use Rattle.std.specs.Global.{Vec}
 use Rattle.sx_grammar.specs.declared.head.Head.{Head}
 use Rattle.sx_grammar.specs.Grammar.{Grammar, Token, Production, production_of}
@@ -43,7 +43,3 @@ pub record IsSoFar (g : Grammar) (tokens : List Token) (start : ℕ) (list : Lis
   pub has : (q : ℕ) (o : Ordered) → q < n → slice_get list q ≡ Some o → HasEntry lists o.span.from (By (head_of o.span.of)) o.span.to
   pub only : (place i : ℕ) (e : Entry) (head : Head) → slice_get (list_at lists place) i ≡ Some e → e.maker ≡ By head →
       (q : ℕ) × (o : Ordered) × (q < n) × (slice_get list q ≡ Some o) × (head_of o.span.of ≡ head) × (o.span.from ≡ place) × (o.span.to ≡ e.to)
-
--- a span as a number: the wider the greater, and as wide the greater by the rank of its sort
-abbrev pub key_of : Grammar → (ℕ → ℕ) → Head → (from to : ℕ) → ℕ
-key_of g rank head from to = (to - from) * 4294967296 + rank (sort_in (production_of g head))

@@ -294,3 +294,76 @@ fn too_many_items(rt: HostRuntime) -> Result<(), Fail> {
     assert_eq!(rt; numbers(rt.alloc(), 3000)?, Some(Told::TooHard));
     Ok(())
 }
+
+#[test]
+fn brackets_stay_in_a_reading(rt: HostRuntime) -> Result<(), Fail> {
+    let alloc = rt.alloc();
+    assert_eq!(rt;
+        summed(alloc, 50, b"( 1 + 2 ) + 3")?,
+        tree_of(alloc, b"plus([plus(last(1),last(2))],last(3))")?
+    );
+    assert_eq!(rt;
+        summed(alloc, 51, b"( 1 + 2 ) + 3")?,
+        tree_of(alloc, b"plus([plus(last(1),last(2))],last(3))")?
+    );
+    Ok(())
+}
+
+/// A plain sort with the brackets `(` and `)`.
+fn bracketed(alloc: Global, name: &str) -> Result<SortLine, Fail> {
+    Ok(SortLine {
+        name: text(alloc, name)?,
+        typed: false,
+        brackets: Some((text(alloc, "(")?, text(alloc, ")")?)),
+    })
+}
+
+/// A production of the sort at level 0.
+fn made(alloc: Global, label: &str, sort: &str, symbols: Vec<Symbol>) -> Result<Production, Fail> {
+    Ok(Production {
+        label: text(alloc, label)?,
+        sort: text(alloc, sort)?,
+        level: 0,
+        symbols,
+    })
+}
+
+/// The one symbol.
+fn alone(alloc: Global, symbol: Symbol) -> Result<Vec<Symbol>, Fail> {
+    let mut symbols = Vec::new(alloc);
+    symbols.push(symbol)?;
+    Ok(symbols)
+}
+
+/// A `Down` as an `Up`.
+fn up(alloc: Global) -> Result<Production, Fail> {
+    let down = Symbol::Part {
+        sort: text(alloc, "Down")?,
+        least: 0,
+    };
+    made(alloc, "up", "Up", alone(alloc, down)?)
+}
+
+/// Two sorts with the same brackets: each `Down` is an `Up`, and a number or nothing is a `Down`.
+fn chain(alloc: Global) -> Result<GrammarParts, Fail> {
+    let mut productions = Vec::new(alloc);
+    productions.push(up(alloc)?)?;
+    productions.push(made(alloc, "last", "Down", alone(alloc, Symbol::Lex(LexKind::Num))?)?)?;
+    productions.push(made(alloc, "none", "Down", Vec::new(alloc))?)?;
+    let mut sorts = Vec::new(alloc);
+    sorts.push(bracketed(alloc, "Up")?)?;
+    sorts.push(bracketed(alloc, "Down")?)?;
+    Ok(GrammarParts { sorts, productions })
+}
+
+#[test]
+fn a_chain_of_sorts_that_share_their_brackets(rt: HostRuntime) -> Result<(), Fail> {
+    let alloc = rt.alloc();
+    assert_eq!(rt; read_as(alloc, chain(alloc)?, b"1")?, tree_of(alloc, b"up(last(1))")?);
+    assert_eq!(rt; read_as(alloc, chain(alloc)?, b"")?, tree_of(alloc, b"up(none)")?);
+    assert_eq!(rt;
+        read_as(alloc, chain(alloc)?, b"( 1 )")?,
+        trees_of(alloc, b"[up(last(1))]", b"up([last(1)])")?
+    );
+    Ok(())
+}

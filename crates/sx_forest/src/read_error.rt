@@ -6,7 +6,7 @@ use sx_earley::ChartError;
 use sx_term::NoMemory;
 use thiserror::Error;
 
-/// Why tokens have not one reading.
+/// Why tokens have not one reading, or that memory is lacking.
 #[derive(Debug, Drop, Error)]
 pub enum ReadError {
     #[error("out of memory")]
