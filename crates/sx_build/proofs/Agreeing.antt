@@ -123,7 +123,7 @@ bare_named [] = refl
 bare_named (r ∷ rs) = ap (λ (l : List Rule). rule r ∷ l) (bare_named rs)
 
 stated_same : (name bytes : List ℕ) (l k : Stated) → IsStated name bytes l → IsStated name bytes k → l ≡ k
-stated_same name bytes l k s t = λ i. record { language = (s.language ∙ one_language.found name bytes s.whole t.whole s.states t.states ∙ sym t.language) i; digest = (s.digest ∙ sym t.digest) i }
+stated_same name bytes l k s t = λ i. record { language = (s.language ∙ (one_language.found name bytes s.whole t.whole s.states t.states).content ∙ sym t.language) i; digest = (s.digest ∙ sym t.digest) i }
 
 module _ (name bytes : List ℕ) where
   lacks : (stop : Stop) (e : NotationError) → language_stop (language_file name) e ≡ Some stop → e ≢ notation_error.Memory
