@@ -72,18 +72,18 @@ pub record AreFitting (known d : Declared) : Type 0 where
   pub places : AllByRecursion (λ f. AllByRecursion (SymbolFits known) f.symbols) d.forms
   pub subjects : AllByRecursion (λ f. HasOneSubject f.symbols) d.forms
 
-fitting_row : (known d : Declared) (row : Row) → Fits known d row → AreFitting known d → AreFitting known (declare d row)
-fitting_row known d (Language name) fits h = h
-fitting_row known d (Sort s) fits h = record {
-  sorts = all_push (λ (s : SortLine). NotLexical s.name) d.sorts s h.sorts fits;
+fitting_row : (known d : Declared) (parts : List (List ℕ)) (row : Row) → IsRow parts row → Fits known d row → AreFitting known d → AreFitting known (declare d row)
+fitting_row known d parts (Language name) is fits h = h
+fitting_row known d parts (Sort s) is fits h = record {
+  sorts = all_push (λ (s : SortLine). NotLexical s.name) d.sorts s h.sorts is.follows.lexical;
   stems_once = h.stems_once;
   vars = h.vars;
   forms_once = h.forms_once;
   places = h.places;
   subjects = h.subjects;
 }
-fitting_row known d (Prod p) fits h = record { sorts = h.sorts; stems_once = h.stems_once; vars = h.vars; forms_once = h.forms_once; places = h.places; subjects = h.subjects }
-fitting_row known d (Var v) fits h = record {
+fitting_row known d parts (Prod p) is fits h = record { sorts = h.sorts; stems_once = h.stems_once; vars = h.vars; forms_once = h.forms_once; places = h.places; subjects = h.subjects }
+fitting_row known d parts (Var v) is fits h = record {
   sorts = h.sorts;
   stems_once = subst AreDistinct (sym (map-append (λ (v : VarLine). v.stem) d.vars (v ∷ []))) (distinct_push (stems d) v.stem h.stems_once fits.0);
   vars = all_push (λ (v : VarLine). IsKnownSort known v.sort) d.vars v h.vars fits.1;
@@ -91,7 +91,7 @@ fitting_row known d (Var v) fits h = record {
   places = h.places;
   subjects = h.subjects;
 }
-fitting_row known d (Form f) fits h = record {
+fitting_row known d parts (Form f) is fits h = record {
   sorts = h.sorts;
   stems_once = h.stems_once;
   vars = h.vars;
@@ -99,10 +99,10 @@ fitting_row known d (Form f) fits h = record {
   places = all_push (λ (f : FormData). AllByRecursion (SymbolFits known) f.symbols) d.forms (form f) h.places fits.1;
   subjects = all_push (λ (f : FormData). HasOneSubject f.symbols) d.forms (form f) h.subjects fits.2;
 }
-fitting_row known d (Main m) fits h = record { sorts = h.sorts; stems_once = h.stems_once; vars = h.vars; forms_once = h.forms_once; places = h.places; subjects = h.subjects }
-fitting_row known d (Rule name) fits h = h
-fitting_row known d Bar fits h = h
-fitting_row known d End fits h = h
+fitting_row known d parts (Main m) is fits h = record { sorts = h.sorts; stems_once = h.stems_once; vars = h.vars; forms_once = h.forms_once; places = h.places; subjects = h.subjects }
+fitting_row known d parts (Rule name) is fits h = h
+fitting_row known d parts Bar is fits h = h
+fitting_row known d parts End is fits h = h
 
 -- ---- the lines of rules
 
@@ -137,7 +137,7 @@ kept_row : (size : ℕ) (known d : Declared) (text : List ℕ) (left all : ℕ) 
 kept_row size known d text left all row is fits e weighs good fitting =
     let w = row_weighs d (directives.parts_of text) row is in
     let few : length (directives.parts_of text) ≤ length text = parts_few text in
-    record { weighs = omega arith; good = row_good d (directives.parts_of text) row is good; fitting = fitting_row known d row fits fitting }
+    record { weighs = omega arith; good = row_good d (directives.parts_of text) row is good; fitting = fitting_row known d (directives.parts_of text) row is fits fitting }
 
 -- the stage and the rules after a line
 abbrev pub HasShort : ℕ → ℕ → State → Type 0

@@ -6,7 +6,6 @@ use Rattle.sx_grammar.specs.Parts.{Line}
 use Rattle.sx_grammar.specs.declared.production.Production.{Production}
 use Rattle.sx_grammar.specs.declared.sort_line.SortLine.{SortLine}
 use Rattle.sx_directives.specs.Rows.{IsRow, HasWord, word_of}
-use Rattle.sx_directives.specs.Spelling.{NotLexical}
 use Rattle.sx_directives.specs.declared.rows.VarLine.{VarLine}
 use Rattle.sx_directives.specs.declared.rows.FormLine.{FormLine}
 use Rattle.sx_directives.specs.declared.rows.MainLine.{MainLine}
@@ -57,7 +56,7 @@ same_declare d _ _ e = absurd e
 
 pub same_fits : (known before : Declared) (r s : Row) → SameRow r s → Fits known before r → Fits known before s
 same_fits known before (Language n) (Language m) e h = h
-same_fits known before (Sort s) (Sort t) e h = subst (λ (x : SortLine). NotLexical x.name) e h
+same_fits known before (Sort s) (Sort t) e h = h
 same_fits known before (Prod p) (Prod q) e h = h
 same_fits known before (Var v) (Var w) e h = subst (λ (x : VarLine). (Contains (stems before) x.stem → ⊥) × IsKnownSort known x.sort) e h
 same_fits known before (Form f) (Form g) e h =

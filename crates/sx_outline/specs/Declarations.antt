@@ -14,6 +14,7 @@ pub record FormData : Type 0 where
   pub name : List ℕ
   pub symbols : List FormSymbol
 
+-- the name and the symbols of a form line
 abbrev pub form : FormLine → FormData
 form f = record { name = f.name; symbols = f.symbols.items }
 
@@ -25,6 +26,7 @@ pub record Declared : Type 0 where
   pub forms : List FormData
   pub mains : List MainLine
 
+-- what is declared before the first line
 abbrev pub nothing : Declared
 nothing = record { sorts = []; productions = []; vars = []; forms = []; mains = [] }
 

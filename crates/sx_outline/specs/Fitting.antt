@@ -11,7 +11,7 @@ use Rattle.sx_grammar.specs.Parts.{Line, number_of, labels}
 use Rattle.sx_grammar.specs.declared.symbol.Symbol.{Symbol}
 use Rattle.sx_grammar.specs.declared.symbol.Symbol.TheVariants.{Lit, Lex, Part}
 use Rattle.sx_grammar.specs.declared.sort_line.SortLine.{SortLine}
-use Rattle.sx_directives.specs.Spelling.{lex_text, NotLexical}
+use Rattle.sx_directives.specs.Spelling.{lex_text}
 use Rattle.sx_directives.specs.declared.spelled.SpelledSort.{SpelledSort}
 use Rattle.sx_directives.specs.declared.spelled.SpelledSort.TheVariants.{Lex as Lexical, Named}
 use Rattle.sx_directives.specs.declared.spelled.FormSymbol.{FormSymbol}
@@ -22,13 +22,15 @@ use Rattle.sx_directives.specs.declared.row.Row.TheVariants.{Language, Sort, Pro
 use Rattle.sx_outline.specs.declared.main_form.MainForm.{MainForm}
 use Rattle.sx_outline.specs.Declarations.{Declared, FormData, parts_of}
 
--- the names of the sorts, the stems, and the names of the forms
+-- the names of the sorts
 abbrev pub sort_names : Declared → List (List ℕ)
 sort_names d = map (λ s. s.name) d.sorts
 
+-- the stems of metavariables
 abbrev pub stems : Declared → List (List ℕ)
 stems d = map (λ v. v.stem) d.vars
 
+-- the names of the forms
 abbrev pub form_names : Declared → List (List ℕ)
 form_names d = map (λ f. f.name) d.forms
 
@@ -45,11 +47,12 @@ abbrev pub PlaceFits : Declared → Role → SpelledSort → Type 0
 PlaceFits d role (Lexical kind) = is_sub role ≡ false
 PlaceFits d role (Named sort least) = IfSome (sort_named d sort) (λ s. s.typed ≡ is_sub role)
 
+-- a literal stands anywhere, and a place has a sort that fits it
 abbrev pub SymbolFits : Declared → FormSymbol → Type 0
 SymbolFits d (FormLit text) = Unit {0}
 SymbolFits d (Place role sort) = PlaceFits d role sort
 
--- the sorts of the places among the symbols that have this role
+-- the sort of the symbol where it is a place with this role, and else none
 abbrev pub sort_at : Role → FormSymbol → List SpelledSort
 sort_at role (FormLit text) = []
 sort_at In (Place In sort) = sort ∷ []
@@ -57,6 +60,7 @@ sort_at Sub (Place Sub sort) = sort ∷ []
 sort_at Out (Place Out sort) = sort ∷ []
 sort_at role (Place _ sort) = []
 
+-- the sorts of the places with this role, in order
 abbrev pub sorts_at : Role → List FormSymbol → List SpelledSort
 sorts_at role symbols = flat_map (sort_at role) symbols
 
@@ -67,7 +71,7 @@ HasOneSubject symbols = length (sorts_at Sub symbols) ≤ 1
 -- Among what the whole file declares, and after the lines before it, the row is as it should be. Names that stand twice are left to the
 -- grammar and to the rule set where these refuse them.
 abbrev pub Fits : (known before : Declared) → Row → Type 0
-Fits known before (Sort s) = NotLexical s.name
+Fits known before (Sort s) = Unit {0}
 Fits known before (Var v) = (Contains (stems before) v.stem → ⊥) × IsKnownSort known v.sort
 Fits known before (Form f) =
     (Contains (form_names before) f.name → ⊥) × AllByRecursion (SymbolFits known) f.symbols.items × HasOneSubject f.symbols.items
@@ -83,6 +87,7 @@ pub data Kid : Type 0 where
   of_kind : LexKind → Kid
   of_sort : List ℕ → Kid
 
+-- the part that a symbol is, and none where it is a literal
 abbrev pub kid_of : Symbol → List Kid
 kid_of (Lit text) = []
 kid_of (Lex kind) = of_kind kind ∷ []

@@ -25,6 +25,7 @@ pub record OutlineData : Type 0 where
   pub main : MainForm
   pub rules : List RuleData
 
+-- what an outline holds, without its memory
 abbrev pub outline : Outline → OutlineData
 outline o = record { parts = parts o.parts; vars = o.vars.items; forms = map form o.forms.items; main = o.main; rules = map rule_data o.rules.items }
 

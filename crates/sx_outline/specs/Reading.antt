@@ -21,10 +21,11 @@ use Rattle.sx_outline.specs.Known.{Declares}
 use Rattle.sx_outline.specs.Stages.{numbered, rule_data, Begun, Stage, at_start, at_declarations, at_rules, at_premises, at_conclusion, at_end, State, start, MayStand, HasMain, Steps, IsBad, IsBar, with_premise, after}
 use Rattle.sx_outline.specs.Outlined.{outline, IsEnd, IsOutcome}
 
--- a rule that has begun, and a stage, as plain data
+-- a rule that has begun, as plain data
 abbrev pub begun : BegunOf → Begun
 begun b = record { number = b.number; name = b.name; premises = map numbered b.premises.items }
 
+-- a stage as plain data
 abbrev pub stage : StageOf → Stage
 stage stages.Start = at_start
 stage stages.Declarations = at_declarations

@@ -25,9 +25,11 @@ pub record RuleData : Type 0 where
   pub premises : List Numbered
   pub conclusion : Numbered
 
+-- a line of a rule as plain data
 abbrev pub numbered : RuleLine → Numbered
 numbered l = record { number = l.number; text = l.text }
 
+-- a rule as plain data
 abbrev pub rule_data : RuleLines → RuleData
 rule_data r = record { number = r.number; name = r.name; premises = map numbered r.premises.items; conclusion = numbered r.conclusion }
 
@@ -53,6 +55,7 @@ pub record State : Type 0 where
   pub declared : Declared
   pub rules : List RuleData
 
+-- before the first line nothing is declared
 abbrev pub start : State
 start = record { stage = at_start; declared = nothing; rules = [] }
 
@@ -75,6 +78,7 @@ MayStandAt at_rules mains (Rule x) = Unit {0}
 MayStandAt (at_end r) mains End = Unit {0}
 MayStandAt _ mains row = ⊥
 
+-- the row may stand next
 abbrev pub MayStand : State → Row → Type 0
 MayStand s row = MayStandAt s.stage s.declared.mains row
 

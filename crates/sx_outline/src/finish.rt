@@ -9,7 +9,7 @@ ghost use Rattle.sx_outline.specs.View as view;
 use crate::known::Known;
 use crate::main_form::MainForm;
 use crate::outline::Outline;
-use crate::outline_error::OutlineError;
+use crate::outline_error::{OutlineError, bad_line};
 use crate::reader::Reader;
 use crate::rule_lines::RuleLines;
 use crate::stage::Stage;
@@ -36,10 +36,7 @@ fn finish_whole(
                 rules,
             })
         }
-        None => Err(OutlineError::Notation {
-            line: number,
-            kind: Kind::Main,
-        }),
+        None => Err(bad_line(number, Kind::Main)),
     }
 }
 
@@ -55,23 +52,11 @@ pub(crate) fn finish(known: Known, reader: Reader, number: u32) -> Result<Outlin
         rules,
     } = reader;
     match stage {
-        Stage::Start => Err(OutlineError::Notation {
-            line: number,
-            kind: Kind::Head,
-        }),
+        Stage::Start => Err(bad_line(number, Kind::Head)),
         Stage::Declarations => finish_whole(known, main, rules, number),
         Stage::Rules => finish_whole(known, main, rules, number),
-        Stage::Premises(begun) => Err(OutlineError::Notation {
-            line: begun.number,
-            kind: Kind::Unfinished,
-        }),
-        Stage::Conclusion(begun) => Err(OutlineError::Notation {
-            line: begun.number,
-            kind: Kind::Unfinished,
-        }),
-        Stage::End(rule) => Err(OutlineError::Notation {
-            line: rule.number,
-            kind: Kind::Unfinished,
-        }),
+        Stage::Premises(begun) => Err(bad_line(begun.number, Kind::Unfinished)),
+        Stage::Conclusion(begun) => Err(bad_line(begun.number, Kind::Unfinished)),
+        Stage::End(rule) => Err(bad_line(rule.number, Kind::Unfinished)),
     }
 }

@@ -2,25 +2,16 @@
 
 ghost use Rattle.std.specs.Prelude.{◌≡◌, ◌↔◌, IsTrue, take, Contains, option_map};
 ghost use Rattle.std.specs.List.{AllByRecursion};
-ghost use Rattle.sx_term.specs.declared.lex_kind.LexKind.{LexKind as KindOf};
 ghost use Rattle.sx_rules.specs.Views as view;
-ghost use Rattle.sx_directives.specs.Spelling.{lex_text};
 ghost use Rattle.sx_outline.specs.Declarations.{Declared};
 ghost use Rattle.sx_outline.specs.Fitting.{Fits, HasOneSubject, IsKnownSort, PlaceFits, SymbolFits, form_names, sort_named, stems};
 ghost use Rattle.sx_outline.specs.View.{known};
 
 use crate::known::Known;
 use crate::role_places::count_at;
-use sx_directives::{FormLine, FormSymbol, Row, SpelledSort, VarLine};
+use sx_directives::{FormLine, FormSymbol, Row, SpelledSort, VarLine, lexical_kind};
 use sx_rules::Role;
 use sx_term::Text;
-
-/// Whether the name is that of a lexical sort.
-fn is_lexical(name: &[u8]) -> bool
-    ensures { IsTrue result ↔ ((kind : KindOf) × (name.now ≡ lex_text kind)) }
-{
-    name == b"id".as_slice() || name == b"num".as_slice() || name == b"str".as_slice()
-}
 
 /// Whether the place is for a subject.
 fn is_sub(role: Role) -> bool
@@ -48,7 +39,10 @@ impl Known {
     fn is_known_sort(&self, name: &Text) -> bool
         ensures { IsTrue result ↔ IsKnownSort (known self.now) name.now }
     {
-        is_lexical(name.bytes()) || self.tables.sorts.place(name).is_some()
+        match lexical_kind(name.bytes()) {
+            Some(_) => true,
+            None => self.tables.sorts.place(name).is_some(),
+        }
     }
 
     /// Whether a place with this role may have this sort.
@@ -113,12 +107,15 @@ impl Known {
             → IsTrue result ↔ Fits (known self.now) before row.now }
     {
         match row {
-            Row::Sort(sort) => !is_lexical(sort.name.bytes()),
             Row::Var(var) => self.var_fits(vars, var),
             Row::Form(form) => self.form_fits(forms, form),
-            Row::Language(_) | Row::Prod(_) | Row::Main(_) | Row::Rule(_) | Row::Bar | Row::End => {
-                true
-            }
+            Row::Language(_)
+            | Row::Sort(_)
+            | Row::Prod(_)
+            | Row::Main(_)
+            | Row::Rule(_)
+            | Row::Bar
+            | Row::End => true,
         }
     }
 }

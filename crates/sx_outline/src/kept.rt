@@ -2,21 +2,14 @@
 
 ghost use Rattle.std.specs.Prelude.{◌≡◌, ◌+◌, ◌<◌, length, MatchResult, IfOk};
 ghost use Rattle.std.specs.Str.{IsUtf8};
-ghost use Rattle.sx_lines.specs.Bytes as spec;
 ghost use Rattle.sx_lines.specs.Lines.{over, line};
 ghost use Rattle.sx_lines.specs.Left.{left};
 ghost use Rattle.sx_directives.specs.Parts.{parts_of};
 ghost use Rattle.sx_outline.specs.Known as spec_of;
 ghost use Rattle.sx_outline.specs.Known.{kept_lines};
 
+use sx_directives::is_blank;
 use sx_lines::{Line, NoLine, Rest, after};
-
-/// Whether the byte is a blank: a space, a tab or a carriage return.
-fn is_blank(c: u8) -> bool
-    ensures { result ≡ spec.is_blank c }
-{
-    c == b' ' || c == b'\t' || c == b'\r'
-}
 
 /// Whether the line has no parts, or its first part begins with `//`.
 fn is_dropped(text: &[u8]) -> bool

@@ -5,14 +5,13 @@ ghost use Rattle.std.specs.Str.{IsUtf8};
 ghost use Rattle.sx_directives.specs.Parts.{parts_of};
 ghost use Rattle.sx_directives.specs.Rows.{IsRow};
 ghost use Rattle.sx_directives.specs.declared.row.Row.TheVariants as rows;
-ghost use Rattle.sx_outline.specs.declared.outline_error.OutlineError.TheVariants as errors;
 ghost use Rattle.sx_outline.specs.Declarations.{Declared};
 ghost use Rattle.sx_outline.specs.Stages.{IsDue, IsBar, at_end, concluded, numbered};
 ghost use Rattle.sx_outline.specs.Reading.{IsCounted, GrowsByOne, IsLineRead, IsHeadRefused, AddsPremise, begun as begun_of, stage as stage_of};
 ghost use Rattle.sx_outline.specs.View as view;
 
 use crate::known::Known;
-use crate::outline_error::OutlineError;
+use crate::outline_error::{OutlineError, bad_line};
 use crate::reader::Reader;
 use crate::rule_lines::{RuleLine, RuleLines};
 use crate::stage::{Begun, Stage};
@@ -20,13 +19,6 @@ use std::alloc::Global;
 use sx_core::Kind;
 use sx_directives::{Row, RowError, read_row};
 use sx_term::{NoMemory, Text, TextError};
-
-/// The refusal of a line.
-fn bad_line(number: u32, kind: Kind) -> OutlineError
-    ensures { result ≡ errors.Notation number kind }
-{
-    OutlineError::Notation { line: number, kind }
-}
 
 /// Whether a row is due.
 fn is_due(stage: &Stage) -> bool

@@ -1,5 +1,8 @@
 //! Why a language file is refused before it is read by its grammar.
 
+ghost use Rattle.std.specs.Prelude.{◌≡◌};
+ghost use Rattle.sx_outline.specs.declared.outline_error.OutlineError.TheVariants as errors;
+
 use std::alloc::{AllocError, AllocFailed};
 use sx_core::Kind;
 use sx_term::NoMemory;
@@ -17,6 +20,13 @@ pub enum OutlineError {
     /// The first bad line, or 1 more than the number of lines where one is missing, and what is bad about it.
     #[error("a bad line")]
     Notation { line: u32, kind: Kind },
+}
+
+/// The refusal of a line.
+pub(crate) fn bad_line(number: u32, kind: Kind) -> OutlineError
+    ensures { result ≡ errors.Notation number kind }
+{
+    OutlineError::Notation { line: number, kind }
 }
 
 impl From<NoMemory> for OutlineError {

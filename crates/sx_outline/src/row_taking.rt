@@ -10,7 +10,7 @@ ghost use Rattle.sx_outline.specs.Reading.{IsCounted, GrowsByOne, IsDeclaration,
 ghost use Rattle.sx_outline.specs.View as view;
 
 use crate::known::Known;
-use crate::outline_error::OutlineError;
+use crate::outline_error::{OutlineError, bad_line};
 use crate::reader::Reader;
 use crate::stage::{Begun, Stage};
 use std::alloc::Global;
@@ -22,10 +22,7 @@ use sx_term::Text;
 fn out_of_order(number: u32) -> OutlineError
     ensures { result ≡ errors.Notation number kinds.Order }
 {
-    OutlineError::Notation {
-        line: number,
-        kind: Kind::Order,
-    }
+    bad_line(number, Kind::Order)
 }
 
 impl Reader {
@@ -83,10 +80,7 @@ impl Reader {
                         main: Some(main),
                         rules,
                     }),
-                    None => Err(OutlineError::Notation {
-                        line: number,
-                        kind: Kind::Main,
-                    }),
+                    None => Err(bad_line(number, Kind::Main)),
                 },
             },
             _ => Err(out_of_order(number)),

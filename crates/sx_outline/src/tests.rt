@@ -173,6 +173,28 @@ fn declarations(rt: HostRuntime) {
     assert!(rt; is_bad(&rt, b"language Lam\nsort Exp typed", 3, Kind::Main));
 }
 
+#[test]
+fn sorts_with_lexical_names(rt: HostRuntime) {
+    assert!(rt; is_bad(&rt, b"language Lam\nsort id plain\n", 2, Kind::Shape));
+    assert!(rt;
+        is_bad(
+            &rt,
+            b"language Lam\nform f : in:id@5\nsort id typed\n",
+            3,
+            Kind::Shape
+        )
+    );
+}
+
+/// A file whose signatures have a sort that the file does not declare, since its last line spells no row.
+const LEXICAL: &[u8] =
+    b"language Lam\nsort Env plain\nsort Exp typed\nprod none Env 0 :\nprod more Env 0 : Env id id@5\nform f : in:Env sub:Exp out:id@5\nmain f none more\nsort id plain\n";
+
+#[test]
+fn a_lexical_name_for_signatures(rt: HostRuntime) {
+    assert!(rt; is_bad(&rt, LEXICAL, 7, Kind::Main));
+}
+
 /// The file up to its rules.
 const FRONT: &[u8] =
     b"language Lam\nsort Env plain\nsort Ty plain\nsort Exp typed\nprod none Env 0 :\nprod more Env 0 : Env id Ty\nform f : in:Env sub:Exp out:Ty\nmain f none more\n";
