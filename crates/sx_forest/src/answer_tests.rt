@@ -348,7 +348,12 @@ fn up(alloc: Global) -> Result<Production, Fail> {
 fn chain(alloc: Global) -> Result<GrammarParts, Fail> {
     let mut productions = Vec::new(alloc);
     productions.push(up(alloc)?)?;
-    productions.push(made(alloc, "last", "Down", alone(alloc, Symbol::Lex(LexKind::Num))?)?)?;
+    productions.push(made(
+        alloc,
+        "last",
+        "Down",
+        alone(alloc, Symbol::Lex(LexKind::Num))?,
+    )?)?;
     productions.push(made(alloc, "none", "Down", Vec::new(alloc))?)?;
     let mut sorts = Vec::new(alloc);
     sorts.push(bracketed(alloc, "Up")?)?;
@@ -359,8 +364,14 @@ fn chain(alloc: Global) -> Result<GrammarParts, Fail> {
 #[test]
 fn a_chain_of_sorts_that_share_their_brackets(rt: HostRuntime) -> Result<(), Fail> {
     let alloc = rt.alloc();
-    assert_eq!(rt; read_as(alloc, chain(alloc)?, b"1")?, tree_of(alloc, b"up(last(1))")?);
-    assert_eq!(rt; read_as(alloc, chain(alloc)?, b"")?, tree_of(alloc, b"up(none)")?);
+    assert_eq!(rt;
+        read_as(alloc, chain(alloc)?, b"1")?,
+        tree_of(alloc, b"up(last(1))")?
+    );
+    assert_eq!(rt;
+        read_as(alloc, chain(alloc)?, b"")?,
+        tree_of(alloc, b"up(none)")?
+    );
     assert_eq!(rt;
         read_as(alloc, chain(alloc)?, b"( 1 )")?,
         trees_of(alloc, b"[up(last(1))]", b"up([last(1)])")?
