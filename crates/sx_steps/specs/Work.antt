@@ -9,8 +9,10 @@ pub record Plan : Type 0 where
   pub files : List File
   pub lines : List ℕ
 
+-- a file to write as plain data
 abbrev pub file_of : Output → File
 file_of output = record { name = output.name; bytes = output.bytes.items }
 
+-- what is left to do as plain data
 abbrev pub plan_of : Work → Plan
 plan_of work = record { files = map file_of work.files.items; lines = work.lines.items }

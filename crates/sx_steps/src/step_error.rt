@@ -1,7 +1,6 @@
 //! Why a step gives nothing.
 
 use crate::stop::Stop;
-use std::alloc::{AllocError, AllocFailed};
 use sx_term::NoMemory;
 use thiserror::Error;
 

@@ -18,3 +18,4 @@ mod VerifySteps
 mod FirstBads
 mod VerifyOnes
 mod BuiltVerified
+mod TypeErrors

@@ -1,12 +1,20 @@
 -- Laws of what runs come to.
-use Rattle.std.specs.Prelude.{◌≡◌, ℕ, false, List, Result}
+use Rattle.std.specs.Prelude.{◌≡◌, ℕ, true, false, List, Result, Ok, Err, None}
 use Rattle.sx_outside.specs.Files.{Files}
+use Rattle.sx_rules.specs.Views.{modes_of}
+use Rattle.sx_rules.specs.First.{IsUnderivable}
+use Rattle.sx_core.specs.Problem.{Problem}
 use Rattle.sx_words.specs.Commands.{Meant, builds}
 use Rattle.sx_steps.specs.declared.stop.Stop.{Stop}
 use Rattle.sx_steps.specs.Agree.{IsNoReadFault, Agree}
 use Rattle.sx_steps.specs.Work.{Plan}
+use Rattle.sx_build.specs.Laws.{IsTypeError, HasNoType}
 use Rattle.sx_top.specs.Commands.{Spelled}
+use Rattle.sx_top.specs.FindFirst.{no_hypotheses, rules_of}
 use Rattle.sx_top.specs.Outcome.{Outcome}
+use Rattle.sx_top.specs.ReadCore.{core_file, Reads}
+
+-- ---- one outcome
 
 -- the command builds no module
 abbrev pub IsNoBuild : Meant → Type 0
@@ -19,8 +27,28 @@ OneCoreOutcome =
     (words : List (List ℕ)) → ((command : Meant) → Spelled words command → IsNoBuild command) → (files : Files) (a b : Result Plan Stop) →
     Outcome words files a → Outcome words files b → IsNoReadFault a → IsNoReadFault b → a ≡ b
 
--- Words and files have one outcome, read faults aside. Where a text has more than two readings, a refusal may show any two of them.
+-- Words and files have one outcome, read faults aside. Where a text has more than one reading, which two a refusal shows is free.
 abbrev pub OneOutcome : Type 0
 OneOutcome =
     (words : List (List ℕ)) (files : Files) (a b : Result Plan Stop) →
     Outcome words files a → Outcome words files b → IsNoReadFault a → IsNoReadFault b → Agree a b
+
+-- ---- type errors
+
+-- the core file states a goal that has no derivation by its rules, of whatever depth and size
+pub record HasNoDerivation (name : List ℕ) (files : Files) : Type 0 where
+  pub problem : Problem
+  pub reads : Reads (core_file name) files (Ok problem)
+  pub none : IsUnderivable (modes_of problem.forms) (rules_of problem) no_hypotheses problem.goal None
+
+-- the goal that the command derives has no derivation; `verify --core` derives none
+abbrev pub IsUntyped : Meant → Files → Type 0
+IsUntyped (builds true name tries nodes audits) files = HasNoDerivation name files
+IsUntyped (builds false name tries nodes audits) files = HasNoType name files
+IsUntyped command files = ⊥
+
+-- a run stops with a type error only where the command's goal has no derivation at all
+abbrev pub TypeErrorsAreFinal : Type 0
+TypeErrorsAreFinal =
+    (words : List (List ℕ)) (files : Files) (stop : Stop) → Outcome words files (Err stop) → IsTypeError stop →
+    (command : Meant) × Spelled words command × IsUntyped command files

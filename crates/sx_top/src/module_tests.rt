@@ -17,6 +17,18 @@ const LOOP: &str =
 const AMB: &str =
     "language Amb\nsort Env plain\nsort Ty plain\nsort Exp typed \"(\" \")\"\nprod nilenv Env 90 : \"[]\"\nprod bind Env 10 : Env@10 \",\" id \":\" Ty\nprod int Ty 90 : \"Int\"\nprod num Exp 90 : num\nprod plus Exp 50 : Exp \"+\" Exp\nvar C : Env\nvar T : Ty\nvar e : Exp\nvar n : num\nform typing : in:Env \"|-\" sub:Exp \":\" out:Ty\nmain typing nilenv bind\nrule T-Plus\n~C |- ~e1 : Int\n~C |- ~e2 : Int\n---\n~C |- ~e1 + ~e2 : Int\nend\nrule T-Num\n---\n~C |- ~n : Int\nend\n";
 
+/// A language whose sums group to the left.
+const LEFT: &str =
+    "language Left\nsort Env plain\nsort Ty plain\nsort Exp typed \"(\" \")\"\nprod nilenv Env 90 : \"[]\"\nprod bind Env 10 : Env@10 \",\" id \":\" Ty\nprod int Ty 90 : \"Int\"\nprod num Exp 90 : num\nprod plus Exp 50 : Exp@50 \"+\" Exp@51\nvar C : Env\nvar T : Ty\nvar e : Exp\nvar n : num\nform typing : in:Env \"|-\" sub:Exp \":\" out:Ty\nmain typing nilenv bind\nrule T-Plus\n~C |- ~e1 : Int\n~C |- ~e2 : Int\n---\n~C |- ~e1 + ~e2 : Int\nend\nrule T-Num\n---\n~C |- ~n : Int\nend\n";
+
+/// A language whose last rule asks for its own goal again.
+const LAST: &str =
+    "language Last\nsort Env plain\nsort Ty plain\nsort Exp typed\nprod nilenv Env 90 : \"[]\"\nprod bind Env 10 : Env@10 \",\" id \":\" Ty\nprod int Ty 90 : \"Int\"\nprod num Exp 90 : num\nvar C : Env\nvar T : Ty\nvar e : Exp\nvar n : num\nform typing : in:Env \"|-\" sub:Exp \":\" out:Ty\nmain typing nilenv bind\nrule T-Num\n---\n~C |- ~n : Int\nend\nrule T-Loop\n~C |- ~e : ~T\n---\n~C |- ~e : ~T\nend\n";
+
+/// A language with a sort that derives itself.
+const CYCLIC: &str =
+    "language Lam\nsort Env plain\nsort Ty plain\nsort Exp typed\nprod nilenv Env 90 : \"[]\"\nprod bind Env 10 : Env@10 \",\" id \":\" Ty\nprod int Ty 90 : \"Int\"\nprod num Exp 90 : num\nprod loop Exp 0 : Exp\nvar C : Env\nvar n : num\nform typing : in:Env \"|-\" sub:Exp \":\" out:Ty\nmain typing nilenv bind\nrule T-Num\n---\n~C |- ~n : Int\nend\n";
+
 /// The interface of the module Main with the body `( \\ x : Int . x ) 1` over the first language.
 const INTERFACE: &str =
     "sxint 1\nmodule Main\nlanguage Lam 7b91b4c231b4c470e7267042b56b49215c3aa1b713b44fea3785399fa9212002\nbase 8ccd0ff872caa77f469ffcdecb77427f3e532e619d21ff11f438a26c00d5de15\n---\nInt\n";
@@ -208,6 +220,13 @@ fn module_files_that_are_refused(rt: HostRuntime) -> Result<(), Fail> {
             b"soundx: Main.mod: not UTF-8 at byte 0\n"
         )?
     );
+    assert!(rt; is_stopped(alloc, "build Other", b"", 1, b"soundx: Other.mod: absent\n")?);
+    Ok(())
+}
+
+#[test]
+fn modules_that_need_other_files(rt: HostRuntime) -> Result<(), Fail> {
+    let alloc = rt.alloc();
     assert!(rt;
         is_stopped(
             alloc,
@@ -235,7 +254,6 @@ fn module_files_that_are_refused(rt: HostRuntime) -> Result<(), Fail> {
             b"soundx: Lim.lang: absent\n"
         )?
     );
-    assert!(rt; is_stopped(alloc, "build Other", b"", 1, b"soundx: Other.mod: absent\n")?);
     Ok(())
 }
 
@@ -323,6 +341,40 @@ fn languages_that_are_refused(rt: HostRuntime) -> Result<(), Fail> {
     Ok(())
 }
 
+#[test]
+fn a_language_that_ends_inside_a_rule(rt: HostRuntime) -> Result<(), Fail> {
+    let alloc = rt.alloc();
+    assert!(rt;
+        is_told(
+            alloc,
+            "Few",
+            "language Few\nrule R\n",
+            "build Main",
+            "1",
+            1,
+            b"soundx: Few.lang: line 2: unfinished\n"
+        )?
+    );
+    Ok(())
+}
+
+#[test]
+fn a_sort_that_derives_itself(rt: HostRuntime) -> Result<(), Fail> {
+    let alloc = rt.alloc();
+    assert!(rt;
+        is_told(
+            alloc,
+            "Lam",
+            CYCLIC,
+            "build Main",
+            "1",
+            1,
+            b"soundx: Lam.lang: sort Exp is cyclic\n"
+        )?
+    );
+    Ok(())
+}
+
 /// Whether building a module whose call of this number fails ends with this status and this line.
 fn is_fault(alloc: Global, call: u64, code: u8, told: &[u8]) -> Result<bool, Fail> {
     let module = module_of(alloc, "Lam", "1")?;
@@ -339,5 +391,132 @@ fn faults_of_a_module(rt: HostRuntime) -> Result<(), Fail> {
     assert!(rt; is_fault(alloc, 2, 3, b"soundx: Lam.lang: read fault\n")?);
     assert!(rt; is_fault(alloc, 3, 4, b"soundx: Main.base: write fault\n")?);
     assert!(rt; is_fault(alloc, 4, 4, b"soundx: Main.der: write fault\n")?);
+    Ok(())
+}
+
+/// Whether a module of this language with this body is built, with this list and this printed body.
+fn is_built_by(
+    alloc: Global,
+    name: &str,
+    language: &str,
+    body: &str,
+    list: &str,
+    base: &str,
+) -> Result<bool, Fail> {
+    let mut file = Vec::from_slice(alloc, name.as_bytes())?;
+    file.extend_from_slice(b".lang")?;
+    let module = module_of(alloc, name, body)?;
+    let printed = module_of(alloc, name, base)?;
+    let mut shelf = MemShelf::new(alloc);
+    let language = Vec::from_slice(alloc, language.as_bytes())?;
+    shelf.put(sx_term::Text::make(alloc, &file)?, language)?;
+    shelf.put(text(alloc, "Main.mod")?, module)?;
+    let mut out = MemSink::new(alloc);
+    let status = run_words(alloc, "build Main", &mut shelf, &mut out)?;
+    Ok(
+        status == 0
+            && has(alloc, &shelf, "Main.der", list)?
+            && shelf.get(&text(alloc, "Main.base")?) == Some(printed.as_slice()),
+    )
+}
+
+#[test]
+fn sums_that_group_to_the_left(rt: HostRuntime) -> Result<(), Fail> {
+    let alloc = rt.alloc();
+    let list = "sxder 1\nT-Plus\nT-Plus\nT-Num\nT-Num\nT-Num\n";
+    assert!(rt; is_built_by(alloc, "Left", LEFT, "( 1 + 2 ) + 3", list, "1 + 2 + 3")?);
+    assert!(rt; is_built_by(alloc, "Left", LEFT, "1 + 2 + 3", list, "1 + 2 + 3")?);
+    Ok(())
+}
+
+#[test]
+fn an_endless_rule_that_comes_last(rt: HostRuntime) -> Result<(), Fail> {
+    let alloc = rt.alloc();
+    assert!(rt; is_built_by(alloc, "Last", LAST, "1", "sxder 1\nT-Num\n", "1")?);
+    Ok(())
+}
+
+/// Whether the bytes under the name end so.
+fn ends(alloc: Global, shelf: &MemShelf, name: &str, end: &str) -> Result<bool, Fail> {
+    Ok(match shelf.get(&text(alloc, name)?) {
+        None => false,
+        Some(held) => held.ends_with(end.as_bytes()),
+    })
+}
+
+#[test]
+fn a_signature_of_arrows(rt: HostRuntime) -> Result<(), Fail> {
+    let alloc = rt.alloc();
+    let module = module_of(alloc, "Lam", "\\ x : Int . \\ x : Str . x")?;
+    let mut shelf = shelf_of(alloc, "Lam.lang", LAM, &module, &[])?;
+    let mut out = MemSink::new(alloc);
+    assert_eq!(rt; run_words(alloc, "build Main", &mut shelf, &mut out)?, 0);
+    assert!(rt; ends(alloc, &shelf, "Main.int", "\n---\nInt -> Str -> Str\n")?);
+    Ok(())
+}
+
+#[test]
+fn what_a_failed_write_leaves(rt: HostRuntime) -> Result<(), Fail> {
+    let alloc = rt.alloc();
+    let module = module_of(alloc, "Lam", "1")?;
+    let mut shelf = shelf_of(alloc, "Lam.lang", LAM, &module, &[4])?;
+    let mut out = MemSink::new(alloc);
+    assert_eq!(rt; run_words(alloc, "build Main", &mut shelf, &mut out)?, 4);
+    assert!(rt;
+        has(
+            alloc,
+            &shelf,
+            "Main.base",
+            "module Main\nlanguage Lam\n---\n1\n"
+        )?
+    );
+    // The first half of the 14 bytes of the list.
+    assert!(rt; has(alloc, &shelf, "Main.der", "sxder 1")?);
+    assert!(rt; lacks(alloc, &shelf, "Main.int")?);
+    Ok(())
+}
+
+/// Appends the text so many times.
+fn put_times(times: usize, part: &[u8], into: &mut Vec<u8>) -> Result<(), Fail> {
+    for _ in 0..times {
+        into.extend_from_slice(part)?;
+    }
+    Ok(())
+}
+
+/// A module with a number in so many bracket pairs.
+fn bracketed(alloc: Global, pairs: usize) -> Result<Vec<u8>, Fail> {
+    let mut module = Vec::from_slice(alloc, b"module Main\nlanguage Lam\n---\n")?;
+    put_times(pairs, b"( ", &mut module)?;
+    module.push(b'1')?;
+    put_times(pairs, b" )", &mut module)?;
+    module.push(b'\n')?;
+    Ok(module)
+}
+
+#[test]
+fn a_body_as_deep_as_may_be(rt: HostRuntime) -> Result<(), Fail> {
+    let alloc = rt.alloc();
+    let module = bracketed(alloc, 998)?;
+    let mut shelf = shelf_of(alloc, "Lam.lang", LAM, &module, &[])?;
+    let mut out = MemSink::new(alloc);
+    assert_eq!(rt; run_words(alloc, "build Main", &mut shelf, &mut out)?, 0);
+    assert!(rt;
+        has(
+            alloc,
+            &shelf,
+            "Main.base",
+            "module Main\nlanguage Lam\n---\n1\n"
+        )?
+    );
+    Ok(())
+}
+
+#[test]
+fn a_body_that_is_too_deep(rt: HostRuntime) -> Result<(), Fail> {
+    let alloc = rt.alloc();
+    let module = bracketed(alloc, 999)?;
+    let told = b"soundx: Main.mod: depth 1001 is over 1000\n";
+    assert!(rt; is_stopped(alloc, "build Main", &module, 1, told)?);
     Ok(())
 }

@@ -1,0 +1,180 @@
+-- A run stops with a type error only where the command's goal has no derivation.
+use Rattle.std.proofs.Common.{◌≡◌, ℕ, true, false, List, length, refl, sym, subst}
+use Rattle.std.specs.Prelude.{Result, Ok, Err, Option, Some, None}
+use Rattle.sx_outside.specs.Files.{Files}
+use Rattle.sx_term.specs.Tree.{Tree}
+use Rattle.sx_rules.specs.declared.entry.Entry.{Entry as EntryOf}
+use Rattle.sx_rules.specs.declared.error.RuleError.{RuleError}
+use Rattle.sx_rules.specs.declared.error.RuleError.TheVariants as rule_error
+use Rattle.sx_rules.specs.First.{IsUnderivable}
+use Rattle.sx_rules.specs.Modes.{AllModed}
+use Rattle.sx_rules.specs.Views.{modes_of}
+use Rattle.sx_core.specs.CoreRead.{IsCoreAnswer}
+use Rattle.sx_core.specs.Problem.{Problem}
+use Rattle.sx_core.specs.declared.error.CoreFileError.{CoreFileError}
+use Rattle.sx_core.specs.declared.error.CoreFileError.TheVariants as core_error
+use Rattle.sx_derive.specs.Walk.{Cause, depth_spent as passes_depth, too_deep as passes_terms, too_big as passes_size}
+use Rattle.sx_derive.specs.Search.{Ending, found, stopped, spent, exhausted, walk}
+use Rattle.sx_derive.proofs.Walked.{exhausted_means_none}
+use Rattle.sx_replay.specs.declared.replay_error.ReplayError.{ReplayError}
+use Rattle.sx_replay.specs.declared.replay_error.ReplayError.TheVariants as replay_error
+use Rattle.sx_words.specs.Commands.{Meant, builds, compiles, checks, verifies, samples}
+use Rattle.sx_steps.specs.declared.stop.Stop.{Stop}
+use Rattle.sx_steps.specs.Held.{Held, most_bytes, most_list_bytes}
+use Rattle.sx_steps.specs.Lower.{Lower}
+use Rattle.sx_steps.specs.Refusal.{bad_word}
+use Rattle.sx_steps.specs.Stops.{bad_rules, tries_spent}
+use Rattle.sx_steps.specs.Unit.{base_file, list_file, interface_file}
+use Rattle.sx_steps.proofs.Ones.{err_same, ok_no_err}
+use Rattle.sx_steps.proofs.StepsOn.{went}
+use Rattle.sx_build.specs.Laws.{IsTypeError}
+use Rattle.sx_build.proofs.TypeErrors.{OnTypeError, Final, then_final, held_final, type_errors_are_final as module_errors_are_final}
+use Rattle.sx_top.specs.BuildCore.{core_plan, BuildsGoal, BuildsWhole}
+use Rattle.sx_top.specs.Commands.{Commands, Spelled}
+use Rattle.sx_top.specs.CoreStops.{variable_name, bad_entry, differs}
+use Rattle.sx_top.specs.CoreTexts.{subject_text, term_lines}
+use Rattle.sx_top.specs.FindFirst.{no_hypotheses, rules_of}
+use Rattle.sx_top.specs.Laws.{HasNoDerivation, IsUntyped, TypeErrorsAreFinal}
+use Rattle.sx_top.specs.LowerStops.{core_stop, replay_stop}
+use Rattle.sx_top.specs.Outcome.{Runs, Outcome}
+use Rattle.sx_top.specs.ReadCore.{core_file, rule_names, Reads}
+use Rattle.sx_top.specs.Search.{goal_events, passed, ComesTo, Searches}
+use Rattle.sx_top.specs.VerifyCore.{verified_plan, Replays, VerifiesOutputs, VerifiesEntries, VerifiesList, VerifiesSubject, VerifiesWhole}
+use Rattle.sx_top.specs.Written.{Equals, Compares, StatesEntries, ReadsEntries}
+use Rattle.sx_top.proofs.Propers.{proper}
+
+module _ (Q : Type 0) where
+  -- ---- stops
+
+  of_stop : (x : Option Stop) (stop : Stop) → OnTypeError Q x → x ≡ Some stop → IsTypeError stop → Q
+  of_stop x stop on is = subst (OnTypeError Q) is on
+
+  -- no other stop is a type error
+  other_stop : (x stop : Stop) → (IsTypeError x → ⊥) → stop ≡ x → IsTypeError stop → Q
+  other_stop x stop none is error = absurd (none (subst IsTypeError is error))
+
+  no_rules : (file : List ℕ) (e : RuleError) → OnTypeError Q (bad_rules file variable_name e)
+  no_rules file rule_error.Memory = tt
+  no_rules file rule_error.TooManyRules = λ h. absurd h
+  no_rules file (rule_error.SameRule name) = λ h. absurd h
+  no_rules file (rule_error.TooManyVars name) = λ h. absurd h
+  no_rules file (rule_error.SortDiffers name) = λ h. absurd h
+  no_rules file (rule_error.Discipline name part premise) = λ h. absurd h
+  no_rules file (rule_error.NotModed name variable) = λ h. absurd h
+
+  no_core : (file : List ℕ) (e : CoreFileError) → OnTypeError Q (core_stop file e)
+  no_core file core_error.Memory = tt
+  no_core file (core_error.NotUtf8 before) = λ h. absurd h
+  no_core file (core_error.Notation line what) = λ h. absurd h
+  no_core file (core_error.TooDeep line depth) = λ h. absurd h
+  no_core file (core_error.Rules e) = no_rules file e
+
+  no_replay : (file : List ℕ) (e : ReplayError) → OnTypeError Q (replay_stop file e)
+  no_replay file replay_error.Memory = tt
+  no_replay file (replay_error.WrongAt entry) = λ h. absurd h
+  no_replay file replay_error.EndsEarly = λ h. absurd h
+  no_replay file (replay_error.LongList entry) = λ h. absurd h
+  no_replay file (replay_error.TooDeep depth) = λ h. absurd h
+  no_replay file (replay_error.TooBig size) = λ h. absurd h
+  no_replay file (replay_error.DeepList entry) = λ h. absurd h
+
+  -- ---- files
+
+  reads_final : (file : List ℕ) (files : Files) → Final Q (Reads file files)
+  reads_final file files =
+      then_final Q (Held most_bytes file files) (λ bytes. Lower (core_stop file) (IsCoreAnswer bytes)) (held_final Q most_bytes file files)
+      (λ bytes held stop h. of_stop (core_stop file h.0) stop (no_core file h.0) h.2)
+
+  equals_final : (file text bytes : List ℕ) → Final Q (Equals file text bytes)
+  equals_final file text bytes stop h = other_stop (differs file) stop (λ e. e) h.1
+
+  compares_final : (file text : List ℕ) (files : Files) → Final Q (Compares file text files)
+  compares_final file text files =
+      then_final Q (Held most_bytes file files) (Equals file text) (held_final Q most_bytes file files) (λ bytes held. equals_final file text bytes)
+
+  entries_final : (file : List ℕ) (names : List (List ℕ)) (bytes : List ℕ) → Final Q (StatesEntries file names bytes)
+  entries_final file names bytes stop h = other_stop (bad_entry file h.0) stop (λ e. e) h.2
+
+  reads_entries_final : (file : List ℕ) (names : List (List ℕ)) (files : Files) → Final Q (ReadsEntries file names files)
+  reads_entries_final file names files =
+      then_final Q (Held most_list_bytes file files) (StatesEntries file names) (held_final Q most_list_bytes file files) (λ bytes held. entries_final file names bytes)
+
+  -- ---- `verify --core`
+
+  replays_final : (file : List ℕ) (p : Problem) (list : List EntryOf) → Final Q (Replays file p list)
+  replays_final file p list stop h = of_stop (replay_stop file h.0) stop (no_replay file h.0) h.2
+
+  module _ (name : List ℕ) (files : Files) where
+    outputs_final : (nodes : ℕ) (outputs : List Tree) → Final Q (VerifiesOutputs name files nodes outputs)
+    outputs_final nodes outputs =
+        then_final Q (Compares (interface_file name) (term_lines outputs) files) (λ done result. result ≡ Ok (verified_plan name nodes))
+        (compares_final (interface_file name) (term_lines outputs) files) (λ done held stop h. absurd (ok_no_err (verified_plan name nodes) stop (sym h)))
+
+    replay_final : (p : Problem) (list : List EntryOf) → Final Q (VerifiesEntries name files p list)
+    replay_final p list =
+        then_final Q (Replays (list_file name) p list) (VerifiesOutputs name files (length list)) (replays_final (list_file name) p list)
+        (λ outputs replayed. outputs_final (length list) outputs)
+
+    list_final : (p : Problem) → Final Q (VerifiesList name files p)
+    list_final p =
+        then_final Q (ReadsEntries (list_file name) (rule_names p) files) (VerifiesEntries name files p) (reads_entries_final (list_file name) (rule_names p) files)
+        (λ list read. replay_final p list)
+
+    subject_final : (p : Problem) → Final Q (VerifiesSubject name files p)
+    subject_final p =
+        then_final Q (Compares (base_file name) (subject_text p.forms p.goal) files) (λ done. VerifiesList name files p)
+        (compares_final (base_file name) (subject_text p.forms p.goal) files) (λ done held. list_final p)
+
+    verifies_final : Final Q (VerifiesWhole name files)
+    verifies_final = then_final Q (Reads (core_file name) files) (VerifiesSubject name files) (reads_final (core_file name) files) (λ p read. subject_final p)
+
+-- ---- `build --core`
+
+no_limit : (file : List ℕ) (cause : Cause) → IsTypeError (passed file cause) → ⊥
+no_limit file passes_depth error = error
+no_limit file (passes_terms depth) error = error
+no_limit file (passes_size size) error = error
+
+-- a walk comes to a type error only at the end of its events
+comes_final : (file : List ℕ) (p : Problem) (budget : ℕ) (ending : Ending) (stop : Stop) → ComesTo file p budget ending (Err stop) → IsTypeError stop → ending ≡ exhausted
+comes_final file p budget (found answer) stop comes error = absurd (ok_no_err answer stop (sym comes))
+comes_final file p budget (stopped cause) stop comes error = absurd (no_limit file cause (subst IsTypeError (err_same stop (passed file cause) comes) error))
+comes_final file p budget spent stop comes error = absurd (subst IsTypeError (err_same stop (tries_spent file budget) comes) error)
+comes_final file p budget exhausted stop comes error = refl
+
+searches_final : (file : List ℕ) (budget : ℕ) (p : Problem) → AllModed (modes_of p.forms) (rules_of p) → Final (IsUnderivable (modes_of p.forms) (rules_of p) no_hypotheses p.goal None) (Searches file budget p)
+searches_final file budget p moded stop comes error =
+    exhausted_means_none (modes_of p.forms) (rules_of p) no_hypotheses moded p.goal None budget 1 (comes_final file p budget (walk None budget (goal_events p)) stop comes error)
+
+read_moded : (file : List ℕ) (files : Files) (p : Problem) → Reads file files (Ok p) → AllModed (modes_of p.forms) (rules_of p)
+read_moded file files p read = let at = went _ _ _ read in (proper at.given p at.goes).moded
+
+module _ (name : List ℕ) (budget : ℕ) (files : Files) where
+  goal_final : (p : Problem) → Reads (core_file name) files (Ok p) → Final (HasNoDerivation name files) (BuildsGoal name (core_file name) budget p)
+  goal_final p read =
+      then_final (HasNoDerivation name files) (Searches (core_file name) budget p) (λ answer result. result ≡ Ok (core_plan name p answer))
+      (λ stop h error. record { problem = p; reads = read; none = searches_final (core_file name) budget p (read_moded (core_file name) files p read) stop h error })
+      (λ answer first stop h. absurd (ok_no_err (core_plan name p answer) stop (sym h)))
+
+  builds_final : Final (HasNoDerivation name files) (BuildsWhole name budget files)
+  builds_final =
+      then_final (HasNoDerivation name files) (Reads (core_file name) files) (BuildsGoal name (core_file name) budget) (reads_final (HasNoDerivation name files) (core_file name) files)
+      (λ p read. goal_final p read)
+
+-- ---- commands
+
+runs_final : (command : Meant) (files : Files) → Final (IsUntyped command files) (Runs command files)
+runs_final (builds true name tries nodes audits) files stop h error = builds_final name tries files stop h error
+runs_final (builds false name tries nodes audits) files stop h error = module_errors_are_final name tries files stop h error
+runs_final (compiles name tries nodes audits) files stop h error = absurd h
+runs_final (checks name tries) files stop h error = absurd h
+runs_final (verifies true name) files stop h error = verifies_final ⊥ name files stop h error
+runs_final (verifies false name) files stop h error = absurd h
+runs_final (samples number) files stop h error = absurd h
+
+pub type_errors_are_final : TypeErrorsAreFinal
+unfolding Outcome
+type_errors_are_final words files =
+    then_final ((command : Meant) × Spelled words command × IsUntyped command files) (Commands words) (λ command. Runs command files)
+    (λ stop h. other_stop ((command : Meant) × Spelled words command × IsUntyped command files) (bad_word h.0) stop (λ e. e) h.2)
+    (λ command spelled stop h error. (command, spelled, runs_final command files stop h error))
