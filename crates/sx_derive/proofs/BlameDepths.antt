@@ -1,7 +1,6 @@
 -- Depths of the terms that a stuck goal tells.
-use Rattle.std.proofs.Common.{◌≡◌, ℕ, zero, suc, ◌-◌, ◌≤◌, Bool, true, false, List, [], ◌∷◌, ◌++◌, ◌⊎◌, inl, inr, length, Option, Some, None, refl, sym, ap, ◌∙◌, subst, arith}
+use Rattle.std.proofs.Common.{◌≡◌, ℕ, zero, suc, ◌-◌, Bool, true, false, List, [], ◌∷◌, ◌++◌, inl, inr, length, Option, Some, None, refl, sym, ap, ◌∙◌, subst, arith}
 use Rattle.std.specs.Prelude.{nat_eq}
-use Rattle.sx_term.specs.Tree.{Tree}
 use Rattle.sx_rules.specs.Deep.{AreShallow}
 use Rattle.sx_rules.specs.Instances.{instance}
 use Rattle.sx_rules.specs.Rules.{Judgement, Premise, holds, apart, Rule, Hypotheses, judgement_instance}
@@ -14,7 +13,7 @@ use Rattle.sx_arena.proofs.Filled.{true-apart}
 use Rattle.sx_derive.specs.Walk.{Cause, Event, try, give, stop, then_each, when, when_matched, limit_passed, unless_passed, are_apart, put_first, after_kid, premise_events, first_values, conclude, after_match, rule_events, rules_events, given_events, goal_events, events}
 use Rattle.sx_derive.specs.Search.{EachGiven, HasStop}
 use Rattle.sx_derive.specs.Quiet.{count, IsQuiet, first_given}
-use Rattle.sx_derive.specs.Stuck.{mismatch, Blame, path_of, PremisesStuck, RulesStuck, GivensStuck, IsStuck}
+use Rattle.sx_derive.specs.Stuck.{Blame, path_of, PremisesStuck, RulesStuck, GivensStuck, IsStuck}
 use Rattle.sx_derive.specs.BlameTerms.{BlameIsShallow}
 use Rattle.sx_derive.specs.Laws.{StuckGoalIsShallow}
 use Rattle.sx_derive.proofs.Blamed.{none_reached, first_least, is_first}

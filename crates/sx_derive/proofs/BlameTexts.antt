@@ -1,18 +1,17 @@
 -- Core texts of the terms that a stuck goal tells.
-use Rattle.std.proofs.Common.{◌≡◌, ℕ, zero, suc, List, [], ◌∷◌, ◌⊎◌, inl, inr, map, Option, Some, None, refl, sym, ap, ◌∙◌, subst, arith}
+use Rattle.std.proofs.Common.{◌≡◌, ℕ, zero, suc, List, [], ◌∷◌, ◌⊎◌, inl, inr, Option, Some, None, refl, sym, ap, ◌∙◌, subst, arith}
 use Rattle.std.specs.Prelude.{nat_eq}
 use Rattle.sx_term.specs.Tree.{Tree}
 use Rattle.sx_term.specs.Core.{HasCore}
-use Rattle.sx_rules.specs.Instances.{instance, StandsAmong}
+use Rattle.sx_rules.specs.Instances.{StandsAmong}
 use Rattle.sx_rules.specs.Rules.{Judgement, Premise, holds, apart, Rule, Hypotheses, judgement_instance}
 use Rattle.sx_rules.specs.Modes.{Modes, inputs_of, outputs_of, Goal, goal_of, AllModed}
-use Rattle.sx_rules.specs.First.{Answer, IsFirst}
 use Rattle.sx_rules.specs.Writable.{HaveTexts, JudgementsHaveTexts, PremisesHaveTexts, RulesHaveTexts}
 use Rattle.sx_rules.proofs.Texts.{map_instance-texts, map_text-variables, inputs-texts, outputs-texts, outputs_have_texts}
 use Rattle.sx_arena.specs.Matching.{Assignment, unbound, match_all, value_or, filled, IsBound}
 use Rattle.sx_arena.proofs.Matchings.{MatchesAll, match_all-matches, when_true}
 use Rattle.sx_arena.proofs.Exact.{filled_agrees}
-use Rattle.sx_derive.specs.Stuck.{mismatch, Blame, path_of, PremisesStuck, RulesStuck, GivensStuck, IsStuck}
+use Rattle.sx_derive.specs.Stuck.{Blame, path_of, PremisesStuck, RulesStuck, GivensStuck, IsStuck}
 use Rattle.sx_derive.specs.BlameTerms.{BlameHasTexts}
 use Rattle.sx_derive.specs.Laws.{StuckGoalHasTexts}
 

@@ -2,6 +2,7 @@
 use Rattle.std.proofs.Common.{◌≡◌, ℕ, suc, ◌+◌, ◌≤◌, Bool, true, false, List, [], ◌∷◌, map, length, Some, None, Vec, refl, sym, ap, ◌∙◌, arith, subst}
 use Rattle.std.specs.declared.alloc.Global.{Global}
 use Rattle.sx_term.specs.Tree.{Tree}
+use Rattle.sx_rules.specs.Deep.{AreShallow}
 use Rattle.sx_rules.specs.Instances.{instance}
 use Rattle.sx_rules.specs.Rules.{Judgement, Premise, holds, apart, Rule, Hypotheses, judgement_instance}
 use Rattle.sx_rules.specs.Modes.{Modes, Goal, outputs_of, AllModed}
@@ -31,6 +32,7 @@ use Rattle.sx_derive.specs.declared.descent.Reason.TheVariants.{Equal, Mismatch}
 use Rattle.sx_derive.specs.declared.descent.Spot.{Spot}
 use Rattle.sx_derive.specs.declared.store.Store.{Store}
 use Rattle.sx_derive.proofs.Asked.{facts_unique}
+use Rattle.sx_derive.proofs.Bounded.{limit_shallow}
 use Rattle.sx_derive.proofs.Descending.{descend_apart, descend_unequal, descend_below, descend_mismatch, descend_more}
 use Rattle.sx_derive.proofs.Premised.{stays}
 use Rattle.sx_derive.proofs.Quiet.{quiet_apart, quiet_goal, quiet_rest}
@@ -149,6 +151,10 @@ module _ (modes subjects : Modes) (rules : List Rule) (hyps : Hypotheses) (moded
       asked_quiet : IsQuiet budget (goal_events modes rules hyps levels (asked_goal modes mid env j))
       asked_quiet = (quiet_goal modes hyps (goal_events modes rules hyps levels) budget j rest (env_at (store_envs mid) env) d.quiet).1
 
+      asked_shallow : AreShallow (asked_goal modes mid env j).terms
+      asked_shallow =
+          limit_shallow (asked_goal modes mid env j).terms (quiet_goal modes hyps (goal_events modes rules hyps levels) budget j rest (env_at (store_envs mid) env) d.quiet).0
+
       pub ask_facts : (js : List Judgement) × AreFacts modes (store_trees mid) js facts
       ask_facts = (hyps.judgements, (hyps_stay modes rules old mid facts pairs hyps d.grows d.are).facts_are)
 
@@ -172,6 +178,7 @@ module _ (modes subjects : Modes) (rules : List Rule) (hyps : Hypotheses) (moded
             let q = kid_goal kid terms.items p a.0 in
             let none_first = ap first_given (sym asked_same) ∙ a.1 in (
               q.0,
+              subst (λ (x : Goal). AreShallow x.terms) (sym q.1) asked_shallow,
               subst (λ (x : Goal). IsQuiet budget (goal_events modes rules hyps levels x)) (sym q.1) asked_quiet,
               λ blame h. d.leads blame (descend_below modes subjects rules hyps moded levels budget number rule (spot_goal old spot) spot.path.items k rest (env_at (store_envs mid) env) j asked_quiet none_first blame
                   (subst (λ (x : Goal). IsStuck modes subjects rules hyps levels x (path_of subjects spot.path.items rule j) blame) q.1 (subst (λ (way : List ℕ). IsStuck modes subjects rules hyps levels (spot_goal new kid) way blame) p.path_is h))),

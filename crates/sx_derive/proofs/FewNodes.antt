@@ -1,5 +1,5 @@
 -- Each node of what is given is one of the tries before it.
-use Rattle.std.proofs.Common.{◌≡◌, ℕ, zero, suc, ◌+◌, ◌≤◌, Bool, true, false, List, [], ◌∷◌, ◌++◌, length, Option, Some, None, refl, sym, ap, ◌∙◌, subst, arith}
+use Rattle.std.proofs.Common.{◌≡◌, ℕ, zero, suc, ◌+◌, ◌≤◌, Bool, true, false, List, [], ◌∷◌, ◌++◌, length, Option, Some, None, subst, arith}
 use Rattle.std.specs.Prelude.{nat_eq, ◌&&◌, ◌-◌}
 use Rattle.sx_term.specs.Tree.{Tree}
 use Rattle.sx_rules.specs.Instances.{instance}
@@ -8,7 +8,7 @@ use Rattle.sx_rules.specs.Rules.{Judgement, Premise, holds, apart, Rule, Hypothe
 use Rattle.sx_rules.specs.Modes.{Modes, inputs_of, outputs_of, Goal, goal_of}
 use Rattle.sx_rules.specs.Derivations.{Proofs, by, given, nodes_of, nodes_of_all}
 use Rattle.sx_derive.specs.Walk.{Cause, Event, try, give, stop, Answer, then_each, when, when_matched, limit_passed, unless_passed, are_apart, put_first, after_kid, premise_events, first_values, conclude, after_match, rule_events, rules_events, given_event, given_events, goal_events, events}
-use Rattle.sx_derive.specs.Search.{Ending, found, stopped, spent, exhausted, are_wanted, found_when, walk, tries_unless, tries_of}
+use Rattle.sx_derive.specs.Search.{Ending, found, are_wanted, found_when, walk, tries_unless, tries_of}
 use Rattle.sx_derive.specs.Laws.{FoundHasFewNodes}
 
 -- each thing given weighs no more than the tries before it, with so many made before the first event

@@ -224,7 +224,7 @@ module _ (modes subjects : Modes) (rules : List Rule) (hyps : Hypotheses) (s : S
 pub descent_weaker : (modes subjects : Modes) (rules : List Rule) (hyps : Hypotheses) (budget levels : ℕ) (s : Store) (P Q : Blame → Type 0) → ((blame : Blame) → P blame → Q blame) → (d : Descent) →
     IsDescent modes subjects rules hyps budget levels s P d → IsDescent modes subjects rules hyps budget levels s Q d
 descent_weaker modes subjects rules hyps budget levels s P Q w (Stuck spot reason) x = (x.0, x.1, w _ x.2)
-descent_weaker modes subjects rules hyps budget levels s P Q w (Below spot) x = (x.0, x.1, λ blame h. w blame (x.2 blame h))
+descent_weaker modes subjects rules hyps budget levels s P Q w (Below spot) x = (x.0, x.1, x.2, λ blame h. w blame (x.3 blame h))
 
 -- the events of the rules of a goal are quiet
 pub quiet_rules : (modes : Modes) (rules : List Rule) (hyps : Hypotheses) (budget levels : ℕ) (goal : Goal) → IsQuiet budget (goal_events modes rules hyps (suc levels) goal) → IsQuiet budget (rules_events modes hyps (goal_events modes rules hyps levels) 0 rules goal)

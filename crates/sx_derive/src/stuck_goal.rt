@@ -1,28 +1,28 @@
 //! The stuck goal of a goal without an answer.
 
-ghost use Rattle.std.specs.Prelude.{◌≡◌, ℕ, ◌^◌, ◌≤◌, ◌<◌, [], IfOk, length, None};
+ghost use Rattle.std.specs.Prelude.{◌≡◌, ℕ, suc, ◌^◌, ◌≤◌, ◌<◌, [], IfOk, length, None};
 ghost use Rattle.sx_rules.specs.Deep.{AreShallow};
 ghost use Rattle.sx_rules.specs.Derivations.{ShallowJudgements};
-ghost use Rattle.sx_rules.specs.Rules.{Hypotheses};
 ghost use Rattle.sx_rules.specs.Views.{goal as goal_of, hypotheses};
 ghost use Rattle.sx_arena.specs.Arena.{IsArena, AreBelow};
 ghost use Rattle.sx_arena.specs.Entered.{ArePairsShallow};
 ghost use Rattle.sx_arena.specs.Views.{rules_of, modes_of};
 ghost use Rattle.sx_derive.specs.Blames.{blame_of, cause_of};
-ghost use Rattle.sx_derive.specs.Descents.{AreHyps, spot_goal, reason_in, ReasonBelow, blame_in};
+ghost use Rattle.sx_derive.specs.Candidates.{goal_in};
+ghost use Rattle.sx_derive.specs.Descents.{reason_in, ReasonBelow, blame_in, IsLead};
 ghost use Rattle.sx_derive.specs.Quiet.{IsQuiet};
-ghost use Rattle.sx_derive.specs.Store.{IsStore, store_trees};
+ghost use Rattle.sx_derive.specs.Store.{store_trees};
 ghost use Rattle.sx_derive.specs.Stuck.{IsStuck};
 ghost use Rattle.sx_derive.specs.Walk.{goal_events, events};
 ghost use Rattle.sx_derive.specs.Ways.{subjects_of};
 
 use crate::blame::{Blame, Cause};
 use crate::candidate_descent::descend;
-use crate::descent::{Descent, Reason, Spot};
+use crate::descent::{Descent, Lead, Reason, Spot};
 use crate::problem::{Problem, enter_problem};
 use crate::store::Store;
 use std::alloc::Global;
-use sx_arena::{Fact, Pair, export_all};
+use sx_arena::export_all;
 use sx_rules::{Goal, Hyps, RuleSet};
 use sx_term::{NoMemory, Path};
 
@@ -42,6 +42,16 @@ fn export_cause(alloc: Global, store: &Store, reason: Reason) -> Result<Cause, N
     }
 }
 
+/// The goal with these numbers.
+fn export_goal(alloc: Global, store: &Store, form: u32, terms: &[usize]) -> Result<Goal, NoMemory>
+    requires arena { IsArena store.now.arena }
+    requires terms { AreBelow (length (store_trees store.now)) terms.now }
+    ensures { IfOk result (λ g. goal_of g ≡ goal_in store.now form terms.now) }
+{
+    let inputs = export_all(alloc, &store.arena, terms)?;
+    Ok(Goal { form, inputs })
+}
+
 /// The stuck goal with these numbers.
 fn export_blame(alloc: Global, store: &Store, spot: Spot, reason: Reason) -> Result<Blame, NoMemory>
     requires arena { IsArena store.now.arena }
@@ -49,44 +59,89 @@ fn export_blame(alloc: Global, store: &Store, spot: Spot, reason: Reason) -> Res
     requires reason { ReasonBelow (length (store_trees store.now)) reason }
     ensures { IfOk result (λ b. blame_of b ≡ blame_in store.now spot reason) }
 {
-    let inputs = export_all(alloc, &store.arena, &spot.terms)?;
+    let goal = export_goal(alloc, store, spot.form, &spot.terms)?;
     let cause = export_cause(alloc, store, reason)?;
     Ok(Blame {
-        goal: Goal {
-            form: spot.form,
-            inputs,
-        },
+        goal,
         path: Path { steps: spot.path },
         cause,
     })
 }
 
-/// The stuck goal that a goal by its numbers leads to.
-fn stuck_from(
+/// Where the goal leads. What is made on the way there is dropped.
+fn lead(
     alloc: Global,
     rules: &RuleSet,
-    facts: &[Fact],
-    pairs: &[Pair],
-    store: &mut Store,
-    spot: Spot,
+    given: &Hyps,
+    goal: &Goal,
+    path: Vec<usize>,
+    levels: usize,
+    budget: u64,
+) -> Result<Lead, NoMemory>
+    requires few { length given.now.holds.items < 2 ^ 32 }
+    requires holds { ShallowJudgements (hypotheses given.now).judgements }
+    requires apart { ArePairsShallow (hypotheses given.now).pairs }
+    requires goal { AreShallow (goal_of goal.now).terms }
+    requires quiet { IsQuiet budget (goal_events (modes_of rules.now) (rules_of rules.now) (hypotheses given.now) (suc levels) (goal_of goal.now)) }
+    ensures { IfOk result (λ l. IsLead (modes_of rules.now) (subjects_of rules.now) (rules_of rules.now) (hypotheses given.now) budget levels (goal_of goal.now) path.items l) }
+{
+    let problem = enter_problem(alloc, rules, given, goal, None)?;
+    let Problem {
+        store,
+        facts,
+        pairs,
+        terms,
+        wanted: _,
+    } = problem;
+    let mut store = store;
+    let spot = Spot {
+        form: goal.form,
+        terms,
+        path,
+    };
+    match descend(alloc, rules, &facts, &pairs, &mut store, spot, levels, budget)? {
+        Descent::Stuck { spot, reason } => {
+            let blame = export_blame(alloc, &store, spot, reason)?;
+            Ok(Lead::Ends(blame))
+        }
+        Descent::Below(next) => {
+            let below = export_goal(alloc, &store, next.form, &next.terms)?;
+            Ok(Lead::Goes {
+                goal: below,
+                path: next.path,
+            })
+        }
+    }
+}
+
+/// The stuck goal that a goal at the path leads to.
+fn stuck_below(
+    alloc: Global,
+    rules: &RuleSet,
+    given: &Hyps,
+    first: Goal,
+    start: Vec<usize>,
     levels: usize,
     budget: u64,
 ) -> Result<Blame, NoMemory>
-    requires few { length facts.now < 2 ^ 32 }
-    requires store { IsStore (modes_of rules.now) (rules_of rules.now) store.old }
-    requires terms { AreBelow (length (store_trees store.old)) spot.terms.items }
-    requires quiet { (hyps : Hypotheses) × AreHyps (modes_of rules.now) store.old facts.now pairs.now hyps
-        × IsQuiet budget (goal_events (modes_of rules.now) (rules_of rules.now) hyps levels (spot_goal store.old spot)) }
-    ensures { IfOk result (λ b. (hyps : Hypotheses) → AreHyps (modes_of rules.now) store.old facts.now pairs.now hyps →
-        IsStuck (modes_of rules.now) (subjects_of rules.now) (rules_of rules.now) hyps levels (spot_goal store.old spot) spot.path.items (blame_of b)) }
+    requires few { length given.now.holds.items < 2 ^ 32 }
+    requires holds { ShallowJudgements (hypotheses given.now).judgements }
+    requires apart { ArePairsShallow (hypotheses given.now).pairs }
+    requires goal { AreShallow (goal_of first).terms }
+    requires quiet { IsQuiet budget (goal_events (modes_of rules.now) (rules_of rules.now) (hypotheses given.now) levels (goal_of first)) }
+    ensures { IfOk result (λ b. IsStuck (modes_of rules.now) (subjects_of rules.now) (rules_of rules.now) (hypotheses given.now) levels (goal_of first) start.items (blame_of b)) }
 {
-    let mut here = spot;
+    let mut here = first;
+    let mut way = start;
     let mut left = levels;
     while left > 0 {
         left -= 1;
-        match descend(alloc, rules, facts, pairs, store, here, left, budget)? {
-            Descent::Stuck { spot, reason } => return export_blame(alloc, store, spot, reason),
-            Descent::Below(next) => here = next,
+        match lead(alloc, rules, given, &here, way, left, budget)? {
+            Lead::Ends(blame) => return Ok(blame),
+            Lead::Goes { goal, path } => {
+                here = goal;
+                way = path;
+            }
         }
     }
     unreachable!()
@@ -107,19 +162,10 @@ pub(crate) fn stuck_goal(
     requires quiet { IsQuiet budget (events (modes_of rules.now) (rules_of rules.now) (hypotheses given.now) (goal_of goal.now) 1) }
     ensures { IfOk result (λ b. IsStuck (modes_of rules.now) (subjects_of rules.now) (rules_of rules.now) (hypotheses given.now) 3000 (goal_of goal.now) [] (blame_of b)) }
 {
-    let problem = enter_problem(alloc, rules, given, goal, None)?;
-    let Problem {
-        store,
-        facts,
-        pairs,
-        terms,
-        wanted: _,
-    } = problem;
-    let mut store = store;
-    let spot = Spot {
-        form: goal.form,
-        terms,
-        path: Vec::new(alloc),
-    };
-    stuck_from(alloc, rules, &facts, &pairs, &mut store, spot, 3000, budget)
+    match lead(alloc, rules, given, goal, Vec::new(alloc), 2999, budget)? {
+        Lead::Ends(blame) => Ok(blame),
+        Lead::Goes { goal: next, path } => {
+            stuck_below(alloc, rules, given, next, path, 2999, budget)
+        }
+    }
 }

@@ -1,4 +1,4 @@
-use Rattle.std.proofs.Common.{◌≡◌, ◌<◌, ◌≤◌, length, arith}
+use Rattle.std.proofs.Common.{◌≡◌, ◌≤◌, length, arith}
 use Rattle.sx_derive.specs.Chains.{kid_step}
 use Rattle.sx_derive.specs.Store.{store_envs, store_kids}
 use Rattle.sx_arena.proofs.Growing.{grown-length}
