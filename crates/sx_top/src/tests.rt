@@ -213,12 +213,12 @@ fn tries_that_are_spent(rt: HostRuntime) -> Result<(), Fail> {
     assert!(rt;
         is_bounded(
             alloc,
-            "build --core --tries=2 C",
+            "build --core --tries=4 C",
             6,
-            b"soundx: C.core: more than 2 tries\n"
+            b"soundx: C.core: more than 4 tries\n"
         )?
     );
-    assert!(rt; is_bounded(alloc, "build --core --tries=99 C", 0, b"built C: 3 nodes\n")?);
+    assert!(rt; is_bounded(alloc, "build --core --tries=5 C", 0, b"built C: 3 nodes\n")?);
     Ok(())
 }
 
@@ -332,5 +332,88 @@ fn faults(rt: HostRuntime) -> Result<(), Fail> {
     );
     assert!(rt; lacks(alloc, &shelf, "One.base")?);
     assert_eq!(rt; out.written(), b"soundx: One.core: read fault\n".as_slice());
+    Ok(())
+}
+
+/// A list of texts or of numbers: `null` is either, and an empty list says of which it is.
+const LISTS: &str =
+    "sxcore 1\nsort Exp typed\nsort Ty plain\ncon null Exp\ncon nil Exp Ty\ncon cons Exp Exp Exp\ncon int Ty\ncon str Ty\ncon list Ty Ty\nform f sub:Exp out:Ty\nrule NullI\nthen f (0) (3)\nend\nrule NullS\nthen f (0) (4)\nend\nrule Nil Ty\nthen f (1 ?0) (5 ?0)\nend\nrule Cons Exp Exp Ty\nif f ?0 ?2\nif f ?1 (5 ?2)\nthen f (2 ?0 ?1) (5 ?2)\nend\ngoal f (2 (0) (1 (4)))\n";
+
+/// Whether building the lists with this option ends with this status and this line.
+fn lists_end(alloc: Global, line: &str, code: u8, told: &[u8]) -> Result<bool, Fail> {
+    let mut shelf = shelf_with(alloc, "C.core", LISTS.as_bytes(), &[])?;
+    let mut out = MemSink::new(alloc);
+    let status = run_words(alloc, line, &mut shelf, &mut out)?;
+    Ok(status == code && out.written() == told)
+}
+
+#[test]
+fn another_answer_of_a_premise(rt: HostRuntime) -> Result<(), Fail> {
+    let alloc = rt.alloc();
+    let mut shelf = shelf_with(alloc, "C.core", LISTS.as_bytes(), &[])?;
+    let mut out = MemSink::new(alloc);
+    assert_eq!(rt;
+        run_words(alloc, "build --core C", &mut shelf, &mut out)?,
+        0
+    );
+    assert!(rt; has(alloc, &shelf, "C.der", "sxder 1\nCons\nNullS\nNil\n")?);
+    assert!(rt; has(alloc, &shelf, "C.int", "(5 (4))\n")?);
+    Ok(())
+}
+
+#[test]
+fn tries_of_another_answer(rt: HostRuntime) -> Result<(), Fail> {
+    let alloc = rt.alloc();
+    assert!(rt;
+        lists_end(
+            alloc,
+            "build --core --tries=12 C",
+            6,
+            b"soundx: C.core: more than 12 tries\n"
+        )?
+    );
+    assert!(rt; lists_end(alloc, "build --core --tries=13 C", 0, b"built C: 3 nodes\n")?);
+    Ok(())
+}
+
+/// A goal whose rule comes back to it, after its leaf or before it.
+const LOOP: &str = "rule L Exp Ty\nif f ?0 ?1\nthen f ?0 ?1\nend\n";
+
+/// Whether building the core file of these parts with this option ends with this status and this line.
+fn parts_end(
+    alloc: Global,
+    parts: &[&str],
+    line: &str,
+    code: u8,
+    told: &[u8],
+) -> Result<bool, Fail> {
+    let core = join(alloc, parts)?;
+    let mut shelf = shelf_with(alloc, "C.core", &core, &[])?;
+    let mut out = MemSink::new(alloc);
+    let status = run_words(alloc, line, &mut shelf, &mut out)?;
+    Ok(status == code && out.written() == told)
+}
+
+#[test]
+fn an_endless_rule_before_and_after_a_leaf(rt: HostRuntime) -> Result<(), Fail> {
+    let alloc = rt.alloc();
+    assert!(rt;
+        parts_end(
+            alloc,
+            &[SIGNATURE, LEAVES, LOOP, "goal f (0)\n"],
+            "build --core C",
+            0,
+            b"built C: 1 nodes\n"
+        )?
+    );
+    assert!(rt;
+        parts_end(
+            alloc,
+            &[SIGNATURE, LOOP, LEAVES, "goal f (0)\n"],
+            "build --core --tries=100 C",
+            6,
+            b"soundx: C.core: more than 100 tries\n"
+        )?
+    );
     Ok(())
 }
