@@ -26,6 +26,8 @@ mod reach;
 mod search;
 mod search_error;
 mod search_laws;
+#[cfg(test)]
+mod search_tests;
 mod state;
 mod step;
 mod store;

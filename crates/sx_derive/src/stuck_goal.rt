@@ -99,7 +99,9 @@ fn lead(
         terms,
         path,
     };
-    match descend(alloc, rules, &facts, &pairs, &mut store, spot, levels, budget)? {
+    match descend(
+        alloc, rules, &facts, &pairs, &mut store, spot, levels, budget,
+    )? {
         Descent::Stuck { spot, reason } => {
             let blame = export_blame(alloc, &store, spot, reason)?;
             Ok(Lead::Ends(blame))

@@ -16,9 +16,9 @@ use std::test::Fail;
 use sx_rules::{Form, Goal, Hyps, Judgement, Place, Premise, Proof, Role, Rule, RuleSet};
 use sx_term::{Con, Shapes, Sort, Steps, Term, Text, read_core};
 
-const T: Sort = Sort::Typed(0);
+pub(super) const T: Sort = Sort::Typed(0);
 
-const P: Sort = Sort::Plain(0);
+pub(super) const P: Sort = Sort::Plain(0);
 
 fn read(alloc: Global, core: &str) -> Result<Term, Fail>
     ensures { IfOk result (λ t. depth_of (tree t) ≤ 1000) }
@@ -28,7 +28,7 @@ fn read(alloc: Global, core: &str) -> Result<Term, Fail>
 }
 
 /// The terms z, w and y, the pair of two terms, and the types a and b.
-fn shapes(alloc: Global) -> Result<Shapes, Fail> {
+pub(super) fn shapes(alloc: Global) -> Result<Shapes, Fail> {
     let mut cons = Vec::new(alloc);
     for (sort, kids) in [
         (T, &[][..]),
@@ -45,7 +45,7 @@ fn shapes(alloc: Global) -> Result<Shapes, Fail> {
 }
 
 /// The form of a typed subject and a plain output.
-fn forms(alloc: Global) -> Result<Vec<Form>, Fail> {
+pub(super) fn forms(alloc: Global) -> Result<Vec<Form>, Fail> {
     let subject = Place {
         role: Role::Sub,
         sort: T,
@@ -62,7 +62,7 @@ fn forms(alloc: Global) -> Result<Vec<Form>, Fail> {
     Ok(forms)
 }
 
-fn judgement(alloc: Global, subject: &str, output: &str) -> Result<Judgement, Fail>
+pub(super) fn judgement(alloc: Global, subject: &str, output: &str) -> Result<Judgement, Fail>
     ensures { IfOk result (λ j. AreShallow (map tree j.places.items)) }
 {
     let mut places = Vec::new(alloc);
@@ -71,7 +71,7 @@ fn judgement(alloc: Global, subject: &str, output: &str) -> Result<Judgement, Fa
     Ok(Judgement { form: 0, places })
 }
 
-fn axiom(alloc: Global, name: &str, subject: &str, output: &str) -> Result<Rule, Fail>
+pub(super) fn axiom(alloc: Global, name: &str, subject: &str, output: &str) -> Result<Rule, Fail>
     ensures { IfOk result (λ r. RuleIsShallow (rule r)) }
 {
     Ok(Rule {
@@ -97,7 +97,12 @@ fn pair_rule(alloc: Global) -> Result<Rule, Fail>
     })
 }
 
-fn three(alloc: Global, first: Rule, second: Rule, third: Rule) -> Result<Vec<Rule>, Fail>
+pub(super) fn three(
+    alloc: Global,
+    first: Rule,
+    second: Rule,
+    third: Rule,
+) -> Result<Vec<Rule>, Fail>
     requires first { RuleIsShallow (rule first) }
     requires second { RuleIsShallow (rule second) }
     requires third { RuleIsShallow (rule third) }
@@ -234,7 +239,7 @@ fn stuck(blame: &Blame) -> (u32, usize, usize, u64) {
 }
 
 /// No hypotheses.
-fn no_hypotheses(alloc: Global) -> Hyps
+pub(super) fn no_hypotheses(alloc: Global) -> Hyps
     ensures holds { result.holds.items ≡ [] }
     ensures apart { result.apart.items ≡ [] }
 {
@@ -245,7 +250,7 @@ fn no_hypotheses(alloc: Global) -> Hyps
 }
 
 /// The goal of the subject's type.
-fn goal(alloc: Global, subject: &str) -> Result<Goal, Fail>
+pub(super) fn goal(alloc: Global, subject: &str) -> Result<Goal, Fail>
     ensures { IfOk result (λ g. AreShallow (goal_of g).terms) }
 {
     let mut inputs = Vec::new(alloc);
