@@ -1,5 +1,5 @@
 -- What the term of a reading of cut tokens has: tokens of their kinds as lexemes, and no more depth than the reading.
-use Rattle.std.proofs.Common.{◌≡◌, ℕ, zero, suc, ◌+◌, ◌<◌, ◌≤◌, max, Bool, false, List, [], ◌∷◌, ◌++◌, Option, Some, None, slice_get, Contains, refl, ap, ◌∙◌, sym, subst, arith}
+use Rattle.std.proofs.Common.{◌≡◌, ℕ, zero, suc, ◌≤◌, max, Bool, false, List, [], ◌∷◌, ◌++◌, Option, Some, None, slice_get, refl, ap, ◌∙◌, sym, subst, arith}
 use Rattle.std.specs.List.{AllByRecursion}
 use Rattle.std.proofs.Math.Nat.{le-max_left, le-max_right, max-le}
 use Rattle.std.proofs.lemmas.List.{append_assoc}
@@ -7,21 +7,18 @@ use Rattle.sx_term.specs.declared.lex_kind.LexKind.{LexKind}
 use Rattle.sx_term.specs.declared.lex_kind.LexKind.TheVariants.{Id, Num, Str}
 use Rattle.sx_term.specs.declared.mark.Mark.{Mark}
 use Rattle.sx_term.specs.declared.mark.Mark.TheVariants.{Lit, Lex, Meta}
-use Rattle.sx_term.specs.declared.sort.Sort.{Sort}
-use Rattle.sx_term.specs.Tree.{Tree, Trees, depth_of, greatest_depth}
+use Rattle.sx_term.specs.Tree.{depth_of, greatest_depth}
 use Rattle.sx_term.specs.Cutting.{is_in_string, IsMaximalRun, Piece, Stands, Cuts, done, skip, piece}
 use Rattle.sx_term.specs.Spaced.{IsTokenText}
 use Rattle.sx_token.specs.declared.token.Token.{Token}
 use Rattle.sx_token.specs.Tokens.{pieces}
 use Rattle.sx_grammar.specs.Grammar as plain
 use Rattle.sx_grammar.specs.Grammar.{Text}
-use Rattle.sx_grammar.specs.Parts.{Parts}
 use Rattle.sx_grammar.specs.Tables.{literals_of}
 use Rattle.sx_grammar.specs.Reading.{Reading, Readings, reading_depth, readings_depth, branch, bracket, leaf, variable, done as no_readings, ◌▸◌}
 use Rattle.sx_grammar.specs.Print.{leaf_term, mark_term, variable_term, term_of, terms_of}
 use Rattle.sx_earley.specs.Tokens.{Stems, shown, plain_tokens}
 use Rattle.sx_print.specs.Cut.{HasLexemes, HaveLexemes}
-use Rattle.sx_notation.specs.ReadText.{IsRead}
 use Rattle.sx_notation.specs.ReadLaws.{ReadsHaveLexemes, ReadsAreShallow}
 
 -- a run that is maximal before a text is maximal before a front of it

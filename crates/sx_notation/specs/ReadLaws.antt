@@ -1,5 +1,5 @@
 -- What holds of each term that `read_text` reads.
-use Rattle.std.specs.Prelude.{ℕ, ◌≤◌, List}
+use Rattle.std.specs.Prelude.{◌≤◌, List}
 use Rattle.sx_term.specs.declared.sort.Sort.{Sort}
 use Rattle.sx_term.specs.Tree.{Tree, depth_of}
 use Rattle.sx_grammar.specs.Grammar.{Text}
