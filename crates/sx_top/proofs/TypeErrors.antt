@@ -1,6 +1,6 @@
 -- A run stops with a type error only where the command's goal has no derivation.
 use Rattle.std.proofs.Common.{◌≡◌, ℕ, true, false, List, length, refl, sym, subst}
-use Rattle.std.specs.Prelude.{Result, Ok, Err, Option, Some, None}
+use Rattle.std.specs.Prelude.{Ok, Err, Option, Some, None}
 use Rattle.sx_outside.specs.Files.{Files}
 use Rattle.sx_term.specs.Tree.{Tree}
 use Rattle.sx_rules.specs.declared.entry.Entry.{Entry as EntryOf}

@@ -76,6 +76,18 @@ fn is_refused(alloc: Global, body: &str, told: &[u8]) -> Result<bool, Fail> {
     is_stopped(alloc, "build Main", &module, 1, told)
 }
 
+/// A shelf with the language of this name in its file, and a module of it with this body in `Main.mod`.
+fn shelf_over(alloc: Global, name: &str, language: &str, body: &str) -> Result<MemShelf, Fail> {
+    let mut file = Vec::from_slice(alloc, name.as_bytes())?;
+    file.extend_from_slice(b".lang")?;
+    let module = module_of(alloc, name, body)?;
+    let mut shelf = MemShelf::new(alloc);
+    let language = Vec::from_slice(alloc, language.as_bytes())?;
+    shelf.put(sx_term::Text::make(alloc, &file)?, language)?;
+    shelf.put(text(alloc, "Main.mod")?, module)?;
+    Ok(shelf)
+}
+
 /// Whether a module of another language with this body ends with this status and this line.
 fn is_told(
     alloc: Global,
@@ -86,13 +98,7 @@ fn is_told(
     code: u8,
     told: &[u8],
 ) -> Result<bool, Fail> {
-    let mut file = Vec::from_slice(alloc, name.as_bytes())?;
-    file.extend_from_slice(b".lang")?;
-    let module = module_of(alloc, name, body)?;
-    let mut shelf = MemShelf::new(alloc);
-    let language = Vec::from_slice(alloc, language.as_bytes())?;
-    shelf.put(sx_term::Text::make(alloc, &file)?, language)?;
-    shelf.put(text(alloc, "Main.mod")?, module)?;
+    let mut shelf = shelf_over(alloc, name, language, body)?;
     let mut out = MemSink::new(alloc);
     let status = run_words(alloc, line, &mut shelf, &mut out)?;
     Ok(status == code && out.written() == told)
@@ -403,14 +409,8 @@ fn is_built_by(
     list: &str,
     base: &str,
 ) -> Result<bool, Fail> {
-    let mut file = Vec::from_slice(alloc, name.as_bytes())?;
-    file.extend_from_slice(b".lang")?;
-    let module = module_of(alloc, name, body)?;
     let printed = module_of(alloc, name, base)?;
-    let mut shelf = MemShelf::new(alloc);
-    let language = Vec::from_slice(alloc, language.as_bytes())?;
-    shelf.put(sx_term::Text::make(alloc, &file)?, language)?;
-    shelf.put(text(alloc, "Main.mod")?, module)?;
+    let mut shelf = shelf_over(alloc, name, language, body)?;
     let mut out = MemSink::new(alloc);
     let status = run_words(alloc, "build Main", &mut shelf, &mut out)?;
     Ok(
