@@ -7,7 +7,7 @@ use Rattle.sx_rules.specs.Modes.{Modes, inputs_of, outputs_of, Goal, goal_of}
 use Rattle.sx_arena.specs.Matching.{match_all, filled}
 use Rattle.sx_derive.specs.Walk.{goal_events}
 use Rattle.sx_derive.specs.declared.ask.Asked.TheVariants.{Unanswered, Differs, Matched}
-use Rattle.sx_derive.specs.declared.first.Found.{Found}
+use Rattle.sx_derive.specs.declared.first.FirstAnswer.{FirstAnswer}
 use Rattle.sx_arena.specs.declared.fact.Fact.{Fact}
 use Rattle.sx_arena.specs.declared.pairs.Pair.{Pair}
 use Rattle.sx_derive.specs.declared.store.Store.{Store}
@@ -56,7 +56,7 @@ module _ (modes : Modes) (rules : List Rule) (pairs : List Pair) (s t : Store) (
     pub ask_none : IsFirstFound modes rules t u (events_in modes rules pairs js t (levels - 1) j.form terms) None → IsAnswered modes s u env j (first_given (asked_events modes rules pairs js s env levels j)) (Unanswered kept)
     ask_none (g, e) = (terms_in u g, ap first_given (sym (made_events js l)) ∙ e)
 
-    module _ (found : Found) (r : IsFirstFound modes rules t u (events_in modes rules pairs js t (levels - 1) j.form terms) (Some found)) (v : Store) (g : BindsGrow (trees u.arena) u.binds v.binds)
+    module _ (found : FirstAnswer) (r : IsFirstFound modes rules t u (events_in modes rules pairs js t (levels - 1) j.form terms) (Some found)) (v : Store) (g : BindsGrow (trees u.arena) u.binds v.binds)
         (va : v.arena ≡ u.arena) (vk : v.kids.items ≡ u.kids.items) (vf : v.frames.items ≡ u.frames.items) where
       uv : Grows modes rules u v
       uv = grows_binds modes rules u v r.0.store g va vk vf

@@ -15,14 +15,13 @@ use Rattle.sx_derive.specs.Chains.{HeadFits, head_proof, kids_at}
 use Rattle.sx_derive.specs.Deriving.{IsToldBy}
 use Rattle.sx_derive.specs.Handing.{answer_in}
 use Rattle.sx_derive.specs.Search.{Ending, found, walk}
-use Rattle.sx_derive.specs.Store.{store_trees, store_envs, store_kids}
+use Rattle.sx_derive.specs.Store.{IsStore, store_trees, store_envs, store_kids}
 use Rattle.sx_derive.specs.Walk.{events}
 use Rattle.sx_derive.specs.declared.chains.Head.{Head}
 use Rattle.sx_derive.specs.declared.chains.Head.TheVariants.{Given, By}
 use Rattle.sx_derive.specs.declared.derive_error.DeriveError.{DeriveError}
-use Rattle.sx_derive.specs.declared.first.Found.{Found}
 use Rattle.sx_derive.specs.declared.listed.Listed.{Listed}
-use Rattle.sx_derive.specs.declared.store.Store.{Store}
+use Rattle.sx_derive.specs.declared.outcome.StoredAnswer.{StoredAnswer}
 
 -- the entries of the derivation in preorder, and its outputs
 pub record Lists (l : Listed) (a : Answer) : Type 0 where
@@ -44,10 +43,11 @@ pub record ListsFirst (modes : Modes) (rules : List Rule) (hyps : Hypotheses) (g
   pub lists : Lists l answer
   pub first : IsFirst modes rules hyps goal wanted answer
 
--- the walk found the answer with these numbers
-abbrev pub SaysFound : Store → Found → Ending → Type 0
-SaysFound s f ending =
-    HeadFits (length (store_envs s)) (length (store_kids s)) f.head × AreBelow (length (store_trees s)) f.outputs.items × (ending ≡ found (answer_in s f.head f.outputs.items))
+-- the walk found the answer with these numbers in the store
+abbrev pub SaysFound : Modes → List Rule → StoredAnswer → Ending → Type 0
+SaysFound modes rules f ending =
+    IsStore modes rules f.store × HeadFits (length (store_envs f.store)) (length (store_kids f.store)) f.head × AreBelow (length (store_trees f.store)) f.outputs.items
+    × (ending ≡ found (answer_in f.store f.head f.outputs.items))
 
 -- the chain of the kids of a proof
 abbrev pub head_kids : Head → ℕ

@@ -4,7 +4,7 @@ use Rattle.sx_rules.specs.Rules.{Rule}
 use Rattle.sx_rules.specs.Modes.{Modes}
 use Rattle.sx_derive.specs.Walk.{Event, try, give, stop, Answer}
 use Rattle.sx_derive.specs.Search.{HasStop}
-use Rattle.sx_derive.specs.declared.first.Found.{Found}
+use Rattle.sx_derive.specs.declared.first.FirstAnswer.{FirstAnswer}
 use Rattle.sx_derive.specs.declared.store.Store.{Store}
 use Rattle.sx_arena.specs.Arena.{AreBelow}
 use Rattle.sx_derive.specs.Chains.{HeadFits}
@@ -31,11 +31,11 @@ first_given (stop c ∷ es) = None
 first_given (give a ∷ es) = Some a
 
 -- the answer by its numbers is the one that is given first, where one is given
-abbrev pub IsGivenFirst : Store → Option Answer → Option Found → Type 0
+abbrev pub IsGivenFirst : Store → Option Answer → Option FirstAnswer → Type 0
 IsGivenFirst s first None = first ≡ None
 IsGivenFirst s first (Some f) =
     HeadFits (length (store_envs s)) (length (store_kids s)) f.head × AreBelow (length (store_trees s)) f.outputs.items × (first ≡ Some (answer_in s f.head f.outputs.items))
 
 -- the store goes on, and has what is given first
-abbrev pub IsFirstFound : Modes → List Rule → Store → Store → List (Event Answer) → Option Found → Type 0
+abbrev pub IsFirstFound : Modes → List Rule → Store → Store → List (Event Answer) → Option FirstAnswer → Type 0
 IsFirstFound modes rules old new es found = Grows modes rules old new × IsGivenFirst new (first_given es) found

@@ -1,3 +1,4 @@
+-- The first example: rules, hypotheses and goals that are worked out by hand.
 use Rattle.std.specs.Prelude.{◌≡◌, true, false, List, [], ◌∷◌, Some, None}
 use Rattle.sx_term.specs.declared.lex_kind.LexKind.TheVariants.{Id}
 use Rattle.sx_term.specs.Tree.{Tree, node, lexeme, hole, none, ◌▹◌}

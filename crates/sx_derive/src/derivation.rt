@@ -44,9 +44,13 @@ fn answer(
     ensures { (wanted : Option (List Tree)) → IsEnding searched.store searched.ending (walk wanted budget (events (modes_of rules.now) (rules_of rules.now) (hypotheses given.now) (goal_of goal.now) 1)) →
         IsDerived (modes_of rules.now) (subjects_of rules.now) (rules_of rules.now) (hypotheses given.now) (goal_of goal.now) wanted budget result }
 {
-    let Searched { store, ending } = searched;
-    match outcome(alloc, rules, given, goal, budget, ending) {
-        Ok(found) => Ok(export_answer(alloc, &store, found.head, &found.outputs)?),
+    match outcome(alloc, rules, given, goal, budget, searched) {
+        Ok(found) => Ok(export_answer(
+            alloc,
+            &found.store,
+            found.head,
+            &found.outputs,
+        )?),
         Err(e) => Err(e),
     }
 }

@@ -19,9 +19,9 @@ use sx_arena::{Fact, Pair};
 use sx_rules::RuleSet;
 use sx_term::NoMemory;
 
-/// An answer by its numbers.
+/// The first answer of a goal, by its numbers.
 #[derive(Drop)]
-pub struct Found {
+pub struct FirstAnswer {
     pub(crate) head: Head,
     pub(crate) outputs: Vec<usize>,
 }
@@ -37,7 +37,7 @@ pub(crate) fn first_answer(
     terms: Vec<usize>,
     levels: usize,
     budget: u64,
-) -> Result<Option<Found>, NoMemory>
+) -> Result<Option<FirstAnswer>, NoMemory>
     requires few { length facts.now < 2 ^ 32 }
     requires facts { (js : List Judgement) × AreFacts (modes_of rules.now) (store_trees store.old) js facts.now }
     requires store { IsStore (modes_of rules.now) (rules_of rules.now) store.old }
@@ -52,7 +52,7 @@ pub(crate) fn first_answer(
     let tasks = first_task(alloc, form, terms, levels)?;
     let wanted: Option<Vec<usize>> = None;
     match walk_uncounted(alloc, rules, facts, pairs, store, &wanted, tasks, budget)? {
-        Ending::Found { head, outputs } => Ok(Some(Found { head, outputs })),
+        Ending::Found { head, outputs } => Ok(Some(FirstAnswer { head, outputs })),
         Ending::Exhausted => Ok(None),
         Ending::Passed(_) => unreachable!(),
         Ending::DepthSpent => unreachable!(),

@@ -10,43 +10,60 @@ ghost use Rattle.sx_arena.specs.Views.{rules_of, modes_of};
 ghost use Rattle.sx_derive.specs.Deriving.{IsToldBy};
 ghost use Rattle.sx_derive.specs.Listing.{SaysFound};
 ghost use Rattle.sx_derive.specs.Search.{walk};
+ghost use Rattle.sx_derive.specs.Store.{IsStore};
 ghost use Rattle.sx_derive.specs.Tasks.{IsEnding};
 ghost use Rattle.sx_derive.specs.Walk.{events};
 ghost use Rattle.sx_derive.specs.Ways.{subjects_of};
-ghost use Rattle.sx_derive.specs.declared.store.Store.{Store as StoreOf};
 
+use crate::chains::Head;
 use crate::derive_error::DeriveError;
-use crate::first::Found;
+use crate::problem::Searched;
+use crate::store::Store;
 use crate::stuck_goal::stuck_goal;
 use crate::tasks::Ending;
 use std::alloc::Global;
 use sx_arena::Limit;
 use sx_rules::{Goal, Hyps, RuleSet};
 
-/// What is found where a search has ended so, or why nothing is.
+/// What was found, by its numbers in the store.
+#[derive(Drop)]
+pub struct StoredAnswer {
+    pub(crate) store: Store,
+    pub(crate) head: Head,
+    pub(crate) outputs: Vec<usize>,
+}
+
+/// What a search has found, or why it has found nothing. The store is dropped before the stuck goal is sought.
 pub(crate) fn outcome(
     alloc: Global,
     rules: &RuleSet,
     given: &Hyps,
     goal: &Goal,
     budget: u64,
-    ending: Ending,
-) -> Result<Found, DeriveError>
+    searched: Searched,
+) -> Result<StoredAnswer, DeriveError>
     requires few { length given.now.holds.items < 2 ^ 32 }
     requires holds { ShallowJudgements (hypotheses given.now).judgements }
     requires apart { ArePairsShallow (hypotheses given.now).pairs }
     requires goal { AreShallow (goal_of goal.now).terms }
-    requires ending { (store : StoreOf) × (wanted : Option (List Tree)) × IsEnding store ending (walk wanted budget (events (modes_of rules.now) (rules_of rules.now) (hypotheses given.now) (goal_of goal.now) 1)) }
-    ensures { (store : StoreOf) (wanted : Option (List Tree)) → IsEnding store ending (walk wanted budget (events (modes_of rules.now) (rules_of rules.now) (hypotheses given.now) (goal_of goal.now) 1)) →
-        IsToldBy (SaysFound store) (modes_of rules.now) (subjects_of rules.now) (rules_of rules.now) (hypotheses given.now) (goal_of goal.now) budget (walk wanted budget (events (modes_of rules.now) (rules_of rules.now) (hypotheses given.now) (goal_of goal.now) 1)) result }
+    requires store { IsStore (modes_of rules.now) (rules_of rules.now) searched.store }
+    requires ending { (wanted : Option (List Tree)) × IsEnding searched.store searched.ending (walk wanted budget (events (modes_of rules.now) (rules_of rules.now) (hypotheses given.now) (goal_of goal.now) 1)) }
+    ensures { (wanted : Option (List Tree)) → IsEnding searched.store searched.ending (walk wanted budget (events (modes_of rules.now) (rules_of rules.now) (hypotheses given.now) (goal_of goal.now) 1)) →
+        IsToldBy (SaysFound (modes_of rules.now) (rules_of rules.now)) (modes_of rules.now) (subjects_of rules.now) (rules_of rules.now) (hypotheses given.now) (goal_of goal.now) budget (walk wanted budget (events (modes_of rules.now) (rules_of rules.now) (hypotheses given.now) (goal_of goal.now) 1)) result }
 {
+    let Searched { store, ending } = searched;
     match ending {
-        Ending::Found { head, outputs } => Ok(Found { head, outputs }),
+        Ending::Found { head, outputs } => Ok(StoredAnswer {
+            store,
+            head,
+            outputs,
+        }),
         Ending::Passed(Limit::TooDeep(depth)) => Err(DeriveError::TooDeep(depth)),
         Ending::Passed(Limit::TooBig(size)) => Err(DeriveError::TooBig(size)),
         Ending::DepthSpent => Err(DeriveError::DepthSpent(3000)),
         Ending::Spent => Err(DeriveError::BudgetSpent(budget)),
         Ending::Exhausted => {
+            drop(store);
             let blame = stuck_goal(alloc, rules, given, goal, budget)?;
             Err(DeriveError::Underivable(blame))
         }

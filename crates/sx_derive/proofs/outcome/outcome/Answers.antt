@@ -11,4 +11,4 @@ pub stuck_goal-requires-clause-quiet : goal.stuck_goal-requires-clause-quiet
 stuck_goal-requires-clause-quiet c =
     let es = events (modes_of c.args.rules.now) (rules_of c.args.rules.now) (hypotheses c.args.given.now) (goal_of c.args.goal.now) 1 in
     let x = c.requires.ending in
-    exhausted_quiet x.1 c.args.budget es (subst (λ e. IsEnding x.0 e (walk x.1 c.args.budget es)) c.in-Exhausted.is x.2)
+    exhausted_quiet x.0 c.args.budget es (subst (λ e. IsEnding c.args.searched.store e (walk x.0 c.args.budget es)) c.in-Exhausted.is x.1)
