@@ -7,7 +7,7 @@ use Rattle.sx_interface.specs.declared.marks.Digest.{Digest}
 use Rattle.sx_interface.specs.HeaderView.{header_view}
 use Rattle.sx_notation.specs.declared.language.Language.{Language}
 use Rattle.sx_notation.specs.Language.{language_data}
-use Rattle.sx_module.specs.Source.{Source, IsSource, source}
+use Rattle.sx_module.specs.Source.{IsSource, source}
 use Rattle.sx_build.specs.ReadModule.{Module, IsHeaded, StandsAlone}
 use Rattle.sx_build.specs.ReadLanguage.{Stated}
 use Rattle.sx_build.specs.CompileModule.{empty_environment, source_of}

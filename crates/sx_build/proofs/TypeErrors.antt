@@ -1,5 +1,5 @@
 -- A module is refused for a type error only where it has no type.
-use Rattle.std.proofs.Common.{◌≡◌, ℕ, List, ◌⊎◌, inl, inr, sym, subst}
+use Rattle.std.proofs.Common.{◌≡◌, ℕ, List, inl, inr, sym, subst}
 use Rattle.std.specs.Prelude.{Result, Ok, Err, Option, Some, None}
 use Rattle.sx_token.specs.declared.token_error.TokenError.{TokenError}
 use Rattle.sx_token.specs.declared.token_error.TokenError.TheVariants as token_error

@@ -21,7 +21,6 @@ use Rattle.sx_words.specs.declared.print_defect.PrintedPart.{PrintedPart}
 use Rattle.sx_words.specs.declared.print_defect.PrintedPart.TheVariants as printed
 use Rattle.sx_words.specs.declared.print_defect.PrintDefect.{PrintDefect}
 use Rattle.sx_words.specs.declared.print_defect.PrintDefect.TheVariants as print_defect
-use Rattle.sx_words.specs.declared.refusal.Defect.{Defect}
 use Rattle.sx_words.specs.declared.refusal.Defect.TheVariants as defect
 use Rattle.sx_steps.specs.declared.stop.Stop.{Stop}
 use Rattle.sx_steps.specs.Refusal.{about}

@@ -1,5 +1,5 @@
 -- The sorts of the main form's subject and output are sorts of the grammar.
-use Rattle.std.proofs.Common.{◌≡◌, ◌<◌, ℕ, zero, suc, Bool, true, false, cond, List, [], ◌∷◌, ◌++◌, map, length, Some, None, slice_get, Contains, refl, sym, ap, ◌∙◌, subst, arith}
+use Rattle.std.proofs.Common.{◌≡◌, ◌<◌, ℕ, zero, suc, Bool, true, false, cond, List, [], ◌∷◌, ◌++◌, map, length, Some, slice_get, Contains, refl, sym, ap, ◌∙◌, subst, arith}
 use Rattle.std.specs.Prelude.{flat_map}
 use Rattle.std.specs.List.{AllByRecursion}
 use Rattle.std.proofs.lemmas.List.{length-map}
@@ -20,9 +20,8 @@ use Rattle.sx_directives.specs.declared.spelled.SpelledSort.TheVariants.{Lex as 
 use Rattle.sx_directives.specs.declared.spelled.FormSymbol.{FormSymbol}
 use Rattle.sx_directives.specs.declared.spelled.FormSymbol.TheVariants.{Lit, Place}
 use Rattle.sx_directives.specs.declared.rows.FormLine.{FormLine}
-use Rattle.sx_outline.specs.declared.main_form.MainForm.{MainForm}
 use Rattle.sx_notation.specs.RuleLaws.{places_of, form_of, HasSortOf, HaveSortsOf}
-use Rattle.sx_notation.specs.Language.{sort_when, sorts_with, IsMain, IsLanguage, language_data}
+use Rattle.sx_notation.specs.Language.{sort_when, sorts_with, IsLanguage, language_data}
 use Rattle.sx_notation.specs.declared.language.Language.{Language}
 use Rattle.sx_module.specs.Source.{only_sort, main_sort}
 

@@ -1,5 +1,5 @@
 -- The term of what was read without metavariables is well sorted, and can be printed.
-use Rattle.std.proofs.Common.{◌≡◌, ◌⊎◌, ℕ, zero, suc, ◌≤◌, ◌<◌, Bool, true, false, List, [], ◌∷◌, ◌++◌, Option, Some, None, slice_get, length, map, option_map, refl, ap, ◌∙◌, sym, subst, arith}
+use Rattle.std.proofs.Common.{◌≡◌, ℕ, zero, suc, ◌≤◌, Bool, false, List, [], ◌∷◌, Option, Some, None, slice_get, length, option_map, refl, ap, ◌∙◌, sym, subst, arith}
 use Rattle.std.specs.Prelude.{flat_map, cond}
 use Rattle.std.specs.List.{AllByRecursion}
 use Rattle.std.proofs.lemmas.Option.{slice_get-map}
@@ -9,19 +9,17 @@ use Rattle.sx_term.specs.declared.mark.Mark.TheVariants.{Lit, Lex, Meta}
 use Rattle.sx_term.specs.declared.sort.Sort.{Sort}
 use Rattle.sx_term.specs.declared.sort.Sort.TheVariants as sorts
 use Rattle.sx_term.specs.Tree.{Tree, depth_of}
-use Rattle.sx_term.specs.Sorts.{Shape, HasSort, KidsHaveSorts}
+use Rattle.sx_term.specs.Sorts.{HasSort, KidsHaveSorts}
 use Rattle.sx_token.specs.declared.token.Token.{Token}
 use Rattle.sx_grammar.specs.Grammar as plain
 use Rattle.sx_grammar.specs.Grammar.{Text, Symbol, Production}
 use Rattle.sx_grammar.specs.Parts.{Parts, numbered}
 use Rattle.sx_grammar.specs.Tables.{literals_of}
-use Rattle.sx_grammar.specs.Told.{is_typed, sort_with, kid_sorts, shape_of, shapes_of}
-use Rattle.sx_grammar.specs.Reading.{Reading, Readings, Marked, Reads, ReadsAll, by_production, by_brackets, by_variable, all_read, by_literal, by_lexeme, by_lexical_variable, by_part, reading_depth}
-use Rattle.sx_grammar.specs.ReadOne.{IsAnswer, only}
+use Rattle.sx_grammar.specs.Told.{sort_with, kid_sorts, shape_of, shapes_of}
+use Rattle.sx_grammar.specs.Reading.{Reading, Readings, Marked, Reads, ReadsAll, by_production, by_brackets, by_variable, all_read, by_literal, by_lexeme, by_lexical_variable, by_part}
 use Rattle.sx_grammar.specs.Print.{leaf_term, term_of, terms_of}
 use Rattle.sx_earley.specs.Tokens.{shown, plain_tokens}
 use Rattle.sx_earley.specs.Completed.{IsSort, number_of}
-use Rattle.sx_print.specs.Cut.{HasLexemes}
 use Rattle.sx_notation.proofs.ReadLexemes.{cut_lexed, term_lexemes, term_depth}
 use Rattle.sx_module.specs.Body.{ReadsAs}
 use Rattle.sx_module.specs.Given.{IsShowable}

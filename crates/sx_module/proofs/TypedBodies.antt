@@ -1,5 +1,5 @@
 -- The goal of a module's body can be searched for, and what is found can be printed.
-use Rattle.std.proofs.Common.{◌≡◌, ℕ, ◌+◌, ◌-◌, ◌≤◌, List, [], ◌∷◌, None, length, map, drop, refl, ap, ◌∙◌, sym, subst, arith}
+use Rattle.std.proofs.Common.{◌≡◌, ℕ, ◌+◌, ◌-◌, List, [], ◌∷◌, None, length, map, drop, refl, ap, ◌∙◌, sym, subst, arith}
 use Rattle.std.specs.Global.{Vec}
 use Rattle.std.specs.Prelude.{Result, Ok, Err, IfOk}
 use Rattle.std.specs.List.{AllByRecursion}
@@ -8,10 +8,9 @@ use Rattle.sx_term.specs.declared.term.Term.{Term}
 use Rattle.sx_term.specs.Term.{tree}
 use Rattle.sx_print.specs.Cut.{HasLexemes}
 use Rattle.sx_rules.specs.Deep.{AreShallow}
-use Rattle.sx_term.specs.declared.sort.Sort.{Sort}
 use Rattle.sx_term.specs.declared.sort.Sort.TheVariants as sorts
 use Rattle.sx_term.specs.Tree.{Tree}
-use Rattle.sx_term.specs.Sorts.{Shape, HasSort, HaveSorts}
+use Rattle.sx_term.specs.Sorts.{Shape, HasSort}
 use Rattle.sx_grammar.specs.Parts.{Parts}
 use Rattle.sx_grammar.specs.Tables.{literals_of}
 use Rattle.sx_grammar.specs.Told.{shapes_of}

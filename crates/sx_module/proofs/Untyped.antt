@@ -9,7 +9,7 @@ use Rattle.sx_module.specs.declared.module_error.ModuleError.TheVariants as modu
 use Rattle.sx_module.specs.Source.{Source}
 use Rattle.sx_module.specs.Outcomes.{no_hypotheses}
 use Rattle.sx_module.specs.Unit.{rules_of, goal}
-use Rattle.sx_module.specs.Refused.{IsBadModule, IsCompiled, IsFinal, TypeErrorsAreFinal}
+use Rattle.sx_module.specs.Refused.{IsCompiled, IsFinal, TypeErrorsAreFinal}
 
 pub type_errors_are_final : TypeErrorsAreFinal
 type_errors_are_final s tries line column text moded (b, ends, why) =

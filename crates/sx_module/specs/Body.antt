@@ -1,5 +1,5 @@
 -- Texts that are read without metavariables.
-use Rattle.std.specs.Prelude.{◌≡◌, ℕ, false, List, [], IfSome, Err}
+use Rattle.std.specs.Prelude.{◌≡◌, false, List, [], IfSome, Err}
 use Rattle.sx_term.specs.declared.sort.Sort.{Sort}
 use Rattle.sx_term.specs.Cutting.{IsOutcome, tokens}
 use Rattle.sx_term.specs.Tree.{Tree}

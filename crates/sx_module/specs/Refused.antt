@@ -1,5 +1,5 @@
 -- Why a module is not compiled.
-use Rattle.std.specs.Prelude.{◌≡◌, ◌⊎◌, ℕ, ◌+◌, ◌-◌, ◌^◌, ◌<◌, ◌≤◌, List, [], ◌∷◌, Option, Some, None, Result, Ok, Err, map, min, length, slice_index_or}
+use Rattle.std.specs.Prelude.{◌≡◌, ◌⊎◌, ℕ, ◌+◌, ◌-◌, ◌^◌, ◌<◌, ◌≤◌, List, [], Some, None, Result, Ok, Err, map, min, length, slice_index_or}
 use Rattle.sx_term.specs.declared.sort.Sort.{Sort}
 use Rattle.sx_term.specs.Tree.{Tree}
 use Rattle.sx_token.specs.declared.token.Token.{Token}
@@ -15,9 +15,9 @@ use Rattle.sx_forest.specs.Places.{place_at}
 use Rattle.sx_rules.specs.declared.rule.Role.TheVariants.{Sub, Out}
 use Rattle.sx_rules.specs.First.{Answer, IsUnderivable}
 use Rattle.sx_rules.specs.Modes.{AllModed, Goal}
-use Rattle.sx_rules.specs.Views.{NamedRule, modes_of, subjects_in}
-use Rattle.sx_derive.specs.Walk.{Cause, depth_spent, too_deep as passes_depth, too_big as passes_size}
-use Rattle.sx_derive.specs.Search.{found, stopped, spent, exhausted, walk, tries_of}
+use Rattle.sx_rules.specs.Views.{modes_of, subjects_in}
+use Rattle.sx_derive.specs.Walk.{depth_spent, too_deep as passes_depth, too_big as passes_size}
+use Rattle.sx_derive.specs.Search.{stopped, spent, exhausted, walk, tries_of}
 use Rattle.sx_derive.specs.Stuck.{Blame, Reason, no_rule, unequal, mismatch, IsStuck}
 use Rattle.sx_notation.specs.declared.unread.Unread.{Unread}
 use Rattle.sx_notation.specs.declared.unread.Unread.TheVariants as unread

@@ -1,5 +1,5 @@
 -- Why a text is not read.
-use Rattle.std.specs.Prelude.{◌≡◌, ℕ, List, [], length}
+use Rattle.std.specs.Prelude.{List, [], length}
 use Rattle.sx_term.specs.declared.sort.Sort.{Sort}
 use Rattle.sx_token.specs.declared.token.Token.{Token}
 use Rattle.sx_token.specs.declared.token_error.TokenError.{TokenError}

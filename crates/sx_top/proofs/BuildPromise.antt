@@ -1,8 +1,7 @@
 -- `build --core` keeps its promise.
-use Rattle.std.proofs.Common.{◌≡◌, ◌≢◌, ℕ, List, [], ◌∷◌, ◌++◌, sym, ap, ◌∙◌, subst, codes, get_or, arith}
-use Rattle.std.specs.Prelude.{Ok, Some, None}
-use Rattle.sx_outside.specs.Files.{Files, after, put}
-use Rattle.sx_outside.specs.FilesLaws.{put-same, put-other}
+use Rattle.std.proofs.Common.{◌≡◌, ℕ, List, ◌++◌, sym, ap, ◌∙◌, subst}
+use Rattle.std.specs.Prelude.{Ok, None}
+use Rattle.sx_outside.specs.Files.{Files, after}
 use Rattle.sx_rules.specs.Views.{modes_of}
 use Rattle.sx_rules.specs.Modes.{AllModed}
 use Rattle.sx_rules.specs.First.{Answer}

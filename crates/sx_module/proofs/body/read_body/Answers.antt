@@ -1,20 +1,16 @@
-use Rattle.std.proofs.Common.{◌≡◌, ◌∙◌, ℕ, ◌<◌, ◌^◌, ◌+◌, List, [], ◌++◌, length, sym, subst, ap, refl, arith}
-use Rattle.sx_term.specs.declared.sort.Sort.{Sort}
+use Rattle.std.proofs.Common.{◌≡◌, ◌+◌, List, [], ◌++◌, length, sym, subst, ap, arith}
 use Rattle.sx_term.specs.Term.{tree}
 use Rattle.sx_token.specs.declared.token.Token.{Token}
 use Rattle.sx_grammar.specs.Grammar.{Text}
-use Rattle.sx_grammar.specs.Parts.{Parts, numbered}
+use Rattle.sx_grammar.specs.Parts.{numbered}
 use Rattle.sx_grammar.specs.ReadOne.{IsAnswer, only}
-use Rattle.sx_grammar.specs.Reading.{Reading}
 use Rattle.sx_grammar.specs.Print.{term_of}
 use Rattle.sx_earley.specs.Tokens.{plain_tokens}
 use Rattle.sx_earley.specs.Completed.{number_of}
 use Rattle.sx_forest.specs.Names.{IsMarked, names_in, AddsEach}
 use Rattle.sx_forest.specs.Readings.{plain_reading}
 use Rattle.sx_notation.proofs.TextReading.{err_if}
-use Rattle.sx_module.specs.Body.{IsCut, ReadsAs}
 use Rattle.sx_module.specs.Unread.{IsUnreadBody}
-use Rattle.sx_module.specs.declared.body.BodyError.{BodyError}
 use Rattle.sx_module.proofs.Bodies.{is_marked, has_no_names, reads_as}
 use Rattle.sx_module.proofs.body.read_body.Goals as goal
 

@@ -1,5 +1,4 @@
-use Rattle.std.proofs.Common.{◌≡◌, ℕ, List, [], length, sym, subst}
-use Rattle.sx_term.specs.declared.sort.Sort.{Sort}
+use Rattle.std.proofs.Common.{[], sym, subst}
 use Rattle.sx_grammar.specs.Parts.{numbered}
 use Rattle.sx_grammar.specs.Tables.{literals_of}
 use Rattle.sx_grammar.specs.ReadOne.{IsAnswer, only}

@@ -1,4 +1,4 @@
-use Rattle.std.proofs.Common.{◌≡◌, List, [], length, inr, sym, subst, ◌≤◌, arith}
+use Rattle.std.proofs.Common.{◌≡◌, List, [], length, inr, subst, arith}
 use Rattle.sx_token.specs.declared.token.Token.{Token}
 use Rattle.sx_grammar.specs.Parts.{numbered}
 use Rattle.sx_grammar.specs.ReadOne.{IsAnswer, only}

@@ -1,13 +1,13 @@
-use Rattle.std.proofs.Common.{ℕ, None, List, sym, subst}
+use Rattle.std.proofs.Common.{None, List, sym, subst}
 use Rattle.sx_rules.specs.Rules.{Rule, Hypotheses}
-use Rattle.sx_rules.specs.Sets.{forms_in, rules_in}
+use Rattle.sx_rules.specs.Sets.{forms_in}
 use Rattle.sx_rules.specs.Views.{goal as goal_of, modes_of, subjects_in}
 use Rattle.sx_arena.specs.Views.{rules_of}
 use Rattle.sx_derive.specs.Deriving.{AreCounted}
 use Rattle.sx_derive.specs.Listing.{IsListed}
 use Rattle.sx_derive.specs.Search.{tries_of}
 use Rattle.sx_derive.specs.Walk.{events}
-use Rattle.sx_module.specs.Outcomes.{bare, no_hypotheses}
+use Rattle.sx_module.specs.Outcomes.{no_hypotheses}
 use Rattle.sx_module.proofs.MainGoals.{bare_is}
 use Rattle.sx_module.proofs.Finding.{none_given}
 use Rattle.sx_module.proofs.typing.find_derivation.Goals as goal

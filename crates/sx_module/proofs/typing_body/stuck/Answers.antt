@@ -1,4 +1,4 @@
-use Rattle.std.proofs.Common.{◌≡◌, ℕ, List, [], None, length, ◌-◌, ap, sym, subst, refl}
+use Rattle.std.proofs.Common.{ℕ, List, [], None, length, ◌-◌, ap, sym, subst}
 use Rattle.sx_term.specs.Term.{tree}
 use Rattle.sx_term.specs.Tree.{Tree}
 use Rattle.sx_token.specs.declared.token.Token.{Token}
@@ -11,8 +11,6 @@ use Rattle.sx_rules.specs.Sets.{forms_in, rules_in}
 use Rattle.std.specs.Prelude.{Err}
 use Rattle.sx_derive.specs.declared.derive_error.DeriveError.TheVariants.{Underivable}
 use Rattle.sx_derive.specs.Blames.{blame_of}
-use Rattle.sx_notation.specs.Language.{language_data}
-use Rattle.sx_module.specs.declared.module_error.ModuleError.{ModuleError}
 use Rattle.sx_module.specs.MainGoals.{main_goal}
 use Rattle.sx_module.specs.Outcomes.{IsBlameIn}
 use Rattle.sx_module.specs.TypeErrors.{IsTypeError}

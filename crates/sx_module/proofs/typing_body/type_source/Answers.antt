@@ -1,12 +1,10 @@
-use Rattle.std.proofs.Common.{◌≡◌, ℕ, List, [], None, map, length, ap, sym, subst}
-use Rattle.std.specs.Prelude.{Result, Ok, Err}
+use Rattle.std.proofs.Common.{None, ap, sym, subst}
+use Rattle.std.specs.Prelude.{Ok, Err}
 use Rattle.sx_term.specs.Term.{tree}
-use Rattle.sx_term.specs.Tree.{Tree}
 use Rattle.sx_rules.specs.Deep.{AreShallow}
 use Rattle.sx_rules.specs.Modes.{Goal}
 use Rattle.sx_rules.specs.Sets.{forms_in, rules_in}
 use Rattle.sx_rules.specs.Views.{modes_of, subjects_in}
-use Rattle.sx_derive.specs.declared.derive_error.DeriveError.{DeriveError}
 use Rattle.sx_derive.specs.declared.listed.Listed.{Listed}
 use Rattle.sx_derive.specs.Deriving.{AreCounted}
 use Rattle.sx_derive.specs.Listing.{IsListed}
