@@ -50,17 +50,6 @@ fn is_unknown(answer: &Result<Language, NotationError>, name: &[u8]) -> bool {
     }
 }
 
-/// Whether the text is refused since this sort derives itself.
-fn is_cyclic(answer: &Result<Language, NotationError>, name: &[u8]) -> bool {
-    match answer {
-        Err(NotationError::Grammar(error)) => match error {
-            GrammarError::Cyclic(sort) => sort.bytes() == name,
-            _ => false,
-        },
-        _ => false,
-    }
-}
-
 /// Whether the text is refused since this variable of this rule is not bound.
 fn is_unbound(answer: &Result<Language, NotationError>, rule: &[u8], name: &[u8]) -> bool {
     match answer {
@@ -320,12 +309,6 @@ fn a_bad_line_comes_before_a_rule_that_stands_twice(rt: HostRuntime) {
 fn no_grammar(rt: HostRuntime) {
     let answer = read_after(rt.alloc(), b"form other : in:Nothing \"@\"\n");
     assert!(rt; is_unknown(&answer, b"Nothing"));
-}
-
-#[test]
-fn a_sort_that_derives_itself(rt: HostRuntime) {
-    let answer = read_after(rt.alloc(), b"prod loop Exp 0 : Exp\n");
-    assert!(rt; is_cyclic(&answer, b"Exp"));
 }
 
 #[test]
