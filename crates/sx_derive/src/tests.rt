@@ -1,6 +1,6 @@
 //! Each answer of `derive` once, on goals that are worked out by hand.
 
-ghost use Rattle.std.specs.Prelude.{◌≡◌, ◌≤◌, ◌<◌, [], IfOk, MatchOption, map};
+ghost use Rattle.std.specs.Prelude.{◌≡◌, ◌^◌, ◌≤◌, ◌<◌, [], IfOk, MatchOption, length, map};
 ghost use Rattle.sx_term.specs.Tree.{depth_of};
 ghost use Rattle.sx_term.specs.Term.{tree};
 ghost use Rattle.sx_rules.specs.Deep.{AreShallow, RuleIsShallow, RulesAreShallow};
@@ -469,5 +469,105 @@ fn goes_on_after_a_pause(rt: HostRuntime) -> Result<(), Fail> {
     let alloc = rt.alloc();
     assert_eq!(rt; calls(alloc, "(3 (0) (1))", (6, 9))?, (Some(6), None));
     assert_eq!(rt; calls(alloc, "(3 (0) (1))", (5, 1))?, (None, Some(1)));
+    Ok(())
+}
+
+/// z has the type a where z and w are apart, and w where w and z are.
+fn rules_with_apart_terms(alloc: Global) -> Result<RuleSet, Fail> {
+    let z = apart_rule(alloc, "(0)", "(0)", "(1)")?;
+    let w = apart_rule(alloc, "(1)", "(1)", "(0)")?;
+    let rules = three(alloc, pair_rule(alloc)?, z, w)?;
+    Ok(RuleSet::make(alloc, &shapes(alloc)?, forms(alloc)?, rules)?)
+}
+
+/// The hypothesis that z has the type b.
+fn hypothesis(alloc: Global) -> Result<Hyps, Fail>
+    ensures few { IfOk result (λ h. length h.holds.items < 2 ^ 32) }
+    ensures holds { IfOk result (λ h. ShallowJudgements (hypotheses h).judgements) }
+    ensures apart { IfOk result (λ h. ArePairsShallow (hypotheses h).pairs) }
+{
+    let mut holds = Vec::new(alloc);
+    holds.push(judgement(alloc, "(0)", "(5)")?)?;
+    Ok(Hyps {
+        holds,
+        apart: Vec::new(alloc),
+    })
+}
+
+/// The hypothesis that z and w are apart.
+fn pair_apart(alloc: Global) -> Result<Hyps, Fail>
+    ensures few { IfOk result (λ h. length h.holds.items < 2 ^ 32) }
+    ensures holds { IfOk result (λ h. ShallowJudgements (hypotheses h).judgements) }
+    ensures apart { IfOk result (λ h. ArePairsShallow (hypotheses h).pairs) }
+{
+    let mut apart = Vec::new(alloc);
+    apart.push((read(alloc, "(0)")?, read(alloc, "(1)")?))?;
+    Ok(Hyps {
+        holds: Vec::new(alloc),
+        apart,
+    })
+}
+
+fn derive_from<L: Ledger>(
+    alloc: Global,
+    rules: &RuleSet,
+    given: &Hyps,
+    goal: &Goal,
+    budget: u64,
+    blank: Blank,
+) -> (u32, (u32, usize, usize, u64))
+    requires name { blank.name ≡ L.name }
+    requires parts { blank.parts ≡ L.parts }
+    requires some { 0 < blank.parts }
+    requires few { length given.now.holds.items < 2 ^ 32 }
+    requires holds { ShallowJudgements (hypotheses given.now).judgements }
+    requires apart { ArePairsShallow (hypotheses given.now).pairs }
+    requires goal { AreShallow (goal_of goal.now).terms }
+{
+    let mut steps = Steps::<L>::new(blank);
+    told(derive(alloc, rules, given, goal, None, budget, &mut steps))
+}
+
+/// What `derive` answers from the hypotheses for the subject's type, in numbers.
+fn answer_from(
+    alloc: Global,
+    rules: &RuleSet,
+    given: &Hyps,
+    subject: &str,
+    budget: u64,
+) -> Result<(u32, (u32, usize, usize, u64)), Fail>
+    requires few { length given.now.holds.items < 2 ^ 32 }
+    requires holds { ShallowJudgements (hypotheses given.now).judgements }
+    requires apart { ArePairsShallow (hypotheses given.now).pairs }
+{
+    let goal = goal(alloc, subject)?;
+    Ok(derive_from::<Brand>(alloc, rules, given, &goal, budget, Blank::new(1)))
+}
+
+#[test]
+fn takes_a_hypothesis_before_a_rule(rt: HostRuntime) -> Result<(), Fail> {
+    let alloc = rt.alloc();
+    let rules = rules(alloc)?;
+    let given = hypothesis(alloc)?;
+    assert_eq!(rt;
+        answer_from(alloc, &rules, &given, "(0)", 1)?,
+        (0, (9, 0, 0, 0))
+    );
+    Ok(())
+}
+
+#[test]
+fn has_a_pair_apart_either_way_round(rt: HostRuntime) -> Result<(), Fail> {
+    let alloc = rt.alloc();
+    let rules = rules_with_apart_terms(alloc)?;
+    let given = pair_apart(alloc)?;
+    assert_eq!(rt;
+        answer_from(alloc, &rules, &given, "(0)", 3)?,
+        (0, (1, 0, 0, 0))
+    );
+    assert_eq!(rt;
+        answer_from(alloc, &rules, &given, "(1)", 3)?,
+        (0, (2, 0, 0, 0))
+    );
     Ok(())
 }
