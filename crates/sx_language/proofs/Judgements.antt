@@ -1,5 +1,5 @@
 -- What is read as a judgement by the grammar of rules is a form, or says that two lexemes are to be apart.
-use Rattle.std.proofs.Common.{◌≡◌, ℕ, zero, suc, ◌+◌, ◌-◌, ◌<◌, ◌≤◌, ◌⊎◌, inl, inr, Bool, true, false, cond, if◌then◌else◌, codes, get_or, List, [], ◌∷◌, ◌++◌, Option, Some, None, length, length-append, map, slice_get, Contains, refl, ap, ◌∙◌, sym, subst, arith}
+use Rattle.std.proofs.Common.{◌≡◌, ℕ, zero, suc, ◌+◌, ◌-◌, ◌<◌, ◌≤◌, ◌⊎◌, inl, inr, Bool, true, false, cond, if◌then◌else◌, codes, get_or, List, [], ◌∷◌, ◌++◌, Some, None, length, length-append, map, slice_get, Contains, refl, ap, ◌∙◌, sym, subst, arith}
 use Rattle.std.specs.Prelude.{option_map, flat_map}
 use Rattle.std.specs.Str.{bytes_eq}
 use Rattle.std.proofs.lemmas.Option.{slice_get_within, slice_get-map, slice_get-get_or, none-some}
@@ -11,15 +11,15 @@ use Rattle.sx_term.specs.declared.mark.Mark.{Mark}
 use Rattle.sx_term.specs.declared.mark.Mark.TheVariants as marks
 use Rattle.sx_term.specs.declared.sort.Sort.{Sort}
 use Rattle.sx_term.specs.declared.sort.Sort.TheVariants as TheSort
-use Rattle.sx_term.specs.Tree.{Tree, Trees, node, none, ◌▹◌, forest, listed}
+use Rattle.sx_term.specs.Tree.{node, none, listed}
 use Rattle.sx_term.proofs.Kids.{forest-listed}
 use Rattle.sx_token.specs.declared.token.Token.{Token}
 use Rattle.sx_grammar.specs.Grammar as plain
-use Rattle.sx_grammar.specs.Grammar.{Text, Symbol, literal, lexical, part, Production, Grammar, Stem, of_kind, of_sort, pair_of, is_literal, is_lexeme, is_variable}
-use Rattle.sx_grammar.specs.Parts.{Line, Parts, names, number_of, numbered, numbered_line, numbered_symbol, numbered_sort, symbol_sorts, sorts_named}
+use Rattle.sx_grammar.specs.Grammar.{Text, Symbol, literal, lexical, Production, Grammar, of_sort, pair_of, is_variable}
+use Rattle.sx_grammar.specs.Parts.{Line, Parts, names, number_of, numbered, numbered_line, numbered_sort, symbol_sorts, sorts_named}
 use Rattle.sx_grammar.specs.Made.{IsGrammar}
 use Rattle.sx_grammar.specs.Told.{sort_with, is_typed}
-use Rattle.sx_grammar.specs.Reading.{Reading, Readings, branch, bracket, leaf, variable, done, ◌▸◌, Marked, Reads, by_production, by_brackets, by_variable, ReadsAll, all_read, by_literal, by_lexeme, by_lexical_variable, by_part}
+use Rattle.sx_grammar.specs.Reading.{Reading, Readings, leaf, variable, done, ◌▸◌, Marked, Reads, by_production, by_brackets, by_variable, ReadsAll, all_read, by_literal, by_lexeme, by_lexical_variable, by_part}
 use Rattle.sx_grammar.specs.Print.{term_of, terms_of}
 use Rattle.sx_grammar.proofs.Finding.{at_contains, is_head, in_flat_map, mapped_at, named_at}
 use Rattle.sx_earley.specs.Completed.{IsSort}
@@ -28,9 +28,7 @@ use Rattle.sx_rules.specs.Rules.{Premise, holds, apart}
 use Rattle.sx_directives.specs.declared.rows.FormLine.{FormLine}
 use Rattle.sx_directives.specs.declared.rows.VarLine.{VarLine}
 use Rattle.sx_notation.specs.RuleParts.{judgement_sort, form_line, apart_line, apart_lines, rule_parts}
-use Rattle.sx_notation.specs.GoalText.{form_label}
-use Rattle.sx_notation.specs.ReadText.{IsRead}
-use Rattle.sx_notation.proofs.Growing.{got_before, got_behind-at}
+use Rattle.sx_notation.proofs.Growing.{got_behind-at}
 use Rattle.sx_notation.proofs.RuleGrammars.{productions_stay}
 use Rattle.sx_language.specs.RuleLine.{Reader, judgements, label_of, Says, CanRead}
 use Rattle.sx_language.specs.States.{IsSortNamed, AreStems}

@@ -1,5 +1,5 @@
 -- The sorts of forms are those of the language, and the parts are within the limits of grammars.
-use Rattle.std.proofs.Common.{◌≡◌, ℕ, zero, suc, ◌+◌, ◌<◌, ◌≤◌, ◌^◌, ◌⊎◌, inl, inr, List, [], ◌∷◌, ◌++◌, length, length-append, map, Some, Contains, refl, ap, ◌∙◌, sym, subst, codes, arith}
+use Rattle.std.proofs.Common.{◌≡◌, ℕ, zero, suc, ◌+◌, ◌≤◌, ◌⊎◌, inl, inr, List, [], ◌∷◌, ◌++◌, length, length-append, map, Some, Contains, ap, ◌∙◌, sym, subst, arith}
 use Rattle.std.specs.Prelude.{slice_get, flat_map, option_map, unwrap_or}
 use Rattle.std.specs.List.{AllByRecursion}
 use Rattle.std.proofs.lemmas.Grind.{flat_map-append}
@@ -13,7 +13,7 @@ use Rattle.sx_grammar.specs.Grammar.{Text}
 use Rattle.sx_grammar.specs.Parts.{Line, Parts, names, number_of, literals, symbol_literals, symbol_sorts, sorts_named, bracket_literals}
 use Rattle.sx_grammar.specs.Made.{IsGrammar}
 use Rattle.sx_grammar.specs.Tables.{IsWithinLimits, HasGoodLevels}
-use Rattle.sx_grammar.proofs.Finding.{at_contains, contains_place, is_head, past_head, head_or_rest, in_flat_map, mapped_at, named_at}
+use Rattle.sx_grammar.proofs.Finding.{at_contains, contains_place, is_head, past_head, in_flat_map, mapped_at, named_at}
 use Rattle.sx_lines.specs.Words.{is_name}
 use Rattle.sx_directives.specs.Spelling.{IsName}
 use Rattle.sx_directives.specs.declared.spelled.SpelledSort.TheVariants.{Lex, Named}

@@ -1,15 +1,13 @@
 -- The main form of an outline, by numbers.
-use Rattle.std.proofs.Common.{◌≡◌, ℕ, zero, suc, ◌+◌, ◌≤◌, Bool, true, false, cond, List, [], ◌∷◌, ◌++◌, Option, Some, None, length, map, slice_get, Contains, refl, ap, ◌∙◌, sym, subst, arith}
+use Rattle.std.proofs.Common.{◌≡◌, ℕ, zero, suc, ◌+◌, ◌≤◌, true, false, cond, List, [], ◌∷◌, Option, Some, None, length, map, slice_get, Contains, refl, ap, ◌∙◌, sym, subst, arith}
 use Rattle.std.specs.Prelude.{option_map, flat_map, unwrap_or, find, IfSome}
 use Rattle.std.specs.Str.{bytes_eq}
 use Rattle.std.specs.List.{AllByRecursion}
 use Rattle.std.proofs.lemmas.List.{length-map}
 use Rattle.std.proofs.lemmas.Option.{slice_get-map, get_or_from_slice_get, none-some}
-use Rattle.sx_term.specs.declared.lex_kind.LexKind.{LexKind}
 use Rattle.sx_term.specs.declared.lex_kind.LexKind.TheVariants.{Id}
 use Rattle.sx_term.specs.declared.sort.Sort.{Sort}
 use Rattle.sx_term.specs.declared.sort.Sort.TheVariants as TheSort
-use Rattle.sx_term.specs.Sorts.{Shape}
 use Rattle.sx_rules.specs.declared.rule.Role.{Role}
 use Rattle.sx_rules.specs.declared.rule.Role.TheVariants.{In, Sub, Out}
 use Rattle.sx_rules.specs.Views.{is_sub}
@@ -17,7 +15,7 @@ use Rattle.sx_grammar.specs.declared.sort_line.SortLine.{SortLine}
 use Rattle.sx_grammar.specs.declared.symbol.Symbol.{Symbol}
 use Rattle.sx_grammar.specs.declared.symbol.Symbol.TheVariants as TheSymbol
 use Rattle.sx_grammar.specs.Grammar.{Text}
-use Rattle.sx_grammar.specs.Parts.{Line, Parts, names, number_of, numbered, numbered_line, numbered_symbol}
+use Rattle.sx_grammar.specs.Parts.{Parts, names, number_of, numbered, numbered_line, numbered_symbol}
 use Rattle.sx_grammar.specs.Told.{is_typed, sort_with, kid_sorts, shape_of, shapes_of}
 use Rattle.sx_grammar.proofs.Finding.{mapped_at, named_at}
 use Rattle.sx_directives.specs.declared.spelled.SpelledSort.{SpelledSort}
@@ -30,9 +28,9 @@ use Rattle.sx_outline.specs.declared.main_form.MainForm.{MainForm}
 use Rattle.sx_outline.specs.Declarations.{Declared, form}
 use Rattle.sx_outline.proofs.PlaceLaws.{at, first_at, found_in, find_place, find_nothing, position_is}
 use Rattle.sx_outline.proofs.FindLaws.{number_at}
-use Rattle.sx_outline.specs.Fitting.{sort_named, PlaceFits, SymbolFits, sort_at, sorts_at, Kid, of_kind, of_sort, kid_of, kids_of, IsConstructor, IsMainOf}
+use Rattle.sx_outline.specs.Fitting.{sort_named, PlaceFits, SymbolFits, sorts_at, Kid, of_kind, of_sort, kids_of, IsConstructor, IsMainOf}
 use Rattle.sx_notation.specs.RuleLaws.{sort_of, places_of, form_of, HasSortOf, HaveSortsOf, IsSortOf}
-use Rattle.sx_notation.specs.Language.{sort_when, sorts_with, IsMain}
+use Rattle.sx_notation.specs.Language.{sorts_with, IsMain}
 
 past_end : {X : Type 0} (xs : List X) (n : ℕ) → length xs ≤ n → slice_get xs n ≡ None
 past_end [] n h = refl

@@ -4,7 +4,7 @@ use Rattle.std.proofs.lemmas.List.{drop_more, drop_all, append-nil}
 use Rattle.sx_grammar.specs.Grammar.{Text}
 use Rattle.sx_rules.specs.Rules.{Premise}
 use Rattle.sx_outline.specs.declared.rule_lines.RuleLine.{RuleLine}
-use Rattle.sx_outline.specs.Stages.{Numbered, numbered}
+use Rattle.sx_outline.specs.Stages.{numbered}
 use Rattle.sx_notation.specs.declared.notation_error.NotationError.{NotationError}
 use Rattle.sx_notation.specs.declared.notation_error.NotationError.TheVariants.{Memory, NotUtf8, Notation, Token, Grammar, Read, Rules}
 use Rattle.sx_language.specs.RuleLine.{Reader, IsLine, IsBadLine}

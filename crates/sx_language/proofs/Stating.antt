@@ -1,5 +1,5 @@
 -- From an outline to a language, step by step.
-use Rattle.std.proofs.Common.{◌≡◌, ℕ, ◌+◌, ◌<◌, ◌≤◌, ◌⊎◌, inl, inr, List, [], ◌∷◌, ◌++◌, length, take, get_or, map, zero, suc, Option, Some, None, slice_get, Contains, Result, Ok, Err, refl, ap, ◌∙◌, sym, subst, add-one, arith, Vec}
+use Rattle.std.proofs.Common.{◌≡◌, ℕ, ◌+◌, ◌<◌, ◌≤◌, inl, inr, List, [], ◌∷◌, ◌++◌, length, take, get_or, map, zero, suc, Option, Some, None, slice_get, Ok, Err, refl, ap, ◌∙◌, sym, subst, add-one, arith, Vec}
 use Rattle.std.specs.Prelude.{flat_map, MatchOption}
 use Rattle.std.specs.declared.alloc.Global.{Global}
 use Rattle.std.specs.List.{AllByRecursion}
@@ -8,7 +8,7 @@ use Rattle.sx_term.specs.declared.sort.Sort.{Sort}
 use Rattle.sx_grammar.specs.declared.grammar_error.GrammarError.{GrammarError}
 use Rattle.sx_grammar.specs.declared.grammar_error.GrammarError.TheVariants as grammar
 use Rattle.sx_grammar.specs.Grammar.{Text}
-use Rattle.sx_grammar.specs.Parts.{Parts, names, number_of, literals, parts}
+use Rattle.sx_grammar.specs.Parts.{Parts, names, literals, parts}
 use Rattle.sx_grammar.specs.Made.{IsGrammar, IsRefused as IsNotMade}
 use Rattle.sx_grammar.specs.Tables.{GrammarData, literals_of}
 use Rattle.sx_grammar.specs.Told.{sort_with, shapes_of}
@@ -44,7 +44,7 @@ use Rattle.sx_language.specs.declared.preparing.Prepared.{Prepared}
 use Rattle.sx_language.specs.Readers.{reader}
 use Rattle.sx_language.specs.RuleLine.{Reader, IsBadLine}
 use Rattle.sx_language.specs.RuleTexts.{AreRules, IsBadPremise, IsBadConclusion, IsBadRule, IsFirstBad, OrMemory}
-use Rattle.sx_language.specs.States.{IsNameOfSort, IsSortNamed, AreStems, IsReadable, States, IsNoGrammar, IsNoRules, HasBadRule, HasNoRuleSet, IsRefused, forms_of, name_unbound}
+use Rattle.sx_language.specs.States.{IsNameOfSort, IsSortNamed, AreStems, States, IsNoRules, HasBadRule, HasNoRuleSet, IsRefused, forms_of, name_unbound}
 use Rattle.sx_language.specs.Prepared.{whole, IsPrepared, IsUsable, IsReason, IsRuleRefusal, IsGrammarRefusal, IsNoGrammars}
 use Rattle.sx_language.proofs.Judgements.{can_read}
 use Rattle.sx_language.proofs.KnownForms.{within_limits, rule_limits, have_sorts}

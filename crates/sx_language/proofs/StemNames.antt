@@ -1,5 +1,5 @@
 -- The names of the variables of lines that are read have stems with sorts.
-use Rattle.std.proofs.Common.{◌≡◌, ℕ, zero, suc, ◌⊎◌, inl, inr, true, List, [], ◌∷◌, ◌++◌, drop, map, Contains, refl, ap, sym, subst}
+use Rattle.std.proofs.Common.{◌≡◌, ℕ, zero, suc, ◌⊎◌, inl, inr, true, List, [], ◌∷◌, ◌++◌, drop, Contains, sym, subst}
 use Rattle.std.specs.Prelude.{is_some, slice_get, slice_index_or}
 use Rattle.std.specs.List.{AllByRecursion}
 use Rattle.sx_term.specs.Vars.{IsAdded}
@@ -12,7 +12,6 @@ use Rattle.sx_forest.specs.Text.{texts}
 use Rattle.sx_forest.specs.Names.{IsMetavariable, IsMarked, AreMarked, names_in, names_of, AddsEach}
 use Rattle.sx_rules.specs.Rules.{Premise}
 use Rattle.sx_outline.specs.Stages.{Numbered}
-use Rattle.sx_notation.specs.ReadText.{IsRead}
 use Rattle.sx_notation.proofs.TextReading.{is_marked}
 use Rattle.sx_language.specs.RuleLine.{Reader, judgements, IsLine}
 use Rattle.sx_language.specs.RuleTexts.{HaveStems, ArePremises}

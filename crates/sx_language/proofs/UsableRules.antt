@@ -1,5 +1,5 @@
 -- What holds of each term of a line holds of the terms of the rules.
-use Rattle.std.proofs.Common.{◌≡◌, ℕ, ◌+◌, ◌≤◌, List, [], ◌∷◌, max, map, length, Contains, refl, ap, ◌∙◌, sym, subst, inl, arith}
+use Rattle.std.proofs.Common.{◌≡◌, ℕ, ◌≤◌, List, [], ◌∷◌, max, map, Contains, refl, sym, subst, arith}
 use Rattle.std.specs.List.{AllByRecursion}
 use Rattle.std.proofs.Math.Nat.{le-max_left, le-max_right}
 use Rattle.sx_term.specs.declared.lex_kind.LexKind.TheVariants.{Id, Num, Str}
@@ -10,16 +10,16 @@ use Rattle.sx_grammar.specs.Tables.{literals_of}
 use Rattle.sx_grammar.proofs.DistinctLaws.{distinct_has, distinct_from}
 use Rattle.sx_grammar.specs.Parts.{literals}
 use Rattle.sx_print.specs.Cut.{HasLexemes, HaveLexemes}
-use Rattle.sx_rules.specs.Rules.{Premise, holds, apart, Rule}
+use Rattle.sx_rules.specs.Rules.{Premise, holds, apart}
 use Rattle.sx_rules.specs.Views.{NamedRule}
-use Rattle.sx_rules.specs.Deep.{AreShallow, PremisesAreShallow, RuleIsShallow, RulesAreShallow}
+use Rattle.sx_rules.specs.Deep.{AreShallow, PremisesAreShallow, RulesAreShallow}
 use Rattle.sx_directives.specs.declared.rows.FormLine.{FormLine}
 use Rattle.sx_outline.specs.Stages.{Numbered, RuleData}
 use Rattle.sx_notation.specs.RuleParts.{rule_parts}
 use Rattle.sx_notation.specs.Language.{PremiseHasLexemes, RuleHasLexemes}
 use Rattle.sx_notation.proofs.ReadLexemes.{reads_have_lexemes, reads_are_shallow}
 use Rattle.sx_language.specs.RuleLine.{Reader, judgements, Says, IsLine}
-use Rattle.sx_language.specs.RuleTexts.{ArePremises, IsRule, AreRules}
+use Rattle.sx_language.specs.RuleTexts.{ArePremises, AreRules}
 use Rattle.sx_language.proofs.KnownForms.{literal_stays}
 
 -- it holds of the terms of the premise

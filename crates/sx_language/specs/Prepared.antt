@@ -1,5 +1,5 @@
 -- A language file before the lines of its rules are read.
-use Rattle.std.specs.Prelude.{◌≡◌, ℕ, Option, List, map, length, Ok, ◌⊎◌}
+use Rattle.std.specs.Prelude.{◌≡◌, Option, List, length, Ok, ◌⊎◌}
 use Rattle.std.specs.List.{AllByRecursion}
 use Rattle.sx_grammar.specs.declared.grammar_error.GrammarError.{GrammarError}
 use Rattle.sx_grammar.specs.declared.grammar_error.GrammarError.TheVariants as grammar

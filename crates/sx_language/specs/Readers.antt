@@ -1,5 +1,4 @@
 -- What reads the lines of rules, as plain data.
-use Rattle.std.specs.Prelude.{ℕ}
 use Rattle.sx_language.specs.RuleLine.{Reader}
 use Rattle.sx_language.specs.declared.rule_reader.RuleReader.{RuleReader}
 

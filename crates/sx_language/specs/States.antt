@@ -1,5 +1,5 @@
 -- The language that a text states, or why it states none.
-use Rattle.std.specs.Prelude.{◌≡◌, ℕ, ◌⊎◌, if◌then◌else◌, List, [], ◌∷◌, Option, Some, None, map, length, slice_get, Contains, Err, Ok}
+use Rattle.std.specs.Prelude.{◌≡◌, ◌⊎◌, if◌then◌else◌, List, [], ◌∷◌, Option, None, map, length, slice_get, Contains, Err, Ok}
 use Rattle.std.specs.Str.{bytes_eq}
 use Rattle.sx_term.specs.declared.lex_kind.LexKind.{LexKind}
 use Rattle.sx_term.specs.declared.sort.Sort.{Sort}

@@ -1,32 +1,15 @@
 //! The stems of metavariables with their sorts.
 
-ghost use Rattle.std.specs.Prelude.{◌≡◌, IfOk, MatchOption};
+ghost use Rattle.std.specs.Prelude.{IfOk};
 ghost use Rattle.std.specs.List.{AllByRecursion};
-ghost use Rattle.sx_directives.specs.Spelling.{lex_text, NotLexical};
 ghost use Rattle.sx_language.specs.States.{IsNameOfSort, IsSortNamed, AreStems};
 
 use std::alloc::Global;
-use sx_directives::VarLine;
+use sx_directives::{VarLine, lexical_kind};
 use sx_earley::Metas;
 use sx_grammar::Grammar;
 use sx_notation::sort_with;
-use sx_term::{LexKind, NoMemory, Sort, Text};
-
-/// The lexical kind with this name.
-fn lexical_kind(name: &[u8]) -> Option<LexKind>
-    ensures { MatchOption result (NotLexical name.now) (λ kind. name.now ≡ lex_text kind) }
-{
-    if name == b"id".as_slice() {
-        return Some(LexKind::Id);
-    }
-    if name == b"num".as_slice() {
-        return Some(LexKind::Num);
-    }
-    if name == b"str".as_slice() {
-        return Some(LexKind::Str);
-    }
-    None
-}
+use sx_term::{NoMemory, Sort, Text};
 
 /// The sort with this name.
 fn sort_named(grammar: &Grammar, name: &Text) -> Sort

@@ -1,6 +1,5 @@
-use Rattle.std.proofs.Common.{map, refl, ap, ◌∙◌, sym, subst, arith}
+use Rattle.std.proofs.Common.{map, refl, sym, subst}
 use Rattle.sx_rules.specs.Views as view
-use Rattle.sx_rules.specs.Deep.{RulesAreShallow}
 use Rattle.sx_outline.specs.Stages.{rule_data}
 use Rattle.sx_notation.proofs.TextReading.{err_if}
 use Rattle.sx_language.specs.Readers.{reader}

@@ -1,10 +1,10 @@
-use Rattle.std.proofs.Common.{◌≡◌, ◌-◌, ◌+◌, ◌≤◌, map, ap, ◌∙◌, sym, subst, length, arith}
+use Rattle.std.proofs.Common.{◌≡◌, ◌-◌, ◌+◌, ◌≤◌, map, sym, subst, length, arith}
 use Rattle.std.proofs.lemmas.List.{length-map}
 use Rattle.sx_term.specs.Term.{tree}
 use Rattle.sx_term.proofs.Kids.{tree-at_node}
 use Rattle.sx_language.specs.RuleLine.{Says}
 use Rattle.sx_language.specs.Readers.{reader}
-use Rattle.sx_language.proofs.Saying.{as_many, behind, says_holds, two_apart, says_apart}
+use Rattle.sx_language.proofs.Saying.{as_many, says_holds, two_apart, says_apart}
 use Rattle.sx_language.proofs.premise.premise_of.Goals as goal
 
 pub returns-then-number-by : goal.returns-then-number-by

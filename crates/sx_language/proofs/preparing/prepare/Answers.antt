@@ -1,11 +1,10 @@
-use Rattle.std.proofs.Common.{◌≡◌, length, map, Some, None, refl, ap, ◌∙◌, sym, subst}
-use Rattle.std.specs.Prelude.{MatchOption}
+use Rattle.std.proofs.Common.{◌≡◌, length, refl, ap, ◌∙◌, sym, subst}
 use Rattle.std.specs.List.{AllByRecursion}
 use Rattle.sx_grammar.specs.Parts.{parts}
 use Rattle.sx_grammar.specs.Made.{IsGrammar}
 use Rattle.sx_rules.specs.Views as view
 use Rattle.sx_notation.specs.RuleParts.{rule_parts}
-use Rattle.sx_notation.specs.RuleLaws.{HaveSortsOf, form_of}
+use Rattle.sx_notation.specs.RuleLaws.{HaveSortsOf}
 use Rattle.sx_notation.proofs.TextReading.{err_if}
 use Rattle.sx_language.specs.States.{IsRefused, IsNameOfSort, AreStems}
 use Rattle.sx_language.specs.Prepared.{whole, IsNoGrammars}
