@@ -472,14 +472,6 @@ fn goes_on_after_a_pause(rt: HostRuntime) -> Result<(), Fail> {
     Ok(())
 }
 
-/// z has the type a where z and w are apart, and w where w and z are.
-fn rules_with_apart_terms(alloc: Global) -> Result<RuleSet, Fail> {
-    let z = apart_rule(alloc, "(0)", "(0)", "(1)")?;
-    let w = apart_rule(alloc, "(1)", "(1)", "(0)")?;
-    let rules = three(alloc, pair_rule(alloc)?, z, w)?;
-    Ok(RuleSet::make(alloc, &shapes(alloc)?, forms(alloc)?, rules)?)
-}
-
 /// The hypothesis that z has the type b.
 fn hypothesis(alloc: Global) -> Result<Hyps, Fail>
     ensures few { IfOk result (λ h. length h.holds.items < 2 ^ 32) }
@@ -491,20 +483,6 @@ fn hypothesis(alloc: Global) -> Result<Hyps, Fail>
     Ok(Hyps {
         holds,
         apart: Vec::new(alloc),
-    })
-}
-
-/// The hypothesis that z and w are apart.
-fn pair_apart(alloc: Global) -> Result<Hyps, Fail>
-    ensures few { IfOk result (λ h. length h.holds.items < 2 ^ 32) }
-    ensures holds { IfOk result (λ h. ShallowJudgements (hypotheses h).judgements) }
-    ensures apart { IfOk result (λ h. ArePairsShallow (hypotheses h).pairs) }
-{
-    let mut apart = Vec::new(alloc);
-    apart.push((read(alloc, "(0)")?, read(alloc, "(1)")?))?;
-    Ok(Hyps {
-        holds: Vec::new(alloc),
-        apart,
     })
 }
 
@@ -552,22 +530,6 @@ fn takes_a_hypothesis_before_a_rule(rt: HostRuntime) -> Result<(), Fail> {
     assert_eq!(rt;
         answer_from(alloc, &rules, &given, "(0)", 1)?,
         (0, (9, 0, 0, 0))
-    );
-    Ok(())
-}
-
-#[test]
-fn has_a_pair_apart_either_way_round(rt: HostRuntime) -> Result<(), Fail> {
-    let alloc = rt.alloc();
-    let rules = rules_with_apart_terms(alloc)?;
-    let given = pair_apart(alloc)?;
-    assert_eq!(rt;
-        answer_from(alloc, &rules, &given, "(0)", 3)?,
-        (0, (1, 0, 0, 0))
-    );
-    assert_eq!(rt;
-        answer_from(alloc, &rules, &given, "(1)", 3)?,
-        (0, (2, 0, 0, 0))
     );
     Ok(())
 }
