@@ -18,10 +18,11 @@ use Rattle.sx_arena.proofs.Arenas.{maps_same, below_more}
 use Rattle.sx_arena.proofs.Facts.{facts_stay}
 use Rattle.sx_arena.proofs.Growing.{extends-length}
 use Rattle.sx_arena.proofs.Parted.{pairs_more_terms, pairs_stay}
-use Rattle.sx_derive.specs.Asking.{asked_goal, asked_events, AreTermsOf, IsAnswered}
+use Rattle.sx_derive.specs.Asking.{asked_goal, asked_events, last_events, AreTermsOf, IsAnswered}
 use Rattle.sx_derive.specs.Candidates.{AreFacts}
 use Rattle.sx_derive.specs.Descents.{AreHyps, spot_goal, reason_in, ReasonBelow, PremisesLead, IsDescent, IsPremiseSpot}
-use Rattle.sx_derive.specs.Quiet.{IsQuiet, first_given}
+use Rattle.sx_derive.specs.Handing.{hyps_in}
+use Rattle.sx_derive.specs.Quiet.{IsQuiet, IsSilent, first_given}
 use Rattle.sx_derive.specs.Store.{IsStore, Grows, store_trees, store_envs}
 use Rattle.sx_derive.specs.Stuck.{unequal, mismatch, Blame, path_of, IsStuck}
 use Rattle.sx_derive.specs.Walk.{Event, Answer, goal_events, premise_events}
@@ -35,15 +36,16 @@ use Rattle.sx_derive.proofs.Asked.{facts_unique}
 use Rattle.sx_derive.proofs.Bounded.{limit_shallow}
 use Rattle.sx_derive.proofs.Descending.{descend_apart, descend_unequal, descend_below, descend_mismatch, descend_more}
 use Rattle.sx_derive.proofs.Premised.{stays}
-use Rattle.sx_derive.proofs.Quiet.{quiet_apart, quiet_goal, quiet_rest}
+use Rattle.sx_derive.proofs.Quiet.{quiet_goal}
+use Rattle.sx_derive.proofs.Silent.{silent_apart, silent_rest}
 use Rattle.sx_derive.proofs.Stored.{grows_same, grows_then, grows_terms}
 
 -- what holds before the premise number k
-pub record Descending (modes subjects : Modes) (rules : List Rule) (hyps : Hypotheses) (budget levels number : ℕ) (rule : Rule) (old : Store) (facts : List Fact) (pairs : List Pair) (first : ℕ) (spot : Spot) (now : Store) (k : ℕ) (rest : List Premise) (env : ℕ) : Type 0 where
+pub record Descending (modes subjects : Modes) (rules : List Rule) (hyps : Hypotheses) (known : Bool) (budget levels number : ℕ) (rule : Rule) (old : Store) (facts : List Fact) (pairs : List Pair) (first : ℕ) (spot : Spot) (now : Store) (k : ℕ) (rest : List Premise) (env : ℕ) : Type 0 where
   pub are : AreHyps modes old facts pairs hyps
   pub grows : Grows modes rules old now
   pub within : env ≤ length now.binds.cells.items
-  pub quiet : IsQuiet budget (premise_events modes hyps (goal_events modes rules hyps levels) rest (env_at (store_envs now) env))
+  pub quiet : IsSilent known budget (premise_events modes hyps (goal_events modes rules hyps levels) rest (env_at (store_envs now) env))
   pub leads : (blame : Blame) → PremisesLead modes subjects rules hyps budget levels number rule (spot_goal old spot) spot.path.items k rest (env_at (store_envs now) env) blame →
       PremisesLead modes subjects rules hyps budget levels number rule (spot_goal old spot) spot.path.items 0 rule.premises (env_at (store_envs old) first) blame
 
@@ -75,10 +77,10 @@ spot_stays modes rules s t spot g b = (
 plus_one : (k : ℕ) → suc k ≡ k + 1
 plus_one k = omega arith
 
-module _ (modes subjects : Modes) (rules : List Rule) (hyps : Hypotheses) (moded : AllModed modes rules) (budget levels number : ℕ) (rule : Rule) (old : Store) (facts : List Fact) (pairs : List Pair) (first : ℕ) (spot : Spot)
+module _ (modes subjects : Modes) (rules : List Rule) (hyps : Hypotheses) (moded : AllModed modes rules) (known : Bool) (budget levels number : ℕ) (rule : Rule) (old : Store) (facts : List Fact) (pairs : List Pair) (first : ℕ) (spot : Spot)
     (below : AreBelow (length (store_trees old)) spot.terms.items) where
   abbrev D : Store → ℕ → List Premise → ℕ → Type 0
-  D now k rest env = Descending modes subjects rules hyps budget levels number rule old facts pairs first spot now k rest env
+  D now k rest env = Descending modes subjects rules hyps known budget levels number rule old facts pairs first spot now k rest env
 
   abbrev From : ℕ → List Premise → Assignment → Blame → Type 0
   From k rest env blame = PremisesLead modes subjects rules hyps budget levels number rule (spot_goal old spot) spot.path.items k rest env blame
@@ -87,7 +89,7 @@ module _ (modes subjects : Modes) (rules : List Rule) (hyps : Hypotheses) (moded
   Leads blame = From 0 rule.premises (env_at (store_envs old) first) blame
 
   pub descending_first : IsStore modes rules old → AreHyps modes old facts pairs hyps → first ≤ length old.binds.cells.items →
-      IsQuiet budget (premise_events modes hyps (goal_events modes rules hyps levels) rule.premises (env_at (store_envs old) first)) → D old 0 rule.premises first
+      IsSilent known budget (premise_events modes hyps (goal_events modes rules hyps levels) rule.premises (env_at (store_envs old) first)) → D old 0 rule.premises first
   descending_first h a l q = record {
     are = a;
     grows = grows_same modes rules old h;
@@ -136,8 +138,8 @@ module _ (modes subjects : Modes) (rules : List Rule) (hyps : Hypotheses) (moded
             are = d.are;
             grows = apart_grown;
             within = s.env_within;
-            quiet = subst (λ (e : Assignment). IsQuiet budget (premise_events modes hyps (goal_events modes rules hyps levels) rest e)) (sym s.envs)
-                (quiet_apart modes hyps (goal_events modes rules hyps levels) budget t u rest (env_at (store_envs mid) env) (apart_is ∙ f) d.quiet);
+            quiet = subst (λ (e : Assignment). IsSilent known budget (premise_events modes hyps (goal_events modes rules hyps levels) rest e)) (sym s.envs)
+                (silent_apart modes hyps (goal_events modes rules hyps levels) known budget t u rest (env_at (store_envs mid) env) (apart_is ∙ f) d.quiet);
             leads = λ blame x. d.leads blame (descend_apart modes subjects rules hyps moded levels budget number rule (spot_goal old spot) spot.path.items k rest (env_at (store_envs mid) env) t u (apart_is ∙ f) blame
                 (subst (λ (e : Assignment). From (suc k) rest e blame) s.envs (subst (λ (n : ℕ). From n rest (env_at (store_envs new) env) blame) (sym (plus_one k)) x)));
           }
@@ -149,11 +151,11 @@ module _ (modes subjects : Modes) (rules : List Rule) (hyps : Hypotheses) (moded
           λ i. goal_events modes rules (record { judgements = hyps.judgements; pairs = a.pairs_are i }) levels (asked_goal modes mid env j)
 
       asked_quiet : IsQuiet budget (goal_events modes rules hyps levels (asked_goal modes mid env j))
-      asked_quiet = (quiet_goal modes hyps (goal_events modes rules hyps levels) budget j rest (env_at (store_envs mid) env) d.quiet).1
+      asked_quiet = (quiet_goal modes hyps (goal_events modes rules hyps levels) budget j rest (env_at (store_envs mid) env) d.quiet.quiet).1
 
       asked_shallow : AreShallow (asked_goal modes mid env j).terms
       asked_shallow =
-          limit_shallow (asked_goal modes mid env j).terms (quiet_goal modes hyps (goal_events modes rules hyps levels) budget j rest (env_at (store_envs mid) env) d.quiet).0
+          limit_shallow (asked_goal modes mid env j).terms (quiet_goal modes hyps (goal_events modes rules hyps levels) budget j rest (env_at (store_envs mid) env) d.quiet.quiet).0
 
       pub ask_facts : (js : List Judgement) × AreFacts modes (store_trees mid) js facts
       ask_facts = (hyps.judgements, (hyps_stay modes rules old mid facts pairs hyps d.grows d.are).facts_are)
@@ -162,6 +164,15 @@ module _ (modes subjects : Modes) (rules : List Rule) (hyps : Hypotheses) (moded
       ask_quiet js f =
           subst (λ (ks : List Judgement). IsQuiet budget (asked_events modes rules pairs ks mid env levels j)) (facts_unique modes (store_trees mid) hyps.judgements js facts (hyps_stay modes rules old mid facts pairs hyps d.grows d.are).facts_are f)
           (subst (λ (es : List (Event Answer)). IsQuiet budget es) (sym asked_same) asked_quiet)
+
+      pub ask_silent : known ≡ true → rest ≡ [] → (js : List Judgement) → AreFacts modes (store_trees mid) js facts → IsSilent true budget (last_events modes rules pairs js mid env levels j)
+      ask_silent t e js f =
+          let a = hyps_stay modes rules old mid facts pairs hyps d.grows d.are in
+          let same_hyps : hyps ≡ hyps_in pairs mid hyps.judgements = (λ i. record { judgements = hyps.judgements; pairs = sym a.pairs_are i }) in
+          subst (λ (ks : List Judgement). IsSilent true budget (last_events modes rules pairs ks mid env levels j)) (facts_unique modes (store_trees mid) hyps.judgements js facts a.facts_are f)
+          (subst (λ (h : Hypotheses). IsSilent true budget (premise_events modes h (goal_events modes rules h levels) (holds j ∷ []) (env_at (store_envs mid) env))) same_hyps
+          (subst (λ (b : Bool). IsSilent b budget (premise_events modes hyps (goal_events modes rules hyps levels) (holds j ∷ []) (env_at (store_envs mid) env))) t
+          (subst (λ (ps : List Premise). IsSilent known budget (premise_events modes hyps (goal_events modes rules hyps levels) (holds j ∷ ps) (env_at (store_envs mid) env))) e d.quiet)))
 
       module _ (g : Grows modes rules mid new) where
         kid_goal : (kid : Spot) (terms : List ℕ) → IsPremiseSpot subjects rule j terms spot.path.items kid → AreTermsOf new (asked_goal modes mid env j) terms →
@@ -179,7 +190,7 @@ module _ (modes subjects : Modes) (rules : List Rule) (hyps : Hypotheses) (moded
             let none_first = ap first_given (sym asked_same) ∙ a.1 in (
               q.0,
               subst (λ (x : Goal). AreShallow x.terms) (sym q.1) asked_shallow,
-              subst (λ (x : Goal). IsQuiet budget (goal_events modes rules hyps levels x)) (sym q.1) asked_quiet,
+              subst (λ (x : Goal). IsSilent true budget (goal_events modes rules hyps levels x)) (sym q.1) (record { quiet = asked_quiet; silent = λ k. none_first }),
               λ blame h. d.leads blame (descend_below modes subjects rules hyps moded levels budget number rule (spot_goal old spot) spot.path.items k rest (env_at (store_envs mid) env) j asked_quiet none_first blame
                   (subst (λ (x : Goal). IsStuck modes subjects rules hyps levels x (path_of subjects spot.path.items rule j) blame) q.1 (subst (λ (way : List ℕ). IsStuck modes subjects rules hyps levels (spot_goal new kid) way blame) p.path_is h))),
             )
@@ -208,7 +219,7 @@ module _ (modes subjects : Modes) (rules : List Rule) (hyps : Hypotheses) (moded
               are = d.are;
               grows = grows_then modes rules old mid new d.grows g;
               within = a.0;
-              quiet = quiet_rest modes hyps (goal_events modes rules hyps levels) budget j rest (env_at (store_envs mid) env) (env_at (store_envs new) next) x.0 first_is x.2 d.quiet;
+              quiet = silent_rest modes hyps (goal_events modes rules hyps levels) known budget j rest (env_at (store_envs mid) env) (env_at (store_envs new) next) x.0 first_is x.2 d.quiet;
               leads = λ blame h. d.leads blame (descend_more modes subjects rules hyps moded levels budget number rule (spot_goal old spot) spot.path.items k rest (env_at (store_envs mid) env) j x.0 first_is (env_at (store_envs new) next) x.2 blame
                   (subst (λ (n : ℕ). From n rest (env_at (store_envs new) next) blame) (sym (plus_one k)) h));
             }

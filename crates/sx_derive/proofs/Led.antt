@@ -1,5 +1,5 @@
 -- The first candidate of a goal, and where it leads.
-use Rattle.std.proofs.Common.{◌≡◌, ◌≢◌, ℕ, zero, suc, ◌+◌, ◌<◌, ◌≤◌, Bool, true, false, List, [], ◌∷◌, ◌++◌, ◌⊎◌, inl, inr, map, drop, length, Option, Some, None, Vec, refl, sym, ap, ◌∙◌, arith, subst}
+use Rattle.std.proofs.Common.{◌≡◌, ◌≢◌, ℕ, zero, suc, ◌+◌, ◌<◌, ◌≤◌, Bool, List, [], ◌∷◌, ◌++◌, ◌⊎◌, inl, inr, map, drop, length, Option, Some, None, Vec, refl, sym, ap, ◌∙◌, arith, subst}
 use Rattle.std.specs.Prelude.{slice_get, nat_eq, Result, Ok, Err, IfOk, OnOk}
 use Rattle.std.specs.declared.alloc.Global.{Global}
 use Rattle.std.proofs.lemmas.Bool.{cases_lt}
@@ -8,24 +8,24 @@ use Rattle.sx_rules.specs.Modes.{Modes, inputs_of, Goal, goal_of}
 use Rattle.sx_arena.specs.Arena.{trees, tree_at, AreBelow}
 use Rattle.sx_arena.specs.Binds.{env_at, BindsGrow, IsFit}
 use Rattle.sx_arena.specs.Facts.{IsFact, AreFacts}
-use Rattle.sx_arena.specs.Matching.{Assignment, unbound, match_when, match_all}
+use Rattle.sx_arena.specs.Matching.{unbound, match_all}
 use Rattle.sx_arena.specs.declared.fact.Fact.{Fact}
 use Rattle.sx_arena.specs.declared.pairs.Pair.{Pair}
 use Rattle.sx_arena.proofs.Arenas.{distinct, below_more, maps_same}
 use Rattle.sx_arena.proofs.Growing.{extends-length}
 use Rattle.sx_derive.specs.Candidates.{goal_in}
 use Rattle.sx_derive.specs.Descents.{AreHyps, spot_goal, PremisesLead, RulesLead, IsDescent, IsFirstRule, HasInputs, IsFirstFact}
-use Rattle.sx_derive.specs.Quiet.{IsQuiet}
+use Rattle.sx_derive.specs.Quiet.{IsSilent}
 use Rattle.sx_derive.specs.Store.{IsStore, Grows, store_trees, store_envs}
 use Rattle.sx_derive.specs.Stuck.{no_rule, mismatch, Blame, rule_match, PremisesStuck, RulesStuck, GivensStuck, IsStuck}
-use Rattle.sx_derive.specs.Walk.{Event, try, Answer, when, when_matched, conclude, premise_events, after_match, rule_events, rules_events, given_events, goal_events}
+use Rattle.sx_derive.specs.Walk.{Event, Answer, premise_events, after_match, rule_events, rules_events, given_events, goal_events}
 use Rattle.sx_derive.specs.declared.descent.Descent.{Descent}
 use Rattle.sx_derive.specs.declared.descent.Descent.TheVariants.{Stuck, Below}
 use Rattle.sx_derive.specs.declared.descent.Reason.TheVariants.{NoRule, Mismatch}
 use Rattle.sx_derive.specs.declared.descent.Spot.{Spot}
 use Rattle.sx_derive.specs.declared.store.Store.{Store}
 use Rattle.sx_derive.proofs.Descended.{spot_stays, hyps_stay}
-use Rattle.sx_derive.proofs.Quiet.{quiet_left, quiet_right, quiet_each, quiet_matched}
+use Rattle.sx_derive.proofs.Silent.{silent_left, silent_right, silent_try, silent_conclude, silent_rule}
 use Rattle.sx_derive.proofs.Stored.{grows_same, grows_then, grows_binds}
 use Rattle.sx_derive.proofs.Tried.{terms_same}
 
@@ -105,15 +105,7 @@ module _ (modes : Modes) (rules : List Rule) (form : ℕ) (terms : List ℕ) (ol
     pub rules_end : length rules ≤ number → IsFirstRule modes mid sought 0 rules None
     rules_end l = h.leads mid None (subst (λ (rs : List Rule). IsFirstRule modes mid sought number rs None) (sym (drop_past rules number l)) refl)
 
--- a rule whose inputs match
-rule_quiet : {A : Type 0} (budget : ℕ) (b : Bool) (m : Option Assignment) (f : Assignment → List (Event A)) (env : Assignment) → match_when b m ≡ Some env → IsQuiet budget (when b (when_matched m f)) → IsQuiet budget (f env)
-rule_quiet budget false m f env e q = cc
-rule_quiet budget true m f env e q = quiet_matched budget m f env e q
-
-quiet_try : {A : Type 0} (budget : ℕ) (es : List (Event A)) → IsQuiet budget (try ∷ es) → IsQuiet budget es
-quiet_try budget es q = record { no_stop = λ s. q.no_stop s; few = (let l = q.few in omega arith) }
-
-module _ (modes subjects : Modes) (rules : List Rule) (hyps : Hypotheses) (budget levels : ℕ) (s : Store) (goal : Goal) (path : List ℕ) where
+module _ (modes subjects : Modes) (rules : List Rule) (hyps : Hypotheses) (known : Bool) (budget levels : ℕ) (s : Store) (goal : Goal) (path : List ℕ) where
   abbrev Under : Goal → List ℕ → Blame → Type 0
   Under g p blame = IsStuck modes subjects rules hyps levels g p blame
 
@@ -138,7 +130,7 @@ module _ (modes subjects : Modes) (rules : List Rule) (hyps : Hypotheses) (budge
     pub number_is : number ≡ r + place
     pub found : slice_get rs place ≡ Some rule
     pub within : env ≤ length s.binds.cells.items
-    pub quiet : IsQuiet budget (rules_events modes hyps below_events r rs goal) → IsQuiet budget (premise_events modes hyps below_events rule.premises (env_at (store_envs s) env))
+    pub quiet : IsSilent known budget (rules_events modes hyps below_events r rs goal) → IsSilent known budget (premise_events modes hyps below_events rule.premises (env_at (store_envs s) env))
     pub leads : (blame : Blame) → PremisesStuck modes subjects rules hyps Under number rule goal path 0 rule.premises (env_at (store_envs s) env) blame → RulesStuck modes subjects rules hyps Under r rs goal path blame
 
   pub rule_leads : (r : ℕ) (rs : List Rule) (number env : ℕ) → IsFirstRule modes s goal r rs (Some (number, env)) → RuleLeads r rs number env
@@ -157,10 +149,10 @@ module _ (modes subjects : Modes) (rules : List Rule) (hyps : Hypotheses) (budge
             number_is = (omega arith);
             found = refl;
             within = (let l = x.2 in omega arith);
-            quiet = λ h. quiet_each budget (conclude modes r rule) (premise_events modes hyps below_events rule.premises (env_at (store_envs s) env))
-                (rule_quiet budget (nat_eq rule.conclusion.form goal.form) (match_all (inputs_of modes rule.conclusion) goal.terms unbound) (after_match modes hyps below_events r rule) (env_at (store_envs s) env) m
-                (quiet_left budget (rule_events modes hyps below_events r rule goal) (rules_events modes hyps below_events (suc r) rs goal)
-                (quiet_try budget (rule_events modes hyps below_events r rule goal ++ rules_events modes hyps below_events (suc r) rs goal) h)));
+            quiet = λ h. silent_conclude known budget modes r rule (premise_events modes hyps below_events rule.premises (env_at (store_envs s) env))
+                (silent_rule known budget (nat_eq rule.conclusion.form goal.form) (match_all (inputs_of modes rule.conclusion) goal.terms unbound) (after_match modes hyps below_events r rule) (env_at (store_envs s) env) m
+                (silent_left known budget (rule_events modes hyps below_events r rule goal) (rules_events modes hyps below_events (suc r) rs goal)
+                (silent_try known budget (rule_events modes hyps below_events r rule goal ++ rules_events modes hyps below_events (suc r) rs goal) h)));
             leads = λ blame h. inl (env_at (store_envs s) env, m, subst (λ (n : ℕ). PremisesStuck modes subjects rules hyps Under n rule goal path 0 rule.premises (env_at (store_envs s) env) blame) same_number h);
           }
       go (inr x) rec =
@@ -171,8 +163,8 @@ module _ (modes subjects : Modes) (rules : List Rule) (hyps : Hypotheses) (budge
             number_is = (let e = w.number_is in omega arith);
             found = w.found;
             within = w.within;
-            quiet = λ h. w.quiet (quiet_right budget (rule_events modes hyps below_events r rule goal) (rules_events modes hyps below_events (suc r) rs goal)
-                (quiet_try budget (rule_events modes hyps below_events r rule goal ++ rules_events modes hyps below_events (suc r) rs goal) h));
+            quiet = λ h. w.quiet (silent_right known budget (rule_events modes hyps below_events r rule goal) (rules_events modes hyps below_events (suc r) rs goal)
+                (silent_try known budget (rule_events modes hyps below_events r rule goal ++ rules_events modes hyps below_events (suc r) rs goal) h));
             leads = λ blame h. inr (x.0, w.leads blame h);
           }
 
@@ -227,9 +219,9 @@ descent_weaker modes subjects rules hyps budget levels s P Q w (Stuck spot reaso
 descent_weaker modes subjects rules hyps budget levels s P Q w (Below spot) x = (x.0, x.1, x.2, λ blame h. w blame (x.3 blame h))
 
 -- the events of the rules of a goal are quiet
-pub quiet_rules : (modes : Modes) (rules : List Rule) (hyps : Hypotheses) (budget levels : ℕ) (goal : Goal) → IsQuiet budget (goal_events modes rules hyps (suc levels) goal) → IsQuiet budget (rules_events modes hyps (goal_events modes rules hyps levels) 0 rules goal)
+pub quiet_rules : (modes : Modes) (rules : List Rule) (hyps : Hypotheses) (known : Bool) (budget levels : ℕ) (goal : Goal) → IsSilent known budget (goal_events modes rules hyps (suc levels) goal) → IsSilent known budget (rules_events modes hyps (goal_events modes rules hyps levels) 0 rules goal)
 unfolding goal_events
-quiet_rules modes rules hyps budget levels goal q = quiet_right budget (given_events modes 0 hyps.judgements goal) (rules_events modes hyps (goal_events modes rules hyps levels) 0 rules goal) q
+quiet_rules modes rules hyps known budget levels goal q = silent_right known budget (given_events modes 0 hyps.judgements goal) (rules_events modes hyps (goal_events modes rules hyps levels) 0 rules goal) q
 
 -- a goal is stuck at a hypothesis, or where the rules lead
 module _ (modes subjects : Modes) (rules : List Rule) (hyps : Hypotheses) (levels : ℕ) (s : Store) (facts : List Fact) (pairs : List Pair) (spot : Spot) (h : IsStore modes rules s) (are : AreHyps modes s facts pairs hyps) (below : AreBelow (length (store_trees s)) spot.terms.items) where
@@ -260,20 +252,20 @@ fit_grows modes rules s t h a k f (Ok x) g = grows_binds modes rules s t h g a k
 fit_grows modes rules s t h a k f (Err e) g = tt
 
 -- what is known after the first rule was sought
-module _ (modes subjects : Modes) (rules : List Rule) (hyps : Hypotheses) (budget levels : ℕ) (old new : Store) (facts : List Fact) (pairs : List Pair) (spot : Spot) (are : AreHyps modes old facts pairs hyps) (below : AreBelow (length (store_trees old)) spot.terms.items) (g : Grows modes rules old new) where
+module _ (modes subjects : Modes) (rules : List Rule) (hyps : Hypotheses) (known : Bool) (budget levels : ℕ) (old new : Store) (facts : List Fact) (pairs : List Pair) (spot : Spot) (are : AreHyps modes old facts pairs hyps) (below : AreBelow (length (store_trees old)) spot.terms.items) (g : Grows modes rules old new) where
   pub sought_none : IsFirstRule modes new (spot_goal old spot) 0 rules None → IsDescent modes subjects rules hyps budget levels new (RulesLead modes subjects rules hyps budget levels (spot_goal old spot) spot.path.items) (Stuck spot NoRule)
   sought_none f =
       let s = spot_stays modes rules old new spot g below in (
         s.0,
         tt,
         subst (λ (q : Goal). RulesLead modes subjects rules hyps budget levels (spot_goal old spot) spot.path.items (record { goal = q; path = spot.path.items; reason = no_rule })) (sym s.1)
-            (none_leads modes subjects rules hyps budget levels new (spot_goal old spot) spot.path.items 0 rules f),
+            (none_leads modes subjects rules hyps known budget levels new (spot_goal old spot) spot.path.items 0 rules f),
       )
 
   -- the rule that was found
   module _ (number env : ℕ) (f : IsFirstRule modes new (spot_goal old spot) 0 rules (Some (number, env))) where
-    led : RuleLeads modes subjects rules hyps budget levels new (spot_goal old spot) spot.path.items 0 rules number env
-    led = rule_leads modes subjects rules hyps budget levels new (spot_goal old spot) spot.path.items 0 rules number env f
+    led : RuleLeads modes subjects rules hyps known budget levels new (spot_goal old spot) spot.path.items 0 rules number env
+    led = rule_leads modes subjects rules hyps known budget levels new (spot_goal old spot) spot.path.items 0 rules number env f
 
     pub sought_env : env ≤ length new.binds.cells.items
     sought_env = led.within
@@ -289,12 +281,12 @@ module _ (modes subjects : Modes) (rules : List Rule) (hyps : Hypotheses) (budge
           let q : Some led.rule ≡ Some rule = sym led.found ∙ ap (slice_get rules) p ∙ e in
           cc
 
-      pub sought_quiet : IsQuiet budget (rules_events modes hyps (goal_events modes rules hyps levels) 0 rules (spot_goal old spot)) →
-          (x : Hypotheses) × AreHyps modes new facts pairs x × IsQuiet budget (premise_events modes x (goal_events modes rules x levels) rule.premises (env_at (store_envs new) env))
+      pub sought_quiet : IsSilent known budget (rules_events modes hyps (goal_events modes rules hyps levels) 0 rules (spot_goal old spot)) →
+          (x : Hypotheses) × AreHyps modes new facts pairs x × IsSilent known budget (premise_events modes x (goal_events modes rules x levels) rule.premises (env_at (store_envs new) env))
       sought_quiet q = (
         hyps,
         hyps_stay modes rules old new facts pairs hyps g are,
-        subst (λ (r : Rule). IsQuiet budget (premise_events modes hyps (goal_events modes rules hyps levels) r.premises (env_at (store_envs new) env))) same_rule (led.quiet q),
+        subst (λ (r : Rule). IsSilent known budget (premise_events modes hyps (goal_events modes rules hyps levels) r.premises (env_at (store_envs new) env))) same_rule (led.quiet q),
       )
 
       pub sought_leads : (last : Store) (d : Descent) → IsDescent modes subjects rules hyps budget levels last (PremisesLead modes subjects rules hyps budget levels number rule (spot_goal new spot) spot.path.items 0 rule.premises (env_at (store_envs new) env)) d →

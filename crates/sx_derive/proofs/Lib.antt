@@ -22,6 +22,9 @@ pub mod Proved
 pub mod HeadLists
 pub mod Searching
 pub mod Quiet
+pub mod Silent
+pub mod Opened
+pub mod Opening
 pub mod FirstFound
 pub mod Descending
 pub mod Asked

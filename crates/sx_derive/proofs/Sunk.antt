@@ -1,5 +1,5 @@
 -- The way from a goal without an answer to the stuck goal.
-use Rattle.std.proofs.Common.{◌≡◌, ℕ, zero, suc, ◌-◌, ◌<◌, ◌≤◌, List, length, Option, sym, ap, ◌∙◌, arith, subst}
+use Rattle.std.proofs.Common.{◌≡◌, ℕ, zero, suc, ◌-◌, ◌<◌, ◌≤◌, Bool, true, false, List, length, Option, sym, ap, ◌∙◌, arith, subst}
 use Rattle.std.specs.Prelude.{Vec}
 use Rattle.std.specs.declared.alloc.Global.{Global}
 use Rattle.sx_term.specs.Tree.{Tree}
@@ -15,7 +15,7 @@ use Rattle.sx_derive.specs.Blames.{blame_of}
 use Rattle.sx_derive.specs.Candidates.{goal_in, AreFacts}
 use Rattle.sx_derive.specs.Problems.{IsProblem}
 use Rattle.sx_derive.specs.Descents.{AreHyps, spot_goal, blame_in, IsDescent, IsLead}
-use Rattle.sx_derive.specs.Quiet.{IsQuiet}
+use Rattle.sx_derive.specs.Quiet.{IsQuiet, IsSilent}
 use Rattle.sx_derive.specs.Store.{store_trees}
 use Rattle.sx_derive.specs.Stuck.{Blame, IsStuck}
 use Rattle.sx_derive.specs.Walk.{goal_events, events}
@@ -32,22 +32,22 @@ use Rattle.sx_derive.proofs.Led.{descent_weaker}
 -- what holds with that many levels left
 pub record Sinking (modes subjects : Modes) (rules : List Rule) (hyps : Hypotheses) (budget levels : ℕ) (first : Goal) (start : List ℕ) (left : ℕ) (here : Goal) (way : List ℕ) : Type 0 where
   pub shallow : AreShallow here.terms
-  pub quiet : IsQuiet budget (goal_events modes rules hyps left here)
+  pub quiet : IsSilent true budget (goal_events modes rules hyps left here)
   pub leads : (blame : Blame) → IsStuck modes subjects rules hyps left here way blame → IsStuck modes subjects rules hyps levels first start blame
 
 module _ (modes subjects : Modes) (rules : List Rule) (hyps : Hypotheses) (budget levels : ℕ) (first : Goal) (start : List ℕ) where
   abbrev S : ℕ → Goal → List ℕ → Type 0
   S left here way = Sinking modes subjects rules hyps budget levels first start left here way
 
-  pub sinking_first : AreShallow first.terms → IsQuiet budget (goal_events modes rules hyps levels first) → S levels first start
+  pub sinking_first : AreShallow first.terms → IsSilent true budget (goal_events modes rules hyps levels first) → S levels first start
   sinking_first a q = record { shallow = a; quiet = q; leads = λ blame x. x }
 
   module _ (left : ℕ) (here : Goal) (way : List ℕ) (positive : 0 < left) (d : S left here way) where
     one_less : suc (left - 1) ≡ left
     one_less = omega arith
 
-    pub sink_quiet : IsQuiet budget (goal_events modes rules hyps (suc (left - 1)) here)
-    sink_quiet = subst (λ (n : ℕ). IsQuiet budget (goal_events modes rules hyps n here)) (sym one_less) d.quiet
+    pub sink_quiet : IsSilent true budget (goal_events modes rules hyps (suc (left - 1)) here)
+    sink_quiet = subst (λ (n : ℕ). IsSilent true budget (goal_events modes rules hyps n here)) (sym one_less) d.quiet
 
     sink_leads : (blame : Blame) → IsStuck modes subjects rules hyps (suc (left - 1)) here way blame → IsStuck modes subjects rules hyps levels first start blame
     sink_leads blame x = d.leads blame (subst (λ (n : ℕ). IsStuck modes subjects rules hyps n here way blame) one_less x)
@@ -61,16 +61,16 @@ module _ (modes subjects : Modes) (rules : List Rule) (hyps : Hypotheses) (budge
   -- with no level left there is a stop
   pub sunk : (left : ℕ) (here : Goal) (way : List ℕ) → left ≤ 0 → S left here way → ⊥
   unfolding goal_events
-  sunk zero here way l d = d.quiet.no_stop tt
+  sunk zero here way l d = d.quiet.quiet.no_stop tt
   sunk (suc left) here way l d = omega arith
 
 -- the events of the first goal are those with 3,000 levels
-pub events_quiet : (modes : Modes) (rules : List Rule) (hyps : Hypotheses) (budget : ℕ) (goal : Goal) → IsQuiet budget (events modes rules hyps goal 1) → IsQuiet budget (goal_events modes rules hyps 3000 goal)
+pub events_quiet : (modes : Modes) (rules : List Rule) (hyps : Hypotheses) (budget : ℕ) (goal : Goal) → IsQuiet budget (events modes rules hyps goal 1) → IsSilent false budget (goal_events modes rules hyps 3000 goal)
 unfolding events
-events_quiet modes rules hyps budget goal q = q
+events_quiet modes rules hyps budget goal q = record { quiet = q; silent = λ k. (let z : ⊥ = cc in absurd z) }
 
 -- a goal in a store of its own
-module _ (modes : Modes) (rules : List Rule) (hyps : Hypotheses) (form : ℕ) (terms : List Tree) (wanted : Option (List Tree)) (p : Problem) (h : IsProblem modes rules hyps terms wanted p) (budget levels : ℕ) where
+module _ (modes : Modes) (rules : List Rule) (hyps : Hypotheses) (form : ℕ) (terms : List Tree) (wanted : Option (List Tree)) (p : Problem) (h : IsProblem modes rules hyps terms wanted p) (known : Bool) (budget levels : ℕ) where
   abbrev goal_here : Goal
   goal_here = record { form = form; terms = terms }
 
@@ -85,10 +85,10 @@ module _ (modes : Modes) (rules : List Rule) (hyps : Hypotheses) (form : ℕ) (t
       pairs_are = ap (pairs_of (store_trees p.store)) f ∙ h.pairs_are;
     }
 
-    pub problem_quiet : IsQuiet budget (goal_events modes rules hyps (suc levels) goal_here) →
-        (x : Hypotheses) × AreHyps modes p.store facts pairs x × IsQuiet budget (goal_events modes rules x (suc levels) (goal_in p.store form p.terms.items))
+    pub problem_quiet : IsSilent known budget (goal_events modes rules hyps (suc levels) goal_here) →
+        (x : Hypotheses) × AreHyps modes p.store facts pairs x × IsSilent known budget (goal_events modes rules x (suc levels) (goal_in p.store form p.terms.items))
     problem_quiet q =
-        (hyps, problem_hyps, subst (λ (g : Goal). IsQuiet budget (goal_events modes rules hyps (suc levels) g)) (sym goal_same) q)
+        (hyps, problem_hyps, subst (λ (g : Goal). IsSilent known budget (goal_events modes rules hyps (suc levels) g)) (sym goal_same) q)
 
     module _ (subjects : Modes) (new : Store) (path : List ℕ) where
       abbrev Leads : Blame → Type 0
@@ -112,6 +112,6 @@ module _ (modes subjects : Modes) (rules : List Rule) (hyps : Hypotheses) (budge
   pub lead_goes : (spot : Spot) (next : GoalOf) → D (Below spot) → goal_of next ≡ spot_goal new spot → IsLead modes subjects rules hyps budget levels goal path (Goes next spot.path)
   lead_goes spot next d e = (
     subst (λ (g : Goal). AreShallow g.terms) (sym e) d.1,
-    subst (λ (g : Goal). IsQuiet budget (goal_events modes rules hyps levels g)) (sym e) d.2,
+    subst (λ (g : Goal). IsSilent true budget (goal_events modes rules hyps levels g)) (sym e) d.2,
     λ blame h. d.3 blame (subst (λ (g : Goal). IsStuck modes subjects rules hyps levels g spot.path.items blame) e h),
   )

@@ -1,9 +1,10 @@
 -- What a premise's goal has as its first answer.
-use Rattle.std.specs.Prelude.{◌≡◌, ℕ, ◌≤◌, List, map, length, Option, Some, None}
-use Rattle.sx_rules.specs.Rules.{Judgement, Rule, judgement_instance}
+use Rattle.std.specs.Prelude.{◌≡◌, ℕ, ◌≤◌, List, [], ◌∷◌, map, length, Option, Some, None}
+use Rattle.sx_rules.specs.Rules.{Judgement, holds, Rule, judgement_instance}
 use Rattle.sx_rules.specs.Modes.{Modes, outputs_of, Goal, goal_of}
-use Rattle.sx_arena.specs.Matching.{match_all, filled}
-use Rattle.sx_derive.specs.Walk.{Event, Answer, goal_events}
+use Rattle.sx_rules.specs.Derivations.{Proofs}
+use Rattle.sx_arena.specs.Matching.{Assignment, match_all, filled}
+use Rattle.sx_derive.specs.Walk.{Event, Answer, premise_events, goal_events}
 use Rattle.sx_derive.specs.declared.ask.Asked.{Asked}
 use Rattle.sx_derive.specs.declared.ask.Asked.TheVariants.{Unanswered, Differs, Matched}
 use Rattle.sx_arena.specs.declared.pairs.Pair.{Pair}
@@ -20,6 +21,11 @@ asked_goal modes s env j = goal_of modes (judgement_instance (filled (env_at (st
 -- its events
 abbrev pub asked_events : Modes → List Rule → List Pair → List Judgement → Store → ℕ → ℕ → Judgement → List (Event Answer)
 asked_events modes rules pairs js s env levels j = goal_events modes rules (hyps_in pairs s js) levels (asked_goal modes s env j)
+
+-- the events of the premise where it is a rule's last one
+abbrev pub last_events : Modes → List Rule → List Pair → List Judgement → Store → ℕ → ℕ → Judgement → List (Event (Assignment × Proofs))
+last_events modes rules pairs js s env levels j =
+    premise_events modes (hyps_in pairs s js) (goal_events modes rules (hyps_in pairs s js) levels) (holds j ∷ []) (env_at (store_envs s) env)
 
 -- the numbers are those of the goal's terms
 pub record AreTermsOf (s : Store) (goal : Goal) (terms : List ℕ) : Type 0 where

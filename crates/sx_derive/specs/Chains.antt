@@ -19,24 +19,30 @@ abbrev pub kids_at : List Proofs → ℕ → Proofs
 kids_at ks zero = no_more
 kids_at ks (suc i) = get_or ks i no_more
 
+-- the proof that a head stands for: a hypothesis, or a rule with the values of its variables and the proofs of its premises
 abbrev pub head_proof : List Assignment → List Proofs → Head → Proof
 head_proof es ks (Given number) = given number
 head_proof es ks (By number variables env kids) = by number (first_values variables (filled (env_at es env))) (kids_at ks kids)
 
+-- the chain of a cell: the one before it, with the proof of its head behind
 abbrev pub kid_step : List Assignment → List Proofs → Kid → Proofs
 kid_step es ks c = joined (kids_at ks c.before) (head_proof es ks c.head ⊳ no_more)
 
+-- the head names only bindings and proofs that are there
 abbrev pub HeadFits : ℕ → ℕ → Head → Type 0
 HeadFits envs kids (Given number) = Unit {0}
 HeadFits envs kids (By number variables env of_kids) = (env ≤ envs) × (of_kids ≤ kids)
 
+-- the cell names only what stands before it
 pub record KidFits (es : List Assignment) (ks : List Proofs) (c : Kid) : Type 0 where
   pub head : HeadFits (length es) (length ks) c.head
   pub before : c.before ≤ length ks
 
+-- the chains that cells make, in order
 abbrev pub kids_of : List Assignment → List Kid → List Proofs
 kids_of es cs = grown_from (kid_step es) [] cs
 
+-- each cell names only what stands before it
 abbrev pub AreKids : List Assignment → List Kid → Type 0
 AreKids es cs = Fits (kid_step es) (KidFits es) [] cs
 
@@ -46,9 +52,11 @@ patterns_of modes None = []
 patterns_of modes (Some (holds j)) = outputs_of modes j
 patterns_of modes (Some (apart t u)) = []
 
+-- the rule of a number that has none
 abbrev pub no_rule : Rule
 no_rule = record { sorts = []; premises = []; conclusion = record { form = 0; places = [] } }
 
+-- the frame of a cell whose rule is known
 abbrev pub frame_at_rule : Modes → List Assignment → List Proofs → Rule → Waiting → Frame
 frame_at_rule modes es ks rule c = record {
   number = c.rule;
@@ -60,6 +68,7 @@ frame_at_rule modes es ks rule c = record {
   levels = c.levels;
 }
 
+-- the frame of a cell
 abbrev pub frame_of : Modes → List Rule → List Assignment → List Proofs → Waiting → Frame
 frame_of modes rules es ks c = frame_at_rule modes es ks (get_or rules c.rule no_rule) c
 
@@ -68,6 +77,7 @@ abbrev pub frames_at : List (List Frame) → ℕ → List Frame
 frames_at fs zero = []
 frames_at fs (suc i) = get_or fs i []
 
+-- the chain of a cell: its frame before the chain that it goes on from
 abbrev pub waiting_step : Modes → List Rule → List Assignment → List Proofs → List (List Frame) → Waiting → List Frame
 waiting_step modes rules es ks fs c = frame_of modes rules es ks c ∷ frames_at fs c.before
 
@@ -75,14 +85,17 @@ waiting_step modes rules es ks fs c = frame_of modes rules es ks c ∷ frames_at
 abbrev pub WaitsAt : List Rule → Waiting → Type 0
 WaitsAt rules c = (rule : Rule) × (j : Judgement) × (slice_get rules c.rule ≡ Some rule) × (slice_get rule.premises c.premise ≡ Some (holds j))
 
+-- the cell waits at a judgement premise of its rule, and names only what stands before it
 pub record WaitingFits (rules : List Rule) (es : List Assignment) (ks : List Proofs) (fs : List (List Frame)) (c : Waiting) : Type 0 where
   pub waits : WaitsAt rules c
   pub env : c.env ≤ length es
   pub kids : c.kids ≤ length ks
   pub before : c.before ≤ length fs
 
+-- the chains that cells make, in order
 abbrev pub frames_of : Modes → List Rule → List Assignment → List Proofs → List Waiting → List (List Frame)
 frames_of modes rules es ks cs = grown_from (waiting_step modes rules es ks) [] cs
 
+-- each cell fits those before it
 abbrev pub AreFrames : Modes → List Rule → List Assignment → List Proofs → List Waiting → Type 0
 AreFrames modes rules es ks cs = Fits (waiting_step modes rules es ks) (WaitingFits rules es ks) [] cs

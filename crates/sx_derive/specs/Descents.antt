@@ -1,5 +1,5 @@
 -- Where a goal without an answer leads: it is stuck, or a premise's goal leads on.
-use Rattle.std.specs.Prelude.{◌≡◌, ℕ, suc, ◌≤◌, List, [], ◌∷◌, ◌⊎◌, Option, Some, None, map, length}
+use Rattle.std.specs.Prelude.{◌≡◌, ℕ, suc, ◌≤◌, true, List, [], ◌∷◌, ◌⊎◌, Option, Some, None, map, length}
 use Rattle.sx_rules.specs.Rules.{Judgement, Premise, Rule, Hypotheses}
 use Rattle.sx_rules.specs.Deep.{AreShallow}
 use Rattle.sx_rules.specs.Modes.{Modes, Goal}
@@ -13,7 +13,7 @@ use Rattle.sx_arena.specs.declared.fact.Fact.{Fact}
 use Rattle.sx_arena.specs.declared.pairs.Pair.{Pair}
 use Rattle.sx_derive.specs.Blames.{blame_of}
 use Rattle.sx_derive.specs.Candidates.{goal_in}
-use Rattle.sx_derive.specs.Quiet.{IsQuiet}
+use Rattle.sx_derive.specs.Quiet.{IsSilent}
 use Rattle.sx_derive.specs.Store.{store_trees, store_envs}
 use Rattle.sx_derive.specs.Stuck.{Reason as ReasonData, no_rule, unequal, mismatch, Blame, path_of, rule_match, PremisesStuck, RulesStuck, IsStuck}
 use Rattle.sx_derive.specs.Walk.{goal_events}
@@ -42,6 +42,7 @@ reason_in s NoRule = no_rule
 reason_in s (Equal rule premise) = unequal rule premise
 reason_in s (Mismatch by got) = mismatch by (map (tree_at (store_trees s)) got.items)
 
+-- the numbers of a reason are of terms that are there
 abbrev pub ReasonBelow : ℕ → Reason → Type 0
 ReasonBelow n NoRule = Unit {0}
 ReasonBelow n (Equal rule premise) = Unit {0}
@@ -60,19 +61,20 @@ module _ (modes subjects : Modes) (rules : List Rule) (hyps : Hypotheses) (budge
   abbrev pub RulesLead : Goal → List ℕ → Blame → Type 0
   RulesLead goal path blame = RulesStuck modes subjects rules hyps (IsStuck modes subjects rules hyps levels) 0 rules goal path blame
 
-  -- the blame is one that is led to, or whatever the goal below leads to is; its terms are no deeper than 1,000, and no stop stands among its events
+  -- the blame is one that is led to, or whatever the goal below leads to is; its terms are no deeper than 1,000, and neither a stop nor an answer stands
+  -- among its events
   abbrev pub IsDescent : Store → (Blame → Type 0) → Descent → Type 0
   IsDescent s Leads (Stuck spot reason) =
       AreBelow (length (store_trees s)) spot.terms.items × ReasonBelow (length (store_trees s)) reason × Leads (blame_in s spot reason)
   IsDescent s Leads (Below spot) =
-      AreBelow (length (store_trees s)) spot.terms.items × AreShallow (spot_goal s spot).terms × IsQuiet budget (goal_events modes rules hyps levels (spot_goal s spot))
+      AreBelow (length (store_trees s)) spot.terms.items × AreShallow (spot_goal s spot).terms × IsSilent true budget (goal_events modes rules hyps levels (spot_goal s spot))
       × ((blame : Blame) → IsStuck modes subjects rules hyps levels (spot_goal s spot) spot.path.items blame → Leads blame)
 
   -- the blame is the stuck goal of the goal at the path, or that of the goal below is
   abbrev pub IsLead : Goal → List ℕ → Lead → Type 0
   IsLead goal path (Ends blame) = IsStuck modes subjects rules hyps (suc levels) goal path (blame_of blame)
   IsLead goal path (Goes next way) =
-      AreShallow (goal_of next).terms × IsQuiet budget (goal_events modes rules hyps levels (goal_of next))
+      AreShallow (goal_of next).terms × IsSilent true budget (goal_events modes rules hyps levels (goal_of next))
       × ((blame : Blame) → IsStuck modes subjects rules hyps levels (goal_of next) way.items blame → IsStuck modes subjects rules hyps (suc levels) goal path blame)
 
 -- the goal of a premise by its numbers, at its path

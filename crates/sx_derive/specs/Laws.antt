@@ -71,6 +71,7 @@ pub record TasksMakeEvents (modes : Modes) (rules : List Rule) (hyps : Hypothese
   pub rules_end : (r levels : ℕ) (goal : Goal) (frames : List Frame) (ts : List Task) →
       tasks_events modes rules hyps (rules_from r [] levels goal frames ∷ ts) ≡ tasks_events modes rules hyps ts
 
+-- whatever the rules and the hypotheses, what the machine does with its tasks are the events of the walk
 abbrev pub MachineMakesEvents : Type 0
 MachineMakesEvents = (modes : Modes) (rules : List Rule) (hyps : Hypotheses) → TasksMakeEvents modes rules hyps
 
@@ -81,6 +82,7 @@ StuckGoalExists =
     (goal : Goal) (depth : ℕ) (path : List ℕ) → (HasStop (events modes rules hyps goal depth) → ⊥) →
     (levels : ℕ) × (blame : Blame) × IsStuck modes subjects rules hyps levels goal path blame
 
+-- a walk that comes to the end of the events has met no stop
 abbrev pub ExhaustedHasNoStop : Type 0
 ExhaustedHasNoStop =
     (wanted : Option (List Tree)) (budget : ℕ) (es : List (Event Answer)) → walk wanted budget es ≡ exhausted → HasStop es → ⊥

@@ -16,6 +16,7 @@ pub mod Turns
 pub mod Walked
 pub mod Problems
 pub mod Quiet
+pub mod Open
 pub mod Asking
 pub mod Ways
 pub mod Descents

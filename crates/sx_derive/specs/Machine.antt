@@ -35,14 +35,17 @@ pub data Result : Type 0 where
   answers : Answer → Result
   goes_on : Task → Result
 
+-- the result where the condition holds, and else nothing
 abbrev pub result_when : Bool → Result → Result
 result_when true r = r
 result_when false r = nothing
 
+-- the result under the bindings of a match, and else nothing
 abbrev pub result_matched : Option Assignment → (Assignment → Result) → Result
 result_matched None f = nothing
 result_matched (Some env) f = f env
 
+-- a stop where a limit is passed, and else the result
 abbrev pub result_unless : Option Cause → Result → Result
 result_unless None r = r
 result_unless (Some c) r = stops c
@@ -89,11 +92,13 @@ abbrev pub premises_after : Modes → List Rule → Hypotheses → ℕ → Rule 
 premises_after modes rules hyps r rule levels ps env kids =
     then_each (λ end. conclude modes r rule (end.0, joined kids end.1)) (premise_events modes hyps (goal_events modes rules hyps levels) ps env)
 
+-- the events that follow an answer at one frame
 abbrev pub after_frame : Modes → List Rule → Hypotheses → Frame → Answer → List (Event Answer)
 after_frame modes rules hyps f a =
     when_matched (match_all f.patterns a.1 f.env) (λ env.
     premises_after modes rules hyps f.number f.rule f.levels f.rest env (joined f.kids (a.0 ⊳ no_more)))
 
+-- the events that follow an answer at the frames that wait for it, the nearest first
 abbrev pub after_frames : Modes → List Rule → Hypotheses → List Frame → Answer → List (Event Answer)
 after_frames modes rules hyps [] a = give a ∷ []
 after_frames modes rules hyps (f ∷ fs) a = then_each (after_frames modes rules hyps fs) (after_frame modes rules hyps f a)
@@ -105,10 +110,12 @@ task_events modes rules hyps (hypotheses_from i js levels goal frames) =
 task_events modes rules hyps (rules_from r rs levels goal frames) =
     then_each (after_frames modes rules hyps frames) (rules_events modes hyps (goal_events modes rules hyps levels) r rs goal)
 
+-- the events that are left of tasks, the first first
 abbrev pub tasks_events : Modes → List Rule → Hypotheses → List Task → List (Event Answer)
 tasks_events modes rules hyps [] = []
 tasks_events modes rules hyps (t ∷ ts) = task_events modes rules hyps t ++ tasks_events modes rules hyps ts
 
+-- the events that a result stands for
 abbrev pub result_events : Modes → List Rule → Hypotheses → Result → List (Event Answer)
 result_events modes rules hyps nothing = []
 result_events modes rules hyps (stops c) = stop c ∷ []

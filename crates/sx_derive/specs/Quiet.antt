@@ -1,5 +1,5 @@
 -- Events without a stop, and what is given first among them.
-use Rattle.std.specs.Prelude.{◌≡◌, ℕ, suc, ◌≤◌, List, [], ◌∷◌, length, Option, Some, None}
+use Rattle.std.specs.Prelude.{◌≡◌, ℕ, suc, ◌≤◌, Bool, true, List, [], ◌∷◌, length, Option, Some, None}
 use Rattle.sx_rules.specs.Rules.{Rule}
 use Rattle.sx_rules.specs.Modes.{Modes}
 use Rattle.sx_derive.specs.Walk.{Event, try, give, stop, Answer}
@@ -29,6 +29,11 @@ first_given [] = None
 first_given (try ∷ es) = first_given es
 first_given (stop c ∷ es) = None
 first_given (give a ∷ es) = Some a
+
+-- the events are quiet, and where that is known, nothing is given among them
+pub record IsSilent {A : Type 0} (known : Bool) (budget : ℕ) (es : List (Event A)) : Type 0 where
+  pub quiet : IsQuiet budget es
+  pub silent : known ≡ true → first_given es ≡ None
 
 -- the answer by its numbers is the one that is given first, where one is given
 abbrev pub IsGivenFirst : Store → Option Answer → Option FirstAnswer → Type 0

@@ -129,6 +129,7 @@ pub record StopsStay (modes : Modes) (rules : List Rule) (hyps : Hypotheses) (bu
   pub big : (n : ℕ) (rest : List (Event Answer)) → IsNextOf modes rules hyps budget first last (stop (too_big n) ∷ rest) new result → (result ≡ Err (TooBig (min n (2 ^ 64 - 1)))) × (last ≡ first)
   pub ended : IsNextOf modes rules hyps budget first last [] new result → (result ≡ Ok Ended) × (last ≡ first)
 
+-- whatever the rules and the hypotheses, a search that met a stop or the end stays there
 abbrev pub SearchesStayStopped : Type 0
 SearchesStayStopped =
     (modes : Modes) (rules : List Rule) (hyps : Hypotheses) (budget first last : ℕ) (new : Search) (result : Result Found SearchError) → StopsStay modes rules hyps budget first last new result

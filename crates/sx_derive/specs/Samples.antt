@@ -13,15 +13,19 @@ use Rattle.sx_derive.specs.Search.{found, exhausted, walk}
 abbrev pub sample_modes : Modes
 sample_modes form = false ∷ false ∷ true ∷ []
 
+-- the judgement that the term e has the type t in the environment c
 abbrev pub typing : Tree → Tree → Tree → Judgement
 typing c e t = record { form = 0; places = c ∷ e ∷ t ∷ [] }
 
+-- the judgement that the environment c says of the name x that it has the type t
 abbrev pub lookup : Tree → Tree → Tree → Judgement
 lookup c x t = record { form = 1; places = c ∷ x ∷ t ∷ [] }
 
+-- the environment with one more binding
 abbrev pub bind_in : Tree → Tree → Tree → Tree
 bind_in c x t = node 1 (c ▹ x ▹ t ▹ none)
 
+-- the name as a term
 abbrev pub var_of : Tree → Tree
 var_of x = node 2 (x ▹ none)
 
@@ -29,6 +33,7 @@ var_of x = node 2 (x ▹ none)
 abbrev pub here_rule : Rule
 here_rule = record { sorts = Plain 0 ∷ Lex Id ∷ Plain 1 ∷ []; premises = []; conclusion = lookup (bind_in (hole 0) (hole 1) (hole 2)) (hole 1) (hole 2) }
 
+-- a binding further out, past one of another name
 abbrev pub there_rule : Rule
 there_rule = record {
   sorts = Plain 0 ∷ Lex Id ∷ Plain 1 ∷ Lex Id ∷ Plain 1 ∷ [];
@@ -36,31 +41,39 @@ there_rule = record {
   conclusion = lookup (bind_in (hole 0) (hole 3) (hole 4)) (hole 1) (hole 2);
 }
 
+-- a name as a term has the type that the environment says
 abbrev pub var_rule : Rule
 var_rule = record { sorts = Plain 0 ∷ Lex Id ∷ Plain 1 ∷ []; premises = holds (lookup (hole 0) (hole 1) (hole 2)) ∷ []; conclusion = typing (hole 0) (var_of (hole 1)) (hole 2) }
 
+-- the three rules
 abbrev pub sample_rules : List Rule
 sample_rules = here_rule ∷ there_rule ∷ var_rule ∷ []
 
+-- the name x
 abbrev pub x_name : Tree
 x_name = lexeme Id (120 ∷ [])
 
+-- the name y
 abbrev pub y_name : Tree
 y_name = lexeme Id (121 ∷ [])
 
+-- the type Int
 abbrev pub int_type : Tree
 int_type = node 3 none
 
+-- the type Str
 abbrev pub str_type : Tree
 str_type = node 4 none
 
--- the environment x : Int , y : Str
+-- the environment x : Int
 abbrev pub outer : Tree
 outer = bind_in (node 0 none) x_name int_type
 
+-- the type of x in the environment x : Int , y : Str
 abbrev pub sample_goal : Goal
 sample_goal = record { form = 0; terms = bind_in outer y_name str_type ∷ var_of x_name ∷ [] }
 
+-- no hypotheses
 abbrev pub no_hypotheses : Hypotheses
 no_hypotheses = record { judgements = []; pairs = [] }
 

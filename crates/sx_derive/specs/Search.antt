@@ -27,6 +27,7 @@ IsGivenBeforeStop q (try ∷ es) = IsGivenBeforeStop q es
 IsGivenBeforeStop q (stop c ∷ es) = ⊥
 IsGivenBeforeStop q (give a ∷ es) = (a ≡ q) ⊎ IsGivenBeforeStop q es
 
+-- a stop stands among the events
 abbrev pub HasStop : {A : Type 0} → List (Event A) → Type 0
 HasStop [] = ⊥
 HasStop (try ∷ es) = HasStop es
@@ -40,10 +41,12 @@ pub data Ending : Type 0 where
   spent : Ending
   exhausted : Ending
 
+-- whether the outputs are those wanted, where some are
 abbrev pub are_wanted : Option (List Tree) → List Tree → Bool
 are_wanted None outs = true
 are_wanted (Some wanted) outs = same_all outs wanted
 
+-- the answer as the ending where it is wanted, and else how the walk ends after it
 abbrev pub found_when : Bool → Answer → Ending → Ending
 found_when true a rest = found a
 found_when false a rest = rest
@@ -61,6 +64,7 @@ abbrev pub tries_unless : Bool → ℕ → ℕ
 tries_unless true n = 0
 tries_unless false n = n
 
+-- how many tries the walk makes, with that many to spend
 abbrev pub tries_of : Option (List Tree) → ℕ → List (Event Answer) → ℕ
 tries_of wanted budget [] = 0
 tries_of wanted zero (try ∷ es) = 0

@@ -36,6 +36,7 @@ concluded_result modes number rule s kids next =
     result_unless (limit_passed (outputs_of modes (judgement_instance s rule.conclusion)))
     (next (by number (first_values (length rule.sorts) s) kids, outputs_of modes (judgement_instance s rule.conclusion)))
 
+-- the store goes on, and the step is the answer of the rule, or a stop
 pub record IsConcluded (modes : Modes) (rules : List Rule) (old new : Store) (number : ℕ) (rule : Rule) (s : ℕ → Tree) (kids : Proofs) (step : Step) : Type 0 where
   pub grows : Grows modes rules old new
   pub is : (js : List Judgement) (next : Answer → Result) → IsStep modes rules js new next step (concluded_result modes number rule s kids next)
@@ -58,11 +59,13 @@ waiting_frame modes rule j env kids c = record {
   levels = c.levels;
 }
 
+-- the goal of a judgement premise, with the frame that waits for it, or a stop
 abbrev pub asked_result : Modes → Hypotheses → Rule → Judgement → Assignment → Proofs → List Frame → Waiting → Result
 asked_result modes hyps rule j env kids frames c =
     result_unless (limit_passed (inputs_of modes (judgement_instance (filled env) j)))
     (goal_result hyps c.levels (goal_of modes (judgement_instance (filled env) j)) (waiting_frame modes rule j env kids c ∷ frames))
 
+-- the store goes on, and the step is the goal of the premise, or a stop
 pub record IsAsked (modes : Modes) (rules : List Rule) (old new : Store) (j : Judgement) (c : Waiting) (step : Step) : Type 0 where
   pub grows : Grows modes rules old new
   pub is : (hyps : Hypotheses) (next : Answer → Result) (rule : Rule) → slice_get rules c.rule ≡ Some rule →

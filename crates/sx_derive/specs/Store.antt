@@ -12,15 +12,19 @@ use Rattle.sx_arena.specs.Arena.{trees, IsArena}
 use Rattle.sx_arena.specs.Binds.{envs, IsBinds}
 use Rattle.sx_derive.specs.Chains.{kids_of, AreKids, frames_of, AreFrames}
 
+-- the terms of a store by their numbers
 abbrev pub store_trees : Store → List Tree
 store_trees s = trees s.arena
 
+-- its bindings
 abbrev pub store_envs : Store → List Assignment
 store_envs s = envs (trees s.arena) s.binds
 
+-- its chains of proofs
 abbrev pub store_kids : Store → List Proofs
 store_kids s = kids_of (store_envs s) s.kids.items
 
+-- its chains of frames
 abbrev pub store_frames : Modes → List Rule → Store → List (List Frame)
 store_frames modes rules s = frames_of modes rules (store_envs s) (store_kids s) s.frames.items
 

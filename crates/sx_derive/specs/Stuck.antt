@@ -25,6 +25,7 @@ abbrev pub here_when : Bool → Option (List ℕ)
 here_when true = Some []
 here_when false = None
 
+-- a place in the kid with that number, or one in a later kid
 abbrev pub first_place : ℕ → Option (List ℕ) → Option (List ℕ) → Option (List ℕ)
 first_place i (Some place) later = Some (i ∷ place)
 first_place i None later = later
@@ -44,10 +45,12 @@ abbrev pub longer_path : List ℕ → Option (List ℕ) → List ℕ
 longer_path path None = path
 longer_path path (Some place) = path ++ place
 
+-- the path on to the place of the first variable of one list in the first term of the other
 abbrev pub path_on : List ℕ → List Tree → List Tree → List ℕ
 path_on path (hole v ∷ _) (t ∷ _) = longer_path path (place_in v t)
 path_on path _ _ = path
 
+-- the path of the goal of a premise of a rule
 abbrev pub path_of : Modes → List ℕ → Rule → Judgement → List ℕ
 path_of subjects path rule j = path_on path (outputs_of subjects j) (outputs_of subjects rule.conclusion)
 

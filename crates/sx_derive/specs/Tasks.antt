@@ -26,9 +26,11 @@ abbrev pub task_when : Bool → ℕ → List Judgement → List Rule → ℕ →
 task_when true next js rules levels goal frames = hypotheses_from next (drop next js) levels goal frames
 task_when false next js rules levels goal frames = rules_from (next - length js) (drop (next - length js) rules) levels goal frames
 
+-- the task that begins with the candidate of that number
 abbrev pub task_from : ℕ → List Judgement → List Rule → ℕ → Goal → List Frame → Task
 task_from next js rules levels goal frames = task_when (nat_lt next (length js)) next js rules levels goal frames
 
+-- a task by its numbers
 abbrev pub task_in : Modes → List Rule → List Judgement → Store → TaskOf → Task
 task_in modes rules js s t = task_from t.next js rules t.levels (goal_in s t.form t.terms.items) (frames_in modes rules s t.frames)
 
@@ -47,6 +49,7 @@ pub record TaskFits (modes : Modes) (rules : List Rule) (s : Store) (candidates 
   pub terms : AreBelow (length (store_trees s)) t.terms.items
   pub frames : t.frames ≤ length s.frames.items
 
+-- each task may stand in the store
 abbrev pub TasksFit : Modes → List Rule → Store → ℕ → List TaskOf → Type 0
 TasksFit modes rules s candidates [] = Unit {0}
 TasksFit modes rules s candidates (t ∷ ts) = TaskFits modes rules s candidates t × TasksFit modes rules s candidates ts
@@ -66,9 +69,11 @@ abbrev pub wanted_at : List Tree → Option (Vec ℕ Global) → Option (List Tr
 wanted_at ts None = None
 wanted_at ts (Some outs) = Some (map (tree_at ts) outs.items)
 
+-- the wanted outputs in a store
 abbrev pub wanted_in : Store → Option (Vec ℕ Global) → Option (List Tree)
 wanted_in s wanted = wanted_at (store_trees s) wanted
 
+-- the wanted outputs are terms that are there
 abbrev pub WantedBelow : ℕ → Option (Vec ℕ Global) → Type 0
 WantedBelow n None = Unit {0}
 WantedBelow n (Some outs) = AreBelow n outs.items

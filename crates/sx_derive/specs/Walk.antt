@@ -23,18 +23,22 @@ then_each f (try ∷ es) = try ∷ then_each f es
 then_each f (stop c ∷ es) = stop c ∷ then_each f es
 then_each f (give a ∷ es) = f a ++ then_each f es
 
+-- the events where the condition holds, and else none
 abbrev pub when : {A : Type 0} → Bool → List (Event A) → List (Event A)
 when true es = es
 when false es = []
 
+-- the events under the bindings of a match, and else none
 abbrev pub when_matched : {A : Type 0} → Option Assignment → (Assignment → List (Event A)) → List (Event A)
 when_matched None f = []
 when_matched (Some env) f = f env
 
+-- a stop where a limit is passed, and else the events
 abbrev pub unless_passed : {A : Type 0} → Option Cause → List (Event A) → List (Event A)
 unless_passed None es = es
 unless_passed (Some c) es = stop c ∷ []
 
+-- a proof before those that were found behind it
 abbrev pub put_first : Proof → Assignment × Proofs → List (Event (Assignment × Proofs))
 put_first kid found = give (found.0, kid ⊳ found.1) ∷ []
 

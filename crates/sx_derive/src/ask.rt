@@ -1,17 +1,18 @@
 //! The first answer of a premise's goal, and whether its outputs match.
 
-ghost use Rattle.std.specs.Prelude.{◌≡◌, ℕ, ◌^◌, ◌≤◌, ◌<◌, List, IfOk, length, map};
+ghost use Rattle.std.specs.Prelude.{◌≡◌, ℕ, true, ◌^◌, ◌≤◌, ◌<◌, List, IfOk, length, map};
 ghost use Rattle.sx_term.specs.Term.{tree};
 ghost use Rattle.sx_rules.specs.Deep.{AreShallow};
 ghost use Rattle.sx_rules.specs.Rules.{Judgement as JudgementOf};
-ghost use Rattle.sx_derive.specs.Asking.{asked_events, IsAnswered};
+ghost use Rattle.sx_derive.specs.Asking.{asked_events, last_events, IsAnswered};
 ghost use Rattle.sx_derive.specs.Candidates.{AreFacts};
 ghost use Rattle.sx_arena.specs.Pairs.{ArePairs};
-ghost use Rattle.sx_derive.specs.Quiet.{IsQuiet, first_given};
+ghost use Rattle.sx_derive.specs.Quiet.{IsQuiet, IsSilent, first_given};
 ghost use Rattle.sx_derive.specs.Store.{IsStore, Grows, store_trees};
 ghost use Rattle.sx_arena.specs.Views.{rules_of, modes_of, judgement_of};
 
 use crate::first::first_answer;
+use crate::open::is_open;
 use crate::store::Store;
 use std::alloc::Global;
 use sx_arena::{Fact, Pair, copied, fit_places, make_places, roles};
@@ -93,4 +94,52 @@ pub(crate) fn ask(
             }
         }
     }
+}
+
+/// What the goal of a premise has as its first answer. It may be known that the premise, as its rule's last one, gives nothing: where its
+/// outputs then fit whatever is got for them, its goal has no answer, and is not walked.
+pub(crate) fn ask_known(
+    alloc: Global,
+    rules: &RuleSet,
+    facts: &[Fact],
+    pairs: &[Pair],
+    store: &mut Store,
+    judgement: &Judgement,
+    env: usize,
+    levels: usize,
+    budget: u64,
+    known: bool,
+) -> Result<Asked, NoMemory>
+    requires few { length facts.now < 2 ^ 32 }
+    requires facts { (js : List JudgementOf) × AreFacts (modes_of rules.now) (store_trees store.old) js facts.now }
+    requires store { IsStore (modes_of rules.now) (rules_of rules.now) store.old }
+    requires pairs { ArePairs (length (store_trees store.old)) pairs.now }
+    requires shallow { AreShallow (map tree judgement.now.places.items) }
+    requires env { env ≤ length store.old.binds.cells.items }
+    requires quiet { (js : List JudgementOf) → AreFacts (modes_of rules.now) (store_trees store.old) js facts.now →
+        IsQuiet budget (asked_events (modes_of rules.now) (rules_of rules.now) pairs.now js store.old env levels (judgement_of judgement.now)) }
+    requires silent { known ≡ true → (js : List JudgementOf) → AreFacts (modes_of rules.now) (store_trees store.old) js facts.now →
+        IsSilent true budget (last_events (modes_of rules.now) (rules_of rules.now) pairs.now js store.old env levels (judgement_of judgement.now)) }
+    ensures grows { IfOk result (λ r. Grows (modes_of rules.now) (rules_of rules.now) store.old store.new) }
+    ensures answered { IfOk result (λ r. (js : List JudgementOf) → AreFacts (modes_of rules.now) (store_trees store.old) js facts.now →
+        IsAnswered (modes_of rules.now) store.old store.new env (judgement_of judgement.now)
+        (first_given (asked_events (modes_of rules.now) (rules_of rules.now) pairs.now js store.old env levels (judgement_of judgement.now))) r) }
+{
+    rules.facts();
+    let roles = roles(rules, judgement.form);
+    if known && facts.is_empty() && is_open(&store.binds, env, roles, &judgement.places) {
+        let terms = make_places(
+            alloc,
+            &mut store.arena,
+            &store.binds,
+            env,
+            roles,
+            false,
+            &judgement.places,
+        )?;
+        return Ok(Asked::Unanswered(terms));
+    }
+    ask(
+        alloc, rules, facts, pairs, store, judgement, env, levels, budget,
+    )
 }

@@ -10,7 +10,7 @@ ghost use Rattle.sx_arena.specs.Binds.{IsFit};
 ghost use Rattle.sx_arena.specs.Views.{rules_of, modes_of, rule_of};
 ghost use Rattle.sx_derive.specs.Candidates.{goal_in};
 ghost use Rattle.sx_derive.specs.Descents.{AreHyps, spot_goal, RulesLead, IsDescent, IsFirstRule, HasInputs, IsFirstFact};
-ghost use Rattle.sx_derive.specs.Quiet.{IsQuiet};
+ghost use Rattle.sx_derive.specs.Quiet.{IsSilent};
 ghost use Rattle.sx_derive.specs.Store.{IsStore, Grows, store_trees};
 ghost use Rattle.sx_derive.specs.Stuck.{rule_match, IsStuck};
 ghost use Rattle.sx_derive.specs.Walk.{goal_events, rules_events};
@@ -98,7 +98,7 @@ fn first_rule(
     Ok(None)
 }
 
-/// Where the rules lead from a goal without an answer that is no hypothesis.
+/// Where the rules lead from a goal that is no hypothesis, of which it may be known that it has no answer.
 fn descend_rules(
     alloc: Global,
     rules: &RuleSet,
@@ -108,12 +108,13 @@ fn descend_rules(
     spot: Spot,
     levels: usize,
     budget: u64,
+    known: bool,
 ) -> Result<Descent, NoMemory>
     requires few { length facts.now < 2 ^ 32 }
     requires store { IsStore (modes_of rules.now) (rules_of rules.now) store.old }
     requires terms { AreBelow (length (store_trees store.old)) spot.terms.items }
     requires quiet { (hyps : Hypotheses) × AreHyps (modes_of rules.now) store.old facts.now pairs.now hyps
-        × IsQuiet budget (rules_events (modes_of rules.now) hyps (goal_events (modes_of rules.now) (rules_of rules.now) hyps levels) 0 (rules_of rules.now) (spot_goal store.old spot)) }
+        × IsSilent known budget (rules_events (modes_of rules.now) hyps (goal_events (modes_of rules.now) (rules_of rules.now) hyps levels) 0 (rules_of rules.now) (spot_goal store.old spot)) }
     ensures grows { IfOk result (λ _. Grows (modes_of rules.now) (rules_of rules.now) store.old store.new) }
     ensures descent { IfOk result (λ d. (hyps : Hypotheses) → AreHyps (modes_of rules.now) store.old facts.now pairs.now hyps →
         IsDescent (modes_of rules.now) (subjects_of rules.now) (rules_of rules.now) hyps budget levels store.new
@@ -137,11 +138,12 @@ fn descend_rules(
             spot,
             levels,
             budget,
+            known,
         ),
     }
 }
 
-/// Where a goal without an answer leads.
+/// Where a goal leads that has no answer, which may be known, or none that is wanted.
 pub(crate) fn descend(
     alloc: Global,
     rules: &RuleSet,
@@ -151,12 +153,13 @@ pub(crate) fn descend(
     spot: Spot,
     levels: usize,
     budget: u64,
+    known: bool,
 ) -> Result<Descent, NoMemory>
     requires few { length facts.now < 2 ^ 32 }
     requires store { IsStore (modes_of rules.now) (rules_of rules.now) store.old }
     requires terms { AreBelow (length (store_trees store.old)) spot.terms.items }
     requires quiet { (hyps : Hypotheses) × AreHyps (modes_of rules.now) store.old facts.now pairs.now hyps
-        × IsQuiet budget (goal_events (modes_of rules.now) (rules_of rules.now) hyps (suc levels) (spot_goal store.old spot)) }
+        × IsSilent known budget (goal_events (modes_of rules.now) (rules_of rules.now) hyps (suc levels) (spot_goal store.old spot)) }
     ensures grows { IfOk result (λ _. Grows (modes_of rules.now) (rules_of rules.now) store.old store.new) }
     ensures descent { IfOk result (λ d. (hyps : Hypotheses) → AreHyps (modes_of rules.now) store.old facts.now pairs.now hyps →
         IsDescent (modes_of rules.now) (subjects_of rules.now) (rules_of rules.now) hyps budget levels store.new
@@ -171,6 +174,8 @@ pub(crate) fn descend(
                 reason: Reason::Mismatch { by: None, got },
             })
         }
-        None => descend_rules(alloc, rules, facts, pairs, store, spot, levels, budget),
+        None => descend_rules(
+            alloc, rules, facts, pairs, store, spot, levels, budget, known,
+        ),
     }
 }

@@ -18,6 +18,7 @@ mod handing;
 mod laws;
 mod list_derivation;
 mod listed;
+mod open;
 mod outcome;
 mod premise_descent;
 mod premise_loop;

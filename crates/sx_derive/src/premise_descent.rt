@@ -8,14 +8,14 @@ ghost use Rattle.sx_arena.specs.Arena.{AreBelow};
 ghost use Rattle.sx_arena.specs.Binds.{env_at};
 ghost use Rattle.sx_arena.specs.Views.{rules_of, modes_of, rule_of, judgement_of};
 ghost use Rattle.sx_derive.specs.Descents.{AreHyps, spot_goal, PremisesLead, IsDescent, IsPremiseSpot};
-ghost use Rattle.sx_derive.specs.Quiet.{IsQuiet};
+ghost use Rattle.sx_derive.specs.Quiet.{IsSilent};
 ghost use Rattle.sx_derive.specs.Store.{IsStore, Grows, store_trees, store_envs};
 ghost use Rattle.sx_derive.specs.Walk.{goal_events, premise_events};
 ghost use Rattle.sx_derive.specs.Ways.{subjects_of};
 ghost use Rattle.sx_derive.specs.declared.descent.Descent.TheVariants.{Stuck};
 ghost use Rattle.sx_derive.specs.declared.descent.Reason.TheVariants.{Equal, Mismatch};
 
-use crate::ask::{Asked, ask};
+use crate::ask::{Asked, ask_known};
 use crate::descent::{Descent, Reason, Spot};
 use crate::store::Store;
 use crate::subject_way::put_premise_way;
@@ -67,7 +67,7 @@ fn differs(spot: Spot, rule: u32, premise: usize, got: Vec<usize>) -> Descent
     }
 }
 
-/// Where the premises of a goal's first candidate lead, gone through with first answers.
+/// Where the premises of a goal's first candidate lead, gone through with first answers. It may be known that the goal has no answer.
 pub(crate) fn descend_premises(
     alloc: Global,
     rules: &RuleSet,
@@ -80,6 +80,7 @@ pub(crate) fn descend_premises(
     spot: Spot,
     levels: usize,
     budget: u64,
+    known: bool,
 ) -> Result<Descent, NoMemory>
     requires few { length facts.now < 2 ^ 32 }
     requires store { IsStore (modes_of rules.now) (rules_of rules.now) store.old }
@@ -87,7 +88,7 @@ pub(crate) fn descend_premises(
     requires env { first ≤ length store.old.binds.cells.items }
     requires terms { AreBelow (length (store_trees store.old)) spot.terms.items }
     requires quiet { (hyps : Hypotheses) × AreHyps (modes_of rules.now) store.old facts.now pairs.now hyps
-        × IsQuiet budget (premise_events (modes_of rules.now) hyps (goal_events (modes_of rules.now) (rules_of rules.now) hyps levels) (rule_of rule.now).premises (env_at (store_envs store.old) first)) }
+        × IsSilent known budget (premise_events (modes_of rules.now) hyps (goal_events (modes_of rules.now) (rules_of rules.now) hyps levels) (rule_of rule.now).premises (env_at (store_envs store.old) first)) }
     ensures grows { IfOk result (λ _. Grows (modes_of rules.now) (rules_of rules.now) store.old store.new) }
     ensures descent { IfOk result (λ d. (hyps : Hypotheses) → AreHyps (modes_of rules.now) store.old facts.now pairs.now hyps →
         IsDescent (modes_of rules.now) (subjects_of rules.now) (rules_of rules.now) hyps budget levels store.new
@@ -111,8 +112,9 @@ pub(crate) fn descend_premises(
                 }
             }
             Premise::Holds(judgement) => {
-                match ask(
-                    alloc, rules, facts, pairs, store, judgement, env, levels, budget,
+                let last = known && k + 1 == rule.premises.len();
+                match ask_known(
+                    alloc, rules, facts, pairs, store, judgement, env, levels, budget, last,
                 )? {
                     Asked::Matched(next) => env = next,
                     Asked::Unanswered(terms) => {

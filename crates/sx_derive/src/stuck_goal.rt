@@ -1,6 +1,6 @@
 //! The stuck goal of a goal without an answer.
 
-ghost use Rattle.std.specs.Prelude.{◌≡◌, ℕ, suc, ◌^◌, ◌≤◌, ◌<◌, [], IfOk, length, None};
+ghost use Rattle.std.specs.Prelude.{◌≡◌, ℕ, suc, true, ◌^◌, ◌≤◌, ◌<◌, [], IfOk, length, None};
 ghost use Rattle.sx_rules.specs.Deep.{AreShallow};
 ghost use Rattle.sx_rules.specs.Derivations.{ShallowJudgements};
 ghost use Rattle.sx_rules.specs.Views.{goal as goal_of, hypotheses};
@@ -10,7 +10,7 @@ ghost use Rattle.sx_arena.specs.Views.{rules_of, modes_of};
 ghost use Rattle.sx_derive.specs.Blames.{blame_of, cause_of};
 ghost use Rattle.sx_derive.specs.Candidates.{goal_in};
 ghost use Rattle.sx_derive.specs.Descents.{reason_in, ReasonBelow, blame_in, IsLead};
-ghost use Rattle.sx_derive.specs.Quiet.{IsQuiet};
+ghost use Rattle.sx_derive.specs.Quiet.{IsQuiet, IsSilent};
 ghost use Rattle.sx_derive.specs.Store.{store_trees};
 ghost use Rattle.sx_derive.specs.Stuck.{IsStuck};
 ghost use Rattle.sx_derive.specs.Walk.{goal_events, events};
@@ -68,7 +68,7 @@ fn export_blame(alloc: Global, store: &Store, spot: Spot, reason: Reason) -> Res
     })
 }
 
-/// Where the goal leads. What is made on the way there is dropped.
+/// Where the goal leads, of which it may be known that it has no answer. What is made on the way there is dropped.
 fn lead(
     alloc: Global,
     rules: &RuleSet,
@@ -77,12 +77,13 @@ fn lead(
     path: Vec<usize>,
     levels: usize,
     budget: u64,
+    known: bool,
 ) -> Result<Lead, NoMemory>
     requires few { length given.now.holds.items < 2 ^ 32 }
     requires holds { ShallowJudgements (hypotheses given.now).judgements }
     requires apart { ArePairsShallow (hypotheses given.now).pairs }
     requires goal { AreShallow (goal_of goal.now).terms }
-    requires quiet { IsQuiet budget (goal_events (modes_of rules.now) (rules_of rules.now) (hypotheses given.now) (suc levels) (goal_of goal.now)) }
+    requires quiet { IsSilent known budget (goal_events (modes_of rules.now) (rules_of rules.now) (hypotheses given.now) (suc levels) (goal_of goal.now)) }
     ensures { IfOk result (λ l. IsLead (modes_of rules.now) (subjects_of rules.now) (rules_of rules.now) (hypotheses given.now) budget levels (goal_of goal.now) path.items l) }
 {
     let problem = enter_problem(alloc, rules, given, goal, None)?;
@@ -100,7 +101,7 @@ fn lead(
         path,
     };
     match descend(
-        alloc, rules, &facts, &pairs, &mut store, spot, levels, budget,
+        alloc, rules, &facts, &pairs, &mut store, spot, levels, budget, known,
     )? {
         Descent::Stuck { spot, reason } => {
             let blame = export_blame(alloc, &store, spot, reason)?;
@@ -130,7 +131,7 @@ fn stuck_below(
     requires holds { ShallowJudgements (hypotheses given.now).judgements }
     requires apart { ArePairsShallow (hypotheses given.now).pairs }
     requires goal { AreShallow (goal_of first).terms }
-    requires quiet { IsQuiet budget (goal_events (modes_of rules.now) (rules_of rules.now) (hypotheses given.now) levels (goal_of first)) }
+    requires quiet { IsSilent true budget (goal_events (modes_of rules.now) (rules_of rules.now) (hypotheses given.now) levels (goal_of first)) }
     ensures { IfOk result (λ b. IsStuck (modes_of rules.now) (subjects_of rules.now) (rules_of rules.now) (hypotheses given.now) levels (goal_of first) start.items (blame_of b)) }
 {
     let mut here = first;
@@ -138,7 +139,7 @@ fn stuck_below(
     let mut left = levels;
     while left > 0 {
         left -= 1;
-        match lead(alloc, rules, given, &here, way, left, budget)? {
+        match lead(alloc, rules, given, &here, way, left, budget, true)? {
             Lead::Ends(blame) => return Ok(blame),
             Lead::Goes { goal, path } => {
                 here = goal;
@@ -164,7 +165,16 @@ pub(crate) fn stuck_goal(
     requires quiet { IsQuiet budget (events (modes_of rules.now) (rules_of rules.now) (hypotheses given.now) (goal_of goal.now) 1) }
     ensures { IfOk result (λ b. IsStuck (modes_of rules.now) (subjects_of rules.now) (rules_of rules.now) (hypotheses given.now) 3000 (goal_of goal.now) [] (blame_of b)) }
 {
-    match lead(alloc, rules, given, goal, Vec::new(alloc), 2999, budget)? {
+    match lead(
+        alloc,
+        rules,
+        given,
+        goal,
+        Vec::new(alloc),
+        2999,
+        budget,
+        false,
+    )? {
         Lead::Ends(blame) => Ok(blame),
         Lead::Goes { goal: next, path } => {
             stuck_below(alloc, rules, given, next, path, 2999, budget)

@@ -352,6 +352,10 @@ fn tells_the_stuck_goal(rt: HostRuntime) -> Result<(), Fail> {
     let alloc = rt.alloc();
     assert_eq!(rt; answer(alloc, "(3 (0) (2))", 9)?, (1, (2, 1, 1, 1)));
     assert_eq!(rt; answer(alloc, "(3 (1) (0))", 6)?, (1, (1, 1, 0, 5)));
+    assert_eq!(rt;
+        answer(alloc, "(3 (0) (3 (0) (2)))", 30)?,
+        (1, (2, 2, 1, 1))
+    );
     Ok(())
 }
 

@@ -13,7 +13,7 @@ descend_rules-requires-clause-quiet c =
     let su = subjects_of c.args.rules.now in
     let rs = rules_of c.args.rules.now in
     let s = c.args.store.now in
-    (c.requires.quiet.0, c.requires.quiet.1, quiet_rules m rs c.requires.quiet.0 c.args.budget c.args.levels (spot_goal s c.args.spot) c.requires.quiet.2)
+    (c.requires.quiet.0, c.requires.quiet.1, quiet_rules m rs c.requires.quiet.0 c.args.known c.args.budget c.args.levels (spot_goal s c.args.spot) c.requires.quiet.2)
 
 pub returns-in_ok-got-in-Some-clause-descent : goal.returns-in_ok-got-in-Some-clause-descent
 returns-in_ok-got-in-Some-clause-descent c =

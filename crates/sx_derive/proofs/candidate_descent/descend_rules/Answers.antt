@@ -19,7 +19,7 @@ rule_at-requires c =
     let g = c.in_ok-first_rule.ensures.grows in
     let f0 = subst (λ is. IsFirstRule m t (goal_in s c.args.spot.form is) 0 rs c.in_ok-first_rule.field-0) c.deref.ensures.value c.in_ok-first_rule.ensures.first in
     let f = subst (λ o. IsFirstRule m t (spot_goal s c.args.spot) 0 rs o) c.in-Some.is f0 in
-    sought_within m su rs c.requires.quiet.0 c.args.budget c.args.levels s t c.args.facts.now c.args.pairs.now c.args.spot c.requires.quiet.1 c.requires.terms g c.in-Some.number c.in-Some.env f
+    sought_within m su rs c.requires.quiet.0 c.args.known c.args.budget c.args.levels s t c.args.facts.now c.args.pairs.now c.args.spot c.requires.quiet.1 c.requires.terms g c.in-Some.number c.in-Some.env f
 
 pub descend_premises-requires-clause-shallow : goal.descend_premises-requires-clause-shallow
 descend_premises-requires-clause-shallow c =
@@ -43,7 +43,7 @@ descend_premises-requires-clause-env c =
     let g = c.in_ok-first_rule.ensures.grows in
     let f0 = subst (λ is. IsFirstRule m t (goal_in s c.args.spot.form is) 0 rs c.in_ok-first_rule.field-0) c.deref.ensures.value c.in_ok-first_rule.ensures.first in
     let f = subst (λ o. IsFirstRule m t (spot_goal s c.args.spot) 0 rs o) c.in-Some.is f0 in
-    sought_env m su rs c.requires.quiet.0 c.args.budget c.args.levels s t c.args.facts.now c.args.pairs.now c.args.spot c.requires.quiet.1 c.requires.terms g c.in-Some.number c.in-Some.env f
+    sought_env m su rs c.requires.quiet.0 c.args.known c.args.budget c.args.levels s t c.args.facts.now c.args.pairs.now c.args.spot c.requires.quiet.1 c.requires.terms g c.in-Some.number c.in-Some.env f
 
 pub descend_premises-requires-clause-terms : goal.descend_premises-requires-clause-terms
 descend_premises-requires-clause-terms c =
@@ -66,7 +66,7 @@ descend_premises-requires-clause-quiet c =
     let g = c.in_ok-first_rule.ensures.grows in
     let f0 = subst (λ is. IsFirstRule m t (goal_in s c.args.spot.form is) 0 rs c.in_ok-first_rule.field-0) c.deref.ensures.value c.in_ok-first_rule.ensures.first in
     let f = subst (λ o. IsFirstRule m t (spot_goal s c.args.spot) 0 rs o) c.in-Some.is f0 in
-    sought_quiet m su rs c.requires.quiet.0 c.args.budget c.args.levels s t c.args.facts.now c.args.pairs.now c.args.spot c.requires.quiet.1 c.requires.terms g c.in-Some.number c.in-Some.env f (rule_of c.rule_at.result.now) c.rule_at.ensures c.requires.quiet.2
+    sought_quiet m su rs c.requires.quiet.0 c.args.known c.args.budget c.args.levels s t c.args.facts.now c.args.pairs.now c.args.spot c.requires.quiet.1 c.requires.terms g c.in-Some.number c.in-Some.env f (rule_of c.rule_at.result.now) c.rule_at.ensures c.requires.quiet.2
 
 pub returns-in-None-clause-descent : goal.returns-in-None-clause-descent
 returns-in-None-clause-descent c =
@@ -78,7 +78,7 @@ returns-in-None-clause-descent c =
     let g = c.in_ok-first_rule.ensures.grows in
     let f0 = subst (λ is. IsFirstRule m t (goal_in s c.args.spot.form is) 0 rs c.in_ok-first_rule.field-0) c.deref.ensures.value c.in_ok-first_rule.ensures.first in
     let f = subst (λ o. IsFirstRule m t (spot_goal s c.args.spot) 0 rs o) c.in-None.is f0 in
-    λ hyps are. sought_none m su rs hyps c.args.budget c.args.levels s t c.args.facts.now c.args.pairs.now c.args.spot are c.requires.terms g f
+    λ hyps are. sought_none m su rs hyps c.args.known c.args.budget c.args.levels s t c.args.facts.now c.args.pairs.now c.args.spot are c.requires.terms g f
 
 pub returns-in-Some-clause-descent : goal.returns-in-Some-clause-descent
 returns-in-Some-clause-descent c =
@@ -90,4 +90,4 @@ returns-in-Some-clause-descent c =
     let g = c.in_ok-first_rule.ensures.grows in
     let f0 = subst (λ is. IsFirstRule m t (goal_in s c.args.spot.form is) 0 rs c.in_ok-first_rule.field-0) c.deref.ensures.value c.in_ok-first_rule.ensures.first in
     let f = subst (λ o. IsFirstRule m t (spot_goal s c.args.spot) 0 rs o) c.in-Some.is f0 in
-    ok_weaker _ _ (λ d h hyps are. sought_leads m su rs hyps c.args.budget c.args.levels s t c.args.facts.now c.args.pairs.now c.args.spot are c.requires.terms g c.in-Some.number c.in-Some.env f (rule_of c.rule_at.result.now) c.rule_at.ensures c.descend_premises.new.store d (h hyps (hyps_stay m rs s t c.args.facts.now c.args.pairs.now hyps g are))) c.descend_premises.result c.descend_premises.ensures.descent
+    ok_weaker _ _ (λ d h hyps are. sought_leads m su rs hyps c.args.known c.args.budget c.args.levels s t c.args.facts.now c.args.pairs.now c.args.spot are c.requires.terms g c.in-Some.number c.in-Some.env f (rule_of c.rule_at.result.now) c.rule_at.ensures c.descend_premises.new.store d (h hyps (hyps_stay m rs s t c.args.facts.now c.args.pairs.now hyps g are))) c.descend_premises.result c.descend_premises.ensures.descent

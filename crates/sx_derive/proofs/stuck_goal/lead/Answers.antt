@@ -26,7 +26,7 @@ descend-requires-clause-few c =
 
 pub descend-requires-clause-quiet : goal.descend-requires-clause-quiet
 descend-requires-clause-quiet c =
-    problem_quiet (modes_of c.args.rules.now) (rules_of c.args.rules.now) (hypotheses c.args.given.now) c.args.goal.now.form (goal_of c.args.goal.now).terms _ c.in_ok-problem.problem c.in_ok-problem.ensures c.args.budget c.args.levels
+    problem_quiet (modes_of c.args.rules.now) (rules_of c.args.rules.now) (hypotheses c.args.given.now) c.args.goal.now.form (goal_of c.args.goal.now).terms _ c.in_ok-problem.problem c.in_ok-problem.ensures c.args.known c.args.budget c.args.levels
     c.deref.result.now c.deref-2.result.now c.deref.ensures.value c.deref-2.ensures.value c.requires.quiet
 
 pub export_blame-requires-clause-terms : goal.export_blame-requires-clause-terms
@@ -35,7 +35,7 @@ export_blame-requires-clause-terms c =
     let su = subjects_of c.args.rules.now in
     let rs = rules_of c.args.rules.now in
     let hy = hypotheses c.args.given.now in
-    let d = problem_descent m rs hy c.args.goal.now.form (goal_of c.args.goal.now).terms _ c.in_ok-problem.problem c.in_ok-problem.ensures c.args.budget c.args.levels c.deref.result.now c.deref-2.result.now c.deref.ensures.value c.deref-2.ensures.value su c.descend.new.store c.args.path.items c.in_ok-spot.field-0 c.in_ok-spot.ensures.descent in
+    let d = problem_descent m rs hy c.args.goal.now.form (goal_of c.args.goal.now).terms _ c.in_ok-problem.problem c.in_ok-problem.ensures c.args.known c.args.budget c.args.levels c.deref.result.now c.deref-2.result.now c.deref.ensures.value c.deref-2.ensures.value su c.descend.new.store c.args.path.items c.in_ok-spot.field-0 c.in_ok-spot.ensures.descent in
     let x = subst (λ (q : Descent). IsDescent m su rs hy c.args.budget c.args.levels c.descend.new.store (IsStuck m su rs hy (suc c.args.levels) (goal_of c.args.goal.now) c.args.path.items) q) c.in-Stuck.is d in
     x.0
 
@@ -45,7 +45,7 @@ export_blame-requires-clause-reason c =
     let su = subjects_of c.args.rules.now in
     let rs = rules_of c.args.rules.now in
     let hy = hypotheses c.args.given.now in
-    let d = problem_descent m rs hy c.args.goal.now.form (goal_of c.args.goal.now).terms _ c.in_ok-problem.problem c.in_ok-problem.ensures c.args.budget c.args.levels c.deref.result.now c.deref-2.result.now c.deref.ensures.value c.deref-2.ensures.value su c.descend.new.store c.args.path.items c.in_ok-spot.field-0 c.in_ok-spot.ensures.descent in
+    let d = problem_descent m rs hy c.args.goal.now.form (goal_of c.args.goal.now).terms _ c.in_ok-problem.problem c.in_ok-problem.ensures c.args.known c.args.budget c.args.levels c.deref.result.now c.deref-2.result.now c.deref.ensures.value c.deref-2.ensures.value su c.descend.new.store c.args.path.items c.in_ok-spot.field-0 c.in_ok-spot.ensures.descent in
     let x = subst (λ (q : Descent). IsDescent m su rs hy c.args.budget c.args.levels c.descend.new.store (IsStuck m su rs hy (suc c.args.levels) (goal_of c.args.goal.now) c.args.path.items) q) c.in-Stuck.is d in
     x.1
 
@@ -55,7 +55,7 @@ returns-in-Stuck c =
     let su = subjects_of c.args.rules.now in
     let rs = rules_of c.args.rules.now in
     let hy = hypotheses c.args.given.now in
-    let d = problem_descent m rs hy c.args.goal.now.form (goal_of c.args.goal.now).terms _ c.in_ok-problem.problem c.in_ok-problem.ensures c.args.budget c.args.levels c.deref.result.now c.deref-2.result.now c.deref.ensures.value c.deref-2.ensures.value su c.descend.new.store c.args.path.items c.in_ok-spot.field-0 c.in_ok-spot.ensures.descent in
+    let d = problem_descent m rs hy c.args.goal.now.form (goal_of c.args.goal.now).terms _ c.in_ok-problem.problem c.in_ok-problem.ensures c.args.known c.args.budget c.args.levels c.deref.result.now c.deref-2.result.now c.deref.ensures.value c.deref-2.ensures.value su c.descend.new.store c.args.path.items c.in_ok-spot.field-0 c.in_ok-spot.ensures.descent in
     let x = subst (λ (q : Descent). IsDescent m su rs hy c.args.budget c.args.levels c.descend.new.store (IsStuck m su rs hy (suc c.args.levels) (goal_of c.args.goal.now) c.args.path.items) q) c.in-Stuck.is d in
     lead_ends m su rs hy c.args.budget c.args.levels c.descend.new.store (goal_of c.args.goal.now) c.args.path.items c.in-Stuck.spot c.in-Stuck.reason c.in_ok-blame-in-Stuck.blame x c.in_ok-blame-in-Stuck.ensures
 
@@ -65,7 +65,7 @@ export_goal-requires-clause-terms c =
     let su = subjects_of c.args.rules.now in
     let rs = rules_of c.args.rules.now in
     let hy = hypotheses c.args.given.now in
-    let d = problem_descent m rs hy c.args.goal.now.form (goal_of c.args.goal.now).terms _ c.in_ok-problem.problem c.in_ok-problem.ensures c.args.budget c.args.levels c.deref.result.now c.deref-2.result.now c.deref.ensures.value c.deref-2.ensures.value su c.descend.new.store c.args.path.items c.in_ok-spot.field-0 c.in_ok-spot.ensures.descent in
+    let d = problem_descent m rs hy c.args.goal.now.form (goal_of c.args.goal.now).terms _ c.in_ok-problem.problem c.in_ok-problem.ensures c.args.known c.args.budget c.args.levels c.deref.result.now c.deref-2.result.now c.deref.ensures.value c.deref-2.ensures.value su c.descend.new.store c.args.path.items c.in_ok-spot.field-0 c.in_ok-spot.ensures.descent in
     let x = subst (λ (q : Descent). IsDescent m su rs hy c.args.budget c.args.levels c.descend.new.store (IsStuck m su rs hy (suc c.args.levels) (goal_of c.args.goal.now) c.args.path.items) q) c.in-Below.is d in
     subst (λ is. AreBelow (length (store_trees c.descend.new.store)) is) (sym c.deref-in-Below.ensures.value) x.0
 
@@ -75,7 +75,7 @@ returns c =
     let su = subjects_of c.args.rules.now in
     let rs = rules_of c.args.rules.now in
     let hy = hypotheses c.args.given.now in
-    let d = problem_descent m rs hy c.args.goal.now.form (goal_of c.args.goal.now).terms _ c.in_ok-problem.problem c.in_ok-problem.ensures c.args.budget c.args.levels c.deref.result.now c.deref-2.result.now c.deref.ensures.value c.deref-2.ensures.value su c.descend.new.store c.args.path.items c.in_ok-spot.field-0 c.in_ok-spot.ensures.descent in
+    let d = problem_descent m rs hy c.args.goal.now.form (goal_of c.args.goal.now).terms _ c.in_ok-problem.problem c.in_ok-problem.ensures c.args.known c.args.budget c.args.levels c.deref.result.now c.deref-2.result.now c.deref.ensures.value c.deref-2.ensures.value su c.descend.new.store c.args.path.items c.in_ok-spot.field-0 c.in_ok-spot.ensures.descent in
     let x = subst (λ (q : Descent). IsDescent m su rs hy c.args.budget c.args.levels c.descend.new.store (IsStuck m su rs hy (suc c.args.levels) (goal_of c.args.goal.now) c.args.path.items) q) c.in-Below.is d in
     lead_goes m su rs hy c.args.budget c.args.levels c.descend.new.store (goal_of c.args.goal.now) c.args.path.items c.in-Below.next c.in_ok-below-in-Below.below x
     (subst (λ is. goal_of c.in_ok-below-in-Below.below ≡ goal_in c.descend.new.store c.in-Below.next.form is) c.deref-in-Below.ensures.value c.in_ok-below-in-Below.ensures)
