@@ -14,6 +14,7 @@ pub mod Numbered
 pub mod Cycles
 pub mod Numbering
 pub mod Distinct
+pub mod Extended
 pub mod Tables
 pub mod Told
 pub mod Known

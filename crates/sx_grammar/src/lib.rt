@@ -6,6 +6,7 @@ mod cycle;
 mod cyclic;
 mod distinct;
 mod empty_sorts;
+mod extend;
 mod firsts;
 mod follow;
 mod grammar;

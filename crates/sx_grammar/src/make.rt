@@ -60,7 +60,7 @@ fn productions_of(
 }
 
 /// The tables of the parts, or why these are no grammar.
-fn tables(alloc: Global, from: &GrammarParts) -> Result<Tables, GrammarError>
+pub(crate) fn tables(alloc: Global, from: &GrammarParts) -> Result<Tables, GrammarError>
     requires { IsWithinLimits (parts from.now) }
     ensures tables { IfOk result (λ t. (base : ℕ) → base ≤ length (parts from.now).productions
         → IsTabled (parts from.now) base t.literals.items t.productions.items t.brackets.items t.sort_names t.literal_names t.ranks.items) }
