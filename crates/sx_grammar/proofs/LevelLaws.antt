@@ -260,5 +260,14 @@ lacks_is p ps i s asked least a l known same at greatest lowest a_is l_is small 
         (lacks.0, omega (arith, bound, low, w.7, a_is, l_is))
 
 -- what is read at an index
-pub read_as : (xs : List ℕ) (i a d : ℕ) → i < length xs → a ≡ get_or xs i a → slice_index_or xs i d ≡ a
+read_as : (xs : List ℕ) (i a d : ℕ) → i < length xs → a ≡ get_or xs i a → slice_index_or xs i d ≡ a
 read_as xs i a d lt is = get_or_from_slice_get xs i a d (slice_get_read xs (length xs) i a refl lt is)
+
+same_read : (xs : List ℕ) (i d e : ℕ) → i < length xs → get_or xs i d ≡ get_or xs i e
+same_read [] i d e lt = absurd (omega (arith, lt))
+same_read (x ∷ xs) zero d e lt = refl
+same_read (x ∷ xs) (suc i) d e lt = same_read xs i d e (omega (arith, lt))
+
+-- the element that is there, with one default and another
+pub read_here : (xs : List ℕ) (i d e : ℕ) → i < length xs → slice_index_or xs i d ≡ get_or xs i e
+read_here xs i d e lt = read_as xs i (get_or xs i e) d lt (same_read xs i e (get_or xs i e) lt)

@@ -1,12 +1,33 @@
 //! The distinct literals of a grammar.
 
-ghost use Rattle.std.specs.Prelude.{◌≡◌, IfOk};
+ghost use Rattle.std.specs.Prelude.{◌≡◌, [], OnOk, IfOk};
 ghost use Rattle.sx_grammar.specs.Parts.{texts};
 ghost use Rattle.sx_grammar.specs.Distinct.{distinct};
 
 use crate::names::Names;
 use std::alloc::Global;
 use sx_term::{NoMemory, Text};
+
+/// Adds each text once, where it first stands, to no texts, and the same as names.
+fn fill(
+    alloc: Global,
+    list: &[&Text],
+    out: &mut Vec<Text>,
+    names: &mut Names,
+) -> Result<(), NoMemory>
+    requires no_texts { out.old.items ≡ [] }
+    requires no_names { names.old ≡ [] }
+    ensures texts { OnOk result (out.new.items ≡ distinct (texts list.now)) }
+    ensures names { OnOk result (names.new ≡ distinct (texts list.now)) }
+{
+    for text in list {
+        if names.number(text.bytes()).is_none() {
+            names.push(alloc, text.bytes())?;
+            out.push(text.copy(alloc)?)?;
+        }
+    }
+    Ok(())
+}
 
 /// Each text once, where it first stands, and the same as names.
 pub(crate) fn distinct(alloc: Global, list: &[&Text]) -> Result<(Vec<Text>, Names), NoMemory>
@@ -15,11 +36,12 @@ pub(crate) fn distinct(alloc: Global, list: &[&Text]) -> Result<(Vec<Text>, Name
 {
     let mut out = Vec::new(alloc);
     let mut names = Names::new(alloc);
-    for text in list {
-        if names.number(text.bytes()).is_none() {
-            names.push(alloc, text.bytes())?;
-            out.push(text.copy(alloc)?)?;
+    match fill(alloc, list, &mut out, &mut names) {
+        Ok(()) => Ok((out, names)),
+        Err(e) => {
+            drop(names);
+            drop(out);
+            Err(e)
         }
     }
-    Ok((out, names))
 }

@@ -77,6 +77,32 @@ fn lacks_brackets(sort: &SortLine, asked: u8, least: u8) -> bool
     sort.brackets.is_none() && least < asked
 }
 
+/// The same by the greatest level that parts ask for of each sort, and the least level of its productions.
+fn has_brackets_at(
+    alloc: Global,
+    from: &GrammarParts,
+    _productions: &[NumberedProduction],
+    asked: &[u8],
+    least: &[u8],
+) -> Result<(), GrammarError>
+    requires sorts { KeepsSorts (parts from.now) }
+    requires numbered { AreNumbered (parts from.now) _productions.now }
+    requires asked_size { length asked.now ≡ length from.now.sorts.items }
+    requires least_size { length least.now ≡ length from.now.sorts.items }
+    requires greatest { AreGreatest _productions.now asked.now }
+    requires least { AreLeast _productions.now least.now }
+    ensures good { OnOk result (HasBrackets (parts from.now)) }
+    ensures refused { IfErr result (IsRefused (parts from.now)) }
+{
+    for i in 0..from.sorts.len() {
+        let sort = &from.sorts[i];
+        if lacks_brackets(sort, asked[i], least[i]) {
+            return Err(GrammarError::NoBrackets(sort.name.copy(alloc)?));
+        }
+    }
+    Ok(())
+}
+
 /// Whether each sort has the brackets that are asked for; else NoBrackets.
 pub(crate) fn has_brackets(
     alloc: Global,
@@ -89,12 +115,11 @@ pub(crate) fn has_brackets(
     ensures refused { IfErr result (IsRefused (parts from.now)) }
 {
     let asked = greatest_levels(alloc, productions, from.sorts.len())?;
-    let least = least_levels(alloc, productions, from.sorts.len())?;
-    for i in 0..from.sorts.len() {
-        let sort = &from.sorts[i];
-        if lacks_brackets(sort, asked[i], least[i]) {
-            return Err(GrammarError::NoBrackets(sort.name.copy(alloc)?));
+    match least_levels(alloc, productions, from.sorts.len()) {
+        Ok(least) => has_brackets_at(alloc, from, productions, &asked, &least),
+        Err(e) => {
+            drop(asked);
+            Err(GrammarError::from(e))
         }
     }
-    Ok(())
 }

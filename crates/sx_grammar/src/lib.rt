@@ -36,8 +36,6 @@ mod steps;
 mod symbol;
 mod tables;
 mod telling;
-#[cfg(test)]
-mod tests;
 
 pub use grammar::Grammar;
 pub use grammar_error::GrammarError;

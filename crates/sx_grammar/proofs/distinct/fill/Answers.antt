@@ -3,8 +3,8 @@ use Rattle.std.specs.Prelude.{MatchOption, slice_get, ◌≡◌}
 use Rattle.sx_grammar.specs.Parts.{texts}
 use Rattle.sx_grammar.proofs.FirstLaws.{text_at}
 use Rattle.sx_grammar.proofs.DistinctLaws.{distinct_more, distinct_kept}
-use Rattle.sx_grammar.proofs.distinct.distinct.Goals as goal
-use Rattle.sx_grammar.proofs.distinct.distinct.Goals.{then-is_none+in_ok-push+in_ok-copy+in_ok-push-2, else-is_none}
+use Rattle.sx_grammar.proofs.distinct.fill.Goals as goal
+use Rattle.sx_grammar.proofs.distinct.fill.Goals.{then-is_none+in_ok-push+in_ok-copy+in_ok-push-2, else-is_none}
 
 pub loop-text-preserved : goal.loop-text-preserved
 loop-text-preserved c =
