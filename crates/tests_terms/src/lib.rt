@@ -1,0 +1,19 @@
+//! Tests of terms, of lines and of tokens, by what their crates show.
+#![tactic(auto)]
+
+#[cfg(test)]
+mod core_texts;
+#[cfg(test)]
+mod cutting;
+#[cfg(test)]
+mod instances;
+#[cfg(test)]
+mod line_parts;
+#[cfg(test)]
+mod lines;
+#[cfg(test)]
+mod names;
+#[cfg(test)]
+mod samples;
+#[cfg(test)]
+mod sorts;

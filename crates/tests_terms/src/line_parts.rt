@@ -1,0 +1,53 @@
+//! The parts of a line: numbers, names, fronts and words.
+
+use sx_lines::{after, is_name, number_within, split_word};
+
+/// The number that the text spells.
+fn number(text: &[u8]) -> Option<u64> {
+    number_within(u64::MAX, text)
+}
+
+#[test]
+fn numbers(rt: HostRuntime) {
+    assert!(rt; number(b"0") == Some(0));
+    assert!(rt; number(b"").is_none());
+    assert!(rt; number(b"01").is_none());
+    assert!(rt; number(b"00").is_none());
+    assert!(rt; number(b"1000000") == Some(1_000_000));
+    assert!(rt; number(b"18446744073709551615") == Some(u64::MAX));
+    assert!(rt; number(b"18446744073709551616").is_none());
+    assert!(rt; number(b"+1").is_none());
+    assert!(rt; number_within(300, b"301").is_none());
+}
+
+#[test]
+fn names(rt: HostRuntime) {
+    let letters = [b'a'; 65];
+    assert!(rt; is_name(false, &letters[..64]));
+    assert!(rt; !is_name(false, &letters));
+    assert!(rt; is_name(true, b"T-One"));
+    assert!(rt; !is_name(false, b"T-One"));
+    assert!(rt; !is_name(true, b"1a"));
+    assert!(rt; is_name(false, b"a_1"));
+}
+
+/// Whether this follows the front in the text.
+fn is_after(text: &[u8], front: &[u8], wanted: &[u8]) -> bool {
+    match after(text, front) {
+        Some(rest) => rest == wanted,
+        None => false,
+    }
+}
+
+/// Whether the text is split into this word and this rest.
+fn is_split(text: &[u8], word: &[u8], rest: &[u8]) -> bool {
+    let (first, others) = split_word(text);
+    first == word && others == rest
+}
+
+#[test]
+fn fronts_and_words(rt: HostRuntime) {
+    assert!(rt; is_after(b"use Let", b"use ", b"Let"));
+    assert!(rt; after(b"us", b"use ").is_none());
+    assert!(rt; is_split(b"Let  12", b"Let", b" 12"));
+}
