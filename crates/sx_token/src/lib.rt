@@ -9,8 +9,6 @@ mod cut;
 mod front;
 mod literals;
 mod table;
-#[cfg(test)]
-mod tests;
 mod token;
 mod token_error;
 
