@@ -36,8 +36,6 @@ mod sort;
 mod steps;
 mod term;
 mod term_error;
-#[cfg(test)]
-mod tests;
 mod text;
 mod text_error;
 mod vars;
