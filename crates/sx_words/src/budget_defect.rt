@@ -3,7 +3,7 @@
 ghost use Rattle.std.specs.Prelude.{◌≡◌, ◌++◌, OnOk};
 ghost use Rattle.sx_words.specs.RefusalText.{budget_text};
 
-use crate::parts::{number, put};
+use crate::parts::{put, put_number};
 use std::alloc::Global;
 use sx_term::NoMemory;
 
@@ -29,22 +29,15 @@ pub(crate) fn put_budget(
     ensures { OnOk result (into.new.items ≡ into.old.items ++ budget_text defect.now) }
 {
     match defect {
-        BudgetDefect::Tries(n) => {
-            let n = number(alloc, *n)?;
-            put(&[b"more than ", n.as_str().as_bytes(), b" tries"], into)
-        }
+        BudgetDefect::Tries(n) => put_number(alloc, b"more than ", *n, b" tries", into),
         BudgetDefect::Depth => put(&[b"derivation deeper than 3000"], into),
-        BudgetDefect::Nodes(n) => {
-            let n = number(alloc, *n)?;
-            put(
-                &[
-                    b"rewriting needs more than ",
-                    n.as_str().as_bytes(),
-                    b" nodes",
-                ],
-                into,
-            )
-        }
+        BudgetDefect::Nodes(n) => put_number(
+            alloc,
+            b"rewriting needs more than ",
+            *n,
+            b" nodes",
+            into,
+        ),
         BudgetDefect::RewriteDepth => put(&[b"rewritten derivation deeper than 3000"], into),
     }
 }

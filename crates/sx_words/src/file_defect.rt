@@ -3,7 +3,7 @@
 ghost use Rattle.std.specs.Prelude.{◌≡◌, ◌++◌, OnOk};
 ghost use Rattle.sx_words.specs.RefusalText.{file_text};
 
-use crate::parts::{number, put};
+use crate::parts::{put, put_number};
 use std::alloc::Global;
 use sx_term::{NoMemory, Text};
 
@@ -43,24 +43,15 @@ pub(crate) fn put_file(
     ensures { OnOk result (into.new.items ≡ into.old.items ++ file_text defect.now) }
 {
     match defect {
-        FileDefect::Word(n) => {
-            let n = number(alloc, *n)?;
-            put(&[b"word ", n.as_str().as_bytes()], into)
-        }
+        FileDefect::Word(n) => put_number(alloc, b"word ", *n, b"", into),
         FileDefect::Absent => put(&[b"absent"], into),
         FileDefect::TooLong => put(&[b"too long"], into),
         FileDefect::ReadFault => put(&[b"read fault"], into),
         FileDefect::WriteFault => put(&[b"write fault"], into),
-        FileDefect::NotUtf8(n) => {
-            let n = number(alloc, *n)?;
-            put(&[b"not UTF-8 at byte ", n.as_str().as_bytes()], into)
-        }
+        FileDefect::NotUtf8(n) => put_number(alloc, b"not UTF-8 at byte ", *n, b"", into),
         FileDefect::Notation(text) => put(&[text.bytes()], into),
         FileDefect::Header => put(&[b"bad header"], into),
-        FileDefect::Version(n) => {
-            let n = number(alloc, *n)?;
-            put(&[b"version ", n.as_str().as_bytes()], into)
-        }
+        FileDefect::Version(n) => put_number(alloc, b"version ", *n, b"", into),
         FileDefect::BadList => put(&[b"bad entry"], into),
         FileDefect::NotYet => put(&[b"not read yet"], into),
     }

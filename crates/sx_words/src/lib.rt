@@ -42,6 +42,3 @@ pub use rule_defect::RuleDefect;
 pub use stage::Stage;
 pub use text_defect::TextDefect;
 pub use words_error::WordsError;
-
-#[cfg(test)]
-mod tests;

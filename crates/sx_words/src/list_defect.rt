@@ -3,7 +3,7 @@
 ghost use Rattle.std.specs.Prelude.{◌≡◌, ◌++◌, OnOk};
 ghost use Rattle.sx_words.specs.RefusalText.{list_text};
 
-use crate::parts::{number, put};
+use crate::parts::{put, put_number};
 use std::alloc::Global;
 use sx_term::NoMemory;
 
@@ -29,24 +29,9 @@ pub(crate) fn put_list(
     ensures { OnOk result (into.new.items ≡ into.old.items ++ list_text defect.now) }
 {
     match defect {
-        ListDefect::WrongAt(n) => {
-            let n = number(alloc, *n)?;
-            put(
-                &[b"entry ", n.as_str().as_bytes(), b" fits no derivation"],
-                into,
-            )
-        }
+        ListDefect::WrongAt(n) => put_number(alloc, b"entry ", *n, b" fits no derivation", into),
         ListDefect::EndsEarly => put(&[b"list ends early"], into),
-        ListDefect::LongList(n) => {
-            let n = number(alloc, *n)?;
-            put(&[b"entry ", n.as_str().as_bytes(), b" is left over"], into)
-        }
-        ListDefect::DeepList(n) => {
-            let n = number(alloc, *n)?;
-            put(
-                &[b"entry ", n.as_str().as_bytes(), b" is deeper than 3000"],
-                into,
-            )
-        }
+        ListDefect::LongList(n) => put_number(alloc, b"entry ", *n, b" is left over", into),
+        ListDefect::DeepList(n) => put_number(alloc, b"entry ", *n, b" is deeper than 3000", into),
     }
 }

@@ -180,10 +180,10 @@ pub(crate) fn say(
         Given::Tries(tries) => said.tries = Some(tries),
         Given::Nodes(nodes) => said.nodes = Some(nodes),
         Given::Audit(kind, setting) => {
+            let word = small_place(place)?;
             said.kinds.insert(Vec::from_slice(alloc, kind)?)?;
             let kind = utf8_text(alloc, kind)?;
             let setting = utf8_text(alloc, setting)?;
-            let word = small_place(place)?;
             said.audits.push(Audit {
                 kind,
                 setting,
@@ -204,27 +204,44 @@ pub(crate) fn command(
 ) -> Result<Command, NoMemory>
     ensures { IfOk result (λ c. command_view c ≡ spec.meant verb (settings_view said) name.now) }
 {
-    let name = name.copy(alloc)?;
-    let tries = said.tries.unwrap_or(MOST);
-    let nodes = said.nodes.unwrap_or(MOST);
+    let name = match name.copy(alloc) {
+        Ok(name) => name,
+        Err(e) => {
+            drop(said);
+            return Err(e);
+        }
+    };
+    let Options {
+        core,
+        tries,
+        nodes,
+        kinds,
+        audits,
+    } = said;
+    drop(kinds);
+    let tries = tries.unwrap_or(MOST);
+    let nodes = nodes.unwrap_or(MOST);
     match verb {
         Verb::Build => Ok(Command::Build {
-            core: said.core,
+            core,
             name,
             tries,
             nodes,
-            audits: said.audits,
+            audits,
         }),
         Verb::Compile => Ok(Command::Compile {
             name,
             tries,
             nodes,
-            audits: said.audits,
+            audits,
         }),
-        Verb::Check => Ok(Command::Check { name, tries }),
-        Verb::Verify => Ok(Command::Verify {
-            core: said.core,
-            name,
-        }),
+        Verb::Check => {
+            drop(audits);
+            Ok(Command::Check { name, tries })
+        }
+        Verb::Verify => {
+            drop(audits);
+            Ok(Command::Verify { core, name })
+        }
     }
 }

@@ -1,7 +1,8 @@
 //! Texts made of parts.
 
-ghost use Rattle.std.specs.Prelude.{◌≡◌, ◌++◌, ◌<◌, ◌^◌, OnOk, IfOk, decimal, string_bytes};
+ghost use Rattle.std.specs.Prelude.{◌≡◌, [], ◌∷◌, ◌++◌, ◌<◌, ◌^◌, OnOk, IfOk, decimal, string_bytes};
 ghost use Rattle.std.specs.List.{flat_map};
+ghost use Rattle.sx_words.specs.RefusalText.{joined};
 
 use std::alloc::Global;
 use sx_term::NoMemory;
@@ -14,6 +15,20 @@ pub(crate) fn put(parts: &[&[u8]], into: &mut Vec<u8>) -> Result<(), NoMemory>
         into.extend_from_slice(part)?;
     }
     Ok(())
+}
+
+/// Appends a text, the number in decimal and another text.
+pub(crate) fn put_number(
+    alloc: Global,
+    front: &[u8],
+    n: u64,
+    back: &[u8],
+    into: &mut Vec<u8>,
+) -> Result<(), NoMemory>
+    ensures { OnOk result (into.new.items ≡ into.old.items ++ joined (front.now ∷ decimal n ∷ back.now ∷ [])) }
+{
+    let n = number(alloc, n)?;
+    put(&[front, n.as_str().as_bytes(), back], into)
 }
 
 /// The number in decimal, without leading zeros.

@@ -3,7 +3,7 @@
 ghost use Rattle.std.specs.Prelude.{◌≡◌, ◌++◌, OnOk};
 ghost use Rattle.sx_words.specs.RefusalText.{place_text};
 
-use crate::parts::{number, put};
+use crate::parts::{number, put, put_number};
 use std::alloc::Global;
 use sx_term::{NoMemory, Text};
 
@@ -31,10 +31,7 @@ pub(crate) fn put_place(alloc: Global, place: &Place, into: &mut Vec<u8>) -> Res
 {
     match place {
         Place::Nowhere => put(&[], into),
-        Place::Line(line) => {
-            let line = number(alloc, u64::from(*line))?;
-            put(&[b"line ", line.as_str().as_bytes(), b": "], into)
-        }
+        Place::Line(line) => put_number(alloc, b"line ", u64::from(*line), b": ", into),
         Place::Spot { line, column } => {
             let line = number(alloc, *line)?;
             let column = number(alloc, *column)?;

@@ -3,7 +3,7 @@
 ghost use Rattle.std.specs.Prelude.{◌≡◌, ◌++◌, OnOk};
 ghost use Rattle.sx_words.specs.RefusalText.{part_text, print_text};
 
-use crate::parts::{number, put};
+use crate::parts::{put, put_number};
 use std::alloc::Global;
 use sx_term::{NoMemory, Text};
 
@@ -50,28 +50,10 @@ pub(crate) fn put_print(
     ensures { OnOk result (into.new.items ≡ into.old.items ++ print_text defect.now) }
 {
     match defect {
-        PrintDefect::Bytes(n) => {
-            let n = number(alloc, *n)?;
-            put(
-                &[b"has ", n.as_str().as_bytes(), b" bytes, over 262144"],
-                into,
-            )
-        }
-        PrintDefect::Tokens(n) => {
-            let n = number(alloc, *n)?;
-            put(
-                &[b"has ", n.as_str().as_bytes(), b" tokens, over 10000"],
-                into,
-            )
-        }
+        PrintDefect::Bytes(n) => put_number(alloc, b"has ", *n, b" bytes, over 262144", into),
+        PrintDefect::Tokens(n) => put_number(alloc, b"has ", *n, b" tokens, over 10000", into),
         PrintDefect::Items => put(&[b"needs more than 2000000 items"], into),
-        PrintDefect::Depth(n) => {
-            let n = number(alloc, *n)?;
-            put(
-                &[b"has depth ", n.as_str().as_bytes(), b", over 1000"],
-                into,
-            )
-        }
+        PrintDefect::Depth(n) => put_number(alloc, b"has depth ", *n, b", over 1000", into),
         PrintDefect::Ambiguous { one, other } => put(
             &[b"has two readings: ", one.bytes(), b" and ", other.bytes()],
             into,

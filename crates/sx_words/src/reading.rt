@@ -70,10 +70,14 @@ fn after_verb(
         }
         match option_after(stage, verb, &said, word.bytes()) {
             Some(option) => say(alloc, &mut said, option, place)?,
-            None => return Err(WordsError::Words(place)),
+            None => {
+                drop(said);
+                return Err(WordsError::Words(place));
+            }
         }
         at += 1;
     }
+    drop(said);
     Err(WordsError::Words(at as u64 + 2))
 }
 

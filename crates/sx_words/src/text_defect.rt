@@ -3,7 +3,7 @@
 ghost use Rattle.std.specs.Prelude.{◌≡◌, ◌++◌, OnOk};
 ghost use Rattle.sx_words.specs.RefusalText.{text_text};
 
-use crate::parts::{number, put};
+use crate::parts::{put, put_number};
 use std::alloc::Global;
 use sx_term::{NoMemory, Text};
 
@@ -43,21 +43,14 @@ pub(crate) fn put_text(
         TextDefect::NoReading => put(&[b"no reading"], into),
         TextDefect::TooManyTokens => put(&[b"more than 10000 tokens"], into),
         TextDefect::TooHard => put(&[b"parsing needs more than 2000000 items"], into),
-        TextDefect::TooDeep(n) => {
-            let n = number(alloc, *n)?;
-            put(&[b"depth ", n.as_str().as_bytes(), b" is over 1000"], into)
-        }
-        TextDefect::TooBig(n) => {
-            let n = number(alloc, *n)?;
-            put(
-                &[
-                    b"a term has ",
-                    n.as_str().as_bytes(),
-                    b" nodes, over 1000000",
-                ],
-                into,
-            )
-        }
+        TextDefect::TooDeep(n) => put_number(alloc, b"depth ", *n, b" is over 1000", into),
+        TextDefect::TooBig(n) => put_number(
+            alloc,
+            b"a term has ",
+            *n,
+            b" nodes, over 1000000",
+            into,
+        ),
         TextDefect::Ambiguous { one, other } => put(
             &[b"two readings: ", one.bytes(), b" and ", other.bytes()],
             into,
