@@ -18,6 +18,10 @@ marks_view marks = map mark_view marks
 abbrev pub pair_view : Bor (List ℕ) × Digest → Mark
 pair_view p = record { name = p.0.now; digest = p.1.bytes }
 
+-- what the rows of an interface say, under the module's name
+abbrev pub rows_view : List ℕ → Mark → List ℕ → List Mark → List ℕ → InterfaceParts
+rows_view name language base imports signature = record { name = name; language = language; base = base; imports = imports; signature = signature }
+
 -- an interface without where it lies in memory
 abbrev pub interface_view : code.Interface → InterfaceParts
 interface_view it = record {

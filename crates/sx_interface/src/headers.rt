@@ -1,6 +1,6 @@
 //! Headers of module files.
 
-ghost use Rattle.std.specs.Prelude.{◌≡◌, ◌+◌, ◌-◌, ◌^◌, ◌<◌, ◌≤◌, length, drop, IfOk, Ok, IfErr, IfSome};
+ghost use Rattle.std.specs.Prelude.{◌≡◌, [], ◌+◌, ◌-◌, ◌^◌, ◌<◌, ◌≤◌, length, drop, IfOk, Ok, IfErr, IfSome};
 ghost use Rattle.sx_lines.specs.FirstBad.{IsFirstBad};
 ghost use Rattle.sx_interface.specs.Headers.{HeaderParts};
 ghost use Rattle.sx_interface.specs.StatedHeader.{StatesHeader};
@@ -8,7 +8,7 @@ ghost use Rattle.std.specs.Str.{IsUtf8};
 ghost use Rattle.sx_lines.specs.Lines.{lines_from};
 ghost use Rattle.sx_lines.specs.Reading.{Gives, kept};
 ghost use Rattle.sx_interface.specs.Headers as spec;
-ghost use Rattle.sx_interface.specs.HeaderView.{parts_view, header_view};
+ghost use Rattle.sx_interface.specs.HeaderView.{parts_view, rows_view, header_view};
 ghost use Rattle.sx_interface.specs.Reading.{Refuses, RefusesText, IsText, line_of};
 
 use crate::error::HeaderError;
@@ -43,23 +43,49 @@ struct Parts<'a> {
     body: Rest<'a>,
 }
 
-/// The header that the lines of a module's file state.
+/// The language and the body that the lines of a module's file state, with the names in the `use` and `import` lines.
 #[tactic(auto, unfolding(crate::specs::Headers::header_of))]
+fn read_rows<'a>(
+    alloc: Global,
+    name: &Text,
+    bytes: &'a [u8],
+    uses: &mut Vec<Text>,
+    imports: &mut Vec<Text>,
+) -> Result<(Text, Rest<'a>), HeaderError>
+    requires numbered { length bytes.now + 1 < 2 ^ 32 }
+    requires uses { uses.old.items ≡ [] }
+    requires imports { imports.old.items ≡ [] }
+    ensures { Gives (λ x. rows_view name.now x.0 uses.new.items imports.new.items x.1.bytes.now x.1.number) Refuses result
+        (spec.header_of name.now (kept (lines_from 1 bytes.entry.now))) }
+{
+    let rest = module_line(name.bytes(), Rest::all(bytes))?;
+    let (language, rest) = name_row(alloc, b"language ", rest)?;
+    let rest = name_rows(alloc, b"use ", rest, uses)?;
+    let rest = name_rows(alloc, b"import ", rest, imports)?;
+    let body = end_line(rest)?;
+    Ok((language, body))
+}
+
+/// The header that the lines of a module's file state.
 fn header_parts<'a>(alloc: Global, name: &Text, bytes: &'a [u8]) -> Result<Parts<'a>, HeaderError>
     requires { length bytes.now + 1 < 2 ^ 32 }
     ensures { Gives (parts_view name.now) Refuses result (spec.header_of name.now (kept (lines_from 1 bytes.entry.now))) }
 {
-    let rest = module_line(name.bytes(), Rest::all(bytes))?;
-    let (language, rest) = name_row(alloc, b"language ", rest)?;
-    let (uses, rest) = name_rows(alloc, b"use ", rest)?;
-    let (imports, rest) = name_rows(alloc, b"import ", rest)?;
-    let body = end_line(rest)?;
-    Ok(Parts {
-        language,
-        uses,
-        imports,
-        body,
-    })
+    let mut uses = Vec::new(alloc);
+    let mut imports = Vec::new(alloc);
+    match read_rows(alloc, name, bytes, &mut uses, &mut imports) {
+        Ok((language, body)) => Ok(Parts {
+            language,
+            uses,
+            imports,
+            body,
+        }),
+        Err(e) => {
+            drop(imports);
+            drop(uses);
+            Err(e)
+        }
+    }
 }
 
 /// The header of a module's file, of which nothing else is known.
@@ -76,14 +102,20 @@ fn checked_header(alloc: Global, name: &Text, bytes: &[u8]) -> Result<Header, He
             let parts = header_parts(alloc, name, bytes)?;
             let body = bytes.len() - parts.body.bytes.len();
             let line = parts.body.number;
-            Ok(Header {
-                name: name.copy(alloc)?,
-                language: parts.language,
-                uses: parts.uses,
-                imports: parts.imports,
-                body,
-                line,
-            })
+            match name.copy(alloc) {
+                Ok(name) => Ok(Header {
+                    name,
+                    language: parts.language,
+                    uses: parts.uses,
+                    imports: parts.imports,
+                    body,
+                    line,
+                }),
+                Err(_) => {
+                    drop(parts);
+                    Err(HeaderError::Memory)
+                }
+            }
         }
     }
 }

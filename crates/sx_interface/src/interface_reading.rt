@@ -14,7 +14,7 @@ ghost use Rattle.sx_lines.specs.Reading.{Gives, the_line, next_line, no_line};
 ghost use Rattle.sx_lines.specs.Rows.{distinct_rows};
 ghost use Rattle.sx_interface.specs.Interfaces as spec;
 ghost use Rattle.sx_interface.specs.Interfaces.{Mark};
-ghost use Rattle.sx_interface.specs.InterfaceView.{mark_view, marks_view, pair_view, interface_view};
+ghost use Rattle.sx_interface.specs.InterfaceView.{mark_view, marks_view, pair_view, rows_view, interface_view};
 ghost use Rattle.sx_interface.specs.Reading.{Refuses, RefusesText, IsText, AnswersVersion, line_of};
 
 use crate::error::HeaderError;
@@ -123,17 +123,19 @@ fn base_row<'a>(rest: Rest<'a>) -> Result<(Digest, Rest<'a>), HeaderError>
     }
 }
 
-/// The marks in the next rows, whose names are distinct, and what is left after them.
-fn import_rows<'a>(
+/// Appends the marks in the next rows, of whose names none was seen, and answers what is left after them.
+fn add_rows<'a>(
     alloc: Global,
     rest: Rest<'a>,
-) -> Result<(Vec<ImportMark>, Rest<'a>), HeaderError>
-    ensures rows { Gives (λ x. (marks_view x.0.items, left x.1)) Refuses result
+    seen: &mut Names,
+    marks: &mut Vec<ImportMark>,
+) -> Result<Rest<'a>, HeaderError>
+    requires seen { seen.old ≡ [] }
+    requires marks { marks.old.items ≡ [] }
+    ensures rows { Gives (λ x. (marks_view marks.new.items, left x)) Refuses result
         (distinct_rows (λ m. m.name) (spec.mark_after (codes "import ")) [] (left rest.entry)) }
-    ensures utf8 { IsUtf8 rest.entry.bytes.now → IfOk result (λ x. IsUtf8 x.1.bytes.now) }
+    ensures utf8 { IsUtf8 rest.entry.bytes.now → IfOk result (λ x. IsUtf8 x.bytes.now) }
 {
-    let mut seen = Names::new(alloc);
-    let mut marks = Vec::new(alloc);
     let mut rest = rest;
     'rows: while let Ok((line, more)) = rest.next() {
         match mark_after(line.text, b"import ") {
@@ -145,11 +147,28 @@ fn import_rows<'a>(
                 let name = name_text(alloc, name)?;
                 marks.push(ImportMark { name, digest })?;
             }
-            None => return Ok((marks, rest)),
+            None => return Ok(rest),
         }
         rest = more;
     }
-    Ok((marks, rest))
+    Ok(rest)
+}
+
+/// Appends the marks in the next rows, whose names are distinct, and answers what is left after them.
+fn import_rows<'a>(
+    alloc: Global,
+    rest: Rest<'a>,
+    marks: &mut Vec<ImportMark>,
+) -> Result<Rest<'a>, HeaderError>
+    requires { marks.old.items ≡ [] }
+    ensures rows { Gives (λ x. (marks_view marks.new.items, left x)) Refuses result
+        (distinct_rows (λ m. m.name) (spec.mark_after (codes "import ")) [] (left rest.entry)) }
+    ensures utf8 { IsUtf8 rest.entry.bytes.now → IfOk result (λ x. IsUtf8 x.bytes.now) }
+{
+    let mut seen = Names::new(alloc);
+    let read = add_rows(alloc, rest, &mut seen, marks);
+    drop(seen);
+    read
 }
 
 /// The text of the next line, and what is left after it.
@@ -173,29 +192,60 @@ fn end(rest: Rest<'_>) -> Result<(), HeaderError>
     }
 }
 
-/// The interface that lines state.
+/// The language, the digest of the base file and the signature that lines state, with the marks of the imports.
 #[tactic(auto, unfolding(crate::specs::Interfaces::interface_of))]
-fn interface(alloc: Global, name: &Text, bytes: &[u8]) -> Result<Interface, HeaderError>
+fn read_rows(
+    alloc: Global,
+    name: &Text,
+    bytes: &[u8],
+    imports: &mut Vec<ImportMark>,
+) -> Result<(ImportMark, Digest, Text), HeaderError>
     requires numbered { length bytes.now + 1 < 2 ^ 32 }
     requires utf8 { IsUtf8 bytes.now }
-    ensures { Gives interface_view Refuses result (spec.interface_of name.now (lines_from 1 bytes.now)) }
+    requires imports { imports.old.items ≡ [] }
+    ensures { Gives (λ x. rows_view name.now (mark_view x.0) x.1.bytes (marks_view imports.new.items) x.2) Refuses result
+        (spec.interface_of name.now (lines_from 1 bytes.now)) }
 {
     let rest = exact_line(b"sxint 1", Rest::all(bytes))?;
     let rest = module_line(name.bytes(), rest)?;
     let (language, rest) = language_row(alloc, rest)?;
     let (base_digest, rest) = base_row(rest)?;
-    let (imports, rest) = import_rows(alloc, rest)?;
+    let rest = import_rows(alloc, rest, imports)?;
     let rest = exact_line(b"---", rest)?;
     let (signature, rest) = signature_line(alloc, rest)?;
     end(rest)?;
-    Ok(Interface {
-        module: name.copy(alloc)?,
-        language: language.name,
-        language_digest: language.digest,
-        base_digest,
-        imports,
-        signature,
-    })
+    Ok((language, base_digest, signature))
+}
+
+/// The interface that lines state.
+fn interface(alloc: Global, name: &Text, bytes: &[u8]) -> Result<Interface, HeaderError>
+    requires numbered { length bytes.now + 1 < 2 ^ 32 }
+    requires utf8 { IsUtf8 bytes.now }
+    ensures { Gives interface_view Refuses result (spec.interface_of name.now (lines_from 1 bytes.now)) }
+{
+    let mut imports = Vec::new(alloc);
+    match read_rows(alloc, name, bytes, &mut imports) {
+        Ok((language, base_digest, signature)) => match name.copy(alloc) {
+            Ok(module) => Ok(Interface {
+                module,
+                language: language.name,
+                language_digest: language.digest,
+                base_digest,
+                imports,
+                signature,
+            }),
+            Err(_) => {
+                drop(signature);
+                drop(language);
+                drop(imports);
+                Err(HeaderError::Memory)
+            }
+        },
+        Err(e) => {
+            drop(imports);
+            Err(e)
+        }
+    }
 }
 
 /// The number of another version.

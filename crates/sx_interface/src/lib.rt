@@ -19,6 +19,3 @@ pub use interface_reading::{read_interface, written_interface_is_read};
 pub use interface_writing::write_interface;
 pub use interfaces::{ImportMark, Interface};
 pub use marks::{Digest, read_digest, write_digest};
-
-#[cfg(test)]
-mod tests;

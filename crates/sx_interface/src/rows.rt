@@ -71,16 +71,18 @@ pub fn name_row<'a>(
     }
 }
 
-/// The distinct names in the next rows, and what is left after them.
-pub fn name_rows<'a>(
+/// Appends the names in the next rows, of which none was seen, and answers what is left after them.
+fn add_rows<'a>(
     alloc: Global,
     front: &[u8],
     rest: Rest<'a>,
-) -> Result<(Vec<Text>, Rest<'a>), HeaderError>
-    ensures { Gives (λ x. (x.0.items, kept (left x.1))) Refuses result (spec.distinct_names front.now (kept (left rest.entry))) }
+    seen: &mut Names,
+    names: &mut Vec<Text>,
+) -> Result<Rest<'a>, HeaderError>
+    requires seen { seen.old ≡ [] }
+    requires names { names.old.items ≡ [] }
+    ensures { Gives (λ x. (names.new.items, kept (left x))) Refuses result (spec.distinct_names front.now (kept (left rest.entry))) }
 {
-    let mut seen = Names::new(alloc);
-    let mut names = Vec::new(alloc);
     let mut rest = rest;
     'rows: while let Ok((line, more)) = rest.next_kept() {
         match name_after(line.text, front) {
@@ -91,11 +93,27 @@ pub fn name_rows<'a>(
                 seen.add(alloc, name)?;
                 names.push(name_text(alloc, name)?)?;
             }
-            None => return Ok((names, rest)),
+            None => return Ok(rest),
         }
         rest = more;
     }
-    Ok((names, rest))
+    Ok(rest)
+}
+
+/// Appends the distinct names in the next rows, and answers what is left after them.
+pub fn name_rows<'a>(
+    alloc: Global,
+    front: &[u8],
+    rest: Rest<'a>,
+    names: &mut Vec<Text>,
+) -> Result<Rest<'a>, HeaderError>
+    requires { names.old.items ≡ [] }
+    ensures { Gives (λ x. (names.new.items, kept (left x))) Refuses result (spec.distinct_names front.now (kept (left rest.entry))) }
+{
+    let mut seen = Names::new(alloc);
+    let read = add_rows(alloc, front, rest, &mut seen, names);
+    drop(seen);
+    read
 }
 
 /// What is left after the line `---`: the body.

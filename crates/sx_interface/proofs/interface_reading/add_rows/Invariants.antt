@@ -4,7 +4,7 @@ use Rattle.sx_lines.specs.Left.{left}
 use Rattle.sx_lines.specs.Rows.{distinct_rows}
 use Rattle.sx_interface.specs.Interfaces.{mark_after}
 use Rattle.sx_interface.specs.InterfaceView.{marks_view}
-use Rattle.sx_interface.proofs.interface_reading.import_rows.Given as goal
+use Rattle.sx_interface.proofs.interface_reading.add_rows.Given as goal
 
 abbrev pub invariant-rows : goal.invariant-rows
 invariant-rows l =

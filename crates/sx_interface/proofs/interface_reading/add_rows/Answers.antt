@@ -6,7 +6,7 @@ use Rattle.sx_interface.specs.InterfaceView.{marks_view, pair_view}
 use Rattle.sx_interface.proofs.NameLaws.{keys_have}
 use Rattle.sx_interface.proofs.RowLaws.{one_row, row_twice, rows_end, rows_over}
 use Rattle.sx_interface.proofs.MarkLaws.{marks_view_push, named}
-use Rattle.sx_interface.proofs.interface_reading.import_rows.Goals as goal
+use Rattle.sx_interface.proofs.interface_reading.add_rows.Goals as goal
 
 pub returns-then-contains-clause-rows : goal.returns-then-contains-clause-rows
 returns-then-contains-clause-rows c =

@@ -2,7 +2,7 @@ use Rattle.std.proofs.Common.{◌≡◌, [], length}
 use Rattle.sx_lines.specs.Left.{left}
 use Rattle.sx_lines.specs.Reading.{kept}
 use Rattle.sx_lines.specs.Rows.{name_after, distinct_rows}
-use Rattle.sx_interface.proofs.rows.name_rows.Given as goal
+use Rattle.sx_interface.proofs.rows.add_rows.Given as goal
 
 abbrev pub invariant-rows : goal.invariant-rows
 invariant-rows l =

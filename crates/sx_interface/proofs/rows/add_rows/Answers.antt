@@ -1,7 +1,7 @@
 use Rattle.std.proofs.Common.{◌≡◌, true, false, sym}
 use Rattle.sx_lines.specs.Rows.{name_after, has_key}
 use Rattle.sx_interface.proofs.RowLaws.{one_row, row_twice, rows_end, rows_over}
-use Rattle.sx_interface.proofs.rows.name_rows.Goals as goal
+use Rattle.sx_interface.proofs.rows.add_rows.Goals as goal
 
 pub returns-then-contains : goal.returns-then-contains
 returns-then-contains c =
