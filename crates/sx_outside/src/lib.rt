@@ -21,6 +21,3 @@ pub use memory_source::MemSource;
 pub use shelf::Shelf;
 pub use sink::Sink;
 pub use source::Source;
-
-#[cfg(test)]
-mod tests;
