@@ -39,16 +39,21 @@ impl Grammar {
         ensures { IsExtended base.now (map line more.items) result }
     {
         let parts = with_more(alloc, &base.parts, more)?;
-        let made = tables(alloc, &parts)?;
-        Ok(Grammar {
-            parts,
-            base: base.base,
-            literals: made.literals,
-            productions: made.productions,
-            brackets: made.brackets,
-            sort_names: made.sort_names,
-            literal_names: made.literal_names,
-            ranks: made.ranks,
-        })
+        match tables(alloc, &parts) {
+            Ok(made) => Ok(Grammar {
+                parts,
+                base: base.base,
+                literals: made.literals,
+                productions: made.productions,
+                brackets: made.brackets,
+                sort_names: made.sort_names,
+                literal_names: made.literal_names,
+                ranks: made.ranks,
+            }),
+            Err(e) => {
+                drop(parts);
+                Err(e)
+            }
+        }
     }
 }
