@@ -6,4 +6,3 @@ pub mod Good
 pub mod Cutting
 pub mod Fitting
 pub mod Sorting
-pub mod Limits

@@ -12,8 +12,6 @@
 
 mod laws;
 mod printing;
-#[cfg(test)]
-mod tests;
 mod walk;
 mod writing;
 

@@ -1,8 +1,7 @@
-use Rattle.std.proofs.Common.{rules, length, sym, subst, ◌+◌}
+use Rattle.std.proofs.Common.{rules, arith, length, sym, subst, ◌+◌}
 use Rattle.std.proofs.lemmas.Result.{on_ok_weaker}
 use Rattle.sx_term.specs.declared.term.Term.TheViews.{the_lemmas}
-use Rattle.sx_term.specs.Term.{tree}
-use Rattle.sx_term.proofs.Kids.{trees, tree-at_node, greatest_depth-kids, greatest_depth-at}
+use Rattle.sx_term.proofs.Kids.{tree-at_node, greatest_depth-kids, greatest_depth-at}
 use Rattle.sx_grammar.specs.Parts.{numbered}
 use Rattle.sx_grammar.specs.Tables.{literals_of}
 use Rattle.sx_print.proofs.Walking.{production_here, label_within, kids_are_built, row_below, pair_within, lexeme_adds, variable_adds, node_plain, node_bracketed, kid_is_built, Progress, no_progress, kid_of_lexeme, kid_of_part, past_literal, past_lexeme, past_part, leads_to_end}
@@ -17,9 +16,7 @@ put_term-put_symbols-requires t c =
     let lt = label_within c.args.grammar.now.parts c.productions.result.now c.in-Node.label (length c.args.vars.now) _ _ c.productions.ensures.same is c.requires.built in
     let low = row_below _ c.productions.result.now c.in-Node.label c.index-productions-label.result _ c.productions.ensures.below lt c.index-productions-label.is c.deref.ensures.value in
     let both = kids_are_built c.args.grammar.now.parts c.in-Node.label (length c.args.vars.now) c.index-productions-label.result _ _ _ _ c.in-Node.is here c.deref.ensures.value c.deref-in-None.ensures.value c.requires.built in
-    let many = both.0 in
-    let built = both.1 in
-    search (rules, the_lemmas)
+    (search (rules, the_lemmas), ((let d = c.requires.depth in omega (arith, deep, d)), (low, (both.0, both.1))))
 
 pub put_term-put_literal-requires : goal.put_term-put_literal-requires
 put_term-put_literal-requires t c = (pair_within (literals_of c.args.grammar.now.parts) _ _ _ c.in-Some.ensures).0
@@ -32,9 +29,7 @@ put_term-put_symbols-requires-in-Some t c =
     let lt = label_within c.args.grammar.now.parts c.productions.result.now c.in-Node.label (length c.args.vars.now) _ _ c.productions.ensures.same is c.requires.built in
     let low = row_below _ c.productions.result.now c.in-Node.label c.index-productions-label.result _ c.productions.ensures.below lt c.index-productions-label.is c.deref-in-Some.ensures.value in
     let both = kids_are_built c.args.grammar.now.parts c.in-Node.label (length c.args.vars.now) c.index-productions-label.result _ _ _ _ c.in-Node.is here c.deref-in-Some.ensures.value c.deref-in-Some-2.ensures.value c.requires.built in
-    let many = both.0 in
-    let built = both.1 in
-    search (rules, the_lemmas)
+    (search (rules, the_lemmas), ((let d = c.requires.depth in omega (arith, deep, d)), (low, (both.0, both.1))))
 
 pub put_term-put_literal-requires-in-Some : goal.put_term-put_literal-requires-in-Some
 put_term-put_literal-requires-in-Some t c = (pair_within (literals_of c.args.grammar.now.parts) _ _ _ c.in-Some.ensures).1
@@ -72,14 +67,14 @@ put_symbols-put_term-requires t c =
     let within = kid_of_lexeme c.args.grammar.now.parts c.args.vars.now c.args.symbols.now c.args.kids.now _ _ _ _ _ _ c.loop-symbol.invariant c.loop-symbol-test.true c.in-Lex.is in
     let deep = greatest_depth-at c.args.kids.now _ _ within c.index-kids-next.is in
     let built = kid_is_built (numbered c.args.grammar.now.parts) (length c.args.vars.now) c.args.kids.now _ _ c.requires.built within c.index-kids-next.is in
-    search (rules, the_lemmas)
+    (search (rules, the_lemmas), ((let d = c.requires.depth in omega (arith, deep, d)), built))
 
 pub put_symbols-put_term-requires-in-Part : goal.put_symbols-put_term-requires-in-Part
 put_symbols-put_term-requires-in-Part t c =
     let within = kid_of_part c.args.grammar.now.parts c.args.vars.now c.args.symbols.now c.args.kids.now _ _ _ _ _ _ _ c.loop-symbol.invariant c.loop-symbol-test.true c.in-Part.is in
     let deep = greatest_depth-at c.args.kids.now _ _ within c.index-kids-next-in-Part.is in
     let built = kid_is_built (numbered c.args.grammar.now.parts) (length c.args.vars.now) c.args.kids.now _ _ c.requires.built within c.index-kids-next-in-Part.is in
-    search (rules, the_lemmas)
+    (search (rules, the_lemmas), ((let d = c.requires.depth in omega (arith, deep, d)), built))
 
 pub put_symbols-loop-symbol-preserved : goal.put_symbols-loop-symbol-preserved
 put_symbols-loop-symbol-preserved t c =
