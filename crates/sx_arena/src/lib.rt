@@ -16,8 +16,6 @@ mod pairs;
 mod pattern;
 mod places;
 mod set;
-#[cfg(test)]
-mod tests;
 
 pub use arena::{Arena, Cell, Shape};
 pub use binds::{Bind, Binds};

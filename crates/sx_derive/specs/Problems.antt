@@ -8,6 +8,8 @@ use Rattle.sx_rules.specs.Modes.{Modes, Goal}
 use Rattle.sx_derive.specs.Walk.{events}
 use Rattle.sx_derive.specs.Search.{walk, tries_of}
 use Rattle.sx_arena.specs.declared.arena.Arena.{Arena}
+use Rattle.sx_derive.specs.declared.entered.Entered.{Entered}
+use Rattle.sx_derive.specs.declared.store.Store.{Store}
 use Rattle.sx_derive.specs.declared.problem.Problem.{Problem}
 use Rattle.sx_derive.specs.declared.problem.Searched.{Searched}
 use Rattle.sx_arena.specs.Arena.{trees, tree_at, IsArena, AreBelow, Extends}
@@ -33,6 +35,10 @@ pub record IsProblem (modes : Modes) (rules : List Rule) (hyps : Hypotheses) (te
   pub terms_are : map (tree_at (store_trees p.store)) p.terms.items ≡ terms
   pub wanted_below : WantedBelow (length (store_trees p.store)) p.wanted
   pub wanted_are : wanted_at (store_trees p.store) p.wanted ≡ wanted
+
+-- the problem with these parts in a store
+abbrev pub problem_of : Store → Entered → Problem
+problem_of s e = record { store = s; facts = e.facts; pairs = e.pairs; terms = e.terms; wanted = e.wanted }
 
 -- the ending is how the walk of the goal ends, after all of its tries; without memory some of its tries were made
 abbrev pub IsSearched : Modes → List Rule → Hypotheses → Goal → Option (List Tree) → ℕ → ℕ → ℕ → Result Searched NoMemory → Type 0

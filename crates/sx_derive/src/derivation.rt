@@ -45,7 +45,11 @@ fn answer(
         IsDerived (modes_of rules.now) (subjects_of rules.now) (rules_of rules.now) (hypotheses given.now) (goal_of goal.now) wanted budget result }
 {
     match outcome(alloc, rules, given, goal, budget, searched) {
-        Ok(found) => Ok(export_answer(alloc, &found.store, found.head, &found.outputs)?),
+        Ok(found) => {
+            let answer = export_answer(alloc, &found.store, found.head, &found.outputs);
+            drop(found);
+            Ok(answer?)
+        }
         Err(e) => Err(e),
     }
 }

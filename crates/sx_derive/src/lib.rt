@@ -10,6 +10,7 @@ mod derivation;
 mod derive_error;
 mod derived;
 mod descent;
+mod entered;
 mod export_list;
 mod export_proof;
 mod first;
@@ -27,16 +28,12 @@ mod reach;
 mod search;
 mod search_error;
 mod search_laws;
-#[cfg(test)]
-mod search_tests;
 mod state;
 mod step;
 mod store;
 mod stuck_goal;
 mod subject_way;
 mod tasks;
-#[cfg(test)]
-mod tests;
 mod turns;
 mod walk;
 

@@ -46,7 +46,11 @@ fn answer_list(
         IsListed (modes_of rules.now) (subjects_of rules.now) (rules_of rules.now) (hypotheses given.now) (goal_of goal.now) wanted budget result }
 {
     match outcome(alloc, rules, given, goal, budget, searched) {
-        Ok(found) => Ok(list_answer(alloc, &found.store, found.head, &found.outputs)?),
+        Ok(found) => {
+            let answer = list_answer(alloc, &found.store, found.head, &found.outputs);
+            drop(found);
+            Ok(answer?)
+        }
         Err(e) => Err(e),
     }
 }

@@ -58,10 +58,22 @@ pub(crate) fn outcome(
             head,
             outputs,
         }),
-        Ending::Passed(Limit::TooDeep(depth)) => Err(DeriveError::TooDeep(depth)),
-        Ending::Passed(Limit::TooBig(size)) => Err(DeriveError::TooBig(size)),
-        Ending::DepthSpent => Err(DeriveError::DepthSpent(3000)),
-        Ending::Spent => Err(DeriveError::BudgetSpent(budget)),
+        Ending::Passed(Limit::TooDeep(depth)) => {
+            drop(store);
+            Err(DeriveError::TooDeep(depth))
+        }
+        Ending::Passed(Limit::TooBig(size)) => {
+            drop(store);
+            Err(DeriveError::TooBig(size))
+        }
+        Ending::DepthSpent => {
+            drop(store);
+            Err(DeriveError::DepthSpent(3000))
+        }
+        Ending::Spent => {
+            drop(store);
+            Err(DeriveError::BudgetSpent(budget))
+        }
         Ending::Exhausted => {
             drop(store);
             let blame = stuck_goal(alloc, rules, given, goal, budget)?;

@@ -6,17 +6,17 @@ ghost use Rattle.sx_term.specs.Term.{tree};
 ghost use Rattle.sx_rules.specs.Deep.{AreShallow};
 ghost use Rattle.sx_rules.specs.Derivations.{ShallowJudgements};
 ghost use Rattle.sx_rules.specs.Views.{goal as goal_of, hypotheses};
-ghost use Rattle.sx_arena.specs.Arena.{IsArena};
 ghost use Rattle.sx_arena.specs.Entered.{ArePairsShallow};
-ghost use Rattle.sx_derive.specs.Problems.{IsWantedIn, IsProblem, IsSearched};
+ghost use Rattle.sx_derive.specs.Problems.{IsProblem, IsSearched};
 ghost use Rattle.sx_arena.specs.Views.{rules_of, modes_of};
 
+use crate::entered::{Entered, enter_parts};
 use crate::store::Store;
 use crate::tasks::Ending;
 use crate::walk::walk;
 use std::alloc::Global;
 use std::sync::ledger::Ledger;
-use sx_arena::{Arena, Fact, Pair, enter_facts, enter_pairs, enter_places};
+use sx_arena::{Fact, Pair};
 use sx_rules::{Goal, Hyps, RuleSet};
 use sx_term::{NoMemory, Steps, Term};
 
@@ -37,22 +37,6 @@ pub(crate) struct Searched {
     pub(crate) ending: Ending,
 }
 
-/// What is wanted, by its numbers.
-fn enter_wanted(
-    alloc: Global,
-    arena: &mut Arena,
-    wanted: Option<&Vec<Term>>,
-) -> Result<Option<Vec<usize>>, NoMemory>
-    requires shallow { MatchOption wanted Unit (λ w. AreShallow (map tree w.now.items)) }
-    requires arena { IsArena arena.old }
-    ensures { IfOk result (λ r. IsWantedIn arena.old arena.new (option_map (λ w. map tree w.now.items) wanted.entry) r) }
-{
-    match wanted {
-        None => Ok(None),
-        Some(terms) => Ok(Some(enter_places(alloc, arena, &[], false, terms)?)),
-    }
-}
-
 /// The problem in a new store.
 pub(crate) fn enter_problem(
     alloc: Global,
@@ -68,17 +52,27 @@ pub(crate) fn enter_problem(
     ensures { IfOk result (λ p. IsProblem (modes_of rules.now) (rules_of rules.now) (hypotheses given.now) (goal_of goal.now).terms (option_map (λ w. map tree w.now.items) wanted.entry) p) }
 {
     let mut store = Store::new(alloc);
-    let facts = enter_facts(alloc, rules, &mut store.arena, &given.holds)?;
-    let pairs = enter_pairs(alloc, &mut store.arena, &given.apart)?;
-    let terms = enter_places(alloc, &mut store.arena, &[], false, &goal.inputs)?;
-    let wanted = enter_wanted(alloc, &mut store.arena, wanted)?;
-    Ok(Problem {
-        store,
-        facts,
-        pairs,
-        terms,
-        wanted,
-    })
+    match enter_parts(alloc, rules, given, goal, wanted, &mut store) {
+        Ok(entered) => {
+            let Entered {
+                facts,
+                pairs,
+                terms,
+                wanted,
+            } = entered;
+            Ok(Problem {
+                store,
+                facts,
+                pairs,
+                terms,
+                wanted,
+            })
+        }
+        Err(e) => {
+            drop(store);
+            Err(e)
+        }
+    }
 }
 
 /// How the walk of the goal ends.
@@ -113,7 +107,18 @@ pub(crate) fn search<L: Ledger>(
     match walk(
         alloc, rules, &facts, &pairs, &mut store, &wanted, goal.form, terms, 2999, budget, steps,
     ) {
-        Ok(ending) => Ok(Searched { store, ending }),
-        Err(e) => Err(e),
+        Ok(ending) => {
+            drop(wanted);
+            drop(pairs);
+            drop(facts);
+            Ok(Searched { store, ending })
+        }
+        Err(e) => {
+            drop(wanted);
+            drop(pairs);
+            drop(facts);
+            drop(store);
+            Err(e)
+        }
     }
 }

@@ -92,8 +92,9 @@ fn lead(
         facts,
         pairs,
         terms,
-        wanted: _,
+        wanted,
     } = problem;
+    drop(wanted);
     let mut store = store;
     let spot = Spot {
         form: goal.form,
@@ -104,15 +105,20 @@ fn lead(
         alloc, rules, &facts, &pairs, &mut store, spot, levels, budget, known,
     )? {
         Descent::Stuck { spot, reason } => {
-            let blame = export_blame(alloc, &store, spot, reason)?;
-            Ok(Lead::Ends(blame))
+            let blame = export_blame(alloc, &store, spot, reason);
+            drop(store);
+            drop(pairs);
+            drop(facts);
+            Ok(Lead::Ends(blame?))
         }
         Descent::Below(next) => {
-            let below = export_goal(alloc, &store, next.form, &next.terms)?;
-            Ok(Lead::Goes {
-                goal: below,
-                path: next.path,
-            })
+            let Spot { form, terms, path } = next;
+            let below = export_goal(alloc, &store, form, &terms);
+            drop(terms);
+            drop(store);
+            drop(pairs);
+            drop(facts);
+            Ok(Lead::Goes { goal: below?, path })
         }
     }
 }

@@ -4,7 +4,7 @@ use Rattle.std.proofs.lemmas.List.{at_drop_more, map-append}
 use Rattle.std.specs.declared.alloc.Global.{Global}
 use Rattle.sx_term.specs.declared.term.Term.{Term}
 use Rattle.sx_term.specs.Term.{tree}
-use Rattle.sx_rules.specs.declared.proof.Proof.{Proof as ProofOf, By, Given, Row_of-Proof-By-2-1, end_of-Proof-By-2-1, more_of-Proof-By-2-1, items-the_row-Proof-By-2-1, items_hidden-the_row-Proof-By-2-1-0}
+use Rattle.sx_rules.specs.declared.proof.Proof.{Proof as ProofOf, By, Row_of-Proof-By-2-1, end_of-Proof-By-2-1, more_of-Proof-By-2-1, items-the_row-Proof-By-2-1, items_hidden-the_row-Proof-By-2-1-0}
 use Rattle.sx_rules.specs.declared.proof.Proof.TheBlock.{hidden-the_row-Proof-By-2-1-0}
 use Rattle.sx_rules.specs.declared.entry.Entry.{Entry as EntryOf}
 use Rattle.sx_rules.specs.declared.entry.Entry.TheVariants.{Rule}
@@ -58,13 +58,3 @@ order-on ks i k q old new total h e same more so_far =
     ∙ append_assoc (entries old) (order_of (proof q)) (order_of_all (boxed (drop (i + 1) ks)))
     ∙ ap (λ x. entries old ++ order_of_all x) (sym (boxed-drop ks i k q h e same))
     ∙ so_far
-
--- a rule over two givens
-pub height_of-two : (rule : ℕ) (binds : Vec Term Global) (kids : Vec (Box ProofOf Global) Global) (a b : Box ProofOf Global) (m n : ℕ) → kids.items ≡ a ∷ b ∷ [] → a.value ≡ Given m → b.value ≡ Given n →
-    height_of (proof (By rule binds kids)) ≤ 3000
-height_of-two rule binds kids a b m n row first second =
-    let d = ap height_of (proof-at_by (By rule binds kids) rule binds kids refl) in
-    let e = ap (λ x. most_height (boxed x)) row in
-    let f = ap (λ x. height_of (proof x)) first in
-    let g = ap (λ x. height_of (proof x)) second in
-    omega arith

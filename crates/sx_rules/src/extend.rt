@@ -26,10 +26,29 @@ impl RuleSet {
         requires { RulesAreShallow (map rule more.items) }
         ensures { IsMade (shapes all.now) (forms_in base.now) (rules_in base.now ++ map named more.items) result }
     {
-        let known = copy_forms(alloc, &base.forms)?;
-        let mut rules = copy_rules(alloc, &base.rules)?;
         let mut more = more;
-        rules.append(&mut more)?;
+        let mut rules = match copy_rules(alloc, &base.rules) {
+            Ok(rules) => rules,
+            Err(e) => {
+                drop(more);
+                return Err(e.into());
+            }
+        };
+        match rules.append(&mut more) {
+            Ok(()) => drop(more),
+            Err(e) => {
+                drop(rules);
+                drop(more);
+                return Err(e.into());
+            }
+        }
+        let known = match copy_forms(alloc, &base.forms) {
+            Ok(known) => known,
+            Err(e) => {
+                drop(rules);
+                return Err(e.into());
+            }
+        };
         RuleSet::make(alloc, all, known, rules)
     }
 }

@@ -22,8 +22,6 @@ mod proof;
 mod rule;
 mod rule_set;
 mod subject;
-#[cfg(test)]
-mod tests;
 
 pub use derivation_laws::{
     derivations_are_sorted, discipline_suffices, first_derivation_is_unique,

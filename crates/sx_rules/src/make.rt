@@ -82,14 +82,29 @@ impl RuleSet {
         ensures { IsMade (shapes all.now) (forms known.items) (map named rules.items) result }
     {
         if rules.len() > 4096 {
+            drop(rules);
+            drop(known);
             return Err(RuleError::TooManyRules);
         }
         let mut names = Names::new(alloc);
         match check_rules(alloc, all, known.as_slice(), rules.as_slice(), &mut names) {
             Ok(()) => {}
-            Err(e) => return Err(e),
+            Err(e) => {
+                drop(names);
+                drop(rules);
+                drop(known);
+                return Err(e);
+            }
         }
-        let shapes = all.copy(alloc)?;
+        let shapes = match all.copy(alloc) {
+            Ok(shapes) => shapes,
+            Err(e) => {
+                drop(names);
+                drop(rules);
+                drop(known);
+                return Err(e.into());
+            }
+        };
         Ok(RuleSet {
             shapes,
             forms: known,

@@ -30,8 +30,8 @@ returns-in-Ok-walk g c =
     (subst (λ ps. IsWalked m rs p.store c.walk.new.store p.wanted c.args.budget (events_in m rs ps js p.store 2999 c.args.goal.now.form p.terms.items) c.args.steps.now c.walk.new.steps (Ok c.in-Ok-walk.ending)) c.deref-2.ensures.value
     (c.in-Ok-walk.ensures js (subst (λ fs. AreFacts m (store_trees p.store) js fs) (sym c.deref.ensures.value) h.facts)))
 
-pub returns : goal.returns
-returns g c =
+pub returns-in-Err-walk : goal.returns-in-Err-walk
+returns-in-Err-walk g c =
     let m = modes_of c.args.rules.now in
     let rs = rules_of c.args.rules.now in
     let p = c.in-Ok.problem in

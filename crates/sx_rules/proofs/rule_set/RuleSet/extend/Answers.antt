@@ -7,9 +7,9 @@ use Rattle.sx_rules.proofs.rule_set.RuleSet.extend.Goals as goal
 
 pub copy_rules-requires : goal.copy_rules-requires
 copy_rules-requires c =
-    subst (λ rs. RulesAreShallow (map rule rs)) (sym c.deref-2.ensures.value) (kept_shallow (bare_rules_in c.args.base.now) c.args.base.now.shallow)
+    subst (λ rs. RulesAreShallow (map rule rs)) (sym c.deref.ensures.value) (kept_shallow (bare_rules_in c.args.base.now) c.args.base.now.shallow)
 
 pub make-requires : goal.make-requires
 make-requires c =
-    shallow_joined c.deref-2.result.now c.in_ok-rules.rules.items c.args.more.items c.append.new.self.items c.in_ok-append.ensures.items c.in_ok-rules.ensures
-    (subst (λ rs. RulesAreShallow (map rule rs)) (sym c.deref-2.ensures.value) (kept_shallow (bare_rules_in c.args.base.now) c.args.base.now.shallow)) c.requires
+    shallow_joined c.deref.result.now c.in-Ok.rules.items c.args.more.items c.append.new.self.items c.in-Ok-append.ensures.items c.in-Ok.ensures
+    (subst (λ rs. RulesAreShallow (map rule rs)) (sym c.deref.ensures.value) (kept_shallow (bare_rules_in c.args.base.now) c.args.base.now.shallow)) c.requires

@@ -1,4 +1,0 @@
-use Rattle.sx_derive.proofs.tests.answer_from.Given as goal
-
-abbrev pub ghosts-derive_from : goal.ghosts-derive_from
-ghosts-derive_from a = record { name = a.blank.name; parts = a.blank.parts }
