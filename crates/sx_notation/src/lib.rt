@@ -13,7 +13,6 @@
 #![tactic(auto)]
 
 mod content;
-mod copying;
 mod directive_reading;
 mod goal_printing;
 mod language;

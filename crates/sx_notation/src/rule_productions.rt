@@ -7,7 +7,6 @@ ghost use Rattle.sx_grammar.specs.Tables.{IsWithinLimits, IsMade};
 ghost use Rattle.sx_directives.specs.Spelling.{lex_text};
 ghost use Rattle.sx_notation.specs.RuleParts.{symbol_for, judgement_sort, form_line, apart_line, apart_lines, rule_parts};
 
-use crate::copying::{copy_productions, copy_sorts};
 use std::alloc::Global;
 use sx_directives::{FormLine, FormSymbol, SpelledSort};
 use sx_grammar::{Grammar, GrammarError, GrammarParts, Production, SortLine, Symbol};
@@ -137,12 +136,11 @@ pub fn rule_parts(
 ) -> Result<GrammarParts, NoMemory>
     ensures { IfOk result (λ r. parts r ≡ rule_parts (parts from.now) forms.now) }
 {
-    let mut sorts = copy_sorts(alloc, &from.sorts)?;
-    sorts.push(judgement_sort(alloc)?)?;
-    let mut productions = copy_productions(alloc, &from.productions)?;
-    add_forms(alloc, forms, &mut productions)?;
-    add_aparts(alloc, &mut productions)?;
-    Ok(GrammarParts { sorts, productions })
+    let mut all = from.copy(alloc)?;
+    all.sorts.push(judgement_sort(alloc)?)?;
+    add_forms(alloc, forms, &mut all.productions)?;
+    add_aparts(alloc, &mut all.productions)?;
+    Ok(all)
 }
 
 /// The grammar by which rules are read, whose parts are those of `rule_parts`, or the first refusal that holds of these parts.
