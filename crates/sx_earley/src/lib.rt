@@ -11,6 +11,7 @@ mod filed;
 mod growing;
 mod hints;
 mod metas;
+mod notes;
 mod openings;
 mod shown;
 mod slot;
@@ -19,8 +20,6 @@ mod spanned;
 mod stems;
 mod symbols;
 mod table;
-#[cfg(test)]
-mod tests;
 
 pub use all_known::first_unknown;
 pub use chart_error::ChartError;

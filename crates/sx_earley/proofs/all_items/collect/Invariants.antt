@@ -3,21 +3,22 @@ use Rattle.sx_grammar.specs.Grammar.{production_of}
 use Rattle.sx_grammar.specs.declared.head.Head.{Head}
 use Rattle.sx_grammar.specs.declared.item.Item.{Item}
 use Rattle.sx_earley.specs.Shown.{plain, tokens_of}
-use Rattle.sx_earley.specs.Chart.{Treated, IsOfSort, beginning, AllHold, AllAsked, IsFiledWaiting, IsFiledComplete, HasOnly}
-use Rattle.sx_earley.proofs.all_items.all_items.Given as goal
+use Rattle.sx_earley.specs.Chart.{Treated, IsOfSort, beginning, AllHold, AllAsked, HasAllOpenings, IsFiledWaiting, IsFiledComplete, HasOnly}
+use Rattle.sx_earley.proofs.all_items.collect.Given as goal
 
 abbrev pub invariant-loop-item : goal.invariant-loop-item
 invariant-loop-item l = record {
+  openings : HasAllOpenings (plain l.grammar) l.notes.openings;
   few : length l.found.keys ≤ 2000000;
   within : l.next ≤ length l.found.keys;
   sound : AllHold (plain l.grammar) (tokens_of l.grammar l.shown) l.start l.found.keys;
   starts : (head : Head) → IsOfSort (production_of (plain l.grammar) head) l.start 0 → Contains l.found.keys (beginning head 0);
   closed : Treated (plain l.grammar) (tokens_of l.grammar l.shown) (take l.next l.found.keys) l.found.keys;
-  asked : AllAsked (plain l.grammar) l.asked.keys l.found.keys;
-  waiting_all : (x : Item) → Contains (take l.next l.found.keys) x → IsFiledWaiting (plain l.grammar) l.waiting x;
-  waiting_only : HasOnly l.waiting l.found.keys;
-  complete_all : (x : Item) → Contains (take l.next l.found.keys) x → IsFiledComplete (plain l.grammar) l.complete x;
-  complete_only : HasOnly l.complete l.found.keys;
+  asked : AllAsked (plain l.grammar) l.notes.asked.keys l.found.keys;
+  waiting_all : (x : Item) → Contains (take l.next l.found.keys) x → IsFiledWaiting (plain l.grammar) l.notes.waiting x;
+  waiting_only : HasOnly l.notes.waiting l.found.keys;
+  complete_all : (x : Item) → Contains (take l.next l.found.keys) x → IsFiledComplete (plain l.grammar) l.notes.complete x;
+  complete_only : HasOnly l.notes.complete l.found.keys;
 }
 
 abbrev pub decreases-loop-item : goal.decreases-loop-item

@@ -10,26 +10,27 @@ use Rattle.sx_earley.proofs.Growth.{still_there, longer}
 use Rattle.sx_earley.proofs.Asking.{asked_none}
 use Rattle.sx_earley.proofs.Turning.{Turn, turn_holds, turn_closed, turn_waiting, turn_complete, turn_waiting_only, turn_complete_only}
 use Rattle.sx_earley.proofs.Closing.{treated_none, starts_hold, ended, closed_has, empty_front, nothing_in}
-use Rattle.sx_earley.proofs.all_items.all_items.Goals as goal
+use Rattle.sx_earley.proofs.all_items.collect.Goals as goal
 
 pub predict_once-requires-clause-asked : goal.predict_once-requires-clause-asked
-predict_once-requires-clause-asked c = asked_none (plain c.args.grammar.now) c.new-asked.result.keys c.new-found.result.keys c.new-asked.ensures.empty
+predict_once-requires-clause-asked c = asked_none (plain c.args.grammar.now) c.args.notes.now.asked.keys c.args.found.now.keys c.requires.asked
 
 pub loop-item-init : goal.loop-item-init
 loop-item-init c =
     let g = plain c.args.grammar.now in let ts = tokens_of c.args.grammar.now c.args.shown.now in
     let keys = c.predict_once.new.found.keys in
     record {
+      openings = c.requires.openings;
       few = c.in_default.ensures.few;
       within = omega arith;
-      sound = starts_hold g ts c.args.start c.new-found.result.keys keys c.new-found.ensures.empty c.predict_once.ensures.only;
+      sound = starts_hold g ts c.args.start c.args.found.now.keys keys c.requires.none c.predict_once.ensures.only;
       starts = λ head fits. c.in_default.ensures.every head fits;
       closed = treated_none g ts c.args.start (take 0 keys) keys (empty_front keys);
       asked = c.in_default.ensures.asked;
       waiting_all = λ x there. absurd (nothing_in (take 0 keys) x (empty_front keys) there);
-      waiting_only = λ s x there. absurd (nothing_in _ x (c.new-waiting.ensures s) there);
+      waiting_only = λ s x there. absurd (nothing_in _ x (c.requires.waiting s) there);
       complete_all = λ x there. absurd (nothing_in (take 0 keys) x (empty_front keys) there);
-      complete_only = λ s x there. absurd (nothing_in _ x (c.new-complete.ensures s) there);
+      complete_only = λ s x there. absurd (nothing_in _ x (c.requires.complete s) there);
     }
 
 pub loop-item-preserved : goal.loop-item-preserved
@@ -38,8 +39,8 @@ loop-item-preserved c =
     let old = c.loop-item.found.keys in let new = c.treat.new.found.keys in let item = c.in-Some.item in
     let inv = c.loop-item.invariant in
     let at : slice_get old c.loop-item.next ≡ Some item = sym c.in-Some.ensures in
-    let w = c.loop-item.waiting in let w' = c.file_waiting.new.waiting in
-    let k = c.loop-item.complete in let k' = c.file_complete.new.complete in
+    let w = c.loop-item.notes.waiting in let w' = c.file_waiting.new.waiting in
+    let k = c.loop-item.notes.complete in let k' = c.file_complete.new.complete in
     let bs = c.befores-before.result.now in let fs = c.fillings-filling.result.now in
     let turn : Turn g ts c.args.start old c.loop-item.next item w w' k k' bs fs = record {
       at = at;
@@ -61,6 +62,7 @@ loop-item-preserved c =
     } in
     let grown = c.treat.ensures.extends in
     record {
+      openings = inv.openings;
       few = c.in_default-treat.ensures.few;
       within = omega (arith, slice_get_within old c.loop-item.next item at, longer old new grown);
       sound = turn_holds g ts c.args.start old c.loop-item.next item w w' k k' bs fs turn new c.treat.ensures.only;
@@ -97,7 +99,7 @@ returns-in-Err-clause-hard c = λ e.
       keys,
       c.predict_once.ensures.hard hard,
       each_once keys c.len-count.ensures.unique,
-      starts_hold g ts c.args.start c.new-found.result.keys keys c.new-found.ensures.empty c.predict_once.ensures.only,
+      starts_hold g ts c.args.start c.args.found.now.keys keys c.requires.none c.predict_once.ensures.only,
     )
 
 pub returns-in-Err-treat-clause-hard : goal.returns-in-Err-treat-clause-hard
@@ -105,8 +107,8 @@ returns-in-Err-treat-clause-hard c = λ e.
     let g = plain c.args.grammar.now in let ts = tokens_of c.args.grammar.now c.args.shown.now in
     let old = c.loop-item.found.keys in let new = c.treat.new.found.keys in let item = c.in-Some.item in
     let inv = c.loop-item.invariant in
-    let w = c.loop-item.waiting in let w' = c.file_waiting.new.waiting in
-    let k = c.loop-item.complete in let k' = c.file_complete.new.complete in
+    let w = c.loop-item.notes.waiting in let w' = c.file_waiting.new.waiting in
+    let k = c.loop-item.notes.complete in let k' = c.file_complete.new.complete in
     let bs = c.befores-before.result.now in let fs = c.fillings-filling.result.now in
     let turn : Turn g ts c.args.start old c.loop-item.next item w w' k k' bs fs = record {
       at = sym c.in-Some.ensures;
