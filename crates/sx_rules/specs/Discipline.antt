@@ -6,8 +6,8 @@ use Rattle.sx_term.specs.declared.sort.Sort.{Sort}
 use Rattle.sx_term.specs.declared.sort.Sort.TheVariants.{Typed}
 use Rattle.sx_rules.specs.Rules.{Judgement, Rule, judgements_of}
 use Rattle.sx_rules.specs.Modes.{Modes, inputs, outputs, outputs_of}
-use Rattle.sx_term.specs.Sorts.{Shape}
-use Rattle.sx_rules.specs.Sorts.{IsUntypedSort, FormSorts}
+use Rattle.sx_rules.specs.Sorts.{FormSorts}
+pub use Rattle.sx_term.specs.Untyped.{AreUntypedSorts, PlainHaveNoTyped}
 
 -- the terms at the subject places
 abbrev pub subjects_of : Modes → Judgement → List Tree
@@ -54,16 +54,6 @@ AreBareSubjects subjects conclusion before (j ∷ js) = IsBareSubject subjects c
 pub record IsDisciplined (subjects : Modes) (rule : Rule) : Type 0 where
   pub bare : AreBareSubjects subjects rule.conclusion [] (judgements_of rule.premises)
   pub every : (v k : ℕ) → slice_get rule.sorts v ≡ Some (Typed k) → StandsAmong v (subjects_of subjects rule.conclusion) → IsSubjectIn subjects v (judgements_of rule.premises)
-
--- none of the sorts is typed
-abbrev pub AreUntypedSorts : List Sort → Type 0
-AreUntypedSorts [] = Unit {0}
-AreUntypedSorts (sort ∷ sorts) = IsUntypedSort sort × AreUntypedSorts sorts
-
--- plain constructors have no typed part
-abbrev pub PlainHaveNoTyped : List Shape → Type 0
-PlainHaveNoTyped shapes =
-    (label : ℕ) (shape : Shape) → slice_get shapes label ≡ Some shape → IsUntypedSort shape.sort → AreUntypedSorts shape.kids
 
 -- of a form's places only the subject has a typed sort, and it is no output
 pub record FormsFit (modes subjects : Modes) (forms : FormSorts) : Type 0 where

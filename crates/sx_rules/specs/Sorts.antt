@@ -2,15 +2,12 @@
 use Rattle.std.specs.Prelude.{◌≡◌, ℕ, List, [], ◌∷◌, Some, slice_get}
 use Rattle.sx_term.specs.declared.lex_kind.LexKind.{LexKind}
 use Rattle.sx_term.specs.declared.sort.Sort.{Sort}
-use Rattle.sx_term.specs.declared.sort.Sort.TheVariants.{Lex, Typed}
+use Rattle.sx_term.specs.declared.sort.Sort.TheVariants.{Lex}
 use Rattle.sx_rules.specs.Rules.{Judgement, Premise, holds, apart, Rule}
 use Rattle.sx_term.specs.Sorts.{Shape, HasSort, HaveSorts}
 use Rattle.sx_rules.specs.Modes.{Modes, inputs, Goal}
 use Rattle.sx_rules.specs.Derivations.{Proof, Proofs, by, given, no_more, ◌⊳◌}
-
--- the sort is lexical or plain
-abbrev pub IsUntypedSort : Sort → Type 0
-IsUntypedSort sort = (k : ℕ) → sort ≡ Typed k → ⊥
+pub use Rattle.sx_term.specs.Untyped.{IsUntypedSort}
 
 -- for each form's number, the sorts of its places
 abbrev pub FormSorts : Type 0

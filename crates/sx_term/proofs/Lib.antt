@@ -25,3 +25,4 @@ pub mod RunLemmas
 pub mod SymbolRuns
 pub mod SortLaws
 pub mod VarLemmas
+pub mod Instancing

@@ -16,3 +16,5 @@ pub mod Run
 pub mod Vars
 pub mod Sorts
 pub mod Shapes
+pub mod Untyped
+pub mod Instances
