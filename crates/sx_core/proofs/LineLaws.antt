@@ -7,8 +7,8 @@ use Rattle.sx_core.specs.Reading.{context, IsRead}
 use Rattle.sx_core.specs.Order.{phase_of, at_start}
 use Rattle.sx_core.specs.Machine.{IsUsual, StepRefused, NextRefused, step_error, line_error, keyword_of}
 use Rattle.sx_core.specs.declared.reader.Reader.{Reader}
-use Rattle.sx_core.specs.declared.reader.StepError.{StepError}
-use Rattle.sx_core.specs.declared.reader.StepError.TheVariants.{Memory as NoRoom, Order as OutOfOrder}
+use Rattle.sx_core.specs.declared.step_error.StepError.{StepError}
+use Rattle.sx_core.specs.declared.step_error.StepError.TheVariants.{Memory as NoRoom, Order as OutOfOrder}
 use Rattle.sx_core.specs.declared.stage.Stage.{Stage}
 use Rattle.sx_core.specs.declared.stage.Stage.TheVariants.{Start, Declaring, Between, Premising, Concluded, Over}
 use Rattle.sx_core.specs.declared.line_read.LineRead.{LineRead}

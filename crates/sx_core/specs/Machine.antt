@@ -27,8 +27,8 @@ use Rattle.sx_core.specs.declared.found.Found.{Found}
 use Rattle.sx_core.specs.declared.sort_table.SortTable.{SortTable}
 use Rattle.sx_core.specs.File.{SortRow}
 use Rattle.sx_core.specs.declared.reader.Reader.{Reader}
-use Rattle.sx_core.specs.declared.reader.StepError.{StepError}
-use Rattle.sx_core.specs.declared.reader.StepError.TheVariants.{Memory as NoRoom, Order as OutOfOrder}
+use Rattle.sx_core.specs.declared.step_error.StepError.{StepError}
+use Rattle.sx_core.specs.declared.step_error.StepError.TheVariants.{Memory as NoRoom, Order as OutOfOrder}
 use Rattle.sx_core.specs.declared.stage.Open.{Open}
 use Rattle.sx_core.specs.declared.stage.Stage.{Stage}
 use Rattle.sx_core.specs.declared.stage.Stage.TheVariants.{Start, Declaring, Between, Premising, Concluded, Over}

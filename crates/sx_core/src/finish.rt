@@ -8,11 +8,13 @@ ghost use Rattle.sx_core.specs.Machine as spec;
 ghost use Rattle.sx_core.specs.Machine.{IsMadeOf, IsEnded};
 
 use crate::error::CoreFileError;
+use crate::form_table::FormTable;
 use crate::found::Found;
 use crate::kind::Kind;
 use crate::problem::CoreProblem;
 use crate::reader::Reader;
 use crate::rows::SortRow;
+use crate::sort_table::SortTable;
 use crate::stage::Stage;
 use std::alloc::Global;
 use sx_rules::{Goal, Rule, RuleError, RuleSet};
@@ -60,14 +62,23 @@ fn make_problem(
 {
     let Found {
         sorts,
-        taken: _,
-        con_names: _,
+        taken,
+        con_names,
         cons,
         shapes,
         forms,
     } = found;
-    let sorts = names_of_sorts(alloc, &sorts.rows)?;
-    match RuleSet::make(alloc, &shapes, forms.forms, rules) {
+    let FormTable { names, forms } = forms;
+    let SortTable {
+        names: sort_names,
+        rows,
+    } = sorts;
+    drop(taken);
+    drop(con_names);
+    drop(names);
+    drop(sort_names);
+    let sorts = names_of_sorts(alloc, &rows)?;
+    match RuleSet::make(alloc, &shapes, forms, rules) {
         Ok(rules) => Ok(CoreProblem {
             sorts,
             cons,
@@ -93,26 +104,46 @@ pub(crate) fn finish(
         stage,
     } = reader;
     match stage {
-        Stage::Start => Err(CoreFileError::Notation {
-            line: number,
-            kind: Kind::Head,
-        }),
-        Stage::Declaring => Err(CoreFileError::Notation {
-            line: number,
-            kind: Kind::Main,
-        }),
-        Stage::Between => Err(CoreFileError::Notation {
-            line: number,
-            kind: Kind::Main,
-        }),
-        Stage::Premising(open) => Err(CoreFileError::Notation {
-            line: open.line,
-            kind: Kind::Unfinished,
-        }),
-        Stage::Concluded(open, _) => Err(CoreFileError::Notation {
-            line: open.line,
-            kind: Kind::Unfinished,
-        }),
+        Stage::Start => {
+            drop(found);
+            drop(rules);
+            Err(CoreFileError::Notation {
+                line: number,
+                kind: Kind::Head,
+            })
+        }
+        Stage::Declaring => {
+            drop(found);
+            drop(rules);
+            Err(CoreFileError::Notation {
+                line: number,
+                kind: Kind::Main,
+            })
+        }
+        Stage::Between => {
+            drop(found);
+            drop(rules);
+            Err(CoreFileError::Notation {
+                line: number,
+                kind: Kind::Main,
+            })
+        }
+        Stage::Premising(open) => {
+            drop(found);
+            drop(rules);
+            Err(CoreFileError::Notation {
+                line: open.line,
+                kind: Kind::Unfinished,
+            })
+        }
+        Stage::Concluded(open, _) => {
+            drop(found);
+            drop(rules);
+            Err(CoreFileError::Notation {
+                line: open.line,
+                kind: Kind::Unfinished,
+            })
+        }
         Stage::Over(goal) => make_problem(alloc, found, rules, goal),
     }
 }

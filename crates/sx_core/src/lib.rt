@@ -23,9 +23,8 @@ mod sort_reading;
 mod sort_table;
 mod stage;
 mod statements;
+mod step_error;
 mod terms_row;
-#[cfg(test)]
-mod tests;
 mod words;
 
 pub use error::CoreFileError;

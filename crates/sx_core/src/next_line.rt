@@ -12,8 +12,9 @@ use crate::keyword::split_keyword;
 use crate::kind::Kind;
 use crate::line_read::LineRead;
 use crate::line_reading::read_line;
-use crate::reader::{Reader, StepError};
+use crate::reader::Reader;
 use crate::stage::Stage;
+use crate::step_error::StepError;
 use crate::terms_row::RowError;
 use std::alloc::Global;
 
@@ -81,6 +82,7 @@ fn first_line(reader: Reader, number: u32, text: &[u8]) -> Result<Reader, CoreFi
     ensures { MatchResult result (λ r. NextRead reader number text.now r) (λ e. NextRefused reader number text.now e) }
 {
     if !is_head(text) {
+        drop(reader);
         return Err(CoreFileError::Notation {
             line: number,
             kind: Kind::Head,
@@ -89,8 +91,9 @@ fn first_line(reader: Reader, number: u32, text: &[u8]) -> Result<Reader, CoreFi
     let Reader {
         found,
         rules,
-        stage: _,
+        stage,
     } = reader;
+    drop(stage);
     Ok(Reader {
         found,
         rules,
@@ -131,12 +134,18 @@ fn later_line(
     match split_keyword(text) {
         Some((keyword, rest)) => match read_line(alloc, &reader.found, keyword, text, rest) {
             Ok(read) => take_line(alloc, reader, number, text, read),
-            Err(e) => Err(line_error(number, e)),
+            Err(e) => {
+                drop(reader);
+                Err(line_error(number, e))
+            }
         },
-        None => Err(CoreFileError::Notation {
-            line: number,
-            kind: Kind::Directive,
-        }),
+        None => {
+            drop(reader);
+            Err(CoreFileError::Notation {
+                line: number,
+                kind: Kind::Directive,
+            })
+        }
     }
 }
 
@@ -151,6 +160,7 @@ pub(crate) fn read_next(
     ensures { MatchResult result (λ r. NextRead reader number text.now r) (λ e. NextRefused reader number text.now e) }
 {
     if is_over(&reader.stage) {
+        drop(reader);
         return Err(CoreFileError::Notation {
             line: number,
             kind: Kind::Order,

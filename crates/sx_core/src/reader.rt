@@ -1,19 +1,19 @@
 //! The reading of a core file, line by line.
 
-ghost use Rattle.std.specs.Prelude.{◌≡◌, ℕ, ◌++◌, [], ◌∷◌, Contains, MatchResult, OnOk};
-ghost use Rattle.sx_term.specs.Shapes.{shape};
-ghost use Rattle.sx_rules.specs.Views.{form};
-ghost use Rattle.sx_core.specs.Machine.{AddsSort, AddsCon, AddsForm, IsFresh, Steps, StepRefused, keyword_of};
+ghost use Rattle.std.specs.Prelude.{◌≡◌, ℕ, ◌++◌, [], ◌∷◌, Contains, MatchResult};
+ghost use Rattle.sx_core.specs.Machine.{IsFresh, Steps, StepRefused, keyword_of};
 ghost use Rattle.sx_core.specs.declared.line_read.LineRead.TheVariants as line;
 ghost use Rattle.sx_core.specs.declared.keyword.Keyword.TheVariants as keyword;
+ghost use Rattle.sx_core.specs.declared.step_error.StepError.TheVariants.{Order};
 
-use crate::found::Found;
+use crate::found::{Found, add_con, add_form, add_sort};
 use crate::line_read::LineRead;
 use crate::rows::{ConRow, SortRow};
 use crate::stage::{Open, Stage};
-use std::alloc::{AllocFailed, Global};
+use crate::step_error::StepError;
+use std::alloc::Global;
 use sx_rules::{Form, Goal, Judgement, Premise, Rule};
-use sx_term::{Con, NoMemory, Sort, Term, Text};
+use sx_term::{Con, Sort, Term, Text};
 
 /// What has been read of a core file: what was found, the rules that are ended, and where the reading stands.
 #[derive(Drop)]
@@ -23,63 +23,14 @@ pub(crate) struct Reader {
     pub stage: Stage,
 }
 
-/// Why a line is not taken: memory is lacking, or such a line may not stand there.
-#[derive(Debug, Drop)]
-pub(crate) enum StepError {
-    Memory,
-    Order,
-}
-
-impl From<NoMemory> for StepError {
-    ghost use Rattle.std.specs.Prelude.{◌≡◌};
-    ghost use Rattle.sx_core.specs.declared.reader.StepError.TheVariants.{Memory};
-
-    ghost from_gives = { λ _ e. e ≡ Memory };
-
-    fn from(_e: NoMemory) -> StepError {
-        StepError::Memory
-    }
-}
-
-impl<T: Drop> From<AllocFailed<T>> for StepError {
-    ghost use Rattle.std.specs.Prelude.{◌≡◌};
-    ghost use Rattle.sx_core.specs.declared.reader.StepError.TheVariants.{Memory};
-
-    ghost from_gives = { λ _ e. e ≡ Memory };
-
-    fn from(_e: AllocFailed<T>) -> StepError {
-        StepError::Memory
-    }
-}
-
-/// Takes the name of one more sort.
-fn add_sort(alloc: Global, found: &mut Found, row: &SortRow) -> Result<(), NoMemory>
-    requires { Contains found.old.taken row.now.name → ⊥ }
-    ensures { OnOk result (AddsSort found.old found.new row.now.name) }
+/// Lets go of what a reader has that does not take a line there.
+fn out_of_order(found: Found, rules: Vec<Rule>, stage: Stage) -> StepError
+    ensures { result ≡ Order }
 {
-    found.taken.push(alloc, row.name.bytes())?;
-    Ok(())
-}
-
-/// Adds one more constructor.
-fn add_con(alloc: Global, found: &mut Found, row: &ConRow, con: Con) -> Result<(), NoMemory>
-    requires { Contains found.old.con_names row.now.name → ⊥ }
-    ensures { OnOk result (AddsCon found.old found.new row.now.name (shape con)) }
-{
-    found.con_names.push(alloc, row.name.bytes())?;
-    found.cons.push(row.name.copy(alloc)?)?;
-    found.shapes.cons.push(con)?;
-    Ok(())
-}
-
-/// Adds one more form.
-fn add_form(alloc: Global, found: &mut Found, one: Form) -> Result<(), NoMemory>
-    requires { Contains found.old.forms.names one.name → ⊥ }
-    ensures { OnOk result (AddsForm found.old found.new (form one)) }
-{
-    found.forms.names.push(alloc, one.name.bytes())?;
-    found.forms.forms.push(one)?;
-    Ok(())
+    drop(stage);
+    drop(rules);
+    drop(found);
+    StepError::Order
 }
 
 impl Reader {
@@ -98,7 +49,7 @@ impl Reader {
                 rules,
                 stage: Stage::Declaring,
             }),
-            _ => Err(StepError::Order),
+            _ => Err(out_of_order(found, rules, stage)),
         }
     }
 
@@ -114,14 +65,20 @@ impl Reader {
         } = self;
         match stage {
             Stage::Declaring => {
-                add_sort(alloc, &mut found, &row)?;
-                Ok(Reader {
-                    found,
-                    rules,
-                    stage: Stage::Declaring,
-                })
+                match add_sort(alloc, &mut found, &row) {
+                    Ok(_) => Ok(Reader {
+                        found,
+                        rules,
+                        stage: Stage::Declaring,
+                    }),
+                    Err(_) => {
+                        drop(found);
+                        drop(rules);
+                        Err(StepError::Memory)
+                    }
+                }
             }
-            _ => Err(StepError::Order),
+            _ => Err(out_of_order(found, rules, stage)),
         }
     }
 
@@ -137,14 +94,20 @@ impl Reader {
         } = self;
         match stage {
             Stage::Declaring => {
-                add_con(alloc, &mut found, &row, con)?;
-                Ok(Reader {
-                    found,
-                    rules,
-                    stage: Stage::Declaring,
-                })
+                match add_con(alloc, &mut found, &row, con) {
+                    Ok(_) => Ok(Reader {
+                        found,
+                        rules,
+                        stage: Stage::Declaring,
+                    }),
+                    Err(_) => {
+                        drop(found);
+                        drop(rules);
+                        Err(StepError::Memory)
+                    }
+                }
             }
-            _ => Err(StepError::Order),
+            _ => Err(out_of_order(found, rules, stage)),
         }
     }
 
@@ -160,14 +123,20 @@ impl Reader {
         } = self;
         match stage {
             Stage::Declaring => {
-                add_form(alloc, &mut found, one)?;
-                Ok(Reader {
-                    found,
-                    rules,
-                    stage: Stage::Declaring,
-                })
+                match add_form(alloc, &mut found, one) {
+                    Ok(_) => Ok(Reader {
+                        found,
+                        rules,
+                        stage: Stage::Declaring,
+                    }),
+                    Err(_) => {
+                        drop(found);
+                        drop(rules);
+                        Err(StepError::Memory)
+                    }
+                }
             }
-            _ => Err(StepError::Order),
+            _ => Err(out_of_order(found, rules, stage)),
         }
     }
 
@@ -203,7 +172,7 @@ impl Reader {
                 rules,
                 stage: Stage::Premising(open),
             }),
-            _ => Err(StepError::Order),
+            _ => Err(out_of_order(found, rules, stage)),
         }
     }
 
@@ -218,14 +187,22 @@ impl Reader {
         } = self;
         match stage {
             Stage::Premising(mut open) => {
-                open.premises.push(Premise::Holds(one))?;
+                match open.premises.push(Premise::Holds(one)) {
+                    Ok(_) => {}
+                    Err(_) => {
+                        drop(found);
+                        drop(rules);
+                        drop(open);
+                        return Err(StepError::Memory);
+                    }
+                }
                 Ok(Reader {
                     found,
                     rules,
                     stage: Stage::Premising(open),
                 })
             }
-            _ => Err(StepError::Order),
+            _ => Err(out_of_order(found, rules, stage)),
         }
     }
 
@@ -240,14 +217,22 @@ impl Reader {
         } = self;
         match stage {
             Stage::Premising(mut open) => {
-                open.premises.push(Premise::Apart(left, right))?;
+                match open.premises.push(Premise::Apart(left, right)) {
+                    Ok(_) => {}
+                    Err(_) => {
+                        drop(found);
+                        drop(rules);
+                        drop(open);
+                        return Err(StepError::Memory);
+                    }
+                }
                 Ok(Reader {
                     found,
                     rules,
                     stage: Stage::Premising(open),
                 })
             }
-            _ => Err(StepError::Order),
+            _ => Err(out_of_order(found, rules, stage)),
         }
     }
 
@@ -266,7 +251,7 @@ impl Reader {
                 rules,
                 stage: Stage::Concluded(open, one),
             }),
-            _ => Err(StepError::Order),
+            _ => Err(out_of_order(found, rules, stage)),
         }
     }
 
@@ -287,19 +272,27 @@ impl Reader {
                     sorts,
                     premises,
                 } = open;
-                rules.push(Rule {
+                let rule = Rule {
                     name,
                     vars: sorts,
                     premises,
                     conclusion,
-                })?;
+                };
+                match rules.push(rule) {
+                    Ok(_) => {}
+                    Err(_) => {
+                        drop(found);
+                        drop(rules);
+                        return Err(StepError::Memory);
+                    }
+                }
                 Ok(Reader {
                     found,
                     rules,
                     stage: Stage::Between,
                 })
             }
-            _ => Err(StepError::Order),
+            _ => Err(out_of_order(found, rules, stage)),
         }
     }
 
@@ -323,7 +316,7 @@ impl Reader {
                 rules,
                 stage: Stage::Over(goal),
             }),
-            _ => Err(StepError::Order),
+            _ => Err(out_of_order(found, rules, stage)),
         }
     }
 

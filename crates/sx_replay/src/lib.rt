@@ -17,6 +17,3 @@ pub use laws::{
 };
 pub use replay_error::ReplayError;
 pub use replaying::replay;
-
-#[cfg(test)]
-mod tests;

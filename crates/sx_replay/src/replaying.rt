@@ -40,9 +40,30 @@ fn enter_problem(
     ensures { IfOk result (λ p. IsProblem (modes_of rules.now) (rules_of rules.now) (hypotheses given.now) (goal_of goal.now).terms p) }
 {
     let mut reader = Reader::new(alloc);
-    let facts = enter_facts(alloc, rules, &mut reader.arena, &given.holds)?;
-    let pairs = enter_pairs(alloc, &mut reader.arena, &given.apart)?;
-    let terms = enter_places(alloc, &mut reader.arena, &[], false, &goal.inputs)?;
+    let facts = match enter_facts(alloc, rules, &mut reader.arena, &given.holds) {
+        Ok(facts) => facts,
+        Err(e) => {
+            drop(reader);
+            return Err(e);
+        }
+    };
+    let pairs = match enter_pairs(alloc, &mut reader.arena, &given.apart) {
+        Ok(pairs) => pairs,
+        Err(e) => {
+            drop(facts);
+            drop(reader);
+            return Err(e);
+        }
+    };
+    let terms = match enter_places(alloc, &mut reader.arena, &[], false, &goal.inputs) {
+        Ok(terms) => terms,
+        Err(e) => {
+            drop(pairs);
+            drop(facts);
+            drop(reader);
+            return Err(e);
+        }
+    };
     Ok(Problem {
         reader,
         facts,
@@ -95,10 +116,22 @@ pub fn replay(
         terms,
         list,
     ) {
-        Ok(outputs) => match export_all(alloc, &reader.arena, &outputs) {
-            Ok(terms) => Ok(terms),
-            Err(NoMemory::Memory) => Err(ReplayError::Memory),
-        },
-        Err(error) => Err(error),
+        Ok(outputs) => {
+            let exported = export_all(alloc, &reader.arena, &outputs);
+            drop(outputs);
+            drop(reader);
+            drop(pairs);
+            drop(facts);
+            match exported {
+                Ok(terms) => Ok(terms),
+                Err(NoMemory::Memory) => Err(ReplayError::Memory),
+            }
+        }
+        Err(error) => {
+            drop(reader);
+            drop(pairs);
+            drop(facts);
+            Err(error)
+        }
     }
 }

@@ -9,20 +9,20 @@ use Rattle.sx_replay.specs.Reader.{reader_trees, hyps_in, goal_in}
 use Rattle.sx_replay.proofs.Started.{replayed_ok, replayed_err}
 use Rattle.sx_replay.proofs.replaying.replay.Goals as goal
 
-pub returns-in-Ok-export_all : goal.returns-in-Ok-export_all
-returns-in-Ok-export_all c =
+pub returns-in-Ok-exported : goal.returns-in-Ok-exported
+returns-in-Ok-exported c =
     let m = modes_of c.args.rules.now in
     let rs = rules_of c.args.rules.now in
     let p = c.in-Ok.problem in
     let h = c.in-Ok.ensures in
     let hyps = hypotheses c.args.given.now in
-    replayed_ok m rs hyps c.facts.ensures.moded c.args.goal.now.form (goal_of c.args.goal.now).terms p h (entries c.args.list.now) c.follow.new.reader c.in-Ok-follow.outputs c.in-Ok-export_all.terms
+    replayed_ok m rs hyps c.facts.ensures.moded c.args.goal.now.form (goal_of c.args.goal.now).terms p h (entries c.args.list.now) c.follow.new.reader c.in-Ok-follow.outputs c.in-Ok-exported.terms
     (subst (λ ps. IsFollowed m rs (hyps_in ps p.reader hyps.judgements) (goal_in p.reader c.args.goal.now.form p.terms.items) (entries c.args.list.now) c.follow.new.reader (Ok c.in-Ok-follow.outputs)) c.deref-2.ensures.value
     (c.in-Ok-follow.ensures.followed hyps.judgements (subst (λ fs. AreFacts m (reader_trees p.reader) hyps.judgements fs) (sym c.deref.ensures.value) h.facts)))
-    (c.in-Ok-export_all.ensures ∙ ap (map (tree_at (reader_trees c.follow.new.reader))) c.deref-in-Ok-follow.ensures.value)
+    (c.in-Ok-exported.ensures ∙ ap (map (tree_at (reader_trees c.follow.new.reader))) c.deref-in-Ok-follow.ensures.value)
 
-pub returns : goal.returns
-returns c =
+pub returns-in-Err : goal.returns-in-Err
+returns-in-Err c =
     let m = modes_of c.args.rules.now in
     let rs = rules_of c.args.rules.now in
     let p = c.in-Ok.problem in

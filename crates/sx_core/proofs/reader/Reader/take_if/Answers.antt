@@ -3,12 +3,12 @@ use Rattle.sx_rules.specs.Views.{premise}
 use Rattle.sx_core.proofs.Wording.{map_last}
 use Rattle.sx_core.proofs.reader.Reader.take_if.Goals as goal
 
-pub returns-in_ok-push-in-Premising : goal.returns-in_ok-push-in-Premising
-returns-in_ok-push-in-Premising c = λ n. (
+pub returns-in-Ok : goal.returns-in-Ok
+returns-in-Ok c = λ n. (
   c.in-Premising.open,
   _,
   c.in-Premising.is,
   refl,
-  record { line = refl; name = refl; sorts = refl; premises = ap (map premise) c.in_ok-push-in-Premising.ensures.items ∙ map_last premise c.in-Premising.open.premises.items _ },
+  record { line = refl; name = refl; sorts = refl; premises = ap (map premise) c.in-Ok.ensures.items ∙ map_last premise c.in-Premising.open.premises.items _ },
   (refl, refl),
 )

@@ -1,5 +1,8 @@
+use Rattle.std.proofs.Common.{subst, sym}
+use Rattle.sx_core.specs.Machine.{StepRefused}
+use Rattle.sx_core.specs.declared.keyword.Keyword.TheVariants as keyword
 use Rattle.sx_core.proofs.StageLaws.{no_sort}
 use Rattle.sx_core.proofs.reader.Reader.take_sort.Goals as goal
 
 pub returns : goal.returns
-returns c = λ n. no_sort c.args.self.stage c.in_default.not-Declaring
+returns c = λ n. subst (StepRefused c.args.self keyword.Sort) (sym c.out_of_order.ensures) (no_sort c.args.self.stage c.in_default.not-Declaring)
