@@ -16,7 +16,6 @@ pub mod Apart
 pub mod Sorting
 pub mod Tabling
 pub mod Whole
-pub mod Judging
 pub mod Retelling
 pub mod Afterness
 pub mod Usable
@@ -27,4 +26,3 @@ pub mod Parting
 pub mod Growing
 pub mod Branching
 pub mod AllTokens
-pub mod Answering

@@ -10,8 +10,6 @@
 
 mod all_tokens;
 mod answer;
-#[cfg(test)]
-mod answer_tests;
 mod building;
 mod choosing;
 mod entries;
@@ -42,8 +40,6 @@ mod stepping;
 mod stretch;
 mod stripping;
 mod symbol_ways;
-#[cfg(test)]
-mod tests;
 mod text_order;
 mod ways;
 mod writing;

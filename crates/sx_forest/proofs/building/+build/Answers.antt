@@ -19,8 +19,7 @@ build-extend-requires t c =
     subst (λ p. IsReadTo (grammar_in F) (tokens_in F) F.start o 0 p (plain_readings c.new-kids.result.items)) same.1
     (subst (λ k. IsReadTo (grammar_in F) (tokens_in F) F.start o 0 o.from k) (sym empty) (begun F c.requires.forest o opened)) in
     let deep : depth_in (tally_of o.ways) ≡ depth_in (tally_of c.args.entry.ways) = ap (λ w. depth_in (tally_of w)) same.3 in
-    let forest = c.requires.forest in
-    search rules
+    (search rules, (c.requires.forest, (opened, (read, omega arith))))
 
 pub build-wrap-requires : goal.build-wrap-requires
 build-wrap-requires t c =
@@ -70,10 +69,9 @@ go_over-build-requires t c =
     let F = c.args.forest in let o = c.args.opened.now in
     let step : IsStep (grammar_in F) (tokens_in F) F.start (lists_in F) o c.args.dot c.args.place (steps.Part c.in-Part.field-0 c.in-Part.entry) =
     subst (λ s. IsStep (grammar_in F) (tokens_in F) F.start (lists_in F) o c.args.dot c.args.place s) c.in-Part.is c.requires.step in
-    let forest = c.requires.forest in
     let shallow = entry_shallow F c.requires.forest o c.requires.opened c.args.dot c.args.place c.in-Part.field-0 c.in-Part.entry (plain_readings c.args.kids.now.items) c.requires.read step in
     let less = entry_less F c.requires.forest o c.requires.opened c.args.dot c.args.place c.in-Part.field-0 c.in-Part.entry (plain_readings c.args.kids.now.items) c.requires.read step in
-    search rules
+    (search rules, (c.requires.forest, shallow))
 
 pub go_over-returns-in-Literal-clause-read : goal.go_over-returns-in-Literal-clause-read
 go_over-returns-in-Literal-clause-read t c =

@@ -18,10 +18,7 @@ build_two-kids_apart-requires t c =
     let same = c.in_ok-opened-in-By.ensures.same in
     let more : IsMore (tally_of o.ways) = subst (λ w. IsMore (tally_of w)) (sym same.3) c.requires.more in
     let deep : depth_in (tally_of o.ways) ≡ depth_in (tally_of c.args.entry.ways) = ap (λ w. depth_in (tally_of w)) same.3 in
-    let forest = c.requires.forest in
-    let none = c.new-one.ensures.items in
-    let nothing = c.new-other.ensures.items in
-    search rules
+    (search rules, (c.requires.forest, (opened, (more, (c.new-one.ensures.items, c.new-other.ensures.items)))))
 
 pub build_two-unreachable-requires : goal.build_two-unreachable-requires
 build_two-unreachable-requires t c =
@@ -95,20 +92,14 @@ kids_apart-end-place-requires t c = place_low c.args.forest c.requires.forest c.
 
 pub kids_apart-part-requires : goal.kids_apart-part-requires
 kids_apart-part-requires t c =
-    let forest = c.requires.forest in
-    let opened = c.requires.opened in
-    let one = c.loop-dot.invariant.one in
-    let other = c.loop-dot.invariant.other in
-    let fork = c.in-Some.ensures.fork in
-    search rules
+    (search rules, (c.requires.forest, (c.requires.opened, (c.loop-dot.invariant.one, (c.loop-dot.invariant.other, c.in-Some.ensures.fork)))))
 
 pub part-pair_at-requires : goal.part-pair_at-requires
 part-pair_at-requires t c =
     let F = c.args.forest in let o = c.args.opened.now in let k = c.requires.fork in
-    let forest = c.requires.forest in
     let parting = fork_parting F c.requires.forest o c.requires.opened c.args.dot c.args.place c.args.fork (plain_readings c.args.one.now.items) c.requires.one k in
     let less = there_less F c.requires.forest o c.requires.opened c.args.dot c.args.place k.sort k.least (one_of c.args.fork) (plain_readings c.args.one.now.items) k.symbol k.one c.requires.one in
-    search rules
+    (search rules, (c.requires.forest, parting))
 
 pub part-extend-requires : goal.part-extend-requires
 part-extend-requires t c =
@@ -151,11 +142,10 @@ part-returns t c =
 pub pair_at-build_two-requires : goal.pair_at-build_two-requires
 pair_at-build_two-requires t c =
     let F = c.args.forest in
-    let forest = c.requires.forest in
     let shallow : IsShallow (grammar_in F) (tokens_in F) F.start c.args.place c.in-Inside.entry = subst (λ k. IsShallow (grammar_in F) (tokens_in F) F.start c.args.place (one_of k)) c.in-Inside.is c.requires.parting.one in
     let more : IsMore (tally_of c.in-Inside.entry.ways) = subst (λ k. IsApart k) c.in-Inside.is c.requires.parting.apart in
     let deep : depth_in (tally_of (one_of c.args.fork).ways) ≡ depth_in (tally_of c.in-Inside.entry.ways) = ap (λ k. depth_in (tally_of (one_of k).ways)) c.in-Inside.is in
-    search rules
+    (search rules, (c.requires.forest, (shallow, more)))
 
 pub pair_at-returns-in_ok-second-in-Apart-clause-apart : goal.pair_at-returns-in_ok-second-in-Apart-clause-apart
 pair_at-returns-in_ok-second-in-Apart-clause-apart t c =

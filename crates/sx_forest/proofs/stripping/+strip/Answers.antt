@@ -1,4 +1,4 @@
-use Rattle.std.proofs.Common.{rules, ap, sym, refl, subst, map, length, ◌+◌, ◌<◌, ◌^◌, ◌++◌}
+use Rattle.std.proofs.Common.{rules, arith, ap, sym, refl, subst, map, length, ◌+◌, ◌<◌, ◌^◌, ◌++◌}
 use Rattle.sx_term.specs.Term.{tree}
 use Rattle.sx_earley.specs.Tokens.{plain_tokens}
 use Rattle.sx_forest.specs.declared.reading.Reading.TheViews.{the_lemmas}
@@ -22,7 +22,7 @@ strip-requires t c =
     let d = reading_depth-kid _ _ _ _ _ _ _ _ c.in-Node.is c.deref-kid-items.ensures.value c.loop-kid-test.true c.kid-item.is in
     let m = (marked_step _ _ _ _ c.loop-kid-test.true c.kid-item.is c.loop-kid.invariant.marked).0 in
     let r = kid_room c.args.tokens.now c.deref-kid-items.result.now c.loop-kid.kid-index c.kid-item.result (length c.loop-kid.vars) (2 ^ 32) c.loop-kid-test.true c.kid-item.is c.loop-kid.invariant.room in
-    search (rules, the_lemmas)
+    (search (rules, the_lemmas), ((let h = c.requires.depth in omega (arith, d, h)), (m, r)))
 
 pub returns-in_err-strip-in-Node-clause-err : goal.returns-in_err-strip-in-Node-clause-err
 returns-in_err-strip-in-Node-clause-err t c =

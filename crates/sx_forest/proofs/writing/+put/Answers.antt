@@ -1,4 +1,4 @@
-use Rattle.std.proofs.Common.{rules, length, ◌∙◌}
+use Rattle.std.proofs.Common.{rules, arith, length, ◌∙◌}
 use Rattle.std.proofs.lemmas.Result.{on_ok_weaker}
 use Rattle.sx_grammar.specs.Parts.{labels}
 use Rattle.sx_forest.specs.declared.reading.Reading.TheViews.{the_lemmas}
@@ -11,8 +11,7 @@ pub put_kids-put_reading-requires-in-loop-kid : goal.put_kids-put_reading-requir
 put_kids-put_reading-requires-in-loop-kid t c =
     let d = other_depth c.args.kids.now c.in-Some.others.now c.in-Some.first.now c.kid-item.result c.loop-kid.kid-index c.in-Some.ensures.cases.0 c.loop-kid-test.true c.kid-item.is in
     let w = within_step _ _ _ _ _ c.loop-kid-test.true c.kid-item.is c.loop-kid.invariant.within in
-    let v = w.0 in
-    search (rules, the_lemmas)
+    (search (rules, the_lemmas), ((let h = c.requires.depth in omega (arith, d, h)), w.0))
 
 pub put_kids-loop-kid-preserved : goal.put_kids-loop-kid-preserved
 put_kids-loop-kid-preserved t c = record {
@@ -25,7 +24,7 @@ pub put_reading-put_kids-requires : goal.put_reading-put_kids-requires
 put_reading-put_kids-requires t c =
     let d = readings_depth-kids _ _ _ _ _ _ c.in-Node.is c.deref.ensures.value in
     let w = kids_within (length c.args.grammar.now.parts.productions) (length c.args.tokens.now) _ _ _ _ _ _ c.in-Node.is c.deref.ensures.value c.requires.within in
-    search (rules, the_lemmas)
+    (search (rules, the_lemmas), ((let h = c.requires.depth in omega (arith, d, h)), w))
 
 pub put_reading-returns-in_ok-put_label-in-Node-clause-ok : goal.put_reading-returns-in_ok-put_label-in-Node-clause-ok
 put_reading-returns-in_ok-put_label-in-Node-clause-ok t c =
