@@ -17,8 +17,6 @@ mod rows;
 mod sorts;
 mod spelled;
 mod symbols;
-#[cfg(test)]
-mod tests;
 
 pub use directive::Directive;
 pub use parts::is_blank;

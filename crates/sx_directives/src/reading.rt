@@ -67,6 +67,7 @@ fn alone(parts: &[&[u8]], row: Row) -> Result<Row, RowError>
     if parts.is_empty() {
         return Ok(row);
     }
+    drop(row);
     Err(RowError::Shape)
 }
 

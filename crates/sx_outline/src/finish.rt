@@ -36,7 +36,11 @@ fn finish_whole(
                 rules,
             })
         }
-        None => Err(bad_line(number, Kind::Main)),
+        None => {
+            drop(known);
+            drop(rules);
+            Err(bad_line(number, Kind::Main))
+        }
     }
 }
 
@@ -52,11 +56,33 @@ pub(crate) fn finish(known: Known, reader: Reader, number: u32) -> Result<Outlin
         rules,
     } = reader;
     match stage {
-        Stage::Start => Err(bad_line(number, Kind::Head)),
+        Stage::Start => {
+            drop(rules);
+            drop(known);
+            Err(bad_line(number, Kind::Head))
+        }
         Stage::Declarations => finish_whole(known, main, rules, number),
         Stage::Rules => finish_whole(known, main, rules, number),
-        Stage::Premises(begun) => Err(bad_line(begun.number, Kind::Unfinished)),
-        Stage::Conclusion(begun) => Err(bad_line(begun.number, Kind::Unfinished)),
-        Stage::End(rule) => Err(bad_line(rule.number, Kind::Unfinished)),
+        Stage::Premises(begun) => {
+            let first = begun.number;
+            drop(begun);
+            drop(rules);
+            drop(known);
+            Err(bad_line(first, Kind::Unfinished))
+        }
+        Stage::Conclusion(begun) => {
+            let first = begun.number;
+            drop(begun);
+            drop(rules);
+            drop(known);
+            Err(bad_line(first, Kind::Unfinished))
+        }
+        Stage::End(rule) => {
+            let first = rule.number;
+            drop(rule);
+            drop(rules);
+            drop(known);
+            Err(bad_line(first, Kind::Unfinished))
+        }
     }
 }

@@ -28,6 +28,7 @@ fn take_row(rows: &mut DeclaredRows, row: Row) -> Result<bool, NoMemory>
     ensures grows { OnOk result (Grows (declared_in rows.old) (declared_in rows.new)) }
 {
     if is_rule(&row) {
+        drop(row);
         return Ok(true);
     }
     rows.declare(row)?;
@@ -57,12 +58,14 @@ fn read_rows(alloc: Global, bytes: &[u8]) -> Result<DeclaredRows, NoMemory>
     let mut left = Rest::all(bytes);
     'lines: loop {
         match next_kept_line(left) {
-            Ok((line, more)) => {
-                if take_line(alloc, &mut rows, line.text)? {
-                    return Ok(rows);
+            Ok((line, more)) => match take_line(alloc, &mut rows, line.text) {
+                Ok(true) => return Ok(rows),
+                Ok(false) => left = more,
+                Err(e) => {
+                    drop(rows);
+                    return Err(e);
                 }
-                left = more;
-            }
+            },
             Err(_) => return Ok(rows),
         }
     }

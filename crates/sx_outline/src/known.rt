@@ -27,8 +27,13 @@ impl Known {
         requires { AreFew (declared_in rows) }
         ensures { IfOk result (λ k. declared_in k.rows ≡ declared_in rows) }
     {
-        let tables = Tables::make(alloc, &rows)?;
-        Ok(Known { rows, tables })
+        match Tables::make(alloc, &rows) {
+            Ok(tables) => Ok(Known { rows, tables }),
+            Err(e) => {
+                drop(rows);
+                Err(e)
+            }
+        }
     }
 
     /// The parts of the grammar, the stems and the forms.
@@ -37,14 +42,16 @@ impl Known {
         ensures vars { result.1.items ≡ (declared_in self.rows).vars }
         ensures forms { map form result.2.items ≡ (declared_in self.rows).forms }
     {
-        let Known { rows, tables: _ } = self;
+        let Known { rows, tables } = self;
+        drop(tables);
         let DeclaredRows {
             sorts,
             productions,
             vars,
             forms,
-            mains: _,
+            mains,
         } = rows;
+        drop(mains);
         (GrammarParts { sorts, productions }, vars, forms)
     }
 }

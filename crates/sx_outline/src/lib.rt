@@ -22,8 +22,6 @@ mod row_taking;
 mod rule_lines;
 mod stage;
 mod tables;
-#[cfg(test)]
-mod tests;
 
 pub use laws::{lines_have_outlines, one_outline_answer, outlines_have_lines};
 pub use main_form::MainForm;

@@ -6,7 +6,7 @@ ghost use Rattle.sx_directives.specs.Parts.{parts_of};
 ghost use Rattle.sx_directives.specs.Rows.{IsRow};
 ghost use Rattle.sx_directives.specs.declared.row.Row.TheVariants as rows;
 ghost use Rattle.sx_outline.specs.Declarations.{Declared};
-ghost use Rattle.sx_outline.specs.Stages.{IsDue, IsBar, at_end, concluded, numbered};
+ghost use Rattle.sx_outline.specs.Stages.{IsDue, IsBar, at_end, at_premises, concluded, numbered, with_premise};
 ghost use Rattle.sx_outline.specs.Reading.{IsCounted, GrowsByOne, IsLineRead, IsHeadRefused, AddsPremise, begun as begun_of, stage as stage_of};
 ghost use Rattle.sx_outline.specs.View as view;
 
@@ -38,7 +38,9 @@ fn is_due(stage: &Stage) -> bool
 fn is_bar_row(row: Row) -> bool
     ensures { IsTrue result ↔ (row ≡ rows.Bar) }
 {
-    matches!(row, Row::Bar)
+    let is_bar = matches!(&row, Row::Bar);
+    drop(row);
+    is_bar
 }
 
 /// Whether the only part of the line is `---`.
@@ -66,8 +68,8 @@ fn rule_line(alloc: Global, number: u32, text: &[u8]) -> Result<RuleLine, NoMemo
 }
 
 /// Whether the row is the first one of the file of the language with this name.
-fn is_head(name: &Text, row: Row) -> bool
-    ensures { IsTrue result ↔ (row ≡ rows.Language name.now) }
+fn is_head(name: &Text, row: &Row) -> bool
+    ensures { IsTrue result ↔ (row.now ≡ rows.Language name.now) }
 {
     match row {
         Row::Language(given) => given.same(name),
@@ -81,7 +83,9 @@ fn first_line(alloc: Global, name: &Text, number: u32, text: &[u8]) -> Result<()
 {
     match read_row(alloc, text) {
         Ok(Some(row)) => {
-            if is_head(name, row) {
+            let is_head = is_head(name, &row);
+            drop(row);
+            if is_head {
                 return Ok(());
             }
             Err(bad_line(number, Kind::Head))
@@ -92,25 +96,45 @@ fn first_line(alloc: Global, name: &Text, number: u32, text: &[u8]) -> Result<()
     }
 }
 
+/// Reads a premise of a rule.
+fn add_premise(alloc: Global, begun: Begun, number: u32, text: &[u8]) -> Result<Stage, NoMemory>
+    requires { IsUtf8 text.now }
+    ensures { IfOk result (λ next. stage_of next ≡ at_premises (with_premise (begun_of begun) (record { number = number; text = text.now }))) }
+{
+    match rule_line(alloc, number, text) {
+        Ok(premise) => {
+            let Begun {
+                number: first,
+                name,
+                mut premises,
+            } = begun;
+            premises.push(premise)?;
+            Ok(Stage::Premises(Begun {
+                number: first,
+                name,
+                premises,
+            }))
+        }
+        Err(e) => {
+            drop(begun);
+            Err(e)
+        }
+    }
+}
+
 /// Reads a line among the premises of a rule.
 fn premise_line(alloc: Global, begun: Begun, number: u32, text: &[u8]) -> Result<Stage, NoMemory>
     requires { IsUtf8 text.now }
     ensures { IfOk result (λ next. AddsPremise (begun_of begun) number text.now (stage_of next)) }
 {
-    if is_bar(alloc, text)? {
-        return Ok(Stage::Conclusion(begun));
+    match is_bar(alloc, text) {
+        Ok(true) => Ok(Stage::Conclusion(begun)),
+        Ok(false) => add_premise(alloc, begun, number, text),
+        Err(e) => {
+            drop(begun);
+            Err(e)
+        }
     }
-    let Begun {
-        number: first,
-        name,
-        mut premises,
-    } = begun;
-    premises.push(rule_line(alloc, number, text)?)?;
-    Ok(Stage::Premises(Begun {
-        number: first,
-        name,
-        premises,
-    }))
 }
 
 /// Reads the conclusion of a rule.
@@ -118,18 +142,25 @@ fn conclusion_line(alloc: Global, begun: Begun, number: u32, text: &[u8]) -> Res
     requires { IsUtf8 text.now }
     ensures { IfOk result (λ next. stage_of next ≡ at_end (concluded (begun_of begun) (record { number = number; text = text.now }))) }
 {
-    let Begun {
-        number: first,
-        name,
-        premises,
-    } = begun;
-    let conclusion = rule_line(alloc, number, text)?;
-    Ok(Stage::End(RuleLines {
-        number: first,
-        name,
-        premises,
-        conclusion,
-    }))
+    match rule_line(alloc, number, text) {
+        Ok(conclusion) => {
+            let Begun {
+                number: first,
+                name,
+                premises,
+            } = begun;
+            Ok(Stage::End(RuleLines {
+                number: first,
+                name,
+                premises,
+                conclusion,
+            }))
+        }
+        Err(e) => {
+            drop(begun);
+            Err(e)
+        }
+    }
 }
 
 /// Reads a line where a row is due.
@@ -148,13 +179,24 @@ fn row_line(
     match read_row(alloc, text) {
         Ok(Some(row)) => {
             if !known.fits(reader.forms, reader.vars, &row) {
+                drop(row);
+                drop(reader);
                 return Err(bad_line(number, Kind::Shape));
             }
             reader.take_row(alloc, known, number, row)
         }
-        Ok(None) => Err(bad_line(number, Kind::Directive)),
-        Err(RowError::Shape) => Err(bad_line(number, Kind::Shape)),
-        Err(RowError::Memory) => Err(OutlineError::Memory),
+        Ok(None) => {
+            drop(reader);
+            Err(bad_line(number, Kind::Directive))
+        }
+        Err(RowError::Shape) => {
+            drop(reader);
+            Err(bad_line(number, Kind::Shape))
+        }
+        Err(RowError::Memory) => {
+            drop(reader);
+            Err(OutlineError::Memory)
+        }
     }
 }
 
@@ -179,12 +221,27 @@ fn other_line(
         rules,
     } = reader;
     let stage = match stage {
-        Stage::Start => {
-            first_line(alloc, name, number, text)?;
-            Stage::Declarations
-        }
-        Stage::Premises(begun) => premise_line(alloc, begun, number, text)?,
-        Stage::Conclusion(begun) => conclusion_line(alloc, begun, number, text)?,
+        Stage::Start => match first_line(alloc, name, number, text) {
+            Ok(()) => Stage::Declarations,
+            Err(e) => {
+                drop(rules);
+                return Err(e);
+            }
+        },
+        Stage::Premises(begun) => match premise_line(alloc, begun, number, text) {
+            Ok(next) => next,
+            Err(_) => {
+                drop(rules);
+                return Err(OutlineError::Memory);
+            }
+        },
+        Stage::Conclusion(begun) => match conclusion_line(alloc, begun, number, text) {
+            Ok(next) => next,
+            Err(_) => {
+                drop(rules);
+                return Err(OutlineError::Memory);
+            }
+        },
         _ => unreachable!(),
     };
     Ok(Reader {

@@ -51,7 +51,10 @@ fn read_lines(
                         reader = next;
                         left = more;
                     }
-                    Err(e) => return Err(e),
+                    Err(e) => {
+                        drop(known);
+                        return Err(e);
+                    }
                 }
             }
             Err(none) => return finish(known, reader, none.number),

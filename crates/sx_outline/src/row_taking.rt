@@ -53,7 +53,11 @@ impl Reader {
                 main,
                 rules,
             }),
-            _ => Err(out_of_order(number)),
+            _ => {
+                drop(rules);
+                drop(stage);
+                Err(out_of_order(number))
+            }
         }
     }
 
@@ -69,10 +73,15 @@ impl Reader {
             main,
             rules,
         } = self;
+        let found = known.main_of(&line);
+        drop(line);
         match stage {
             Stage::Declarations => match main {
-                Some(_) => Err(out_of_order(number)),
-                None => match known.main_of(&line) {
+                Some(_) => {
+                    drop(rules);
+                    Err(out_of_order(number))
+                }
+                None => match found {
                     Some(main) => Ok(Reader {
                         stage: Stage::Declarations,
                         forms,
@@ -80,10 +89,17 @@ impl Reader {
                         main: Some(main),
                         rules,
                     }),
-                    None => Err(bad_line(number, Kind::Main)),
+                    None => {
+                        drop(rules);
+                        Err(bad_line(number, Kind::Main))
+                    }
                 },
             },
-            _ => Err(out_of_order(number)),
+            _ => {
+                drop(rules);
+                drop(stage);
+                Err(out_of_order(number))
+            }
         }
     }
 
@@ -119,7 +135,12 @@ impl Reader {
                 main,
                 rules,
             }),
-            _ => Err(out_of_order(number)),
+            _ => {
+                drop(begun);
+                drop(rules);
+                drop(stage);
+                Err(out_of_order(number))
+            }
         }
     }
 
@@ -136,17 +157,24 @@ impl Reader {
             mut rules,
         } = self;
         match stage {
-            Stage::End(rule) => {
-                rules.push(rule)?;
-                Ok(Reader {
+            Stage::End(rule) => match rules.push(rule) {
+                Ok(()) => Ok(Reader {
                     stage: Stage::Rules,
                     forms,
                     vars,
                     main,
                     rules,
-                })
+                }),
+                Err(_) => {
+                    drop(rules);
+                    Err(OutlineError::Memory)
+                }
+            },
+            _ => {
+                drop(rules);
+                drop(stage);
+                Err(out_of_order(number))
             }
-            _ => Err(out_of_order(number)),
         }
     }
 
@@ -163,15 +191,34 @@ impl Reader {
         ensures grows { IfOk result (GrowsByOne self) }
     {
         match row {
-            Row::Sort(_) => self.take_declaration(number, 0, 0),
-            Row::Prod(_) => self.take_declaration(number, 0, 0),
-            Row::Var(_) => self.take_declaration(number, 0, 1),
-            Row::Form(_) => self.take_declaration(number, 1, 0),
+            Row::Sort(sort) => {
+                drop(sort);
+                self.take_declaration(number, 0, 0)
+            }
+            Row::Prod(production) => {
+                drop(production);
+                self.take_declaration(number, 0, 0)
+            }
+            Row::Var(var) => {
+                drop(var);
+                self.take_declaration(number, 0, 1)
+            }
+            Row::Form(form) => {
+                drop(form);
+                self.take_declaration(number, 1, 0)
+            }
             Row::Main(line) => self.take_main(known, number, line),
             Row::Rule(name) => self.take_rule(alloc, number, name),
             Row::End => self.take_end(number),
-            Row::Language(_) => Err(out_of_order(number)),
-            Row::Bar => Err(out_of_order(number)),
+            Row::Language(name) => {
+                drop(name);
+                drop(self);
+                Err(out_of_order(number))
+            }
+            Row::Bar => {
+                drop(self);
+                Err(out_of_order(number))
+            }
         }
     }
 }

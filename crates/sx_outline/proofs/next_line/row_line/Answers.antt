@@ -11,8 +11,8 @@ returns-then-not-fits-clause-read c = λ name s reader front.
     (λ fits. false≢true (sym c.if-not-fits.true
     ∙ (fits_from (view.known c.args.known.now) s.declared c.args.reader.forms c.args.reader.vars c.fits.result c.in-Ok-Some.row c.fits.ensures front reader.forms_are reader.vars_are).1 fits))
 
-pub returns-in-Ok-Some-clause-read : goal.returns-in-Ok-Some-clause-read
-returns-in-Ok-Some-clause-read c = λ name.
+pub returns-else-not-fits-clause-read : goal.returns-else-not-fits-clause-read
+returns-else-not-fits-clause-read c = λ name.
     row_taken (view.known c.args.known.now) name c.args.reader c.args.number c.args.text.now c.in-Ok-Some.row c.take_row.result c.requires.due (row_in (parts_of c.args.text.now) c.in-Ok-Some.field-0 c.in-Ok-Some.row c.in-Ok-Some.field-0-is c.in-Ok-Some.ensures)
     (λ s reader front. (fits_from (view.known c.args.known.now) s.declared c.args.reader.forms c.args.reader.vars c.fits.result c.in-Ok-Some.row c.fits.ensures front reader.forms_are reader.vars_are).0 c.if-not-fits.false)
     c.take_row.ensures.taken
