@@ -8,4 +8,3 @@ pub mod Copied
 pub mod TextReading
 pub mod TreeTexts
 pub mod ReadLexemes
-pub mod ShownGoals

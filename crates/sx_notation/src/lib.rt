@@ -22,8 +22,6 @@ mod notation_error;
 mod resolving;
 mod rule_productions;
 mod telling;
-#[cfg(test)]
-mod tests;
 mod text_reading;
 mod unread;
 mod walk;

@@ -17,6 +17,7 @@ use crate::names::copy_names;
 use crate::notation_error::NotationError;
 use crate::telling::why_unread;
 use std::alloc::Global;
+use std::mem;
 use sx_core::Kind;
 use sx_earley::{Metas, first_unknown};
 use sx_forest::{ReadError, Reading, read_one, strip};
@@ -159,7 +160,15 @@ pub fn read_text(
     ensures grows { length vars.new ≤ length vars.old + 10000 }
 {
     let mut names = copy_names(alloc, vars)?;
-    let term = read_into(alloc, grammar, sort, metas, line, number, &mut names)?;
-    *vars = names;
-    Ok(term)
+    match read_into(alloc, grammar, sort, metas, line, number, &mut names) {
+        Ok(term) => {
+            let before = mem::replace(vars, names);
+            drop(before);
+            Ok(term)
+        }
+        Err(error) => {
+            drop(names);
+            Err(error)
+        }
+    }
 }

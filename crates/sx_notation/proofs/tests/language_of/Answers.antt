@@ -1,5 +1,0 @@
-use Rattle.std.proofs.Common.{refl}
-use Rattle.sx_notation.proofs.tests.language_of.Goals as goal
-
-pub returns : goal.returns
-returns c = (refl, refl, refl)
