@@ -24,6 +24,3 @@ pub use stop::{Stop, about, refusal_line};
 pub use stops::{bad_line, bad_rules, refused, refused_at};
 pub use unit::built_work;
 pub use work::{Output, Work};
-
-#[cfg(test)]
-mod tests;

@@ -16,7 +16,13 @@ use sx_words::{Defect, FileDefect, Place, Refusal, RuleDefect};
 pub fn refused(alloc: Global, file: &Text, defect: Defect) -> Result<Stop, NoMemory>
     ensures { IfOk result (λ stop. stop ≡ stop_about file.now defect) }
 {
-    Ok(about(file.copy(alloc)?, defect))
+    match file.copy(alloc) {
+        Ok(file) => Ok(about(file, defect)),
+        Err(e) => {
+            drop(defect);
+            Err(e)
+        }
+    }
 }
 
 /// A defect of the file, at a place.
@@ -28,10 +34,17 @@ pub fn refused_at(
 ) -> Result<Stop, NoMemory>
     ensures { IfOk result (λ stop. stop ≡ stops.at place file.now defect) }
 {
-    Ok(Stop {
-        file: file.copy(alloc)?,
-        refusal: Refusal { place, defect },
-    })
+    match file.copy(alloc) {
+        Ok(file) => Ok(Stop {
+            file,
+            refusal: Refusal { place, defect },
+        }),
+        Err(e) => {
+            drop(defect);
+            drop(place);
+            Err(e)
+        }
+    }
 }
 
 /// The kind of what is bad about a line, in lower case.
