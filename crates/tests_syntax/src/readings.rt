@@ -1,0 +1,102 @@
+//! Texts with one reading at most.
+
+use crate::samples::Sample;
+use crate::told::is_read_as;
+use std::alloc::Global;
+use std::test::Fail;
+
+#[test]
+fn one_reading(rt: HostRuntime) -> Result<(), Fail> {
+    let row = b"seq(1,seq(2,last(3)))".as_slice();
+    assert!(rt; is_read_as(rt.alloc(), Sample::Rows, b"1 2 3", row)?);
+    let sum = b"plus(plus(last(1),last(2)),last(3))".as_slice();
+    assert!(rt; is_read_as(rt.alloc(), Sample::Sums(51), b"1 + 2 + 3", sum)?);
+    Ok(())
+}
+
+#[test]
+fn no_reading(rt: HostRuntime) -> Result<(), Fail> {
+    let second = b"no reading beyond token 2".as_slice();
+    assert!(rt; is_read_as(rt.alloc(), Sample::Sums(50), b"1 + + 2 3", second)?);
+    assert!(rt; is_read_as(rt.alloc(), Sample::Sums(50), b"1 +", second)?);
+    let start = b"no reading beyond token 0".as_slice();
+    assert!(rt; is_read_as(rt.alloc(), Sample::Sums(50), b"", start)?);
+    Ok(())
+}
+
+/// So many bracket pairs round a number.
+fn pairs(alloc: Global, count: usize) -> Result<Vec<u8>, Fail> {
+    let mut bytes = Vec::new(alloc);
+    for _place in 0..count {
+        bytes.push(b'(')?;
+    }
+    bytes.push(b'1')?;
+    for _place in 0..count {
+        bytes.push(b')')?;
+    }
+    Ok(bytes)
+}
+
+/// The tree text of so many bracket pairs round a number.
+fn pairs_text(alloc: Global, count: usize) -> Result<Vec<u8>, Fail> {
+    let mut bytes = Vec::new(alloc);
+    for _place in 0..count {
+        bytes.push(b'[')?;
+    }
+    bytes.extend_from_slice(b"last(1)")?;
+    for _place in 0..count {
+        bytes.push(b']')?;
+    }
+    Ok(bytes)
+}
+
+/// Whether so many bracket pairs round a number have their one reading.
+fn are_read(alloc: Global, count: usize) -> Result<bool, Fail> {
+    let bytes = pairs(alloc, count)?;
+    let words = pairs_text(alloc, count)?;
+    is_read_as(alloc, Sample::Rows, &bytes, &words)
+}
+
+/// Whether so many bracket pairs round a number are read as these words.
+fn are_read_as(alloc: Global, count: usize, words: &[u8]) -> Result<bool, Fail> {
+    let bytes = pairs(alloc, count)?;
+    is_read_as(alloc, Sample::Rows, &bytes, words)
+}
+
+#[test]
+fn depths(rt: HostRuntime) -> Result<(), Fail> {
+    assert!(rt; are_read(rt.alloc(), 998)?);
+    assert!(rt; are_read_as(rt.alloc(), 999, b"depth 1001")?);
+    Ok(())
+}
+
+/// Whether so many numbers, each at the head of the others, are read as these words.
+fn numbers_are_read_as(alloc: Global, count: usize, words: &[u8]) -> Result<bool, Fail> {
+    let mut bytes = Vec::new(alloc);
+    for _place in 0..count {
+        bytes.extend_from_slice(b"1 ")?;
+    }
+    is_read_as(alloc, Sample::Rows, &bytes, words)
+}
+
+#[test]
+fn too_many_items(rt: HostRuntime) -> Result<(), Fail> {
+    let words = b"more items than 2000000".as_slice();
+    assert!(rt; numbers_are_read_as(rt.alloc(), 3000, words)?);
+    Ok(())
+}
+
+#[test]
+fn brackets_stay_in_a_reading(rt: HostRuntime) -> Result<(), Fail> {
+    let words = b"plus([plus(last(1),last(2))],last(3))".as_slice();
+    assert!(rt; is_read_as(rt.alloc(), Sample::Sums(50), b"( 1 + 2 ) + 3", words)?);
+    assert!(rt; is_read_as(rt.alloc(), Sample::Sums(51), b"( 1 + 2 ) + 3", words)?);
+    Ok(())
+}
+
+#[test]
+fn a_chain_of_sorts(rt: HostRuntime) -> Result<(), Fail> {
+    assert!(rt; is_read_as(rt.alloc(), Sample::Chain, b"1", b"up(last(1))")?);
+    assert!(rt; is_read_as(rt.alloc(), Sample::Chain, b"", b"up(none)")?);
+    Ok(())
+}

@@ -1,0 +1,189 @@
+//! Parts that are no grammar, each for one reason, and parts that are one.
+
+use crate::symbols::{Piece, add, add_bare_sort, nothing};
+use std::alloc::Global;
+use std::test::Fail;
+use sx_grammar::{Grammar, GrammarError, GrammarParts};
+use sx_term::LexKind;
+
+/// Adds the typed sort `Exp` of variables at level 90, and the plain sort `Ty` of `Int`.
+fn add_language(alloc: Global, parts: &mut GrammarParts) -> Result<(), Fail> {
+    add_bare_sort(alloc, parts, "Exp", true)?;
+    add_bare_sort(alloc, parts, "Ty", false)?;
+    add(alloc, parts, "var", "Exp", 90, &[Piece::Lex(LexKind::Id)])?;
+    add(alloc, parts, "int", "Ty", 90, &[Piece::Lit("Int")])
+}
+
+/// Which refusal it is, and the name that it carries.
+fn told(error: &GrammarError) -> (&str, &str) {
+    match error {
+        GrammarError::Memory => ("Memory", ""),
+        GrammarError::BadLiteral(text) => ("BadLiteral", text.as_str()),
+        GrammarError::SameSort(name) => ("SameSort", name.as_str()),
+        GrammarError::UnknownSort(name) => ("UnknownSort", name.as_str()),
+        GrammarError::SameLabel(label) => ("SameLabel", label.as_str()),
+        GrammarError::PlainHasTyped(label) => ("PlainHasTyped", label.as_str()),
+        GrammarError::NoBrackets(sort) => ("NoBrackets", sort.as_str()),
+        GrammarError::Cyclic(sort) => ("Cyclic", sort.as_str()),
+    }
+}
+
+/// The refusal and its name as one text.
+fn words(alloc: Global, error: &GrammarError) -> Result<String, Fail> {
+    let (kind, name) = told(error);
+    Ok(format!(in alloc; "{kind} {name}")?)
+}
+
+/// Why the parts are no grammar, and the name that is told; or nothing where they are one.
+fn refusal(alloc: Global, parts: GrammarParts) -> Result<String, Fail> {
+    match parts.is_within_limits(alloc) {
+        Ok(true) => made(alloc, Grammar::make(alloc, parts)),
+        Ok(false) => {
+            drop(parts);
+            Ok(String::from_str(alloc, "not within limits")?)
+        }
+        Err(error) => {
+            drop(parts);
+            Err(Fail::from(error))
+        }
+    }
+}
+
+/// The same of what came of making one.
+fn made(alloc: Global, grammar: Result<Grammar, GrammarError>) -> Result<String, Fail> {
+    let answer = match &grammar {
+        Ok(_) => Ok(String::new(alloc)),
+        Err(error) => words(alloc, error),
+    };
+    drop(grammar);
+    answer
+}
+
+/// The refusal of the parts, if they could be filled.
+fn added(alloc: Global, parts: GrammarParts, filled: Result<(), Fail>) -> Result<String, Fail> {
+    match filled {
+        Ok(()) => refusal(alloc, parts),
+        Err(fail) => {
+            drop(parts);
+            Err(fail)
+        }
+    }
+}
+
+/// Adds the language and one more production, of one symbol.
+fn add_with(
+    alloc: Global,
+    parts: &mut GrammarParts,
+    label: &str,
+    of: &str,
+    level: u8,
+    piece: Piece,
+) -> Result<(), Fail> {
+    add_language(alloc, parts)?;
+    add(alloc, parts, label, of, level, &[piece])
+}
+
+/// The refusal of the language with one more production, of one symbol.
+fn with(alloc: Global, label: &str, of: &str, level: u8, piece: Piece) -> Result<String, Fail> {
+    let mut parts = nothing(alloc);
+    let filled = add_with(alloc, &mut parts, label, of, level, piece);
+    added(alloc, parts, filled)
+}
+
+#[test]
+fn a_grammar_is_made(rt: HostRuntime) -> Result<(), Fail> {
+    let words = with(rt.alloc(), "typed", "Exp", 50, Piece::Part("Ty", 90))?;
+    assert_eq!(rt; words.as_str(), "");
+    Ok(())
+}
+
+#[test]
+fn bad_literal(rt: HostRuntime) -> Result<(), Fail> {
+    let words = with(rt.alloc(), "note", "Ty", 0, Piece::Lit("//"))?;
+    assert_eq!(rt; words.as_str(), "BadLiteral //");
+    Ok(())
+}
+
+/// Adds the language and a second sort `Ty`.
+fn add_twice(alloc: Global, parts: &mut GrammarParts) -> Result<(), Fail> {
+    add_language(alloc, parts)?;
+    add_bare_sort(alloc, parts, "Ty", true)
+}
+
+#[test]
+fn same_sort(rt: HostRuntime) -> Result<(), Fail> {
+    let mut parts = nothing(rt.alloc());
+    let filled = add_twice(rt.alloc(), &mut parts);
+    let words = added(rt.alloc(), parts, filled)?;
+    assert_eq!(rt; words.as_str(), "SameSort Ty");
+    Ok(())
+}
+
+#[test]
+fn unknown_sort(rt: HostRuntime) -> Result<(), Fail> {
+    let words = with(rt.alloc(), "app", "Exp", 50, Piece::Part("Env", 0))?;
+    assert_eq!(rt; words.as_str(), "UnknownSort Env");
+    Ok(())
+}
+
+#[test]
+fn same_label(rt: HostRuntime) -> Result<(), Fail> {
+    let words = with(rt.alloc(), "int", "Ty", 90, Piece::Lit("Str"))?;
+    assert_eq!(rt; words.as_str(), "SameLabel int");
+    Ok(())
+}
+
+#[test]
+fn plain_has_typed(rt: HostRuntime) -> Result<(), Fail> {
+    let words = with(rt.alloc(), "size", "Ty", 90, Piece::Part("Exp", 0))?;
+    assert_eq!(rt; words.as_str(), "PlainHasTyped size");
+    Ok(())
+}
+
+#[test]
+fn no_brackets(rt: HostRuntime) -> Result<(), Fail> {
+    let words = with(rt.alloc(), "up", "Exp", 95, Piece::Part("Ty", 91))?;
+    assert_eq!(rt; words.as_str(), "NoBrackets Ty");
+    Ok(())
+}
+
+#[test]
+fn cyclic(rt: HostRuntime) -> Result<(), Fail> {
+    let words = with(rt.alloc(), "loop", "Exp", 0, Piece::Part("Exp", 0))?;
+    assert_eq!(rt; words.as_str(), "Cyclic Exp");
+    Ok(())
+}
+
+/// Adds the sort with this number, and the step with this number from it to the sort with the other number.
+fn add_step(alloc: Global, parts: &mut GrammarParts, number: usize, to: usize) -> Result<(), Fail> {
+    let sort = format!(in alloc; "s{number}")?;
+    let label = format!(in alloc; "p{number}")?;
+    let next = format!(in alloc; "s{to}")?;
+    add_bare_sort(alloc, parts, sort.as_str(), false)?;
+    add(
+        alloc,
+        parts,
+        label.as_str(),
+        sort.as_str(),
+        0,
+        &[Piece::Part(next.as_str(), 0)],
+    )
+}
+
+/// Adds sorts in a row, each with a step to the next; the last leads back to the sort with this number.
+fn add_row(alloc: Global, parts: &mut GrammarParts, count: usize, back: usize) -> Result<(), Fail> {
+    for number in 0..count {
+        let to = if number + 1 < count { number + 1 } else { back };
+        add_step(alloc, parts, number, to)?;
+    }
+    Ok(())
+}
+
+#[test]
+fn first_of_the_sorts_that_derive_themselves(rt: HostRuntime) -> Result<(), Fail> {
+    let mut parts = nothing(rt.alloc());
+    let filled = add_row(rt.alloc(), &mut parts, 30000, 29998);
+    let words = added(rt.alloc(), parts, filled)?;
+    assert_eq!(rt; words.as_str(), "Cyclic s29998");
+    Ok(())
+}

@@ -1,0 +1,183 @@
+//! The completed spans of charts, and how many items hold.
+
+ghost use Rattle.std.specs.Prelude.{◌≤◌, length};
+ghost use Rattle.sx_earley.specs.Shown.{texts};
+ghost use Rattle.sx_earley.specs.Tokens.{AreKnown};
+ghost use Rattle.sx_earley.specs.Completed.{IsSort};
+
+use crate::known::{are_known, first_sort};
+use crate::samples::{Sample, grammar_of};
+use std::alloc::Global;
+use std::test::Fail;
+use sx_earley::{Chart, ChartError, Metas, Span, SpanOf, chart};
+use sx_grammar::Grammar;
+use sx_term::Sort;
+use sx_token::{Token, tokens};
+
+/// What a chart tells: how many spans there are, how many of those that are looked for, and the greatest end.
+#[derive(Clone, Copy, Debug, PartialEq)]
+enum Counted {
+    Spans {
+        count: usize,
+        found: usize,
+        reach: u32,
+    },
+    TooHard,
+    Memory,
+    Unmet,
+}
+
+/// How many of the spans are among all.
+fn found_among(all: &[Span], spans: &[Span]) -> usize {
+    let mut found: usize = 0;
+    for span in spans {
+        if all.contains(span) {
+            found = found.saturating_add(1);
+        }
+    }
+    found
+}
+
+fn told_by(chart: &Chart, spans: &[Span]) -> Counted {
+    Counted::Spans {
+        count: chart.spans().len(),
+        found: found_among(chart.spans(), spans),
+        reach: chart.reach(),
+    }
+}
+
+/// What the chart of the tokens tells.
+fn charted(
+    alloc: Global,
+    grammar: &Grammar,
+    start: Sort,
+    metas: &Metas,
+    tokens: &[Token],
+    spans: &[Span],
+) -> Counted
+    requires short { length tokens.now ≤ 10000 }
+    requires start { IsSort grammar.now.parts start }
+    requires known { AreKnown (texts grammar.now) metas.now.stems.items tokens.now }
+{
+    match chart(alloc, grammar, start, metas, tokens) {
+        Ok(chart) => told_by(&chart, spans),
+        Err(ChartError::TooHard) => Counted::TooHard,
+        Err(ChartError::Memory) => Counted::Memory,
+    }
+}
+
+/// The same where the conditions of the call are met.
+fn chart_known(alloc: Global, grammar: &Grammar, cut: &[Token], spans: &[Span]) -> Counted {
+    let metas = Metas {
+        stems: Vec::new(alloc),
+    };
+    match first_sort(grammar) {
+        Some(start) if cut.len() <= 10000 && are_known(grammar.literals(), cut) => {
+            charted(alloc, grammar, start, &metas, cut, spans)
+        }
+        _ => Counted::Unmet,
+    }
+}
+
+/// The same of a text.
+fn chart_text(
+    alloc: Global,
+    grammar: &Grammar,
+    bytes: &[u8],
+    spans: &[Span],
+) -> Result<Counted, Fail> {
+    if bytes.len() > 262144 {
+        return Ok(Counted::Unmet);
+    }
+    grammar.facts();
+    let cut = tokens(alloc, bytes, grammar.literals(), false)?;
+    Ok(chart_known(alloc, grammar, &cut, spans))
+}
+
+/// The same by the sample.
+fn told(alloc: Global, sample: Sample, bytes: &[u8], spans: &[Span]) -> Result<Counted, Fail> {
+    let grammar = grammar_of(alloc, sample)?;
+    let told = chart_text(alloc, &grammar, bytes, spans);
+    drop(grammar);
+    told
+}
+
+/// What is told where there are only the spans that are looked for.
+fn only(count: usize, reach: u32) -> Counted {
+    Counted::Spans {
+        count,
+        found: count,
+        reach,
+    }
+}
+
+/// A span by the production with this number.
+fn node(label: u32, from: u32, to: u32) -> Span {
+    Span {
+        of: SpanOf::Node(label),
+        from,
+        to,
+    }
+}
+
+#[test]
+fn spans_of_sums(rt: HostRuntime) -> Result<(), Fail> {
+    let spans = [node(0, 0, 1), node(0, 2, 3), node(1, 0, 3)];
+    let sum = told(rt.alloc(), Sample::Sums(51), b"1 + 2", &spans)?;
+    assert_eq!(rt; sum, only(3, 3));
+    let open = told(rt.alloc(), Sample::Sums(51), b"1 + +", &[node(0, 0, 1)])?;
+    assert_eq!(rt; open, only(1, 2));
+    Ok(())
+}
+
+#[test]
+fn spans_of_brackets(rt: HostRuntime) -> Result<(), Fail> {
+    let pair = Span {
+        of: SpanOf::Bracket(0),
+        from: 0,
+        to: 3,
+    };
+    let brackets = told(
+        rt.alloc(),
+        Sample::Sums(51),
+        b"( 1 )",
+        &[node(0, 1, 2), pair],
+    )?;
+    assert_eq!(rt; brackets, only(2, 3));
+    Ok(())
+}
+
+#[test]
+fn spans_of_nothing(rt: HostRuntime) -> Result<(), Fail> {
+    let nothing = told(rt.alloc(), Sample::OpenRows, b"", &[node(0, 0, 0)])?;
+    assert_eq!(rt; nothing, only(1, 0));
+    let spans = [node(0, 0, 0), node(0, 1, 1), node(1, 0, 1)];
+    let one = told(rt.alloc(), Sample::OpenRows, b"1", &spans)?;
+    assert_eq!(rt; one, only(3, 1));
+    Ok(())
+}
+
+/// What the chart of so many numbers tells, each at the head of the others.
+fn numbers(alloc: Global, count: usize) -> Result<Counted, Fail> {
+    let mut bytes = Vec::new(alloc);
+    for _place in 0..count {
+        bytes.extend_from_slice(b"1 ")?;
+    }
+    told(alloc, Sample::Rows, &bytes, &[])
+}
+
+/// From n numbers come n (n - 1) / 2 items at the end of `seq`, n at the end of `last` and n after the number of `seq`, and at each of
+/// the n + 1 places the beginnings of `last`, of `seq` and of a bracket pair.
+#[test]
+fn most_items(rt: HostRuntime) -> Result<(), Fail> {
+    let most = numbers(rt.alloc(), 1995)?;
+    let spans = Counted::Spans {
+        count: 1995 + 1995 * 1994 / 2,
+        found: 0,
+        reach: 1995,
+    };
+    assert_eq!(rt; most, spans);
+    let more = numbers(rt.alloc(), 1996)?;
+    assert_eq!(rt; more, Counted::TooHard);
+    Ok(())
+}
