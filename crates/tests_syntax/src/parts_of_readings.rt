@@ -1,4 +1,5 @@
-//! A reading of `( x ) + ~y`, worked out by hand: where its parts stand, its term and a part of its text.
+//! A reading of `( x ) + ~y`, worked out by hand: where its parts stand, its term and a part of its
+//! text.
 
 ghost use Rattle.std.specs.Prelude.{◌≡◌, IfOk, length, slice_get};
 ghost use Rattle.sx_grammar.specs.Reading.{branch, bracket, leaf, variable, ◌▸◌, done};

@@ -154,7 +154,8 @@ fn cyclic(rt: HostRuntime) -> Result<(), Fail> {
     Ok(())
 }
 
-/// Adds the sort with this number, and the step with this number from it to the sort with the other number.
+/// Adds the sort with this number, and the step with this number from it to the sort with the other
+/// number.
 fn add_step(alloc: Global, parts: &mut GrammarParts, number: usize, to: usize) -> Result<(), Fail> {
     let sort = format!(in alloc; "s{number}")?;
     let label = format!(in alloc; "p{number}")?;
@@ -170,7 +171,8 @@ fn add_step(alloc: Global, parts: &mut GrammarParts, number: usize, to: usize) -
     )
 }
 
-/// Adds sorts in a row, each with a step to the next; the last leads back to the sort with this number.
+/// Adds sorts in a row, each with a step to the next; the last leads back to the sort with this
+/// number.
 fn add_row(alloc: Global, parts: &mut GrammarParts, count: usize, back: usize) -> Result<(), Fail> {
     for number in 0..count {
         let to = if number + 1 < count { number + 1 } else { back };

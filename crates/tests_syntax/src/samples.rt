@@ -19,9 +19,11 @@ pub(crate) enum Sample {
     OpenRows,
     /// Numbers, and sums whose right side has at least this level.
     Sums(u8),
-    /// Two sorts with the same brackets: each `Down` is an `Up`, and a number or nothing is a `Down`.
+    /// Two sorts with the same brackets: each `Down` is an `Up`, and a number or nothing is a
+    /// `Down`.
     Chain,
-    /// Variables, functions, applications to the left, numbers, the type `Int`, and arrows to the right.
+    /// Variables, functions, applications to the left, numbers, the type `Int`, and arrows to the
+    /// right.
     Functions,
 }
 
