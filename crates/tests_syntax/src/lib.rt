@@ -2,6 +2,8 @@
 #![tactic(auto)]
 
 #[cfg(test)]
+mod extended_grammars;
+#[cfg(test)]
 mod known;
 #[cfg(test)]
 mod parts_of_readings;

@@ -29,7 +29,7 @@ fn told(error: &GrammarError) -> (&str, &str) {
 }
 
 /// The refusal and its name as one text.
-fn words(alloc: Global, error: &GrammarError) -> Result<String, Fail> {
+pub(crate) fn words(alloc: Global, error: &GrammarError) -> Result<String, Fail> {
     let (kind, name) = told(error);
     Ok(format!(in alloc; "{kind} {name}")?)
 }

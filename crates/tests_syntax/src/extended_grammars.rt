@@ -1,0 +1,140 @@
+//! A grammar with more productions than another one.
+
+ghost use Rattle.std.specs.Prelude.{◌≡◌, ◌≤◌, OnOk, IfOk, IsTrue, map};
+ghost use Rattle.sx_term.specs.Tree.{depth_of};
+ghost use Rattle.sx_term.specs.Term.{tree};
+ghost use Rattle.sx_grammar.specs.Parts.{line, parts as parts_of};
+ghost use Rattle.sx_grammar.specs.Extended.{extended};
+ghost use Rattle.sx_grammar.specs.Tables.{IsWithinLimits};
+
+use crate::refused_grammars::words;
+use crate::samples::{Sample, grammar_of};
+use crate::symbols::{Piece, add, nothing};
+use std::alloc::Global;
+use std::test::Fail;
+use sx_grammar::{Grammar, GrammarError, GrammarParts, Production};
+use sx_term::{NoMemory, Term, read_core};
+
+/// Adds copies of the productions.
+fn add_copies(alloc: Global, parts: &mut GrammarParts, more: &[Production]) -> Result<(), NoMemory>
+    ensures { OnOk result (parts_of parts.new ≡ extended (parts_of parts.old) (map line more.now)) }
+{
+    for i in 0..more.len() {
+        parts.productions.push(more[i].copy(alloc)?)?;
+    }
+    Ok(())
+}
+
+/// Whether the grammar can be extended by the productions, or why not can be told.
+fn is_extensible(alloc: Global, base: &Grammar, more: &[Production]) -> Result<bool, Fail>
+    ensures { IfOk result (λ r. IsTrue r → IsWithinLimits (extended base.now.parts (map line more.now))) }
+{
+    let mut all = base.parts().copy(alloc)?;
+    let added = add_copies(alloc, &mut all, more);
+    let answer = all.is_within_limits(alloc);
+    drop(all);
+    added?;
+    Ok(answer?)
+}
+
+/// One production of the sort `Exp`, of one symbol.
+fn one(alloc: Global, label: &str, piece: Piece) -> Result<Vec<Production>, Fail> {
+    let mut parts = nothing(alloc);
+    match add(alloc, &mut parts, label, "Exp", 90, &[piece]) {
+        Ok(()) => {
+            let GrammarParts { sorts, productions } = parts;
+            drop(sorts);
+            Ok(productions)
+        }
+        Err(fail) => {
+            drop(parts);
+            Err(fail)
+        }
+    }
+}
+
+fn read(alloc: Global, core: &str) -> Result<Term, Fail>
+    ensures { IfOk result (λ t. depth_of (tree t) ≤ 1000) }
+{
+    let (term, _) = read_core(alloc, core.as_bytes(), 0)?;
+    Ok(term)
+}
+
+/// Whether all labels of the term with this core text are of base productions.
+fn is_base(alloc: Global, grammar: &Grammar, core: &str) -> Result<bool, Fail> {
+    let term = read(alloc, core)?;
+    let answer = grammar.is_base(&term);
+    drop(term);
+    Ok(answer)
+}
+
+/// The number of productions, and which of the first three are base.
+fn shape(alloc: Global, grammar: &Grammar) -> Result<String, Fail> {
+    let count = grammar.parts().productions.len();
+    let first = is_base(alloc, grammar, "(0)")?;
+    let second = is_base(alloc, grammar, "(1)")?;
+    let third = is_base(alloc, grammar, "(2)")?;
+    Ok(format!(in alloc; "{count} {first} {second} {third}")?)
+}
+
+/// What came of extending, in words.
+fn told(alloc: Global, made: Result<Grammar, GrammarError>) -> Result<String, Fail> {
+    let answer = match &made {
+        Ok(grammar) => shape(alloc, grammar),
+        Err(error) => words(alloc, error),
+    };
+    drop(made);
+    answer
+}
+
+/// What comes of extending the grammar by the productions.
+fn tried(alloc: Global, base: &Grammar, more: Vec<Production>) -> Result<String, Fail> {
+    match is_extensible(alloc, base, &more) {
+        Ok(true) => told(alloc, Grammar::extend(alloc, base, more)),
+        Ok(false) => {
+            drop(more);
+            Err(Fail::from("not within limits"))
+        }
+        Err(fail) => {
+            drop(more);
+            Err(fail)
+        }
+    }
+}
+
+/// What comes of extending the rows by one production.
+fn rows_with(alloc: Global, label: &str, piece: Piece) -> Result<String, Fail> {
+    let more = one(alloc, label, piece)?;
+    match grammar_of(alloc, Sample::Rows) {
+        Ok(base) => {
+            let answer = tried(alloc, &base, more);
+            drop(base);
+            answer
+        }
+        Err(fail) => {
+            drop(more);
+            Err(fail)
+        }
+    }
+}
+
+#[test]
+fn a_new_production_is_not_base(rt: HostRuntime) -> Result<(), Fail> {
+    let words = rows_with(rt.alloc(), "zero", Piece::Lit("zero"))?;
+    assert_eq!(rt; words.as_str(), "3 true true false");
+    Ok(())
+}
+
+#[test]
+fn a_label_of_the_base_stays_the_base_s(rt: HostRuntime) -> Result<(), Fail> {
+    let words = rows_with(rt.alloc(), "seq", Piece::Lit("zero"))?;
+    assert_eq!(rt; words.as_str(), "SameLabel seq");
+    Ok(())
+}
+
+#[test]
+fn a_new_production_closes_a_cycle(rt: HostRuntime) -> Result<(), Fail> {
+    let words = rows_with(rt.alloc(), "same", Piece::Part("Exp", 0))?;
+    assert_eq!(rt; words.as_str(), "Cyclic Exp");
+    Ok(())
+}
