@@ -15,6 +15,3 @@ mod read_module;
 
 pub use build_module::plan_build_module;
 pub use laws::{builds_agree, type_errors_are_final};
-
-#[cfg(test)]
-mod tests;

@@ -23,10 +23,3 @@ pub use call::run;
 pub use laws::{one_outcome, type_errors_are_final};
 pub use sx_steps::Status;
 pub use verify_laws::{built_is_verified, found_is_within};
-
-#[cfg(test)]
-mod module_tests;
-#[cfg(test)]
-mod tests;
-#[cfg(test)]
-mod verify_tests;
