@@ -1,0 +1,127 @@
+//! Runs of `build` that are refused, or whose derivation passes a budget.
+
+use crate::files::{lack, put};
+use crate::language::Language;
+use crate::modules_built::put_bracketed;
+use crate::run::ends;
+use crate::samples::{AMB, CYCLIC, LAM, LOOP};
+use std::alloc::Global;
+use sx_outside::{MemShelf, MemSink};
+
+/// Whether a module of the language of functions with this body is refused with this line.
+fn is_refused(alloc: Global, body: &[u8], told: &[u8]) -> bool {
+    LAM.stops(alloc, "build Main", body, 1, told)
+}
+
+#[test]
+fn modules_that_are_refused(rt: HostRuntime) {
+    let alloc = rt.alloc();
+    let name = b"soundx: Main.mod: line 4 column 1: no rule concludes [] @ x : _\n";
+    assert!(rt; is_refused(alloc, b"x", name));
+    let number = b"soundx: Main.mod: line 4 column 1: [] |- 1 : Int \
+        is not what premise 1 of T-App asks for\n";
+    assert!(rt; is_refused(alloc, b"1 2", number));
+    let bracket = b"soundx: Main.mod: line 4 column 3: no reading\n";
+    assert!(rt; is_refused(alloc, b"1 )", bracket));
+    let string = b"soundx: Main.mod: line 4 column 1: string without end\n";
+    assert!(rt; is_refused(alloc, b"\"a", string));
+}
+
+/// Whether the command line, over the language and this module, is refused with this line.
+fn is_file_refused(alloc: Global, line: &str, module: &[u8], told: &[u8]) -> bool {
+    let mut shelf = MemShelf::new(alloc);
+    let mut out = MemSink::new(alloc);
+    let is = put(alloc, LAM.file, &[LAM.text], &mut shelf)
+        && put(alloc, "Main.mod", &[module], &mut shelf)
+        && ends(alloc, line, &mut shelf, &mut out, 1, told)
+        && lack(alloc, &["Main.base", "Main.der", "Main.int"], &shelf);
+    drop(out);
+    drop(shelf);
+    is
+}
+
+#[test]
+fn module_files_that_are_refused(rt: HostRuntime) {
+    let alloc = rt.alloc();
+    let header = b"soundx: Main.mod: line 1: bad header\n";
+    assert!(rt; is_file_refused(alloc, "build Main", b"", header));
+    let not_utf8 = b"soundx: Main.mod: not UTF-8 at byte 0\n";
+    assert!(rt; is_file_refused(alloc, "build Main", &[255], not_utf8));
+    let absent = b"soundx: Other.mod: absent\n";
+    assert!(rt; is_file_refused(alloc, "build Other", b"", absent));
+}
+
+#[test]
+fn modules_that_need_other_files(rt: HostRuntime) {
+    let alloc = rt.alloc();
+    let yet = b"soundx: Main.mod: not read yet\n";
+    let uses = b"module Main\nlanguage Lam\nuse Let\n---\n1\n";
+    assert!(rt; is_file_refused(alloc, "build Main", uses, yet));
+    let imports = b"module Main\nlanguage Lam\nimport A\n---\n1\n";
+    assert!(rt; is_file_refused(alloc, "build Main", imports, yet));
+    let other = b"module Main\nlanguage Lim\n---\n1\n";
+    let absent = b"soundx: Lim.lang: absent\n";
+    assert!(rt; is_file_refused(alloc, "build Main", other, absent));
+}
+
+#[test]
+fn modules_without_an_end(rt: HostRuntime) {
+    let alloc = rt.alloc();
+    let deep = b"soundx: Main.mod: derivation deeper than 3000\n";
+    assert!(rt; LOOP.stops(alloc, "build Main", b"1", 6, deep));
+    let spent = b"soundx: Main.mod: more than 100 tries\n";
+    assert!(rt; LOOP.stops(alloc, "build --tries=100 Main", b"1", 6, spent));
+}
+
+#[test]
+fn modules_with_two_readings(rt: HostRuntime) {
+    let alloc = rt.alloc();
+    let printed = b"soundx: Main.mod: printed text has two readings: \
+        plus(num(1),plus(num(2),num(3))) and plus(plus(num(1),num(2)),num(3))\n";
+    assert!(rt; AMB.stops(alloc, "build Main", b"( 1 + 2 ) + 3", 1, printed));
+    let written = b"soundx: Main.mod: two readings: \
+        plus(num(1),plus(num(2),num(3))) and plus(plus(num(1),num(2)),num(3))\n";
+    assert!(rt; AMB.stops(alloc, "build Main", b"1 + 2 + 3", 1, written));
+}
+
+/// Whether a module of the language `Few` with this text is refused with this line.
+fn is_language_refused(alloc: Global, text: &'static [u8], told: &[u8]) -> bool {
+    let few = Language {
+        file: "Few.lang",
+        text,
+        header: b"module Main\nlanguage Few\n---\n",
+    };
+    few.stops(alloc, "build Main", b"1", 1, told)
+}
+
+#[test]
+fn languages_that_are_refused(rt: HostRuntime) {
+    let alloc = rt.alloc();
+    let sorts = b"language Few\nsort A plain\nsort B plain\n";
+    let main = b"soundx: Few.lang: line 4: main\n";
+    assert!(rt; is_language_refused(alloc, sorts, main));
+    let head = b"soundx: Few.lang: line 1: head\n";
+    assert!(rt; is_language_refused(alloc, b"language Other\n", head));
+}
+
+#[test]
+fn a_language_that_ends_inside_a_rule(rt: HostRuntime) {
+    let told = b"soundx: Few.lang: line 2: unfinished\n";
+    assert!(rt; is_language_refused(rt.alloc(), b"language Few\nrule R\n", told));
+}
+
+#[test]
+fn a_sort_that_derives_itself(rt: HostRuntime) {
+    let told = b"soundx: Lam.lang: sort Exp is cyclic\n";
+    assert!(rt; CYCLIC.stops(rt.alloc(), "build Main", b"1", 1, told));
+}
+
+#[test]
+fn a_body_that_is_too_deep(rt: HostRuntime) {
+    let alloc = rt.alloc();
+    let mut body = Vec::new(alloc);
+    let told = b"soundx: Main.mod: depth 1001 is over 1000\n";
+    let is = put_bracketed(999, &mut body) && is_refused(alloc, body.as_slice(), told);
+    drop(body);
+    assert!(rt; is);
+}

@@ -1,0 +1,396 @@
+//! The files that the tests are about: core files, languages and interfaces.
+
+use crate::language::Language;
+
+/// A core file whose goal has a derivation by one rule.
+pub const ONE: &[u8] = br#"sxcore 1
+sort Exp typed
+sort Ty plain
+con one Exp
+con int Ty
+form typing sub:Exp out:Ty
+rule T-One
+then typing (0) (1)
+end
+goal typing (0)
+"#;
+
+/// The head of a core file: the sorts, the constructors z, p, a and b, and the form.
+pub const SIGNATURE: &[u8] = br#"sxcore 1
+sort Exp typed
+sort Ty plain
+con z Exp
+con p Exp Exp Exp
+con a Ty
+con b Ty
+form f sub:Exp out:Ty
+"#;
+
+/// Rules after that head: z has the type a, or else b.
+pub const LEAVES: &[u8] = br#"rule Z1
+then f (0) (2)
+end
+rule Z2
+then f (0) (3)
+end
+"#;
+
+/// A rule after that head: a pair of terms with types has the type a.
+pub const PAIR: &[u8] = br#"rule P Exp Exp Ty Ty
+if f ?0 ?2
+if f ?1 ?3
+then f (1 ?0 ?1) (2)
+end
+"#;
+
+/// A rule after that head, which asks for its own goal again.
+pub const REPEAT: &[u8] = br#"rule L Exp Ty
+if f ?0 ?1
+then f ?0 ?1
+end
+"#;
+
+/// A core file of lists of texts or numbers: `null` is either, an empty list says of which it is.
+pub const LISTS: &[u8] = br#"sxcore 1
+sort Exp typed
+sort Ty plain
+con null Exp
+con nil Exp Ty
+con cons Exp Exp Exp
+con int Ty
+con str Ty
+con list Ty Ty
+form f sub:Exp out:Ty
+rule NullI
+then f (0) (3)
+end
+rule NullS
+then f (0) (4)
+end
+rule Nil Ty
+then f (1 ?0) (5 ?0)
+end
+rule Cons Exp Exp Ty
+if f ?0 ?2
+if f ?1 (5 ?2)
+then f (2 ?0 ?1) (5 ?2)
+end
+goal f (2 (0) (1 (4)))
+"#;
+
+/// A core file of two leaves and a pair; the goal is a pair of the first leaf and itself.
+pub const PAIRS: &[u8] = br#"sxcore 1
+sort Exp typed
+sort Ty plain
+con one Exp
+con two Exp
+con pair Exp Exp Exp
+con int Ty
+form typing sub:Exp out:Ty
+rule T-One
+then typing (0) (3)
+end
+rule T-Two
+then typing (1) (3)
+end
+rule T-Pair Exp Exp Ty
+if typing ?0 ?2
+if typing ?1 ?2
+then typing (2 ?0 ?1) ?2
+end
+goal typing (2 (0) (0))
+"#;
+
+/// A language of functions, lists and texts.
+pub const LAM: Language = Language {
+    file: "Lam.lang",
+    header: b"module Main\nlanguage Lam\n---\n",
+    text: br#"language Lam
+sort Env plain
+sort Ty plain "(" ")"
+sort Exp typed "(" ")"
+prod nilenv Env 90 : "[]"
+prod bind Env 10 : Env@10 "," id ":" Ty
+prod int Ty 90 : "Int"
+prod strty Ty 90 : "Str"
+prod list Ty 50 : "List" Ty@90
+prod arrow Ty 10 : Ty@11 "->" Ty@10
+prod var Exp 90 : id
+prod num Exp 90 : num
+prod str Exp 90 : str
+prod nil Exp 90 : "nil" Ty@90
+prod app Exp 50 : Exp@50 Exp@51
+prod cons Exp 50 : "cons" Exp@51 Exp@51
+prod map Exp 50 : "map" Exp@51 Exp@51
+prod itoa Exp 50 : "itoa" Exp@51
+prod cat Exp 40 : Exp@40 "++" Exp@41
+prod lam Exp 10 : "\" id ":" Ty "." Exp
+var C : Env
+var T : Ty
+var e : Exp
+var x : id
+var y : id
+var n : num
+var s : str
+form typing : in:Env "|-" sub:Exp ":" out:Ty
+form lookup : in:Env "@" in:id ":" out:Ty
+main typing nilenv bind
+rule L-Here
+---
+~C , ~x : ~T @ ~x : ~T
+end
+rule L-There
+~x != ~y
+~C @ ~x : ~T1
+---
+~C , ~y : ~T2 @ ~x : ~T1
+end
+rule T-Var
+~C @ ~x : ~T
+---
+~C |- ~x : ~T
+end
+rule T-Num
+---
+~C |- ~n : Int
+end
+rule T-Str
+---
+~C |- ~s : Str
+end
+rule T-Lam
+~C , ~x : ~T1 |- ~e : ~T2
+---
+~C |- \ ~x : ~T1 . ~e : ~T1 -> ~T2
+end
+rule T-App
+~C |- ~e1 : ~T1 -> ~T2
+~C |- ~e2 : ~T1
+---
+~C |- ~e1 ~e2 : ~T2
+end
+rule T-Nil
+---
+~C |- nil ~T : List ~T
+end
+rule T-Cons
+~C |- ~e1 : ~T
+~C |- ~e2 : List ~T
+---
+~C |- cons ~e1 ~e2 : List ~T
+end
+rule T-Map
+~C |- ~e1 : ~T1 -> ~T2
+~C |- ~e2 : List ~T1
+---
+~C |- map ~e1 ~e2 : List ~T2
+end
+rule T-Cat
+~C |- ~e1 : Str
+~C |- ~e2 : Str
+---
+~C |- ~e1 ++ ~e2 : Str
+end
+rule T-Itoa
+~C |- ~e : Int
+---
+~C |- itoa ~e : Str
+end
+"#,
+};
+
+/// The interface of the module Main with the body `( \ x : Int . x ) 1` over that language.
+pub const LAM_INTERFACE: &[u8] = br#"sxint 1
+module Main
+language Lam 7b91b4c231b4c470e7267042b56b49215c3aa1b713b44fea3785399fa9212002
+base 8ccd0ff872caa77f469ffcdecb77427f3e532e619d21ff11f438a26c00d5de15
+---
+Int
+"#;
+
+/// A language whose first rule asks for its own goal again.
+pub const LOOP: Language = Language {
+    file: "Loop.lang",
+    header: b"module Main\nlanguage Loop\n---\n",
+    text: br#"language Loop
+sort Env plain
+sort Ty plain
+sort Exp typed
+prod nilenv Env 90 : "[]"
+prod bind Env 10 : Env@10 "," id ":" Ty
+prod int Ty 90 : "Int"
+prod num Exp 90 : num
+var C : Env
+var T : Ty
+var e : Exp
+var n : num
+form typing : in:Env "|-" sub:Exp ":" out:Ty
+main typing nilenv bind
+rule T-Loop
+~C |- ~e : ~T
+---
+~C |- ~e : ~T
+end
+rule T-Num
+---
+~C |- ~n : Int
+end
+"#,
+};
+
+/// A language whose sums group both ways.
+pub const AMB: Language = Language {
+    file: "Amb.lang",
+    header: b"module Main\nlanguage Amb\n---\n",
+    text: br#"language Amb
+sort Env plain
+sort Ty plain
+sort Exp typed "(" ")"
+prod nilenv Env 90 : "[]"
+prod bind Env 10 : Env@10 "," id ":" Ty
+prod int Ty 90 : "Int"
+prod num Exp 90 : num
+prod plus Exp 50 : Exp "+" Exp
+var C : Env
+var T : Ty
+var e : Exp
+var n : num
+form typing : in:Env "|-" sub:Exp ":" out:Ty
+main typing nilenv bind
+rule T-Plus
+~C |- ~e1 : Int
+~C |- ~e2 : Int
+---
+~C |- ~e1 + ~e2 : Int
+end
+rule T-Num
+---
+~C |- ~n : Int
+end
+"#,
+};
+
+/// A language whose sums group to the left.
+pub const LEFT: Language = Language {
+    file: "Left.lang",
+    header: b"module Main\nlanguage Left\n---\n",
+    text: br#"language Left
+sort Env plain
+sort Ty plain
+sort Exp typed "(" ")"
+prod nilenv Env 90 : "[]"
+prod bind Env 10 : Env@10 "," id ":" Ty
+prod int Ty 90 : "Int"
+prod num Exp 90 : num
+prod plus Exp 50 : Exp@50 "+" Exp@51
+var C : Env
+var T : Ty
+var e : Exp
+var n : num
+form typing : in:Env "|-" sub:Exp ":" out:Ty
+main typing nilenv bind
+rule T-Plus
+~C |- ~e1 : Int
+~C |- ~e2 : Int
+---
+~C |- ~e1 + ~e2 : Int
+end
+rule T-Num
+---
+~C |- ~n : Int
+end
+"#,
+};
+
+/// A language whose last rule asks for its own goal again.
+pub const LAST: Language = Language {
+    file: "Last.lang",
+    header: b"module Main\nlanguage Last\n---\n",
+    text: br#"language Last
+sort Env plain
+sort Ty plain
+sort Exp typed
+prod nilenv Env 90 : "[]"
+prod bind Env 10 : Env@10 "," id ":" Ty
+prod int Ty 90 : "Int"
+prod num Exp 90 : num
+var C : Env
+var T : Ty
+var e : Exp
+var n : num
+form typing : in:Env "|-" sub:Exp ":" out:Ty
+main typing nilenv bind
+rule T-Num
+---
+~C |- ~n : Int
+end
+rule T-Loop
+~C |- ~e : ~T
+---
+~C |- ~e : ~T
+end
+"#,
+};
+
+/// A language with a sort that derives itself.
+pub const CYCLIC: Language = Language {
+    file: "Lam.lang",
+    header: b"module Main\nlanguage Lam\n---\n",
+    text: br#"language Lam
+sort Env plain
+sort Ty plain
+sort Exp typed
+prod nilenv Env 90 : "[]"
+prod bind Env 10 : Env@10 "," id ":" Ty
+prod int Ty 90 : "Int"
+prod num Exp 90 : num
+prod loop Exp 0 : Exp
+var C : Env
+var n : num
+form typing : in:Env "|-" sub:Exp ":" out:Ty
+main typing nilenv bind
+rule T-Num
+---
+~C |- ~n : Int
+end
+"#,
+};
+
+/// A language of numbers.
+pub const NUMBERS: &[u8] = br#"language Numbers
+sort Env plain
+sort Ty plain
+sort Exp typed
+prod nilenv Env 90 : "[]"
+prod bind Env 10 : Env@10 "," id ":" Ty
+prod int Ty 90 : "Int"
+prod num Exp 90 : num
+prod neg Exp 90 : "-" Exp@90
+var C : Env
+var n : num
+form typing : in:Env "|-" sub:Exp ":" out:Ty
+main typing nilenv bind
+rule T-Num
+---
+~C |- ~n : Int
+end
+"#;
+
+/// The interface of a module with one import.
+pub const INTERFACE: &[u8] = br#"sxint 1
+module M
+language L ba7816bf8f01cfea414140de5dae2223b00361a396177a9cb410ff61f20015ad
+base ba7816bf8f01cfea414140de5dae2223b00361a396177a9cb410ff61f20015ad
+import I ba7816bf8f01cfea414140de5dae2223b00361a396177a9cb410ff61f20015ad
+---
+int -> int
+"#;
+
+/// The interface of the module Main with the body `\ x : Int . \ x : Str . x`.
+pub const ARROWS_INTERFACE: &[u8] = br#"sxint 1
+module Main
+language Lam 7b91b4c231b4c470e7267042b56b49215c3aa1b713b44fea3785399fa9212002
+base 3ca81650b8e3351eabdbd3fff694fdd5a16c1037ae2ae8412a9af9b57d28eb00
+---
+Int -> Str -> Str
+"#;
