@@ -1,0 +1,9 @@
+pub mod Plain
+pub mod Tables
+pub mod Laws
+pub mod Measures
+pub mod Uses
+pub mod Entries
+pub mod Views
+pub mod Adds
+pub mod Marks
