@@ -1,8 +1,7 @@
 -- How deep and how big instances and images are.
 use Rattle.std.proofs.Common.{◌≡◌, arith, ℕ, zero, suc, ◌+◌, ◌*◌, ◌-◌, ◌^◌, ◌<◌, ◌≤◌, max, min, drop, get_or, Vec, List, [], ◌∷◌, map, length, Option, Some, None, ◌⊎◌, inl, inr, refl, sym, ap, ◌∙◌}
-use Rattle.std.specs.Prelude.{slice_index_or}
 use Rattle.std.specs.declared.alloc.Global.{Global}
-use Rattle.std.proofs.Math.ListN.{get_or-map, length-map}
+use Rattle.std.proofs.Math.ListN.{get_or-map}
 use Rattle.sx_term.specs.declared.term.Term.{Term, Node}
 use Rattle.sx_term.specs.Tree.{Tree, Trees, node, lexeme, hole, none, ◌▹◌, listed, depth_of, greatest_depth, size_of, total_size}
 use Rattle.sx_term.specs.Term.{tree}

@@ -1,4 +1,4 @@
-use Rattle.std.proofs.Common.{ap, arith, rules, refl, map, ◌≡◌, ◌≤◌, ◌<◌, ◌+◌, ◌*◌}
+use Rattle.std.proofs.Common.{ap, arith, rules, map, ◌≤◌, ◌<◌}
 use Rattle.sx_term.specs.declared.term.Term.TheViews.{the_lemmas}
 use Rattle.sx_term.specs.declared.term.Term.{Term}
 use Rattle.sx_term.specs.Term.{tree}

@@ -1,4 +1,4 @@
-use Rattle.std.proofs.Common.{ap, arith, rules, refl, sym, drop, set, get_or, length, ◌≡◌, ◌≤◌, ◌<◌, ◌+◌, ◌∙◌, List}
+use Rattle.std.proofs.Common.{ap, arith, rules, refl, sym, drop, set, get_or, length, ◌≤◌, ◌<◌, ◌+◌, ◌∙◌, List}
 use Rattle.sx_term.specs.declared.term.Term.TheViews.{the_lemmas}
 use Rattle.sx_term.specs.declared.term.Term.{Term}
 use Rattle.sx_term.specs.Term.{tree}

@@ -1,11 +1,10 @@
-use Rattle.std.proofs.Common.{ap, arith, rules, sym, ◌≡◌, ◌≤◌, ◌+◌, ◌∙◌, List}
+use Rattle.std.proofs.Common.{ap, arith, rules, List}
 use Rattle.sx_term.specs.declared.term.Term.TheViews.{the_lemmas}
 use Rattle.sx_term.specs.declared.term.Term.{Term}
-use Rattle.sx_term.specs.Term.{tree}
 use Rattle.sx_term.specs.Tree.{size_of, total_size}
 use Rattle.sx_term.proofs.Kids.{trees, tree-at_node, trees-drop, trees-drop_all, depth_of-kid}
 use Rattle.sx_plain.specs.Uses.{own_size, own_sizes}
-use Rattle.sx_plain.proofs.UseLaws.{own-within, all_own-within, size-kid}
+use Rattle.sx_plain.proofs.UseLaws.{all_own-within, size-kid}
 use Rattle.sx_plain.proofs.make_entry.+own_size.Goals as goal
 
 pub own_size-all-requires : goal.own_size-all-requires

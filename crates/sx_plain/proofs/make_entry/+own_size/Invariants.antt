@@ -1,4 +1,4 @@
-use Rattle.std.proofs.Common.{◌≡◌, ◌≤◌, ◌+◌, drop}
+use Rattle.std.proofs.Common.{◌≡◌, ◌+◌, drop}
 use Rattle.sx_term.proofs.Kids.{trees}
 use Rattle.sx_plain.specs.Uses.{own_sizes}
 use Rattle.sx_plain.proofs.make_entry.+own_size.Given as goal

@@ -1,15 +1,14 @@
-use Rattle.std.proofs.Common.{ap, arith, rules, sym, map, drop, get_or, length, max, ◌≡◌, ◌≤◌, ◌<◌, ◌+◌, ◌*◌, ◌∙◌, List, ℕ, Some, None}
+use Rattle.std.proofs.Common.{ap, arith, rules, sym, map, drop, get_or, length, max, ◌≡◌, ◌≤◌, ◌<◌, ◌+◌, ◌*◌, ◌∙◌, List, ℕ, None}
 use Rattle.sx_term.specs.declared.term.Term.TheViews.{the_lemmas}
-use Rattle.sx_term.specs.declared.term.Term.{Term}
 use Rattle.sx_term.specs.Term.{tree}
 use Rattle.sx_term.specs.Tree.{depth_of, size_of, greatest_depth, forest}
 use Rattle.sx_term.proofs.Kids.{greatest_depth-kids, greatest_depth-at}
 use Rattle.sx_plain.specs.declared.part_use.PartUse.{PartUse}
 use Rattle.sx_plain.specs.Plain.{image}
-use Rattle.sx_plain.specs.Measures.{image_depths, image_sizes, total}
-use Rattle.sx_plain.specs.Uses.{used_depth, used_size}
+use Rattle.sx_plain.specs.Measures.{image_depths, image_sizes}
+use Rattle.sx_plain.specs.Uses.{used_size}
 use Rattle.sx_plain.specs.Views.{table_of}
-use Rattle.sx_plain.proofs.Measured.{sat, depth_found, size_found, images-positive, length-depths, length-sizes, depth-at, size-at, greatest-step, total-step, greatest-end, total-end, part-sat}
+use Rattle.sx_plain.proofs.Measured.{sat, depth_found, size_found, images-positive, length-depths, length-sizes, depth-at, size-at, greatest-step, total-step, part-sat}
 use Rattle.sx_plain.proofs.UseLaws.{near-at, used_depth-step, used_size-step, used_depth-end, used_size-end}
 use Rattle.sx_plain.proofs.Gathered.{fit-kids, fits-kids, parts-are}
 use Rattle.sx_plain.proofs.Kept.{kept_near, kept_depths, kept_sizes}
