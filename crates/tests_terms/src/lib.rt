@@ -1,6 +1,8 @@
-//! Tests of terms, of lines and of tokens, by what their crates show.
+//! Tests of terms, of lines, of tokens and of plain images, by what their crates show.
 #![tactic(auto)]
 
+#[cfg(test)]
+mod conditions;
 #[cfg(test)]
 mod core_texts;
 #[cfg(test)]
@@ -13,6 +15,8 @@ mod line_parts;
 mod lines;
 #[cfg(test)]
 mod names;
+#[cfg(test)]
+mod plain_images;
 #[cfg(test)]
 mod samples;
 #[cfg(test)]

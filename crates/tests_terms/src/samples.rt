@@ -23,7 +23,15 @@ pub(crate) fn term(alloc: Global, core: &str) -> Option<Term>
     ensures depth { IfSome result (λ t. depth_of (tree t) ≤ 1000) }
     ensures has_core { IfSome result (λ t. HasCore (tree t)) }
 {
-    match read_core(alloc, core.as_bytes(), 0) {
+    term_of(alloc, core.as_bytes())
+}
+
+/// The same of bytes.
+pub(crate) fn term_of(alloc: Global, core: &[u8]) -> Option<Term>
+    ensures depth { IfSome result (λ t. depth_of (tree t) ≤ 1000) }
+    ensures has_core { IfSome result (λ t. HasCore (tree t)) }
+{
+    match read_core(alloc, core, 0) {
         Ok((term, _)) => Some(term),
         Err(_) => None,
     }
