@@ -1,13 +1,13 @@
 //! Adding entries to plain tables.
 
-ghost use Rattle.std.specs.Prelude.{◌≡◌, ℕ, ◌<◌, ◌≤◌, ◌↔◌, IsTrue, OnOk, OnErr, None, option_map, MatchOption, Some, if◌then◌else◌};
+ghost use Rattle.std.specs.Prelude.{◌≡◌, ℕ, ◌<◌, ◌≤◌, OnOk, OnErr, None, Some, if◌then◌else◌};
 ghost use Rattle.sx_term.specs.Tree.{depth_of};
 ghost use Rattle.sx_term.specs.Term.{tree};
 ghost use Rattle.sx_term.specs.Instances.{Stands};
 ghost use Rattle.sx_plain.specs.Tables.{IsFlat, FitsTable};
 ghost use Rattle.sx_plain.specs.Entries.{body};
 ghost use Rattle.sx_plain.specs.Views.{table_of};
-ghost use Rattle.sx_plain.specs.Adds.{with_entry, uncovered, first_uncovered, IsFirstDropped, UsesAll, IsAdded};
+ghost use Rattle.sx_plain.specs.Adds.{with_entry, uncovered, first_uncovered, IsAdded};
 
 use crate::dropped::first_dropped;
 use crate::entry::Entry;
