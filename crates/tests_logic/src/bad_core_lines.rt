@@ -1,0 +1,264 @@
+//! The first bad line of a core file, for each reason.
+
+use std::alloc::Global;
+use std::test::Fail;
+use sx_core::{CoreFileError, Kind, read_core_file};
+use sx_term::NoMemory;
+
+/// The number of the first bad line and what is bad about it.
+fn bad_line(alloc: Global, bytes: &[u8]) -> Option<(u32, Kind)> {
+    if bytes.len() > 1000 {
+        return None;
+    }
+    let read = read_core_file(alloc, bytes);
+    let told = match &read {
+        Err(CoreFileError::Notation { line, kind }) => Some((*line, *kind)),
+        _ => None,
+    };
+    drop(read);
+    told
+}
+
+/// Whether the file is refused at this line for a bad line of this kind.
+fn is_bad(rt: &HostRuntime, bytes: &[u8], line: u32, kind: Kind) -> bool {
+    bad_line(rt.alloc(), bytes) == Some((line, kind))
+}
+
+#[test]
+fn first_lines(rt: HostRuntime) {
+    assert!(rt; is_bad(&rt, b"", 1, Kind::Head));
+    assert!(rt; is_bad(&rt, b"// two\n\nsxcore 2\n", 3, Kind::Head));
+    assert!(rt; is_bad(&rt, b"sxcore 1\nsrot Exp typed\n", 2, Kind::Directive));
+    assert!(rt; is_bad(&rt, b"sxcore 1\nsxcore 1\n", 2, Kind::Order));
+}
+
+#[test]
+fn declarations(rt: HostRuntime) {
+    assert!(rt; is_bad(&rt, b"sxcore 1\nsort  Exp typed\n", 2, Kind::Shape));
+    assert!(rt;
+        is_bad(
+            &rt,
+            b"sxcore 1\nsort E plain\nsort E plain\n",
+            3,
+            Kind::Shape
+        )
+    );
+    assert!(rt; is_bad(&rt, b"sxcore 1\nsort num plain\n", 2, Kind::Shape));
+    assert!(rt; is_bad(&rt, b"sxcore 1\ncon one Exp\n", 2, Kind::Shape));
+    assert!(rt; is_bad(&rt, b"sxcore 1\ncon one E\nsort E plain\n", 4, Kind::Main));
+}
+
+#[test]
+fn rules(rt: HostRuntime) {
+    assert!(rt; is_bad(&rt, b"sxcore 1\nend\n", 2, Kind::Order));
+    assert!(rt; is_bad(&rt, b"sxcore 1\nrule R\nthen f (0)\n", 3, Kind::Shape));
+    assert!(rt; is_bad(&rt, b"sxcore 1\n\nrule R\n", 3, Kind::Unfinished));
+    assert!(rt;
+        is_bad(
+            &rt,
+            b"sxcore 1\nsort E typed\ncon a E\nform f sub:E\ngoal f (0)\nfoo",
+            6,
+            Kind::Order
+        )
+    );
+}
+
+#[test]
+fn bad_rows(rt: HostRuntime) {
+    assert!(rt; is_bad(&rt, b"sxcore 1\nsort E typed \n", 2, Kind::Shape));
+    assert!(rt; is_bad(&rt, b"sxcore 1\ncon a id\n", 2, Kind::Shape));
+    assert!(rt;
+        is_bad(
+            &rt,
+            b"sxcore 1\nsort T plain\nsort E typed\ncon a T E\n",
+            4,
+            Kind::Shape
+        )
+    );
+    assert!(rt;
+        is_bad(
+            &rt,
+            b"sxcore 1\nsort T plain\nform f sub:T\n",
+            3,
+            Kind::Shape
+        )
+    );
+    assert!(rt;
+        is_bad(
+            &rt,
+            b"sxcore 1\nsort E typed\nform f in:E\n",
+            3,
+            Kind::Shape
+        )
+    );
+    assert!(rt;
+        is_bad(
+            &rt,
+            b"sxcore 1\nsort E typed\nform f sub:E sub:E\n",
+            3,
+            Kind::Shape
+        )
+    );
+    assert!(rt;
+        is_bad(
+            &rt,
+            b"sxcore 1\nsort E typed\nform f sub:E\nform f sub:E\n",
+            4,
+            Kind::Shape
+        )
+    );
+}
+
+#[test]
+fn bad_judgements(rt: HostRuntime) {
+    assert!(rt;
+        is_bad(
+            &rt,
+            b"sxcore 1\nform f in:id\nrule R\nthen f\n",
+            4,
+            Kind::Shape
+        )
+    );
+    assert!(rt;
+        is_bad(
+            &rt,
+            b"sxcore 1\nform f in:id\nrule R\nthen f i1:x i1:y\n",
+            4,
+            Kind::Shape
+        )
+    );
+    assert!(rt;
+        is_bad(
+            &rt,
+            b"sxcore 1\nform f in:id\nrule R\nif f i2:x\n",
+            4,
+            Kind::Shape
+        )
+    );
+    assert!(rt;
+        is_bad(
+            &rt,
+            b"sxcore 1\nform f in:id\nrule R\nnot ?0 ?64\n",
+            4,
+            Kind::Shape
+        )
+    );
+    assert!(rt;
+        is_bad(
+            &rt,
+            b"sxcore 1\nform f in:id\ngoal f i1:x\n",
+            3,
+            Kind::Shape
+        )
+    );
+    assert!(rt;
+        is_bad(
+            &rt,
+            b"sxcore 1\nsort E typed\nform f sub:E\ngoal f ?0\n",
+            4,
+            Kind::Shape
+        )
+    );
+    assert!(rt;
+        is_bad(
+            &rt,
+            b"sxcore 1\nsort E typed\nform f sub:E\ngoal f i1:x\n",
+            4,
+            Kind::Shape
+        )
+    );
+}
+
+#[test]
+fn lines_out_of_order(rt: HostRuntime) {
+    assert!(rt; is_bad(&rt, b"sxcore 1\nrule R\nsort E typed\n", 3, Kind::Order));
+    assert!(rt;
+        is_bad(
+            &rt,
+            b"sxcore 1\nform f\nrule R\nthen f\nend\nsort E typed\n",
+            6,
+            Kind::Order
+        )
+    );
+    assert!(rt;
+        is_bad(
+            &rt,
+            b"sxcore 1\nform f\nrule R\nthen f\nif f\n",
+            5,
+            Kind::Order
+        )
+    );
+    assert!(rt; is_bad(&rt, b"sxcore 1\nform f\nrule R\nend\n", 4, Kind::Order));
+    assert!(rt;
+        is_bad(
+            &rt,
+            b"sxcore 1\nsort E typed\ncon a E\nform f sub:E\ngoal f (0)\nrule R\n",
+            6,
+            Kind::Order
+        )
+    );
+    assert!(rt;
+        is_bad(
+            &rt,
+            b"sxcore 1\nform f\nrule R\nthen f\n",
+            3,
+            Kind::Unfinished
+        )
+    );
+}
+
+/// A file whose goal nests so many nodes round a leaf.
+fn nested(alloc: Global, levels: usize) -> Result<Vec<u8>, NoMemory> {
+    let mut bytes = Vec::from_slice(
+        alloc,
+        b"sxcore 1\nsort E typed\ncon a E\ncon b E E\nform f sub:E\ngoal f ",
+    )?;
+    for _ in 0..levels {
+        bytes.extend_from_slice(b"(1 ")?;
+    }
+    bytes.extend_from_slice(b"(0)")?;
+    for _ in 0..levels {
+        bytes.push(b')')?;
+    }
+    Ok(bytes)
+}
+
+/// The line with a core text that is too deep, and its depth.
+fn too_deep(alloc: Global, bytes: &[u8]) -> Option<(u32, u64)> {
+    if bytes.len() > 10_000 {
+        return None;
+    }
+    let read = read_core_file(alloc, bytes);
+    let told = match &read {
+        Err(CoreFileError::TooDeep { line, depth }) => Some((*line, *depth)),
+        _ => None,
+    };
+    drop(read);
+    told
+}
+
+#[test]
+fn a_term_that_is_too_deep(rt: HostRuntime) -> Result<(), Fail> {
+    let bytes = nested(rt.alloc(), 1000)?;
+    assert!(rt; too_deep(rt.alloc(), &bytes) == Some((6, 1001)));
+    Ok(())
+}
+
+/// How many bytes stand before those that are not UTF-8.
+fn not_utf8(alloc: Global, bytes: &[u8]) -> Option<usize> {
+    if bytes.len() > 1000 {
+        return None;
+    }
+    let read = read_core_file(alloc, bytes);
+    let told = match &read {
+        Err(CoreFileError::NotUtf8(place)) => Some(*place),
+        _ => None,
+    };
+    drop(read);
+    told
+}
+
+#[test]
+fn bytes_that_are_not_utf8(rt: HostRuntime) {
+    assert!(rt; not_utf8(rt.alloc(), &[b'a', b'\n', 255]) == Some(2));
+}

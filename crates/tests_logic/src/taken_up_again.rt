@@ -1,0 +1,130 @@
+//! Searches that are taken up again.
+
+ghost use Rattle.std.specs.Prelude.{◌≡◌, ◌<◌};
+ghost use Rattle.sx_rules.specs.Deep.{AreShallow};
+ghost use Rattle.sx_rules.specs.Views.{goal as goal_of};
+
+use crate::asking::no_hypotheses;
+use crate::samples::{OTHER_Z, PAIR, W, Z, rules};
+use crate::terms::goal;
+use std::alloc::Global;
+use std::marker::Brand;
+use std::sync::ledger::{Blank, Ledger};
+use sx_derive::{Found, Search, SearchError};
+use sx_rules::{Goal, RuleSet};
+use sx_term::{NoMemory, Steps, Text};
+
+/// A pair of terms with types has the type 4.
+const LOOSE_PAIR: &[u8] = b"rule Pair Exp Exp Ty Ty
+if typing ?0 ?2
+if typing ?1 ?3
+then typing (3 ?0 ?1) (4)
+end
+";
+
+/// The tries that led to a derivation; 0 where the search paused, and 1,000,000 where it did
+/// anything else.
+fn tries(found: &Result<Found, SearchError>) -> u64 {
+    match found {
+        Ok(Found::Next(_, tries)) => *tries,
+        Ok(Found::Paused) => 0,
+        _ => 1_000_000,
+    }
+}
+
+/// What three calls of a search with these budgets come to.
+fn three_calls<L: Ledger>(
+    alloc: Global,
+    rules: &RuleSet,
+    goal: Goal,
+    budgets: (u64, u64, u64),
+    blank: Blank,
+) -> Option<(u64, u64, u64)>
+    requires name { blank.name ≡ L.name }
+    requires parts { blank.parts ≡ L.parts }
+    requires some { 0 < blank.parts }
+    requires goal { AreShallow (goal_of goal).terms }
+{
+    let given = no_hypotheses(alloc);
+    let mut steps = Steps::<L>::new(blank);
+    match Search::begin(alloc, rules, &given, goal) {
+        Err(_) => None,
+        Ok(it) => {
+            let mut search = it;
+            let found = search.next(rules, &given, budgets.0, &mut steps);
+            let first = tries(&found);
+            drop(found);
+            let found = search.next(rules, &given, budgets.1, &mut steps);
+            let second = tries(&found);
+            drop(found);
+            let found = search.next(rules, &given, budgets.2, &mut steps);
+            let third = tries(&found);
+            drop(found);
+            drop(search);
+            Some((first, second, third))
+        }
+    }
+}
+
+/// What three calls for the subject's type come to.
+fn calls(
+    alloc: Global,
+    rules: &RuleSet,
+    subject: &str,
+    budgets: (u64, u64, u64),
+) -> Option<(u64, u64, u64)> {
+    let goal = goal(alloc, subject)?;
+    three_calls::<Brand>(alloc, rules, goal, budgets, Blank::new(1))
+}
+
+/// What three calls for a pair of two terms come to.
+fn pair_calls(alloc: Global, budgets: (u64, u64, u64)) -> Option<(u64, u64, u64)> {
+    let rules = rules(alloc, Z, W, PAIR)?;
+    let told = calls(alloc, &rules, "(3 (0) (1))", budgets);
+    drop(rules);
+    told
+}
+
+#[test]
+fn goes_on_after_a_pause(rt: HostRuntime) {
+    let alloc = rt.alloc();
+    assert!(rt; pair_calls(alloc, (6, 9, 9)) == Some((6, 1_000_000, 1_000_000)));
+    assert!(rt; pair_calls(alloc, (5, 1, 9)) == Some((0, 1, 1_000_000)));
+}
+
+/// The text of a pair of this text with itself.
+fn doubled(alloc: Global, part: &[u8]) -> Result<Vec<u8>, NoMemory> {
+    let mut text = Vec::from_slice(alloc, b"(3 ")?;
+    text.extend_from_slice(part)?;
+    text.push(b' ')?;
+    text.extend_from_slice(part)?;
+    text.push(b')')?;
+    Ok(text)
+}
+
+/// The core text of a tree of pairs with so many levels, whose leaves are the term 0.
+fn tree_text(alloc: Global, levels: usize) -> Result<Vec<u8>, NoMemory> {
+    let mut text = Vec::from_slice(alloc, b"(0)")?;
+    for _level in 0..levels {
+        text = doubled(alloc, &text)?;
+    }
+    Ok(text)
+}
+
+/// What three calls for the type of a tree of six levels come to.
+fn tree_calls(alloc: Global, budgets: (u64, u64, u64)) -> Option<(u64, u64, u64)> {
+    let bytes = tree_text(alloc, 6).ok()?;
+    let text = Text::make(alloc, &bytes).ok()?;
+    let rules = rules(alloc, Z, OTHER_Z, LOOSE_PAIR)?;
+    let told = calls(alloc, &rules, text.as_str(), budgets);
+    drop(rules);
+    told
+}
+
+/// The tree has 2 to the power 64 derivations: no list of them is made.
+#[test]
+fn the_first_of_very_many(rt: HostRuntime) {
+    let alloc = rt.alloc();
+    assert!(rt; tree_calls(alloc, (253, 1, 3)) == Some((253, 1, 3)));
+    assert!(rt; tree_calls(alloc, (252, 1, 1)) == Some((0, 1, 1)));
+}
