@@ -1,5 +1,5 @@
 -- Hypotheses as the arena grows.
-use Rattle.std.proofs.Common.{◌≡◌, List, [], ◌∷◌, map, length, ◌∙◌}
+use Rattle.std.proofs.Common.{List, [], ◌∷◌, length, ◌∙◌}
 use Rattle.sx_term.specs.Tree.{Tree}
 use Rattle.sx_rules.specs.Rules.{Judgement}
 use Rattle.sx_rules.specs.Modes.{Modes}

@@ -1,5 +1,5 @@
 -- What is proved of matching.
-use Rattle.std.specs.Prelude.{◌≡◌, ◌↔◌, Option, Some, None}
+use Rattle.std.specs.Prelude.{◌≡◌, ◌↔◌, Some, None}
 use Rattle.sx_term.specs.Tree.{Tree}
 use Rattle.sx_arena.specs.Matching.{Assignment, match, IsMatch}
 
