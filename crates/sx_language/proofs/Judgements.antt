@@ -11,7 +11,7 @@ use Rattle.sx_term.specs.declared.mark.Mark.{Mark}
 use Rattle.sx_term.specs.declared.mark.Mark.TheVariants as marks
 use Rattle.sx_term.specs.declared.sort.Sort.{Sort}
 use Rattle.sx_term.specs.declared.sort.Sort.TheVariants as TheSort
-use Rattle.sx_term.specs.Tree.{node, none, listed}
+use Rattle.sx_term.specs.Tree.{node, listed}
 use Rattle.sx_term.proofs.Kids.{forest-listed}
 use Rattle.sx_token.specs.declared.token.Token.{Token}
 use Rattle.sx_grammar.specs.Grammar as plain

@@ -52,13 +52,36 @@ pub fn read_language(alloc: Global, name: &Text, bytes: &[u8]) -> Result<Languag
     };
     let ReadRules { rules, names } = match read_rules(alloc, &by, &lines) {
         Ok(read) => read,
-        Err(error) => return Err(error),
+        Err(error) => {
+            drop(lines);
+            drop(forms);
+            drop(by);
+            drop(grammar);
+            return Err(error);
+        }
     };
     let rules = match rule_set(alloc, &grammar, forms, rules) {
         Ok(rules) => rules,
-        Err(error) => return Err(rule_error(alloc, &lines, &names, error)),
+        Err(error) => {
+            let refusal = rule_error(alloc, &lines, &names, error);
+            drop(names);
+            drop(lines);
+            drop(by);
+            drop(grammar);
+            return Err(refusal);
+        }
     };
-    let name = name.copy(alloc)?;
+    drop(lines);
+    let name = match name.copy(alloc) {
+        Ok(name) => name,
+        Err(_) => {
+            drop(rules);
+            drop(names);
+            drop(by);
+            drop(grammar);
+            return Err(NotationError::Memory);
+        }
+    };
     let RuleReader {
         grammar: rule_grammar,
         metas,

@@ -17,8 +17,6 @@ mod rule_reading;
 mod rules_reading;
 mod stem_table;
 mod stems;
-#[cfg(test)]
-mod tests;
 
 pub use language_reading::read_language;
 pub use laws::one_language;

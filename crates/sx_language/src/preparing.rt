@@ -77,7 +77,10 @@ fn make_grammars(
     };
     match rule_grammar(alloc, &base, forms) {
         Ok(rule) => Ok(Grammars { base, rule }),
-        Err(error) => Err(grammar_error(error)),
+        Err(error) => {
+            drop(base);
+            Err(grammar_error(error))
+        }
     }
 }
 
@@ -99,21 +102,49 @@ pub(crate) fn prepare(alloc: Global, name: &Text, bytes: &[u8]) -> Result<Prepar
     };
     let Grammars { base, rule } = match make_grammars(alloc, parts, &forms) {
         Ok(grammars) => grammars,
-        Err(error) => return Err(error),
+        Err(error) => {
+            drop(rules);
+            drop(forms);
+            drop(vars);
+            return Err(error);
+        }
     };
-    let metas = metas_of(alloc, &base, &vars)?;
-    match forms_of(alloc, &base, &forms)? {
-        Some(known) => Ok(Prepared {
-            grammar: base,
-            by: RuleReader {
-                grammar: rule,
-                metas,
-                forms: forms.len(),
-            },
-            forms: known,
-            main,
-            rules,
-        }),
-        None => unreachable!(),
+    let metas = match metas_of(alloc, &base, &vars) {
+        Ok(metas) => metas,
+        Err(_) => {
+            drop(rule);
+            drop(base);
+            drop(rules);
+            drop(forms);
+            drop(vars);
+            return Err(NotationError::Memory);
+        }
+    };
+    drop(vars);
+    match forms_of(alloc, &base, &forms) {
+        Ok(Some(known)) => {
+            let many = forms.len();
+            drop(forms);
+            Ok(Prepared {
+                grammar: base,
+                by: RuleReader {
+                    grammar: rule,
+                    metas,
+                    forms: many,
+                },
+                forms: known,
+                main,
+                rules,
+            })
+        }
+        Ok(None) => unreachable!(),
+        Err(_) => {
+            drop(metas);
+            drop(rule);
+            drop(base);
+            drop(rules);
+            drop(forms);
+            Err(NotationError::Memory)
+        }
     }
 }

@@ -48,7 +48,10 @@ fn read_premises(
         let line = &lines[i];
         match read_line(alloc, by, line, vars) {
             Ok(premise) => premises.push(premise)?,
-            Err(error) => return Err(error),
+            Err(error) => {
+                drop(premises);
+                return Err(error);
+            }
         }
     }
     Ok(premises)
@@ -94,14 +97,38 @@ pub(crate) fn read_rule(
     let mut names = Vars::new(alloc);
     let premises = match read_premises(alloc, by, &lines.premises, &mut names) {
         Ok(premises) => premises,
-        Err(error) => return Err(error),
+        Err(error) => {
+            drop(names);
+            return Err(error);
+        }
     };
     let conclusion = match read_conclusion(alloc, by, &lines.conclusion, &mut names) {
         Ok(conclusion) => conclusion,
-        Err(error) => return Err(error),
+        Err(error) => {
+            drop(premises);
+            drop(names);
+            return Err(error);
+        }
     };
-    let vars = table.sorts_of(alloc, &names)?;
-    let name = lines.name.copy(alloc)?;
+    let vars = match table.sorts_of(alloc, &names) {
+        Ok(vars) => vars,
+        Err(_) => {
+            drop(conclusion);
+            drop(premises);
+            drop(names);
+            return Err(NotationError::Memory);
+        }
+    };
+    let name = match lines.name.copy(alloc) {
+        Ok(name) => name,
+        Err(_) => {
+            drop(vars);
+            drop(conclusion);
+            drop(premises);
+            drop(names);
+            return Err(NotationError::Memory);
+        }
+    };
     Ok(ReadRule {
         rule: Rule {
             name,

@@ -46,8 +46,14 @@ pub(crate) fn read_rules(
                 rules.push(rule)?;
                 names.push(named)?;
             }
-            Err(error) => return Err(error),
+            Err(error) => {
+                drop(names);
+                drop(rules);
+                drop(table);
+                return Err(error);
+            }
         }
     }
+    drop(table);
     Ok(ReadRules { rules, names })
 }

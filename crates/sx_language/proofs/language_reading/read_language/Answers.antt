@@ -1,10 +1,8 @@
-use Rattle.std.proofs.Common.{map, refl, sym, subst}
+use Rattle.std.proofs.Common.{map, refl, subst}
 use Rattle.sx_rules.specs.Views as view
 use Rattle.sx_outline.specs.Stages.{rule_data}
-use Rattle.sx_notation.proofs.TextReading.{err_if}
 use Rattle.sx_language.specs.Readers.{reader}
 use Rattle.sx_language.specs.RuleTexts.{AreRules}
-use Rattle.sx_language.specs.States.{IsRefused}
 use Rattle.sx_language.specs.Prepared.{IsRuleRefusal}
 use Rattle.sx_language.proofs.Stating.{line_refused, rules_refused, states, fits, shallow}
 use Rattle.sx_language.proofs.language_reading.read_language.Goals as goal
@@ -22,20 +20,16 @@ returns-in-Err-rule_set-clause-refused c =
     let read = c.in-Ok-read_rules.read in
     let error = c.in-Err-rule_set.error in
     rules_refused c.args.name.now c.args.bytes.now x c.in-Ok.ensures.prepared read.names.items (map view.named read.rules.items)
-    (subst (λ l. AreRules (reader x.by) (map rule_data l) read.names.items (map view.named read.rules.items)) c.deref.ensures.value c.in-Ok-read_rules.ensures.read) error c.rule_error.result
+    (subst (λ l. AreRules (reader x.by) (map rule_data l) read.names.items (map view.named read.rules.items)) c.deref.ensures.value c.in-Ok-read_rules.ensures.read) error c.rule_error-refusal.result
     c.in-Err-rule_set.ensures
-    (subst (λ ns. IsRuleRefusal (map (λ l. l.name) x.rules.items) ns error c.rule_error.result) c.deref-in-Err-rule_set-2.ensures.value
-    (subst (λ ls. IsRuleRefusal (map (λ l. l.name) ls) c.deref-in-Err-rule_set-2.result.now error c.rule_error.result) c.deref-in-Err-rule_set.ensures.value c.rule_error.ensures))
-
-pub returns-in_err-name-clause-refused : goal.returns-in_err-name-clause-refused
-returns-in_err-name-clause-refused c =
-    err_if c.from_residual.result _ (IsRefused c.args.name.now c.args.bytes.now) c.from_residual.ensures.1 (λ e is. subst (IsRefused c.args.name.now c.args.bytes.now) (sym is) tt)
+    (subst (λ ns. IsRuleRefusal (map (λ l. l.name) x.rules.items) ns error c.rule_error-refusal.result) c.deref-in-Err-rule_set-2.ensures.value
+    (subst (λ ls. IsRuleRefusal (map (λ l. l.name) ls) c.deref-in-Err-rule_set-2.result.now error c.rule_error-refusal.result) c.deref-in-Err-rule_set.ensures.value c.rule_error-refusal.ensures))
 
 pub returns-clause-stated : goal.returns-clause-stated
 returns-clause-stated c =
     states c.args.name.now c.args.bytes.now c.in-Ok.prepared c.in-Ok.ensures.prepared c.in-Ok-read_rules.read.names.items (map view.named c.in-Ok-read_rules.read.rules.items)
     (subst (λ l. AreRules (reader c.in-Ok.prepared.by) (map rule_data l) c.in-Ok-read_rules.read.names.items (map view.named c.in-Ok-read_rules.read.rules.items)) c.deref.ensures.value c.in-Ok-read_rules.ensures.read)
-    c.in-Ok-rule_set.rules c.in-Ok-rule_set.ensures _ c.in_ok-name.ensures refl refl refl refl refl refl
+    c.in-Ok-rule_set.rules c.in-Ok-rule_set.ensures _ c.in-Ok-copy.ensures refl refl refl refl refl refl
 
 pub returns-clause-fit : goal.returns-clause-fit
 returns-clause-fit c =

@@ -1,4 +1,4 @@
-use Rattle.std.proofs.Common.{◌∙◌, sym, ap, Some}
+use Rattle.std.proofs.Common.{◌∙◌, sym, ap}
 use Rattle.sx_earley.specs.Tokens.{sort_of, without_digits}
 use Rattle.sx_language.proofs.NamedSorts.{one_named, all_named}
 use Rattle.sx_language.proofs.stem_table.StemTable.sorts_of.Goals as goal

@@ -1,4 +1,4 @@
-use Rattle.std.proofs.Common.{◌≡◌, ◌-◌, length, take}
+use Rattle.std.proofs.Common.{◌-◌, length, take}
 use Rattle.sx_earley.specs.Tokens.{Stems}
 use Rattle.sx_language.specs.RuleTexts.{HaveStemSorts}
 use Rattle.sx_language.specs.StemTables.{IsTable}
