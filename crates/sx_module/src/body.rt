@@ -129,12 +129,28 @@ pub(crate) fn read_body(
     ensures refused { IfErr result (IsUnreadBody grammar.now.parts sort text.now) }
 {
     let tokens = cut_text(alloc, grammar, text)?;
-    let reading = reading_of(alloc, grammar, sort, &tokens, text.len())?;
+    let reading = match reading_of(alloc, grammar, sort, &tokens, text.len()) {
+        Ok(reading) => reading,
+        Err(error) => {
+            drop(tokens);
+            return Err(error);
+        }
+    };
     let mut names = Vars::new(alloc);
-    let term = strip(alloc, &reading, &tokens, &mut names)?;
-    Ok(Body {
-        tokens,
-        reading,
-        term,
-    })
+    match strip(alloc, &reading, &tokens, &mut names) {
+        Ok(term) => {
+            drop(names);
+            Ok(Body {
+                tokens,
+                reading,
+                term,
+            })
+        }
+        Err(_) => {
+            drop(names);
+            drop(reading);
+            drop(tokens);
+            Err(BodyError::Memory)
+        }
+    }
 }

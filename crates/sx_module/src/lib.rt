@@ -32,6 +32,3 @@ pub use laws::{one_unit, type_errors_are_final, units_are_made};
 pub use module_error::ModuleError;
 pub use print_limit::{Limit, Part};
 pub use stuck_text::StuckText;
-
-#[cfg(test)]
-mod tests;

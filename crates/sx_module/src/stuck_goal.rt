@@ -51,7 +51,7 @@ fn shown_goal(
 {
     let vars = Vars::new(alloc);
     let mut bytes = Vec::new(alloc);
-    print_goal(
+    let printed = print_goal(
         alloc,
         language,
         &language.rule_grammar,
@@ -59,8 +59,12 @@ fn shown_goal(
         got,
         &vars,
         &mut bytes,
-    )?;
-    text_of(alloc, &bytes)
+    );
+    drop(vars);
+    match printed {
+        Ok(()) => text_of(alloc, &bytes),
+        Err(e) => Err(e),
+    }
 }
 
 /// The text of a goal whose outputs got are not what the premise of a rule asks for, or else not the stated ones.
