@@ -16,6 +16,8 @@ mod lines;
 #[cfg(test)]
 mod names;
 #[cfg(test)]
+mod orders;
+#[cfg(test)]
 mod plain_images;
 #[cfg(test)]
 mod samples;
