@@ -1,6 +1,6 @@
 //! Plain tables and plain images, by values that are worked out by hand.
 
-ghost use Rattle.std.specs.Prelude.{◌≡◌, ◌≤◌, IfSome};
+ghost use Rattle.std.specs.Prelude.{◌≡◌, ◌≤◌};
 
 use crate::conditions::{are_below, fits};
 use crate::samples::{term, term_of};
