@@ -1,5 +1,5 @@
 -- `build NAME` keeps its promise.
-use Rattle.std.proofs.Common.{◌≡◌, ℕ, List, ◌++◌, sym, ap, ◌∙◌, subst}
+use Rattle.std.proofs.Common.{◌≡◌, ℕ, List, sym, ap, ◌∙◌, subst}
 use Rattle.std.specs.Prelude.{Ok}
 use Rattle.sha2.specs.Sha256.{sha256}
 use Rattle.sx_notation.specs.Language.{language_data}
@@ -20,8 +20,8 @@ source_is : (name language bytes texts : List ℕ) (m : Module) (l : Stated) (h 
     → source_of m l ≡ source_of (let n : Module = record { bytes = bytes; header = m.header } in n) (let k : Stated = record { language = language_data s.whole; digest = sha256 texts } in k)
 source_is name language bytes texts m l h s = λ i. source_of (record { bytes = h.same i; header = m.header }) (record { language = s.language i; digest = s.digest i })
 
-pub build_promise : (name : List ℕ) (budget : ℕ) (old new : Files) (sent sent' : List ℕ) (plan : Plan) → BuildsModule name budget old (Ok plan) → new ≡ after plan.files old → sent' ≡ sent ++ plan.lines → BuiltModule name old new sent sent'
-build_promise name budget old new sent sent' plan built files_are lines_are =
+pub build_promise : (name : List ℕ) (budget : ℕ) (old new : Files) (plan : Plan) → BuildsModule name budget old (Ok plan) → new ≡ after plan.files old → BuiltModule name old new plan.lines
+build_promise name budget old new plan built files_are =
     let read = went _ _ _ built in
     let held = went _ _ _ read.begins in
     let alone = went _ _ _ read.goes in
@@ -35,7 +35,7 @@ build_promise name budget old new sent sent' plan built files_are lines_are =
     let made : plan ≡ unit_plan name unit = ok_same plan (unit_plan name unit) compiled.goes in
     let stands = written name unit.base unit.derivation unit.interface old in
     let files : new ≡ after ((unit_plan name unit).files) old = files_are ∙ ap (λ (p : Plan). after p.files old) made in
-    subst (λ (fs : Files). BuiltModule name old fs sent sent') (sym files)
+    subst (λ (fs : Files). BuiltModule name old fs plan.lines) (sym files)
     (record {
       bytes = held.given;
       header = m.header;
@@ -52,5 +52,5 @@ build_promise name budget old new sent sent' plan built files_are lines_are =
       list = stands.1;
       interface = stands.2;
       others = stands.3;
-      line = lines_are ∙ ap (λ (p : Plan). sent ++ p.lines) made;
+      line = ap (λ (p : Plan). p.lines) made;
     })

@@ -1,5 +1,5 @@
 -- The steps of `build NAME`, and what it promises.
-use Rattle.std.specs.Prelude.{◌≡◌, ◌≢◌, ℕ, List, ◌++◌, Result, Ok, Some}
+use Rattle.std.specs.Prelude.{◌≡◌, ◌≢◌, ℕ, List, Result, Ok, Some}
 use Rattle.sha2.specs.Sha256.{sha256}
 use Rattle.sx_lines.specs.Lines.{lines_from}
 use Rattle.sx_lines.specs.Reading.{kept}
@@ -56,8 +56,8 @@ pub record ModuleTries (name : List ℕ) (budget : ℕ) (files : Files) (tries :
   pub alone : AloneTries budget files read tries
 
 -- The three files hold the texts of the unit that the module NAME.mod gives over the language that its header names, as L.lang states it. All other
--- files are as before, and the sink got the line with the number of the derivation's nodes.
-pub record BuiltModule (name : List ℕ) (old new : Files) (sent sent' : List ℕ) : Type 0 where
+-- files are as before, and the line tells the number of the derivation's nodes.
+pub record BuiltModule (name : List ℕ) (old new : Files) (lines : List ℕ) : Type 0 where
   pub bytes : List ℕ
   pub header : HeaderParts
   pub language_bytes : List ℕ
@@ -73,4 +73,4 @@ pub record BuiltModule (name : List ℕ) (old new : Files) (sent sent' : List �
   pub list : new (list_file name) ≡ Some unit.derivation
   pub interface : new (interface_file name) ≡ Some unit.interface
   pub others : (other : List ℕ) → other ≢ base_file name → other ≢ list_file name → other ≢ interface_file name → new other ≡ old other
-  pub line : sent' ≡ sent ++ built_line name unit.nodes
+  pub line : lines ≡ built_line name unit.nodes

@@ -1,6 +1,6 @@
 //! Files in memory, whose calls fail where a test says so.
 
-ghost use Rattle.std.specs.Prelude.{◌≡◌, ◌≤◌, Some, None, MatchOption, OnOk, OnErr};
+ghost use Rattle.std.specs.Prelude.{◌≡◌, ◌≢◌, ◌≤◌, Some, None, MatchOption, OnOk, OnErr};
 ghost use Rattle.sx_outside.specs.Files.{put};
 ghost use Rattle.sx_outside.specs.Table.{files_in};
 ghost use Rattle.sx_outside.specs.Faults.{Rose};
@@ -76,6 +76,7 @@ impl Shelf for MemShelf {
         ensures faults { (shelf_of self.old).read_faults ≤ (shelf_of self.new).read_faults }
         ensures write_faults { (shelf_of self.new).write_faults ≡ (shelf_of self.old).write_faults }
         ensures cause { result ≡ ReadAnswer.Failed → Rose (shelf_of self.old).read_faults (shelf_of self.new).read_faults }
+        ensures only { result ≢ ReadAnswer.Failed → (shelf_of self.new).read_faults ≡ (shelf_of self.old).read_faults }
         ensures reads { IsRead (shelf_of self.old) (shelf_of self.new) result }
     {
         into.clear();
@@ -91,6 +92,7 @@ impl Shelf for MemShelf {
         ensures faults { (shelf_of self.old).write_faults ≤ (shelf_of self.new).write_faults }
         ensures read_faults { (shelf_of self.new).read_faults ≡ (shelf_of self.old).read_faults }
         ensures cause { result ≡ WriteAnswer.Failed → Rose (shelf_of self.old).write_faults (shelf_of self.new).write_faults }
+        ensures only { result ≢ WriteAnswer.Failed → (shelf_of self.new).write_faults ≡ (shelf_of self.old).write_faults }
         ensures writes { IsWritten (shelf_of self.old) (shelf_of self.new) name.now bytes.now result }
     {
         if self.calls.call() {

@@ -1,6 +1,6 @@
 //! A sink in memory, whose writes fail where a test says so.
 
-ghost use Rattle.std.specs.Prelude.{◌≡◌, ◌≤◌, Some};
+ghost use Rattle.std.specs.Prelude.{◌≡◌, ◌≢◌, ◌≤◌, Some};
 ghost use Rattle.sx_outside.specs.Faults.{Rose};
 ghost use Rattle.sx_outside.specs.Calls.{failing_at};
 ghost use Rattle.sx_outside.specs.Sink.{IsAppending};
@@ -63,6 +63,7 @@ impl Sink for MemSink {
         ensures answer { IsAppending (Some self.old.bytes) bytes.now result (Some self.new.bytes) }
         ensures faults { self.old.faults ≤ self.new.faults }
         ensures cause { result ≡ WriteAnswer.Failed → Rose self.old.faults self.new.faults }
+        ensures only { result ≢ WriteAnswer.Failed → self.new.faults ≡ self.old.faults }
         ensures sends { IsSent self.old self.new result }
     {
         if self.calls.call() {

@@ -1,6 +1,6 @@
 //! A source in memory, whose takes fail where a test says so.
 
-ghost use Rattle.std.specs.Prelude.{◌≡◌, ◌≤◌, Some, drop};
+ghost use Rattle.std.specs.Prelude.{◌≡◌, ◌≢◌, ◌≤◌, Some, drop};
 ghost use Rattle.sx_outside.specs.Faults.{Rose};
 ghost use Rattle.sx_outside.specs.Calls.{failing_at};
 ghost use Rattle.sx_outside.specs.Source.{IsTaking};
@@ -57,6 +57,7 @@ impl Source for MemSource {
         ensures answer { IsTaking (Some self.old.bytes) into.old result into.new (Some self.new.bytes) }
         ensures faults { self.old.faults ≤ self.new.faults }
         ensures cause { result ≡ TakeAnswer.Failed → Rose self.old.faults self.new.faults }
+        ensures only { result ≢ TakeAnswer.Failed → self.new.faults ≡ self.old.faults }
         ensures takes { IsTaken self.old self.new result }
     {
         if self.calls.call() {

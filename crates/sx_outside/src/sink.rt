@@ -1,6 +1,6 @@
 //! Bytes that go out.
 
-ghost use Rattle.std.specs.Prelude.{◌≡◌, ℕ, ◌≤◌, List, Option};
+ghost use Rattle.std.specs.Prelude.{◌≡◌, ◌≢◌, ℕ, ◌≤◌, List, Option};
 ghost use Rattle.sx_outside.specs.Faults.{Rose};
 ghost use Rattle.sx_outside.specs.Sink.{IsAppending};
 
@@ -18,5 +18,6 @@ pub trait Sink {
     fn write(&mut self, bytes: &[u8]) -> WriteAnswer
         ensures answer { IsAppending (content self.old) bytes.now result (content self.new) }
         ensures faults { faults self.old ≤ faults self.new }
-        ensures cause { result ≡ WriteAnswer.Failed → Rose (faults self.old) (faults self.new) };
+        ensures cause { result ≡ WriteAnswer.Failed → Rose (faults self.old) (faults self.new) }
+        ensures only { result ≢ WriteAnswer.Failed → faults self.new ≡ faults self.old };
 }

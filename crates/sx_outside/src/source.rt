@@ -1,6 +1,6 @@
 //! Bytes that come in.
 
-ghost use Rattle.std.specs.Prelude.{◌≡◌, ℕ, ◌≤◌, List, Option};
+ghost use Rattle.std.specs.Prelude.{◌≡◌, ◌≢◌, ℕ, ◌≤◌, List, Option};
 ghost use Rattle.sx_outside.specs.Faults.{Rose};
 ghost use Rattle.sx_outside.specs.Source.{IsTaking};
 
@@ -18,5 +18,6 @@ pub trait Source {
     fn take(&mut self, into: &mut [u8]) -> TakeAnswer
         ensures answer { IsTaking (content self.old) into.old result into.new (content self.new) }
         ensures faults { faults self.old ≤ faults self.new }
-        ensures cause { result ≡ TakeAnswer.Failed → Rose (faults self.old) (faults self.new) };
+        ensures cause { result ≡ TakeAnswer.Failed → Rose (faults self.old) (faults self.new) }
+        ensures only { result ≢ TakeAnswer.Failed → faults self.new ≡ faults self.old };
 }

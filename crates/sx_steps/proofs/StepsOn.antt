@@ -25,8 +25,15 @@ goes_next seen first next given (Err errors.Memory) begins there = tt
 goes_next seen first next given (Err (errors.Stopped stop)) begins there = record { given = Ok given; begins = begins; goes = there }
 
 -- a later step that reads nothing leaves it so
-pub reads_on : {X Y : Type 0} (old new : Option Files) (reads reads_after writes writes_after : ℕ) (result : Result X StepError) (later : Result Y StepError) → OnlyReads old new reads reads_after writes writes_after result → IsNoFault later → OnlyReads old new reads reads_after writes writes_after later
-reads_on old new reads reads_after writes writes_after result later so none = record { content = so.content; reads = so.reads; writes = so.writes; cause = λ fault. absurd (none.0 fault); never = none.1 }
+pub reads_on : {X Y : Type 0} (old new : Option Files) (reads reads_after writes writes_after : ℕ) (given : X) (later : Result Y StepError) → OnlyReads old new reads reads_after writes writes_after (Ok given) → IsNoFault later → OnlyReads old new reads reads_after writes writes_after later
+reads_on old new reads reads_after writes writes_after given later so none = record {
+  content = so.content;
+  reads = so.reads;
+  writes = so.writes;
+  cause = λ fault. absurd (none.0 fault);
+  kept = λ still. so.kept (λ fault. fault);
+  never = none.1;
+}
 
 -- where steps end without a stop, the first of them gave something, and the next one went on from it
 pub record Went {A B : Type 0} (first : Result A Stop → Type 0) (next : A → Result B Stop → Type 0) (result : B) : Type 0 where

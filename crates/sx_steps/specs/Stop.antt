@@ -31,12 +31,13 @@ IsStopped status (Err (errors.Stopped stop)) = status_of stop ≡ status
 abbrev pub IsNoFault : {X : Type 0} → Result X StepError → Type 0
 IsNoFault result = (IsStopped statuses.ReadFault result → ⊥) × (IsStopped statuses.WriteFault result → ⊥)
 
--- nothing was written, and a read fault has its cause
+-- nothing was written, and the count of read faults rose where a read fault stopped it, and nowhere else
 pub record OnlyReads {X : Type 0} (old new : Option Files) (reads_before reads_after writes_before writes_after : ℕ) (result : Result X StepError) : Type 0 where
   pub content : new ≡ old
   pub reads : reads_before ≤ reads_after
   pub writes : writes_after ≡ writes_before
   pub cause : IsStopped statuses.ReadFault result → Rose reads_before reads_after
+  pub kept : (IsStopped statuses.ReadFault result → ⊥) → reads_after ≡ reads_before
   pub never : IsStopped statuses.WriteFault result → ⊥
 
 -- the steps rose by the tries of these walks

@@ -1,5 +1,5 @@
 -- `build --core` keeps its promise.
-use Rattle.std.proofs.Common.{◌≡◌, ℕ, List, ◌++◌, sym, ap, ◌∙◌, subst}
+use Rattle.std.proofs.Common.{◌≡◌, ℕ, List, sym, ap, ◌∙◌, subst}
 use Rattle.std.specs.Prelude.{Ok, None}
 use Rattle.sx_outside.specs.Files.{Files, after}
 use Rattle.sx_rules.specs.Views.{modes_of}
@@ -15,7 +15,6 @@ use Rattle.sx_top.specs.FindFirst.{no_hypotheses, rules_of, IsFirstOf}
 use Rattle.sx_top.specs.Search.{goal_events, ComesTo, Searches}
 use Rattle.sx_steps.specs.Work.{Plan}
 use Rattle.sx_top.specs.BuildCore.{core_plan, BuildsWhole, BuiltUnit}
-use Rattle.sx_top.specs.Ending.{IsDone}
 use Rattle.sx_steps.proofs.StepsOn.{went}
 use Rattle.sx_steps.proofs.Units.{written}
 use Rattle.sx_top.proofs.Propers.{proper}
@@ -32,9 +31,9 @@ searches_first file budget problem answer moded searches =
     found_is_first (modes_of problem.forms) (rules_of problem) no_hypotheses moded problem.goal None budget 1 answer
     (comes_found file problem budget (walk None budget (goal_events problem)) answer searches)
 
-pub build_promise : (name : List ℕ) (budget : ℕ) (old new : Files) (sent sent' : List ℕ) (plan : Plan) → BuildsWhole name budget old (Ok plan) → IsDone plan old new sent sent' → BuiltUnit name old new sent sent'
+pub build_promise : (name : List ℕ) (budget : ℕ) (old new : Files) (plan : Plan) → BuildsWhole name budget old (Ok plan) → new ≡ after plan.files old → BuiltUnit name old new plan.lines
 unfolding core_plan
-build_promise name budget old new sent sent' plan built done =
+build_promise name budget old new plan built files_are =
     let read = went _ _ _ built in
     let held = went _ _ _ read.begins in
     let search = went _ _ _ read.goes in
@@ -42,8 +41,8 @@ build_promise name budget old new sent sent' plan built done =
     let answer = search.given in
     let made : plan ≡ core_plan name problem answer = cc (search.goes) in
     let stands = written name (subject_text problem.forms problem.goal) (list_text problem.rules (order_of answer.0)) (term_lines answer.1) old in
-    let files : new ≡ after ((core_plan name problem answer).files) old = done.files ∙ ap (λ (p : Plan). after p.files old) made in
-    subst (λ (fs : Files). BuiltUnit name old fs sent sent') (sym files)
+    let files : new ≡ after ((core_plan name problem answer).files) old = files_are ∙ ap (λ (p : Plan). after p.files old) made in
+    subst (λ (fs : Files). BuiltUnit name old fs plan.lines) (sym files)
     (record {
       bytes = held.given;
       problem = problem;
@@ -55,5 +54,5 @@ build_promise name budget old new sent sent' plan built done =
       list = stands.1;
       interface = stands.2;
       others = stands.3;
-      line = done.lines ∙ ap (λ (p : Plan). sent ++ p.lines) made;
+      line = ap (λ (p : Plan). p.lines) made;
     })

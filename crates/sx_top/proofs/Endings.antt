@@ -1,7 +1,6 @@
--- How a run ends, from its plan or its error.
-use Rattle.std.proofs.Common.{◌≡◌, ℕ, ◌+◌, ◌≤◌, true, false, List, [], refl, sym, ◌∙◌, subst, inl, inr, ◌⊎◌, arith}
-use Rattle.std.specs.Prelude.{Result, Ok, Err}
-use Rattle.std.proofs.lemmas.List.{append-nil}
+-- How a run ends, by its course.
+use Rattle.std.proofs.Common.{◌≡◌, ℕ, ◌+◌, ◌<◌, ◌≤◌, true, false, List, refl, sym, ap, ◌∙◌, subst, inl, inr, ◌⊎◌, arith}
+use Rattle.std.specs.Prelude.{Result, Ok, Err, Option, Some, None}
 use Rattle.sx_words.specs.Commands.{Meant, builds, compiles, checks, verifies, samples}
 use Rattle.sx_words.specs.declared.file_defect.FileDefect.{FileDefect}
 use Rattle.sx_words.specs.declared.file_defect.FileDefect.TheVariants as file_defect
@@ -10,16 +9,20 @@ use Rattle.sx_words.specs.declared.refusal.Defect.TheVariants as defect
 use Rattle.sx_words.proofs.CommandLaws.{one_command}
 use Rattle.sx_outside.specs.Files.{Files, after}
 use Rattle.sx_outside.specs.Faults.{Rose}
+use Rattle.sx_outside.specs.Told.{Told, WhereTold}
+use Rattle.sx_outside.specs.declared.answer.WriteAnswer.{WriteAnswer}
+use Rattle.sx_outside.specs.declared.answer.WriteAnswer.TheVariants as write
 use Rattle.sx_steps.specs.Work.{Plan, plan_of}
-use Rattle.sx_steps.specs.Stop.{Gives, IsStopped, RisesBy, RisesUpTo, Tried}
+use Rattle.sx_steps.specs.Stop.{Gives, OnlyReads, RisesBy, RisesUpTo, Tried}
 use Rattle.sx_top.specs.Commands.{by_now, Spelled}
+use Rattle.sx_top.specs.Course.{Seen, seen, Course, lacking, stopped, short, failed, written, answered, status_after, Begins, Leaves}
 use Rattle.sx_top.specs.Outcome.{Outcome, Runs, Walks, Promises}
 use Rattle.sx_top.specs.Tries.{TriesOf}
 use Rattle.sx_top.specs.Performing.{Performs}
-use Rattle.sx_top.specs.Telling.{Sends, IsTold, IsStatusOf, error_status}
+use Rattle.sx_top.specs.Telling.{IsTold}
 use Rattle.sx_steps.specs.declared.stop.Stop.{Stop}
-use Rattle.sx_steps.specs.Refusal.{file_status, defect_status, status_of, line_of}
-use Rattle.sx_top.specs.Ending.{Ends, Tells, KeepsPromise, HasNoDefect, IsDoneOrShort, IsDone, IsCounted, HasWalks}
+use Rattle.sx_steps.specs.Refusal.{file_status, defect_status, status_of}
+use Rattle.sx_top.specs.Ending.{ComesTo, Ends, KeepsPromise, IsAfterRead, HasNoDefect, IsDoneOrShort, IsCounted, HasWalks}
 use Rattle.sx_steps.specs.declared.status.Status.{Status}
 use Rattle.sx_steps.specs.declared.status.Status.TheVariants as statuses
 use Rattle.sx_steps.specs.declared.step_error.StepError.{StepError}
@@ -30,16 +33,48 @@ use Rattle.sx_build.proofs.Promise.{build_promise as build_module_promise}
 use Rattle.sx_top.proofs.BuildPromise.{build_promise}
 use Rattle.sx_top.proofs.VerifyPromise.{verify_promise}
 use Rattle.sx_top.proofs.VerifySteps.{replayed_derives}
+use Rattle.sx_top.proofs.Writes.{told_same, told_goes}
 
--- a run that had a plan
-pub ends_performed : (words : List (List ℕ)) (plan : Plan) (status : Status) (old new : Files) (sent sent' : List ℕ) → Outcome words old (Ok plan) → Performs plan status old new sent sent' → Ends words status old new sent sent'
-ends_performed words plan statuses.Done old new sent sent' outcome performed = (plan, outcome, performed)
-ends_performed words plan statuses.WriteFault old new sent sent' outcome performed = inr (plan, outcome, performed)
-ends_performed words plan statuses.NoMemory old new sent sent' outcome performed = inr (plan, performed.0, outcome, performed.1)
-ends_performed words plan statuses.Refused old new sent sent' outcome performed = absurd performed
-ends_performed words plan statuses.Words old new sent sent' outcome performed = absurd performed
-ends_performed words plan statuses.ReadFault old new sent sent' outcome performed = absurd performed
-ends_performed words plan statuses.Spent old new sent sent' outcome performed = absurd performed
+-- ---- runs with a plan, and without one
+
+begins_with : (Holds : Result Plan Stop → Type 0) (result : Result Plan Stop) (course : Course) → Begins (λ other. other ≡ result) course → Holds result → Begins Holds course
+begins_with Holds result lacking begins holds = tt
+begins_with Holds result (stopped stop answer) begins holds = subst Holds (sym begins) holds
+begins_with Holds result (short plan number) begins holds = subst Holds (sym begins) holds
+begins_with Holds result (failed plan number answer) begins holds = subst Holds (sym begins) holds
+begins_with Holds result (written plan answer) begins holds = subst Holds (sym begins) holds
+
+-- a run that had a plan, after reads that did not fail
+pub ends_performed : (words : List (List ℕ)) (plan : Plan) (status : Status) (files between files' : Option Files) (bytes bytes' : Option (List ℕ)) (reads read reads' writes wrote writes' sends sends' : ℕ) →
+    between ≡ files → read ≡ reads → wrote ≡ writes → ComesTo words files (Ok plan) → Performs plan status (seen between bytes read wrote sends) (seen files' bytes' reads' writes' sends') →
+    Ends words status (seen files bytes reads writes sends) (seen files' bytes' reads' writes' sends')
+ends_performed words plan status files between files' bytes bytes' reads read reads' writes wrote writes' sends sends' same still kept comes performs = record {
+  course = performs.course;
+  is = performs.is;
+  begins = begins_with (ComesTo words files) (Ok plan) performs.course performs.begins comes;
+  leaves =
+      let old : seen between bytes read wrote sends ≡ seen files bytes reads writes sends = λ i. seen (same i) bytes (still i) (kept i) sends in
+      subst (λ (s : Seen). Leaves performs.course s (seen files' bytes' reads' writes' sends')) old performs.leaves;
+}
+
+-- a run that had none
+pub ends_told : (words : List (List ℕ)) (e : StepError) (status : Status) (files files' : Option Files) (bytes bytes' : Option (List ℕ)) (reads reads' writes writes' sends sends' : ℕ) →
+    OnlyReads {X = Work} files files' reads reads' writes writes' (Err e) → WhereTold files (λ held. Gives plan_of (Outcome words held) (Err e)) → IsTold e status bytes bytes' sends sends' →
+    Ends words status (seen files bytes reads writes sends) (seen files' bytes' reads' writes' sends')
+ends_told words errors.Memory status files files' bytes bytes' reads reads' writes writes' sends sends' so outcome told = record {
+  course = lacking;
+  is = sym told.0;
+  begins = tt;
+  leaves = λ i. seen (so.content i) (told.1 i) (so.kept (λ fault. fault) i) (so.writes i) (told.2 i);
+}
+ends_told words (errors.Stopped stop) status files files' bytes bytes' reads reads' writes writes' sends sends' so outcome told = record {
+  course = stopped stop told.0;
+  is = told.1;
+  begins = outcome;
+  leaves = record { files = so.content; reads = record { least = so.reads; rose = so.cause; kept = so.kept }; writes = so.writes; never = so.never; line = told.2 };
+}
+
+-- ---- stops
 
 -- a stop may have this status
 IsOfStop : Status → Type 0
@@ -79,71 +114,168 @@ defect_of_stop (defect.Closure what) = tt
 defect_of_stop (defect.List what) = tt
 defect_of_stop (defect.Objected auditor node rule) = tt
 
--- a stop ends with its status
-ends_stop : (words : List (List ℕ)) (stop : Stop) (status : Status) (old : Files) (sent sent' : List ℕ) → status_of stop ≡ status → IsOfStop status → Outcome words old (Err stop) → Tells (line_of stop) old old sent sent' → Ends words status old old sent sent'
+-- a stop never ends as done
+answered_done : (stop : Stop) (answer : WriteAnswer) → answered (status_of stop) answer ≡ statuses.Done → ⊥
 unfolding IsOfStop
-ends_stop words stop statuses.Done old sent sent' same is outcome tells = absurd is
-ends_stop words stop statuses.NoMemory old sent sent' same is outcome tells = absurd is
-ends_stop words stop statuses.Refused old sent sent' same is outcome tells = (stop, outcome, same, tells)
-ends_stop words stop statuses.Words old sent sent' same is outcome tells = (stop, outcome, same, tells)
-ends_stop words stop statuses.ReadFault old sent sent' same is outcome tells = (stop, outcome, same, tells)
-ends_stop words stop statuses.Spent old sent sent' same is outcome tells = (stop, outcome, same, tells)
-ends_stop words stop statuses.WriteFault old sent sent' same is outcome tells =
-    inl (stop, outcome, record { files = tells.files; line = (line_of stop, ([], sym (append-nil (line_of stop))), tells.line) })
-
--- a stop whose line was sent, or sent in part, or not at all
-ends_sent : (words : List (List ℕ)) (stop : Stop) (status : Status) (old : Files) (sent sent' : List ℕ) → Outcome words old (Err stop) → Sends (status_of stop) (line_of stop) status sent sent' → Ends words status old old sent sent'
-ends_sent words stop status old sent sent' outcome (inl told) =
-    subst (λ (s : Status). Ends words s old old sent sent') (sym told.0) (ends_stop words stop (status_of stop) old sent sent' refl (defect_of_stop stop.refusal.defect) outcome (record { files = refl; line = told.1 }))
-ends_sent words stop status old sent sent' outcome (inr (inl failed)) =
-    subst (λ (s : Status). Ends words s old old sent sent') (sym failed.0) (inl (stop, outcome, record { files = refl; line = failed.1 }))
-ends_sent words stop status old sent sent' outcome (inr (inr short)) =
-    subst (λ (s : Status). Ends words s old old sent sent') (sym short.0) (inl (record { files = refl; bytes = short.1 }))
-
--- a run that had none
-pub ends_told : (words : List (List ℕ)) (e : StepError) (status : Status) (old : Files) (sent sent' : List ℕ) → Gives plan_of (Outcome words old) (Err e) → IsTold e status sent sent' → Ends words status old old sent sent'
-ends_told words errors.Memory status old sent sent' outcome told = subst (λ (s : Status). Ends words s old old sent sent') (sym told.0) (inl (record { files = refl; bytes = told.1 }))
-ends_told words (errors.Stopped stop) status old sent sent' outcome told = ends_sent words stop status old sent sent' outcome told
-
--- each command keeps its promise
-kept : (command : Meant) (plan : Plan) (old new : Files) (sent sent' : List ℕ) → Runs command old (Ok plan) → IsDone plan old new sent sent' → Promises command old new sent sent'
-kept (builds true name tries nodes audits) plan old new sent sent' runs is = build_promise name tries old new sent sent' plan runs is
-kept (builds false name tries nodes audits) plan old new sent sent' runs is = build_module_promise name tries old new sent sent' plan runs is.files is.lines
-kept (compiles name tries nodes audits) plan old new sent sent' runs is = absurd runs
-kept (checks name tries) plan old new sent sent' runs is = absurd runs
-kept (verifies true name) plan old new sent sent' runs is = verify_promise replayed_derives name old new sent sent' plan runs is
-kept (verifies false name) plan old new sent sent' runs is = absurd runs
-kept (samples number) plan old new sent sent' runs is = absurd runs
-
-kept_by : (words : List (List ℕ)) (plan : Plan) (old new : Files) (sent sent' : List ℕ) → Outcome words old (Ok plan) → IsDone plan old new sent sent' → (command : Meant) → Spelled words command → Promises command old new sent sent'
-unfolding Outcome
-kept_by words plan old new sent sent' outcome is command read =
-    let steps = went _ _ _ outcome in
-    let same = one_command by_now words steps.given command steps.begins read in
-    subst (λ (k : Meant). Promises k old new sent sent') same (kept steps.given plan old new sent sent' steps.goes is)
-
-pub promise_kept : (words : List (List ℕ)) (plan : Plan) (status : Status) (old new : Files) (sent sent' : List ℕ) → Outcome words old (Ok plan) → Performs plan status old new sent sent' → KeepsPromise words status old new sent sent'
-promise_kept words plan statuses.Done old new sent sent' outcome performed = λ done. kept_by words plan old new sent sent' outcome performed
-promise_kept words plan statuses.WriteFault old new sent sent' outcome performed = λ done. cc
-promise_kept words plan statuses.NoMemory old new sent sent' outcome performed = λ done. cc
-promise_kept words plan statuses.Refused old new sent sent' outcome performed = absurd performed
-promise_kept words plan statuses.Words old new sent sent' outcome performed = absurd performed
-promise_kept words plan statuses.ReadFault old new sent sent' outcome performed = absurd performed
-promise_kept words plan statuses.Spent old new sent sent' outcome performed = absurd performed
-
-not_done : (e : StepError) → error_status e ≡ statuses.Done → ⊥
-unfolding IsOfStop
-not_done errors.Memory is = cc
-not_done (errors.Stopped stop) is = subst IsOfStop is (defect_of_stop stop.refusal.defect)
+answered_done stop write.Done is = subst IsOfStop is (defect_of_stop stop.refusal.defect)
+answered_done stop write.Failed is = cc
+answered_done stop write.NoMemory is = cc
 
 -- a run that had no plan is not done
-pub never_done : (e : StepError) (status : Status) (faults faults' : ℕ) → IsStatusOf (error_status e) faults faults' status → status ≡ statuses.Done → ⊥
-never_done e status faults faults' (inl same) done = not_done e (sym same ∙ done)
-never_done e status faults faults' (inr (inl failed)) done = let at : statuses.WriteFault ≡ statuses.Done = sym failed.0 ∙ done in cc
-never_done e status faults faults' (inr (inr short)) done = let at : statuses.NoMemory ≡ statuses.Done = sym short ∙ done in cc
+pub never_done : (e : StepError) (status : Status) (bytes bytes' : Option (List ℕ)) (sends sends' : ℕ) → IsTold e status bytes bytes' sends sends' → status ≡ statuses.Done → ⊥
+never_done errors.Memory status bytes bytes' sends sends' told done = let at : statuses.NoMemory ≡ statuses.Done = sym told.0 ∙ done in cc
+never_done (errors.Stopped stop) status bytes bytes' sends sends' told done = answered_done stop told.0 (told.1 ∙ done)
 
-pub no_promise : (words : List (List ℕ)) (status : Status) (old new : Files) (sent sent' : List ℕ) → (status ≡ statuses.Done → ⊥) → KeepsPromise words status old new sent sent'
-no_promise words status old new sent sent' never = λ done. absurd (never done)
+-- ---- promises
+
+-- each command keeps its promise
+kept : (command : Meant) (plan : Plan) (old new : Files) → Runs command old (Ok plan) → new ≡ after plan.files old → Promises command old new plan.lines
+kept (builds true name tries nodes audits) plan old new runs is = build_promise name tries old new plan runs is
+kept (builds false name tries nodes audits) plan old new runs is = build_module_promise name tries old new plan runs is
+kept (compiles name tries nodes audits) plan old new runs is = absurd runs
+kept (checks name tries) plan old new runs is = absurd runs
+kept (verifies true name) plan old new runs is = verify_promise replayed_derives name old new plan runs is
+kept (verifies false name) plan old new runs is = absurd runs
+kept (samples number) plan old new runs is = absurd runs
+
+kept_by : (words : List (List ℕ)) (plan : Plan) (old new : Files) → Outcome words old (Ok plan) → new ≡ after plan.files old → (command : Meant) → Spelled words command → Promises command old new plan.lines
+unfolding Outcome
+kept_by words plan old new outcome is command read =
+    let steps = went _ _ _ outcome in
+    let same = one_command by_now words steps.given command steps.begins read in
+    subst (λ (k : Meant). Promises k old new plan.lines) same (kept steps.given plan old new steps.goes is)
+
+-- files that are told stay told
+stays : (course : Course) (old new : Seen) → Leaves course old new → Told (λ before now. Unit {0}) old.files new.files
+stays lacking old new leaves = told_same (λ before now. Unit {0}) old.files new.files (ap (λ (s : Seen). s.files) leaves) (λ held. tt)
+stays (stopped stop answer) old new leaves = told_same (λ before now. Unit {0}) old.files new.files leaves.files (λ held. tt)
+stays (short plan number) old new leaves = told_goes _ _ old.files new.files leaves.files (λ before now told is. tt)
+stays (failed plan number answer) old new leaves = told_goes _ _ old.files new.files leaves.files (λ before now told is. tt)
+stays (written plan answer) old new leaves = told_goes _ _ old.files new.files leaves.files (λ before now told is. tt)
+
+no_promise : (words : List (List ℕ)) (course : Course) (status : Status) (old new : Seen) → Leaves course old new → (status ≡ statuses.Done → ⊥) → Told (KeepsPromise words status old.bytes new.bytes) old.files new.files
+no_promise words course status old new leaves never = told_goes _ _ old.files new.files (stays course old new leaves) (λ before now told is done. absurd (never done))
+
+promise_by : (words : List (List ℕ)) (course : Course) (status : Status) (old new : Seen) → status_after course ≡ status → Begins (ComesTo words old.files) course → Leaves course old new → Told (KeepsPromise words status old.bytes new.bytes) old.files new.files
+promise_by words lacking status old new is begins leaves = no_promise words lacking status old new leaves (λ done. let at : statuses.NoMemory ≡ statuses.Done = is ∙ done in cc)
+promise_by words (stopped stop answer) status old new is begins leaves = no_promise words (stopped stop answer) status old new leaves (λ done. answered_done stop answer (is ∙ done))
+promise_by words (short plan number) status old new is begins leaves = no_promise words (short plan number) status old new leaves (λ done. let at : statuses.NoMemory ≡ statuses.Done = is ∙ done in cc)
+promise_by words (failed plan number answer) status old new is begins leaves = no_promise words (failed plan number answer) status old new leaves (λ done. let at : statuses.WriteFault ≡ statuses.Done = is ∙ done in cc)
+promise_by words (written plan write.Done) status old new is begins leaves =
+    told_goes _ _ old.files new.files leaves.files (λ before now told wrote done command spelled. (plan.lines, kept_by words plan before now (begins before told) wrote command spelled, leaves.lines.bytes))
+promise_by words (written plan write.Failed) status old new is begins leaves = no_promise words (written plan write.Failed) status old new leaves (λ done. let at : statuses.WriteFault ≡ statuses.Done = is ∙ done in cc)
+promise_by words (written plan write.NoMemory) status old new is begins leaves = no_promise words (written plan write.NoMemory) status old new leaves (λ done. let at : statuses.NoMemory ≡ statuses.Done = is ∙ done in cc)
+
+pub promise_kept : (words : List (List ℕ)) (status : Status) (old new : Seen) → Ends words status old new → Told (KeepsPromise words status old.bytes new.bytes) old.files new.files
+promise_kept words status old new ends = promise_by words ends.course status old new ends.is ends.begins ends.leaves
+
+-- ---- faults
+
+read_by : (course : Course) (status : Status) (old new : Seen) → status_after course ≡ status → Leaves course old new → status ≡ statuses.ReadFault → Rose old.reads new.reads
+read_by lacking status old new is leaves fault = let at : statuses.NoMemory ≡ statuses.ReadFault = is ∙ fault in absurd cc
+read_by (stopped stop write.Done) status old new is leaves fault = leaves.reads.rose (is ∙ fault)
+read_by (stopped stop write.Failed) status old new is leaves fault = let at : statuses.WriteFault ≡ statuses.ReadFault = is ∙ fault in absurd cc
+read_by (stopped stop write.NoMemory) status old new is leaves fault = let at : statuses.NoMemory ≡ statuses.ReadFault = is ∙ fault in absurd cc
+read_by (short plan number) status old new is leaves fault = let at : statuses.NoMemory ≡ statuses.ReadFault = is ∙ fault in absurd cc
+read_by (failed plan number answer) status old new is leaves fault = let at : statuses.WriteFault ≡ statuses.ReadFault = is ∙ fault in absurd cc
+read_by (written plan write.Done) status old new is leaves fault = let at : statuses.Done ≡ statuses.ReadFault = is ∙ fault in absurd cc
+read_by (written plan write.Failed) status old new is leaves fault = let at : statuses.WriteFault ≡ statuses.ReadFault = is ∙ fault in absurd cc
+read_by (written plan write.NoMemory) status old new is leaves fault = let at : statuses.NoMemory ≡ statuses.ReadFault = is ∙ fault in absurd cc
+
+-- the status of a failed read has its cause
+pub read_cause : (words : List (List ℕ)) (status : Status) (old new : Seen) → Ends words status old new → status ≡ statuses.ReadFault → Rose old.reads new.reads
+read_cause words status old new ends fault = read_by ends.course status old new ends.is ends.leaves fault
+
+write_by : (course : Course) (status : Status) (old new : Seen) → status_after course ≡ status → Leaves course old new → status ≡ statuses.WriteFault → Rose old.writes new.writes ⊎ Rose old.sends new.sends
+write_by lacking status old new is leaves fault = let at : statuses.NoMemory ≡ statuses.WriteFault = is ∙ fault in absurd cc
+write_by (stopped stop write.Done) status old new is leaves fault = absurd (leaves.never (is ∙ fault))
+write_by (stopped stop write.Failed) status old new is leaves fault = inr (leaves.line.faults.rose refl)
+write_by (stopped stop write.NoMemory) status old new is leaves fault = let at : statuses.NoMemory ≡ statuses.WriteFault = is ∙ fault in absurd cc
+write_by (short plan number) status old new is leaves fault = let at : statuses.NoMemory ≡ statuses.WriteFault = is ∙ fault in absurd cc
+write_by (failed plan number answer) status old new is leaves fault = inl (leaves.writes.rose tt)
+write_by (written plan write.Done) status old new is leaves fault = let at : statuses.Done ≡ statuses.WriteFault = is ∙ fault in absurd cc
+write_by (written plan write.Failed) status old new is leaves fault = inr (leaves.lines.faults.rose refl)
+write_by (written plan write.NoMemory) status old new is leaves fault = let at : statuses.NoMemory ≡ statuses.WriteFault = is ∙ fault in absurd cc
+
+-- so has that of a failed write
+pub write_cause : (words : List (List ℕ)) (status : Status) (old new : Seen) → Ends words status old new → status ≡ statuses.WriteFault → Rose old.writes new.writes ⊎ Rose old.sends new.sends
+write_cause words status old new ends fault = write_by ends.course status old new ends.is ends.leaves fault
+
+-- what stays does not rise
+no_rise : {A : Type 0} (before after : ℕ) → before < after → after ≡ before → A
+no_rise before after less same = absurd (omega arith)
+
+failed_by : (course : Course) (status : Status) (old new : Seen) → status_after course ≡ status → Leaves course old new → old.writes < new.writes → status ≡ statuses.WriteFault
+failed_by lacking status old new is leaves less = no_rise old.writes new.writes less (ap (λ (s : Seen). s.writes) leaves)
+failed_by (stopped stop answer) status old new is leaves less = no_rise old.writes new.writes less leaves.writes
+failed_by (short plan number) status old new is leaves less = no_rise old.writes new.writes less leaves.writes
+failed_by (failed plan number answer) status old new is leaves less = sym is
+failed_by (written plan answer) status old new is leaves less = no_rise old.writes new.writes less leaves.writes
+
+-- a failed write of a file gives its status
+pub write_forces : (words : List (List ℕ)) (status : Status) (old new : Seen) → Ends words status old new → old.writes < new.writes → status ≡ statuses.WriteFault
+write_forces words status old new ends less = failed_by ends.course status old new ends.is ends.leaves less
+
+sent_by : (course : Course) (status : Status) (old new : Seen) → status_after course ≡ status → Leaves course old new → old.sends < new.sends → status ≡ statuses.WriteFault
+sent_by lacking status old new is leaves less = no_rise old.sends new.sends less (ap (λ (s : Seen). s.sends) leaves)
+sent_by (stopped stop write.Done) status old new is leaves less = no_rise old.sends new.sends less (leaves.line.faults.kept (λ same. cc))
+sent_by (stopped stop write.Failed) status old new is leaves less = sym is
+sent_by (stopped stop write.NoMemory) status old new is leaves less = no_rise old.sends new.sends less (leaves.line.faults.kept (λ same. cc))
+sent_by (short plan number) status old new is leaves less = no_rise old.sends new.sends less leaves.sends
+sent_by (failed plan number answer) status old new is leaves less = sym is
+sent_by (written plan write.Done) status old new is leaves less = no_rise old.sends new.sends less (leaves.lines.faults.kept (λ same. cc))
+sent_by (written plan write.Failed) status old new is leaves less = sym is
+sent_by (written plan write.NoMemory) status old new is leaves less = no_rise old.sends new.sends less (leaves.lines.faults.kept (λ same. cc))
+
+-- so does a failed write on the sink
+pub send_forces : (words : List (List ℕ)) (status : Status) (old new : Seen) → Ends words status old new → old.sends < new.sends → status ≡ statuses.WriteFault
+send_forces words status old new ends less = sent_by ends.course status old new ends.is ends.leaves less
+
+is_read : (status : Status) → (status ≡ statuses.ReadFault) ⊎ (status ≡ statuses.ReadFault → ⊥)
+is_read statuses.Done = inr (λ same. cc)
+is_read statuses.Refused = inr (λ same. cc)
+is_read statuses.Words = inr (λ same. cc)
+is_read statuses.ReadFault = inl refl
+is_read statuses.WriteFault = inr (λ same. cc)
+is_read statuses.NoMemory = inr (λ same. cc)
+is_read statuses.Spent = inr (λ same. cc)
+
+after_read : (stop : Stop) (answer : WriteAnswer) (status : Status) (sends sends' : ℕ) → answered (status_of stop) answer ≡ status → status_of stop ≡ statuses.ReadFault → (answer ≡ write.Failed → Rose sends sends') → IsAfterRead status sends sends'
+after_read stop write.Done status sends sends' is fault rose = inl (sym is ∙ fault)
+after_read stop write.Failed status sends sends' is fault rose = inr (inl (sym is, rose refl))
+after_read stop write.NoMemory status sends sends' is fault rose = inr (inr (sym is))
+
+reads_by : (course : Course) (status : Status) (old new : Seen) → status_after course ≡ status → Leaves course old new → old.reads < new.reads → IsAfterRead status old.sends new.sends
+reads_by lacking status old new is leaves less = no_rise old.reads new.reads less (ap (λ (s : Seen). s.reads) leaves)
+reads_by (stopped stop answer) status old new is leaves less =
+    elim (is_read (status_of stop)) [
+      | inl fault ↦ after_read stop answer status old.sends new.sends is fault leaves.line.faults.rose
+      | inr none ↦ no_rise old.reads new.reads less (leaves.reads.kept none)
+    ]
+reads_by (short plan number) status old new is leaves less = no_rise old.reads new.reads less leaves.reads
+reads_by (failed plan number answer) status old new is leaves less = no_rise old.reads new.reads less leaves.reads
+reads_by (written plan answer) status old new is leaves less = no_rise old.reads new.reads less leaves.reads
+
+-- a failed read gives its status, where its line was sent
+pub read_forces : (words : List (List ℕ)) (status : Status) (old new : Seen) → Ends words status old new → old.reads < new.reads → IsAfterRead status old.sends new.sends
+read_forces words status old new ends less = reads_by ends.course status old new ends.is ends.leaves less
+
+complete_by : (words : List (List ℕ)) (course : Course) (status : Status) (old new : Seen) (files : Files) → status_after course ≡ status → Begins (ComesTo words old.files) course → Leaves course old new → old.files ≡ Some files → HasNoDefect words files
+    → (Rose old.reads new.reads → ⊥) → (Rose old.writes new.writes → ⊥) → (Rose old.sends new.sends → ⊥) → IsDoneOrShort status
+complete_by words lacking status old new files is begins leaves told none no_read no_write no_send = inr (sym is)
+complete_by words (stopped stop answer) status old new files is begins leaves told none no_read no_write no_send = absurd (no_read (leaves.reads.rose (none stop (begins files told))))
+complete_by words (short plan number) status old new files is begins leaves told none no_read no_write no_send = inr (sym is)
+complete_by words (failed plan number answer) status old new files is begins leaves told none no_read no_write no_send = absurd (no_write (leaves.writes.rose tt))
+complete_by words (written plan write.Done) status old new files is begins leaves told none no_read no_write no_send = inl (sym is)
+complete_by words (written plan write.Failed) status old new files is begins leaves told none no_read no_write no_send = absurd (no_send (leaves.lines.faults.rose refl))
+complete_by words (written plan write.NoMemory) status old new files is begins leaves told none no_read no_write no_send = inr (sym is)
+
+-- words and files without a defect, and no fault
+pub is_complete : (words : List (List ℕ)) (status : Status) (old new : Seen) (files : Files) → Ends words status old new → old.files ≡ Some files → HasNoDefect words files
+    → (Rose old.reads new.reads → ⊥) → (Rose old.writes new.writes → ⊥) → (Rose old.sends new.sends → ⊥) → IsDoneOrShort status
+is_complete words status old new files ends told none no_read no_write no_send = complete_by words ends.course status old new files ends.is ends.begins ends.leaves told none no_read no_write no_send
+
+-- ---- tries
 
 within : (Walks : ℕ → Type 0) (before after : ℕ) → RisesBy Walks before after → (tries : ℕ) × Walks tries × (after ≤ before + tries)
 within Walks before after rises = let e = rises.2 in (rises.0, rises.1, omega arith)
@@ -171,25 +303,3 @@ tries_of (checks name tries) files result before after tried = absurd tried
 tries_of (verifies true name) files result before after tried = tried
 tries_of (verifies false name) files result before after tried = absurd tried
 tries_of (samples number) files result before after tried = absurd tried
-
--- a run that had no plan and ends with a read fault was stopped by one
-pub told_read : (e : StepError) (status : Status) (faults faults' : ℕ) → IsStatusOf (error_status e) faults faults' status → status ≡ statuses.ReadFault → IsStopped {X = Work} statuses.ReadFault (Err e)
-told_read errors.Memory status faults faults' (inl same) is = let at : statuses.NoMemory ≡ statuses.ReadFault = sym same ∙ is in absurd cc
-told_read (errors.Stopped stop) status faults faults' (inl same) is = sym same ∙ is
-told_read e status faults faults' (inr (inl failed)) is = let at : statuses.WriteFault ≡ statuses.ReadFault = sym failed.0 ∙ is in absurd cc
-told_read e status faults faults' (inr (inr short)) is = let at : statuses.NoMemory ≡ statuses.ReadFault = sym short ∙ is in absurd cc
-
--- a run that had no plan and ends with a write fault was stopped by one, or the sink failed
-pub told_write : (e : StepError) (status : Status) (faults faults' : ℕ) → IsStatusOf (error_status e) faults faults' status → status ≡ statuses.WriteFault → IsStopped {X = Work} statuses.WriteFault (Err e) ⊎ Rose faults faults'
-told_write errors.Memory status faults faults' (inl same) is = let at : statuses.NoMemory ≡ statuses.WriteFault = sym same ∙ is in absurd cc
-told_write (errors.Stopped stop) status faults faults' (inl same) is = inl (sym same ∙ is)
-told_write e status faults faults' (inr (inl failed)) is = inr failed.1
-told_write e status faults faults' (inr (inr short)) is = let at : statuses.NoMemory ≡ statuses.WriteFault = sym short ∙ is in absurd cc
-
--- a run without a plan, on words and files without a defect
-pub told_short : (words : List (List ℕ)) (files : Files) (e : StepError) (status : Status) (reads reads' faults faults' : ℕ) → Gives plan_of (Outcome words files) (Err e) → IsStatusOf (error_status e) faults faults' status → HasNoDefect words files
-    → (IsStopped {X = Work} statuses.ReadFault (Err e) → Rose reads reads') → (Rose reads reads' → ⊥) → (Rose faults faults' → ⊥) → IsDoneOrShort status
-told_short words files errors.Memory status reads reads' faults faults' outcome (inl same) none cause no_read no_write = inr same
-told_short words files errors.Memory status reads reads' faults faults' outcome (inr (inl failed)) none cause no_read no_write = absurd (no_write failed.1)
-told_short words files errors.Memory status reads reads' faults faults' outcome (inr (inr short)) none cause no_read no_write = inr short
-told_short words files (errors.Stopped stop) status reads reads' faults faults' outcome is none cause no_read no_write = absurd (no_read (cause (none stop outcome)))

@@ -1,5 +1,5 @@
 -- `verify --core` keeps its promise.
-use Rattle.std.proofs.Common.{◌≡◌, ℕ, List, ◌++◌, length, sym, ap, ◌∙◌}
+use Rattle.std.proofs.Common.{◌≡◌, ℕ, List, length, sym, ap, ◌∙◌}
 use Rattle.std.specs.Prelude.{Ok, Some}
 use Rattle.sx_outside.specs.Files.{Files, after}
 use Rattle.sx_term.specs.Tree.{Tree}
@@ -13,13 +13,12 @@ use Rattle.sx_top.specs.CoreTexts.{term_lines}
 use Rattle.sx_top.specs.FindFirst.{no_hypotheses, rules_of}
 use Rattle.sx_steps.specs.Work.{Plan}
 use Rattle.sx_top.specs.VerifyCore.{verified_plan, VerifiesWhole, VerifiedUnit}
-use Rattle.sx_top.specs.Ending.{IsDone}
 use Rattle.sx_steps.proofs.StepsOn.{went}
 
 -- what is replayed is the list of a derivation with the outputs
 module _ (derived : (problem : Problem) (list : List Entry) (outputs : List Tree) → IsReplayAnswer (modes_of problem.forms) (rules_of problem) no_hypotheses problem.goal list (Ok outputs) → (answer : Answer) × DerivesGoal (modes_of problem.forms) (rules_of problem) no_hypotheses problem.goal answer × (order_of answer.0 ≡ list) × (answer.1 ≡ outputs)) where
-  pub verify_promise : (name : List ℕ) (old new : Files) (sent sent' : List ℕ) (plan : Plan) → VerifiesWhole name old (Ok plan) → IsDone plan old new sent sent' → VerifiedUnit name old new sent sent'
-  verify_promise name old new sent sent' plan verified done =
+  pub verify_promise : (name : List ℕ) (old new : Files) (plan : Plan) → VerifiesWhole name old (Ok plan) → new ≡ after plan.files old → VerifiedUnit name old new plan.lines
+  verify_promise name old new plan verified files_are =
       let read = went _ _ _ verified in
       let held = went _ _ _ read.begins in
       let base = went _ _ _ read.goes in
@@ -45,6 +44,6 @@ module _ (derived : (problem : Problem) (list : List Entry) (outputs : List Tree
         derives = answer.1;
         in_order = answer.2;
         interface = interface_held.begins.0 ∙ ap Some (interface_held.goes ∙ ap term_lines (sym answer.3));
-        files = done.files ∙ ap (λ (p : Plan). after p.files old) made;
-        line = done.lines ∙ ap (λ (p : Plan). sent ++ p.lines) made;
+        files = files_are ∙ ap (λ (p : Plan). after p.files old) made;
+        line = ap (λ (p : Plan). p.lines) made;
       }

@@ -40,10 +40,10 @@ same_two {X} {Y} P x z y w one other holds = subst (λ (u : Y). P z u) other (su
 -- ---- reads
 
 -- two reads, of which the first failed nothing
-pub reads_then : {X Y : Type 0} (old mid new : Option Files) (reads reads_between reads_after writes writes_between writes_after : ℕ) (first : Result X StepError) (later : Result Y StepError) →
-    OnlyReads old mid reads reads_between writes writes_between first → OnlyReads mid new reads_between reads_after writes_between writes_after later →
+pub reads_then : {X Y : Type 0} (old mid new : Option Files) (reads reads_between reads_after writes writes_between writes_after : ℕ) (value : X) (later : Result Y StepError) →
+    OnlyReads old mid reads reads_between writes writes_between (Ok value) → OnlyReads mid new reads_between reads_after writes_between writes_after later →
     OnlyReads old new reads reads_after writes writes_after later
-reads_then old mid new reads reads_between reads_after writes writes_between writes_after first later a b =
+reads_then old mid new reads reads_between reads_after writes writes_between writes_after value later a b =
     let ar = a.reads in
     let br = b.reads in
     record {
@@ -51,6 +51,7 @@ reads_then old mid new reads reads_between reads_after writes writes_between wri
       reads = omega arith;
       writes = b.writes ∙ a.writes;
       cause = λ fault room. let rose = b.cause fault in rises reads reads_between reads_after ar br rose room;
+      kept = λ still. b.kept still ∙ a.kept (λ fault. fault);
       never = b.never;
     }
   where
@@ -63,7 +64,7 @@ reads_then old mid new reads reads_between reads_after writes writes_between wri
 
 -- no read
 pub reads_none : {X : Type 0} (old : Option Files) (reads writes : ℕ) (result : Result X StepError) → IsNoFault result → OnlyReads old old reads reads writes writes result
-reads_none old reads writes result none = record { content = refl; reads = omega arith; writes = refl; cause = λ fault. absurd (none.0 fault); never = none.1 }
+reads_none old reads writes result none = record { content = refl; reads = omega arith; writes = refl; cause = λ fault. absurd (none.0 fault); kept = λ still. refl; never = none.1 }
 
 -- ---- lists
 

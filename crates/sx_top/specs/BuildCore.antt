@@ -1,5 +1,5 @@
 -- The steps of `build --core NAME`, and what it promises.
-use Rattle.std.specs.Prelude.{◌≡◌, ◌≢◌, ℕ, List, ◌++◌, Result, Ok, Some}
+use Rattle.std.specs.Prelude.{◌≡◌, ◌≢◌, ℕ, List, Result, Ok, Some}
 use Rattle.sx_outside.specs.Files.{Files}
 use Rattle.sx_rules.specs.Derivations.{nodes_of}
 use Rattle.sx_rules.specs.Orders.{order_of}
@@ -43,8 +43,8 @@ abbrev pub WholeTries : List ℕ → ℕ → Files → ℕ → Type 0
 WholeTries name budget files tries = FileTries (core_file name) budget files tries
 
 -- The three files are those of the first derivation of the goal that NAME.core states, all other files are as before,
--- and the sink got the line with the number of its nodes.
-pub record BuiltUnit (name : List ℕ) (old new : Files) (sent sent' : List ℕ) : Type 0 where
+-- and the line tells the number of its nodes.
+pub record BuiltUnit (name : List ℕ) (old new : Files) (lines : List ℕ) : Type 0 where
   pub bytes : List ℕ
   pub problem : Problem
   pub answer : Answer
@@ -55,4 +55,4 @@ pub record BuiltUnit (name : List ℕ) (old new : Files) (sent sent' : List ℕ)
   pub list : new (list_file name) ≡ Some (list_text problem.rules (order_of answer.0))
   pub interface : new (interface_file name) ≡ Some (term_lines answer.1)
   pub others : (other : List ℕ) → other ≢ base_file name → other ≢ list_file name → other ≢ interface_file name → new other ≡ old other
-  pub line : sent' ≡ sent ++ built_line name (nodes_of answer.0)
+  pub line : lines ≡ built_line name (nodes_of answer.0)

@@ -1,80 +1,40 @@
--- How a run ends: what stands on the shelf and what the sink got, by the status.
-use Rattle.std.specs.Prelude.{◌≡◌, ◌⊎◌, ℕ, ◌+◌, ◌≤◌, List, ◌++◌, length, take, Ok, Err, Option}
-use Rattle.sx_outside.specs.Files.{Files, after}
-use Rattle.sx_outside.specs.Told.{Told}
-use Rattle.sx_outside.specs.Sink.{AppendsBeginning}
+-- How a run ends, by its words, the status, and what is seen of the shelf and the sink.
+use Rattle.std.specs.Prelude.{◌≡◌, ◌⊎◌, ℕ, ◌+◌, ◌≤◌, List, ◌++◌, Result, Err, Option}
+use Rattle.sx_outside.specs.Files.{Files}
+use Rattle.sx_outside.specs.Told.{Told, WhereTold}
+use Rattle.sx_outside.specs.Faults.{Rose}
 use Rattle.sx_steps.specs.Work.{Plan}
-use Rattle.sx_top.specs.Writing.{FailedAt}
 use Rattle.sx_steps.specs.declared.stop.Stop.{Stop}
-use Rattle.sx_steps.specs.Refusal.{write_fault, line_of, status_of}
+use Rattle.sx_steps.specs.Refusal.{status_of}
 use Rattle.sx_top.specs.Outcome.{Outcome, Promises, Walks}
 use Rattle.sx_top.specs.Commands.{Spelled}
+use Rattle.sx_top.specs.Course.{Seen, Course, status_after, Begins, Leaves}
 use Rattle.sx_words.specs.Commands.{Meant}
 use Rattle.sx_steps.specs.declared.status.Status.{Status}
 use Rattle.sx_steps.specs.declared.status.Status.TheVariants as statuses
 
--- what both tell, before and after
-abbrev pub BothTell : (Files → Files → List ℕ → List ℕ → Type 0) → Option Files → Option Files → Option (List ℕ) → Option (List ℕ) → Type 0
-BothTell R shelf shelf' out out' = Told (λ old new. Told (λ sent sent'. R old new sent sent') out out') shelf shelf'
+-- by the words and the files, where these are told, the steps come to this
+abbrev pub ComesTo : List (List ℕ) → Option Files → Result Plan Stop → Type 0
+ComesTo words told result = WhereTold told (λ files. Outcome words files result)
 
--- all files of the plan were written, and its lines
-pub record IsDone (plan : Plan) (old new : Files) (sent sent' : List ℕ) : Type 0 where
-  pub files : new ≡ after plan.files old
-  pub lines : sent' ≡ sent ++ plan.lines
+-- the course of the run: its status, what its steps came to, and what it leaves
+pub record Ends (words : List (List ℕ)) (status : Status) (old new : Seen) : Type 0 where
+  pub course : Course
+  pub is : status_after course ≡ status
+  pub begins : Begins (ComesTo words old.files) course
+  pub leaves : Leaves course old new
 
--- nothing was written on the shelf, and the sink got just this line
-pub record Tells (text : List ℕ) (old new : Files) (sent sent' : List ℕ) : Type 0 where
-  pub files : new ≡ old
-  pub line : sent' ≡ sent ++ text
+-- the command that the words are keeps its promise, with lines that the sink got where it tells what it got
+abbrev pub KeepsFor : Meant → Option (List ℕ) → Option (List ℕ) → Files → Files → Type 0
+KeepsFor command out out' old new = (lines : List ℕ) × Promises command old new lines × Told (λ sent sent'. sent' ≡ sent ++ lines) out out'
 
--- nothing was written on the shelf, and the sink got a beginning of this line
-pub record TellsBeginning (text : List ℕ) (old new : Files) (sent sent' : List ℕ) : Type 0 where
-  pub files : new ≡ old
-  pub line : AppendsBeginning text sent sent'
+-- where the run is done, the command keeps its promise
+abbrev pub KeepsPromise : List (List ℕ) → Status → Option (List ℕ) → Option (List ℕ) → Files → Files → Type 0
+KeepsPromise words status out out' old new = status ≡ statuses.Done → (command : Meant) → Spelled words command → KeepsFor command out out' old new
 
--- nothing was written
-pub record IsUntouched (old new : Files) (sent sent' : List ℕ) : Type 0 where
-  pub files : new ≡ old
-  pub bytes : sent' ≡ sent
-
--- a file of the plan was not written whole, and the sink got its line or a beginning
-pub record FileFails (plan : Plan) (old new : Files) (sent sent' : List ℕ) : Type 0 where
-  pub number : ℕ
-  pub name : List ℕ
-  pub failed : FailedAt plan.files number name old new
-  pub line : AppendsBeginning (line_of (write_fault name)) sent sent'
-
--- the first files of the plan were written, so many, and the sink got a beginning of the lines
-pub record StopsAfter (plan : Plan) (number : ℕ) (old new : Files) (sent sent' : List ℕ) : Type 0 where
-  pub files : new ≡ after (take number plan.files) old
-  pub lines : AppendsBeginning plan.lines sent sent'
-
--- a stop that the words and files have, with its status and its line
-abbrev pub Stops : List (List ℕ) → Status → Files → Files → List ℕ → List ℕ → Type 0
-Stops words status old new sent sent' =
-    (stop : Stop) × Outcome words old (Err stop) × (status_of stop ≡ status) × Tells (line_of stop) old new sent sent'
-
--- a stop that the words and files have, with a beginning of its line
-abbrev pub BreaksOff : List (List ℕ) → Files → Files → List ℕ → List ℕ → Type 0
-BreaksOff words old new sent sent' = (stop : Stop) × Outcome words old (Err stop) × TellsBeginning (line_of stop) old new sent sent'
-
--- how a run with these words ends, by its status
-abbrev pub Ends : List (List ℕ) → Status → Files → Files → List ℕ → List ℕ → Type 0
-Ends words statuses.Done old new sent sent' = (plan : Plan) × Outcome words old (Ok plan) × IsDone plan old new sent sent'
-Ends words statuses.Refused old new sent sent' = Stops words statuses.Refused old new sent sent'
-Ends words statuses.Words old new sent sent' = Stops words statuses.Words old new sent sent'
-Ends words statuses.ReadFault old new sent sent' = Stops words statuses.ReadFault old new sent sent'
-Ends words statuses.Spent old new sent sent' = Stops words statuses.Spent old new sent sent'
-Ends words statuses.WriteFault old new sent sent' =
-    BreaksOff words old new sent sent'
-    ⊎ ((plan : Plan) × Outcome words old (Ok plan) × (FileFails plan old new sent sent' ⊎ StopsAfter plan (length plan.files) old new sent sent'))
-Ends words statuses.NoMemory old new sent sent' =
-    IsUntouched old new sent sent' ⊎ ((plan : Plan) × (number : ℕ) × Outcome words old (Ok plan) × StopsAfter plan number old new sent sent')
-
--- where the run is done, the command that the words are keeps its promise
-abbrev pub KeepsPromise : List (List ℕ) → Status → Files → Files → List ℕ → List ℕ → Type 0
-KeepsPromise words status old new sent sent' =
-    status ≡ statuses.Done → (command : Meant) → Spelled words command → Promises command old new sent sent'
+-- a read failed: the status says so, unless the sink failed on the line, or memory lacked for it
+abbrev pub IsAfterRead : Status → ℕ → ℕ → Type 0
+IsAfterRead status before after = (status ≡ statuses.ReadFault) ⊎ ((status ≡ statuses.WriteFault) × Rose before after) ⊎ (status ≡ statuses.NoMemory)
 
 -- the words and files have no defect: nothing but a failed read stops their steps
 abbrev pub HasNoDefect : List (List ℕ) → Files → Type 0

@@ -12,6 +12,7 @@ pub mod Written
 pub mod BuildCore
 pub mod VerifyCore
 pub mod Outcome
+pub mod Course
 pub mod Writing
 pub mod Ending
 pub mod Performing

@@ -24,12 +24,12 @@ Walks (builds false name tries nodes audits) files made = ModuleTries name tries
 Walks (verifies true name) files made = made ≡ 0
 Walks command files made = ⊥
 
--- what each command promises when it is done, of the files and of what the sink got
-abbrev pub Promises : Meant → Files → Files → List ℕ → List ℕ → Type 0
-Promises (builds true name tries nodes audits) old new sent sent' = BuiltUnit name old new sent sent'
-Promises (builds false name tries nodes audits) old new sent sent' = BuiltModule name old new sent sent'
-Promises (verifies true name) old new sent sent' = VerifiedUnit name old new sent sent'
-Promises command old new sent sent' = ⊥
+-- what each command promises when it is done, of the files and of the lines that the sink gets
+abbrev pub Promises : Meant → Files → Files → List ℕ → Type 0
+Promises (builds true name tries nodes audits) old new lines = BuiltUnit name old new lines
+Promises (builds false name tries nodes audits) old new lines = BuiltModule name old new lines
+Promises (verifies true name) old new lines = VerifiedUnit name old new lines
+Promises command old new lines = ⊥
 
 -- the words, and then the command's steps
 unfoldable pub Outcome : List (List ℕ) → Files → Result Plan Stop → Type 0

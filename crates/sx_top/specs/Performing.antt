@@ -1,31 +1,12 @@
--- What performing a plan leads to, by the status.
-use Rattle.std.specs.Prelude.{◌⊎◌, ℕ, ◌<◌, List, length}
-use Rattle.sx_outside.specs.Files.{Files}
+-- What performing a plan leads to.
+use Rattle.std.specs.Prelude.{◌≡◌, Ok}
 use Rattle.sx_steps.specs.Work.{Plan}
-use Rattle.sx_top.specs.Ending.{IsDone, FileFails, StopsAfter}
 use Rattle.sx_steps.specs.declared.status.Status.{Status}
-use Rattle.sx_steps.specs.declared.status.Status.TheVariants as statuses
-use Rattle.sx_top.specs.declared.perform.WriteEnd.{WriteEnd}
-use Rattle.sx_top.specs.declared.perform.WriteEnd.TheVariants as write_ends
+use Rattle.sx_top.specs.Course.{Seen, Course, status_after, Begins, Leaves}
 
--- how performing the plan ends with this status
-abbrev pub Performs : Plan → Status → Files → Files → List ℕ → List ℕ → Type 0
-Performs plan statuses.Done old new sent sent' = IsDone plan old new sent sent'
-Performs plan statuses.WriteFault old new sent sent' = FileFails plan old new sent sent' ⊎ StopsAfter plan (length plan.files) old new sent sent'
-Performs plan statuses.NoMemory old new sent sent' = (number : ℕ) × StopsAfter plan number old new sent sent'
-Performs plan statuses.Refused old new sent sent' = ⊥
-Performs plan statuses.Words old new sent sent' = ⊥
-Performs plan statuses.ReadFault old new sent sent' = ⊥
-Performs plan statuses.Spent old new sent sent' = ⊥
-
--- a write failed
-abbrev pub IsFailed : WriteEnd → Type 0
-IsFailed write_ends.All = ⊥
-IsFailed (write_ends.Failed number) = Unit {0}
-IsFailed (write_ends.NoMemory number) = ⊥
-
--- the number of the file that was not written is below the count
-abbrev pub IsBelow : ℕ → WriteEnd → Type 0
-IsBelow count write_ends.All = Unit {0}
-IsBelow count (write_ends.Failed number) = number < count
-IsBelow count (write_ends.NoMemory number) = number < count
+-- a course of the plan, with its status and what it leaves
+pub record Performs (plan : Plan) (status : Status) (old new : Seen) : Type 0 where
+  pub course : Course
+  pub is : status_after course ≡ status
+  pub begins : Begins (λ result. result ≡ Ok plan) course
+  pub leaves : Leaves course old new

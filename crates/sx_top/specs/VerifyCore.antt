@@ -59,8 +59,8 @@ abbrev pub VerifiesWhole : List ℕ → Files → Result Plan Stop → Type 0
 VerifiesWhole name files = Then (Reads (core_file name) files) (VerifiesSubject name files)
 
 -- NAME.base is the text of the goal's subject, the list of NAME.der is that of a derivation of the goal, and NAME.int has the
--- texts of its outputs. All files are as before, and the sink got the line with the number of entries.
-pub record VerifiedUnit (name : List ℕ) (old new : Files) (sent sent' : List ℕ) : Type 0 where
+-- texts of its outputs. All files are as before, and the line tells the number of entries.
+pub record VerifiedUnit (name : List ℕ) (old new : Files) (lines : List ℕ) : Type 0 where
   pub bytes : List ℕ
   pub problem : Problem
   pub list : List EntryOf
@@ -75,4 +75,4 @@ pub record VerifiedUnit (name : List ℕ) (old new : Files) (sent sent' : List �
   pub in_order : order_of answer.0 ≡ entries list
   pub interface : old (interface_file name) ≡ Some (term_lines answer.1)
   pub files : new ≡ old
-  pub line : sent' ≡ sent ++ verified_line name (length list)
+  pub line : lines ≡ verified_line name (length list)

@@ -1,18 +1,24 @@
 -- How the files of a plan are written.
-use Rattle.std.specs.Prelude.{◌≡◌, ℕ, List, take, Some, slice_get}
+use Rattle.std.specs.Prelude.{◌≡◌, ℕ, ◌<◌, List, take}
 use Rattle.sx_outside.specs.Files.{Files, File, after, SameBut}
+use Rattle.sx_top.specs.Course.{name_at}
 use Rattle.sx_top.specs.declared.perform.WriteEnd.{WriteEnd}
 use Rattle.sx_top.specs.declared.perform.WriteEnd.TheVariants as write_ends
 
--- the write of this number failed: the files before it are whole, its file may hold anything, the others are as before
-pub record FailedAt (outputs : List File) (number : ℕ) (name : List ℕ) (old new : Files) : Type 0 where
-  pub file : File
-  pub is : slice_get outputs number ≡ Some file
-  pub name_is : file.name ≡ name
-  pub files : SameBut name (after (take number outputs) old) new
-
--- what stands on the shelf after the writes
+-- what stands on the shelf after the writes; a file whose write failed may hold anything
 abbrev pub Wrote : List File → WriteEnd → Files → Files → Type 0
 Wrote outputs write_ends.All old new = new ≡ after outputs old
-Wrote outputs (write_ends.Failed number) old new = (name : List ℕ) × FailedAt outputs number name old new
+Wrote outputs (write_ends.Failed number) old new = SameBut (name_at outputs number) (after (take number outputs) old) new
 Wrote outputs (write_ends.NoMemory number) old new = new ≡ after (take number outputs) old
+
+-- a write failed
+abbrev pub IsFailed : WriteEnd → Type 0
+IsFailed write_ends.All = ⊥
+IsFailed (write_ends.Failed number) = Unit {0}
+IsFailed (write_ends.NoMemory number) = ⊥
+
+-- the number of the file that was not written is below the count
+abbrev pub IsBelow : ℕ → WriteEnd → Type 0
+IsBelow count write_ends.All = Unit {0}
+IsBelow count (write_ends.Failed number) = number < count
+IsBelow count (write_ends.NoMemory number) = number < count

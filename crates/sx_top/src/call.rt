@@ -1,9 +1,10 @@
 //! The top call.
 
-ghost use Rattle.std.specs.Prelude.{◌≡◌, ◌⊎◌};
-ghost use Rattle.sx_outside.specs.Told.{WhereTold};
+ghost use Rattle.std.specs.Prelude.{◌≡◌, ◌⊎◌, ◌<◌};
+ghost use Rattle.sx_outside.specs.Told.{Told, WhereTold};
 ghost use Rattle.sx_outside.specs.Faults.{Rose};
-ghost use Rattle.sx_top.specs.Ending.{BothTell, Ends, KeepsPromise, HasNoDefect, IsDoneOrShort, IsCounted};
+ghost use Rattle.sx_top.specs.Course.{seen};
+ghost use Rattle.sx_top.specs.Ending.{Ends, KeepsPromise, IsAfterRead, HasNoDefect, IsDoneOrShort, IsCounted};
 ghost use Rattle.sx_steps.specs.Stop.{RisesWithin};
 
 use crate::perform::perform;
@@ -25,18 +26,27 @@ pub fn run<S: Shelf, I: Source, K: Sink, L: Ledger>(
     out: &mut K,
     steps: &mut Steps<L>,
 ) -> Status
-    // By the words and the files: the status, what stands on the shelf, and what the sink got.
-    ensures ends { BothTell (Ends words.now result)
-        (S.content shelf.old) (S.content shelf.new) (K.content out.old) (K.content out.new) }
+    // By the words and the files: the status, what stands on the shelf, what the sink got, and which counts of faults rose.
+    ensures ends { Ends words.now result
+        (seen (S.content shelf.old) (K.content out.old) (S.read_faults shelf.old) (S.write_faults shelf.old) (K.faults out.old))
+        (seen (S.content shelf.new) (K.content out.new) (S.read_faults shelf.new) (S.write_faults shelf.new) (K.faults out.new)) }
 
     // When it is done, the command keeps its promise.
-    ensures promise { BothTell (KeepsPromise words.now result)
-        (S.content shelf.old) (S.content shelf.new) (K.content out.old) (K.content out.new) }
+    ensures promise { Told (KeepsPromise words.now result (K.content out.old) (K.content out.new)) (S.content shelf.old) (S.content shelf.new) }
 
     // A fault has its cause.
     ensures read_fault { result ≡ Status.ReadFault → Rose (S.read_faults shelf.old) (S.read_faults shelf.new) }
     ensures write_fault { result ≡ Status.WriteFault
         → Rose (S.write_faults shelf.old) (S.write_faults shelf.new) ⊎ Rose (K.faults out.old) (K.faults out.new) }
+
+    // A fault forces its status.
+    ensures failed_write { S.write_faults shelf.old < S.write_faults shelf.new → result ≡ Status.WriteFault }
+    ensures failed_send { K.faults out.old < K.faults out.new → result ≡ Status.WriteFault }
+    ensures failed_read { S.read_faults shelf.old < S.read_faults shelf.new → IsAfterRead result (K.faults out.old) (K.faults out.new) }
+
+    // Nothing is taken from the input.
+    ensures input { I.content input.new ≡ I.content input.old }
+    ensures takes { I.faults input.new ≡ I.faults input.old }
 
     // Where nothing is wrong with the words and the files, and no fault came, it is done, or memory lacked.
     ensures complete { WhereTold (S.content shelf.old) (λ files. HasNoDefect words.now files

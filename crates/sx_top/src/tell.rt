@@ -1,37 +1,41 @@
 //! Telling why nothing was written.
 
-ghost use Rattle.std.specs.Prelude.{◌≡◌, ◌≤◌};
-ghost use Rattle.sx_outside.specs.Told.{Told};
-ghost use Rattle.sx_top.specs.Telling.{Sends, IsTold, IsStatusOf, error_status};
+ghost use Rattle.std.specs.Prelude.{◌≡◌};
+ghost use Rattle.sx_steps.specs.Refusal.{line_of};
+ghost use Rattle.sx_top.specs.Course.{answered as status_answered, Sent};
+ghost use Rattle.sx_top.specs.Telling.{IsTold};
 
 use std::alloc::Global;
 use sx_outside::{Sink, WriteAnswer};
-use sx_steps::{Status, StepError};
+use sx_steps::{Status, StepError, Stop};
 
-/// Sends a line, and answers the status.
-fn send<K: Sink>(status: Status, line: &[u8], out: &mut K) -> Status
-    ensures sends { Told (Sends status line.now result) (K.content out.old) (K.content out.new) }
-    ensures faults { K.faults out.old ≤ K.faults out.new }
-    ensures cause { IsStatusOf status (K.faults out.old) (K.faults out.new) result }
+/// The status, by the answer to the last text that was sent.
+pub fn answered(status: Status, answer: WriteAnswer) -> Status
+    ensures { result ≡ status_answered status answer }
 {
-    match out.write(line) {
+    match answer {
         WriteAnswer::Done => status,
         WriteAnswer::Failed => Status::WriteFault,
         WriteAnswer::NoMemory => Status::NoMemory,
     }
 }
 
+/// Sends the line of a stop.
+fn send_line<K: Sink>(alloc: Global, stop: &Stop, out: &mut K) -> WriteAnswer
+    ensures { Sent (line_of stop.now) result (K.content out.old) (K.content out.new) (K.faults out.old) (K.faults out.new) }
+{
+    match stop.line(alloc) {
+        Ok(line) => out.write(&line),
+        Err(_) => WriteAnswer::NoMemory,
+    }
+}
+
 /// Tells why nothing was written.
 pub fn tell<K: Sink>(alloc: Global, error: &StepError, out: &mut K) -> Status
-    ensures tells { Told (IsTold error.now result) (K.content out.old) (K.content out.new) }
-    ensures faults { K.faults out.old ≤ K.faults out.new }
-    ensures cause { IsStatusOf (error_status error.now) (K.faults out.old) (K.faults out.new) result }
+    ensures { IsTold error.now result (K.content out.old) (K.content out.new) (K.faults out.old) (K.faults out.new) }
 {
     match error {
         StepError::Memory => Status::NoMemory,
-        StepError::Stopped(stop) => match stop.line(alloc) {
-            Ok(line) => send(stop.status(), &line, out),
-            Err(_) => Status::NoMemory,
-        },
+        StepError::Stopped(stop) => answered(stop.status(), send_line(alloc, stop, out)),
     }
 }
