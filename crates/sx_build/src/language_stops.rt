@@ -1,6 +1,6 @@
 //! The refusals of languages.
 
-ghost use Rattle.std.specs.Prelude.{◌≡◌, ◌+◌, IfOk, Some};
+ghost use Rattle.std.specs.Prelude.{◌≡◌, ◌≤◌, ◌+◌, ◌^◌, IfOk, MatchResult, Some};
 ghost use Rattle.sx_build.specs.LanguageStops as stops;
 
 use std::alloc::Global;
@@ -14,7 +14,7 @@ use sx_words::{Defect, FileDefect, GrammarDefect, Place, TextDefect};
 
 /// The column of a place in a line, where it is below 2^64. No line in memory is longer.
 fn column_of(place: usize) -> Result<u64, NoMemory>
-    ensures { IfOk result (λ column. column ≡ place + 1) }
+    ensures { MatchResult result (λ column. column ≡ place + 1) (λ _. 2 ^ 64 ≤ place + 1) }
 {
     match (place as u64).checked_add(1) {
         Some(column) => Ok(column),

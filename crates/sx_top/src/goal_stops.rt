@@ -1,6 +1,6 @@
 //! Goals of core files that have no derivation.
 
-ghost use Rattle.std.specs.Prelude.{◌≡◌, ◌+◌, IfOk, Some, None, map};
+ghost use Rattle.std.specs.Prelude.{◌≡◌, ◌≤◌, ◌+◌, ◌^◌, IfOk, MatchResult, Some, None, map};
 ghost use Rattle.sx_term.specs.Term.{tree};
 ghost use Rattle.sx_rules.specs.Views.{goal as goal_data};
 ghost use Rattle.sx_rules.specs.Sets.{forms_in, rules_in};
@@ -31,7 +31,7 @@ fn rule_name(alloc: Global, rules: &RuleSet, number: u32) -> Result<Text, NoMemo
 
 /// The number of a premise in a printed line, from 1. No rule in memory has a premise whose number is past the greatest u64.
 fn premise_number(premise: usize) -> Result<u64, NoMemory>
-    ensures { IfOk result (λ number. number ≡ premise + 1) }
+    ensures { MatchResult result (λ number. number ≡ premise + 1) (λ _. 2 ^ 64 ≤ premise + 1) }
 {
     match (premise as u64).checked_add(1) {
         Some(number) => Ok(number),

@@ -1,6 +1,6 @@
 //! What the options say.
 
-ghost use Rattle.std.specs.Prelude.{◌≡◌, ◌&&◌, true, OnOk, IfOk, IfSome, option_map, map};
+ghost use Rattle.std.specs.Prelude.{◌≡◌, ◌≤◌, ◌^◌, ◌&&◌, true, OnOk, IfOk, IfSome, MatchResult, option_map, map};
 ghost use Rattle.sx_words.specs.Commands as spec;
 ghost use Rattle.sx_words.specs.Reading.{next_option};
 ghost use Rattle.sx_words.specs.View.{audit_view, given_view, settings_view, command_view, HasKinds};
@@ -154,7 +154,7 @@ fn utf8_text(alloc: Global, bytes: &[u8]) -> Result<Text, NoMemory>
 
 /// The place, where it is below 2^32. Words that many do not stand in memory.
 fn small_place(place: u64) -> Result<u32, NoMemory>
-    ensures { IfOk result (λ small. small ≡ place) }
+    ensures { MatchResult result (λ small. small ≡ place) (λ _. 2 ^ 32 ≤ place) }
 {
     if place > u32::MAX as u64 {
         return Err(NoMemory::Memory);
