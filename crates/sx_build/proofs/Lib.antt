@@ -6,3 +6,5 @@ pub mod Promise
 mod Counted
 mod Stating
 pub mod TypeErrors
+mod BaseHeaders
+mod Headlines

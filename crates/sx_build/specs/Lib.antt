@@ -5,4 +5,5 @@ pub mod ReadLanguage
 pub mod ModuleStops
 pub mod CompileModule
 pub mod BuildModule
+pub mod Headline
 pub mod Laws

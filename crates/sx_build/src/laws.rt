@@ -1,5 +1,6 @@
 //! What is proved of `build NAME`.
 
+ghost use Rattle.sx_build.specs.Headline.{Headline};
 ghost use Rattle.sx_build.specs.Laws.{BuildsAgree, TypeErrorsAreFinal};
 
 /// By the name and the files there is one result, read faults and the readings that a refusal shows aside.
@@ -10,4 +11,10 @@ pub fn builds_agree()
 /// A type error comes only where the body's goal has no derivation at all.
 pub fn type_errors_are_final()
     ensures { TypeErrorsAreFinal }
+{}
+
+/// What `build NAME` leaves, read without its source: the header of the base file is that of the module without its `use` lines, its
+/// body and the signature of the interface read in exactly one way, and the list is that of a derivation by the language's rules alone.
+pub fn built_has_headline()
+    ensures { Headline }
 {}
