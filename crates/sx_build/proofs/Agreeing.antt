@@ -15,14 +15,15 @@ use Rattle.sx_module.specs.declared.module_error.ModuleError.TheVariants as modu
 use Rattle.sx_words.specs.declared.print_defect.PrintDefect.TheVariants as print_defect
 use Rattle.sx_steps.specs.declared.stop.Stop.{Stop}
 use Rattle.sx_steps.specs.Held.{Held, most_bytes}
-use Rattle.sx_steps.specs.Agree.{AreReadings, Agree}
-use Rattle.sx_steps.proofs.Ones.{IsOne, IsNearlyOne, nearly, then_nearly, held_one, ok_same, some_same, none_some}
+use Rattle.sx_steps.specs.Agree.{AreReadings, Agree, NearlySame}
+use Rattle.sx_steps.specs.Steps.{NoTries, Trying, Untried}
+use Rattle.sx_steps.proofs.Ones.{IsOne, IsNearlyOne, IsOneBy, nearly, then_nearly, and_then_by, trying_nearly, no_tries_one, held_one, ok_same, some_same, none_some}
 use Rattle.sx_build.specs.ModuleFiles.{module_file, language_file}
 use Rattle.sx_build.specs.ReadModule.{Module, HasHeader, StatesModule, ReadsModule, IsAlone, bad_header}
 use Rattle.sx_build.specs.LanguageStops.{unread_line, language_stop}
 use Rattle.sx_build.specs.ModuleStops.{unread_body, unprinted, module_stop}
 use Rattle.sx_build.specs.ReadLanguage.{Stated, IsStated, StatesLanguage, ReadsLanguage}
-use Rattle.sx_build.specs.CompileModule.{source_of, Compiles}
+use Rattle.sx_build.specs.CompileModule.{source_of, Compiles, CompilingTries}
 use Rattle.sx_build.specs.BuildModule.{unit_plan, BuildsUnit, BuildsOver, BuildsRead}
 use Rattle.sx_rules.proofs.Facts.{kept_moded}
 use Rattle.sx_rules.specs.declared.rule.Rule.{Rule as RuleOf}
@@ -156,10 +157,11 @@ module _ (file : List ℕ) (budget : ℕ) (m : Module) (l : Stated) (followed : 
 
 -- ---- the command
 
-unit_nearly : (name : List ℕ) (budget : ℕ) (m : Module) (l : Stated) → IsFollowed l.language → IsNearlyOne (BuildsUnit name budget m l)
+unit_nearly : (name : List ℕ) (budget : ℕ) (m : Module) (l : Stated) → IsFollowed l.language → IsOneBy NearlySame (BuildsUnit name budget m l)
 unit_nearly name budget m l followed =
-    then_nearly (Compiles (module_file name) budget m l) (λ unit result. result ≡ Ok (unit_plan name unit)) (compiles_nearly (module_file name) budget m l followed)
-    (λ unit compiled x y h k f g. inl (h ∙ sym k))
+    and_then_by NearlySame (Trying (CompilingTries budget m l) (Compiles (module_file name) budget m l)) (λ unit. Untried (λ result. result ≡ Ok (unit_plan name unit)))
+    (trying_nearly (CompilingTries budget m l) (Compiles (module_file name) budget m l) (one_unit.counted (source_of m l) budget) (compiles_nearly (module_file name) budget m l followed))
+    (λ unit before compiled. trying_nearly NoTries (λ result. result ≡ Ok (unit_plan name unit)) no_tries_one (λ x y h k f g. inl (h ∙ sym k)))
 
 -- the rules of a language that a text states can be followed, as those of each rule set
 stated_followed : (name bytes : List ℕ) (l : Stated) → IsStated name bytes l → IsFollowed l.language
@@ -171,15 +173,18 @@ stated_followed name bytes l s =
 pub read_followed : (name : List ℕ) (files : Files) (l : Stated) → ReadsLanguage name files (Ok l) → IsFollowed l.language
 read_followed name files l read = let at = went _ _ _ read in stated_followed name at.given l at.goes
 
-over_nearly : (name : List ℕ) (budget : ℕ) (files : Files) (m : Module) → IsNearlyOne (BuildsOver name budget files m)
+over_nearly : (name : List ℕ) (budget : ℕ) (files : Files) (m : Module) → IsOneBy NearlySame (BuildsOver name budget files m)
 over_nearly name budget files m =
-    then_nearly (ReadsLanguage m.header.language files) (BuildsUnit name budget m) (reads_language_nearly m.header.language files) (λ l read. unit_nearly name budget m l (read_followed m.header.language files l read))
+    and_then_by NearlySame (Untried (ReadsLanguage m.header.language files)) (BuildsUnit name budget m) (trying_nearly NoTries (ReadsLanguage m.header.language files) no_tries_one (reads_language_nearly m.header.language files))
+    (λ l before read. unit_nearly name budget m l (read_followed m.header.language files l read.0))
 
-read_nearly : (name : List ℕ) (budget : ℕ) (files : Files) (m : Module) → IsNearlyOne (BuildsRead name budget files m)
+read_nearly : (name : List ℕ) (budget : ℕ) (files : Files) (m : Module) → IsOneBy NearlySame (BuildsRead name budget files m)
 read_nearly name budget files m =
-    then_nearly (IsAlone (module_file name) m.header) (λ done. BuildsOver name budget files m) (nearly (IsAlone (module_file name) m.header) (alone_one (module_file name) m.header))
-    (λ done alone. over_nearly name budget files m)
+    and_then_by NearlySame (Untried (IsAlone (module_file name) m.header)) (λ done. BuildsOver name budget files m)
+    (trying_nearly NoTries (IsAlone (module_file name) m.header) no_tries_one (nearly (IsAlone (module_file name) m.header) (alone_one (module_file name) m.header)))
+    (λ done before alone. over_nearly name budget files m)
 
 pub builds_nearly : BuildsAgree
 builds_nearly name budget files =
-    then_nearly (ReadsModule (module_file name) name files) (BuildsRead name budget files) (reads_nearly (module_file name) name files) (λ m read. read_nearly name budget files m)
+    and_then_by NearlySame (Untried (ReadsModule (module_file name) name files)) (BuildsRead name budget files)
+    (trying_nearly NoTries (ReadsModule (module_file name) name files) no_tries_one (reads_nearly (module_file name) name files)) (λ m before read. read_nearly name budget files m)

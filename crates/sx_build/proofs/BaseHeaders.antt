@@ -3,7 +3,7 @@ use Rattle.std.proofs.Common.{◌≡◌, ℕ, ◌+◌, false, true, List, [], �
 use Rattle.std.specs.List.{AllByRecursion}
 use Rattle.std.proofs.lemmas.Grind.{flat_map-append}
 use Rattle.sx_lines.specs.Bytes.{is_skipped}
-use Rattle.sx_lines.specs.Lines.{Lines, line, lines_from, stripped, IsLineText}
+use Rattle.sx_lines.specs.Lines.{Lines, line, lines_from, IsLineText}
 use Rattle.sx_lines.specs.Reading.{kept, written}
 use Rattle.sx_lines.specs.Takes.{Takes, EndsWith}
 use Rattle.sx_lines.specs.Words.{is_name}
@@ -25,7 +25,7 @@ first_kept : (n : ℕ) (text more : List ℕ) → StandsOnLine text → kept (li
 first_kept n text more h =
     let bytes = (text ++ 10 ∷ []) ++ more in
     let first : lines_from n bytes ≡ line n text more (lines_from (n + 1) more) =
-        ap (lines_from n) (append_assoc text (10 ∷ []) more) ∙ first_line n text more h.line.feed ∙ ap (λ (t : List ℕ). line n t more (lines_from (n + 1) more)) h.line.end in
+    ap (lines_from n) (append_assoc text (10 ∷ []) more) ∙ first_line n text more h.line.feed ∙ ap (λ (t : List ℕ). line n t more (lines_from (n + 1) more)) h.line.end in
     kept-line n text more (lines_from (n + 1) more) (lines_from n bytes) (lines_from n bytes) refl first h.told
 
 takes_written : (n : ℕ) (front : List (List ℕ)) (more : List ℕ) → AllByRecursion StandsOnLine front → (m : ℕ) × Takes front (kept (lines_from n (written front ++ more))) (kept (lines_from m more))
@@ -33,7 +33,7 @@ takes_written n [] more h = (n, refl)
 takes_written n (text ∷ front) more h =
     let rest = takes_written (n + 1) front more h.1 in
     let first : kept (lines_from n (written (text ∷ front) ++ more)) ≡ line n text (written front ++ more) (kept (lines_from (n + 1) (written front ++ more))) =
-        ap (λ (b : List ℕ). kept (lines_from n b)) (append_assoc (text ++ 10 ∷ []) (written front) more) ∙ first_kept n text (written front ++ more) h.0 in
+    ap (λ (b : List ℕ). kept (lines_from n b)) (append_assoc (text ++ 10 ∷ []) (written front) more) ∙ first_kept n text (written front ++ more) h.0 in
     (rest.0, subst (λ (l : Lines). Takes (text ∷ front) l (kept (lines_from rest.0 more))) (sym first) (refl, rest.1))
 
 -- ---- the lines of a header
@@ -80,15 +80,17 @@ base_states name lines h shown is_a_name states =
     let named = subst (λ (n : List ℕ). is_name false n ≡ true) (sym states.same) is_a_name in
     let taken = takes_written 1 front ended (module_line h.name named, (language_line h.language states.language, rows_stand h.imports states.imports)) in
     let parts : base_of h shown ≡ written front ++ ended =
-        ap (λ (b : List ℕ). b ++ body) (flat_map-append (λ (text : List ℕ). text ++ 10 ∷ []) front (codes "---" ∷ [])) ∙ append_assoc (written front) (codes "---" ++ 10 ∷ []) body in
-    (taken.0 + 1, record {
-      same = states.same;
-      middle = kept (lines_from taken.0 ended);
-      takes = subst (λ (b : List ℕ). Takes front (kept (lines_from 1 b)) (kept (lines_from taken.0 ended))) (sym parts) taken.1;
-      end = subst (λ (l : Lines). EndsWith (codes "---") (taken.0 + 1) body l) (sym (first_kept taken.0 (codes "---") body end_line)) (refl, refl, refl);
-      language = states.language;
-      uses = tt;
-      imports = states.imports;
-      distinct_uses = tt;
-      distinct_imports = states.distinct_imports;
-    })
+    ap (λ (b : List ℕ). b ++ body) (flat_map-append (λ (text : List ℕ). text ++ 10 ∷ []) front (codes "---" ∷ [])) ∙ append_assoc (written front) (codes "---" ++ 10 ∷ []) body in (
+      taken.0 + 1,
+      record {
+        same = states.same;
+        middle = kept (lines_from taken.0 ended);
+        takes = subst (λ (b : List ℕ). Takes front (kept (lines_from 1 b)) (kept (lines_from taken.0 ended))) (sym parts) taken.1;
+        end = subst (λ (l : Lines). EndsWith (codes "---") (taken.0 + 1) body l) (sym (first_kept taken.0 (codes "---") body end_line)) (refl, refl, refl);
+        language = states.language;
+        uses = tt;
+        imports = states.imports;
+        distinct_uses = tt;
+        distinct_imports = states.distinct_imports;
+      },
+    )

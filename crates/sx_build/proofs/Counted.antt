@@ -1,9 +1,11 @@
 -- The tries of a module that is not compiled.
-use Rattle.std.proofs.Common.{◌≡◌, ◌⊎◌, ℕ, List, inl, inr, arith}
-use Rattle.std.specs.Prelude.{Ok, Err, Some}
+use Rattle.std.proofs.Common.{◌≡◌, ◌⊎◌, ℕ, ◌≤◌, List, inl, inr, arith}
+use Rattle.std.specs.Prelude.{Ok, Err, Some, None}
 use Rattle.sx_module.specs.declared.module_error.ModuleError.{ModuleError}
 use Rattle.sx_module.specs.declared.module_error.ModuleError.TheVariants as errors
 use Rattle.sx_module.specs.Source.{Source}
+use Rattle.sx_derive.proofs.FewNodes.{tries_within}
+use Rattle.sx_module.specs.Unit.{goal_events}
 use Rattle.sx_module.specs.declared.compiled.Compiled.{Compiled}
 use Rattle.sx_module.specs.Refused.{IsBadModule, HasWalked, IsCounted}
 use Rattle.sx_steps.specs.declared.stop.Stop.{Stop}
@@ -35,18 +37,23 @@ module _ (s : Source) (tries before after : ℕ) where
   counted_unit c counted = counted
 
   -- and where it was refused
-  pub counted_stop : (file : List ℕ) (e : ModuleError) (stop : Stop) → module_stop file e ≡ Some stop → IsCounted s tries (Err e) before after → (after ≡ before) ⊎ RisesBy (HasWalked s tries) before after
+  pub counted_stop : (file : List ℕ) (e : ModuleError) (stop : Stop) → module_stop file e ≡ Some stop → IsCounted s tries (Err e) before after → RisesBy (HasWalked s tries) before after
   counted_stop file errors.Memory stop is counted = absurd (none_some stop is)
-  counted_stop file (errors.Token line column e) stop is counted = inr counted
-  counted_stop file (errors.Read line column e) stop is counted = inr counted
-  counted_stop file (errors.TypeError line column text) stop is counted = inr counted
-  counted_stop file (errors.BudgetSpent budget) stop is counted = inr counted
-  counted_stop file errors.DepthSpent stop is counted = inr counted
-  counted_stop file (errors.TooDeep depth) stop is counted = inr counted
-  counted_stop file (errors.TooBig size) stop is counted = inr counted
-  counted_stop file (errors.PrintLimit part limit) stop is counted = inr counted
-  counted_stop file (errors.PrintAmbiguous part one other) stop is counted = inr counted
+  counted_stop file (errors.Token line column e) stop is counted = counted
+  counted_stop file (errors.Read line column e) stop is counted = counted
+  counted_stop file (errors.TypeError line column text) stop is counted = counted
+  counted_stop file (errors.BudgetSpent budget) stop is counted = counted
+  counted_stop file errors.DepthSpent stop is counted = counted
+  counted_stop file (errors.TooDeep depth) stop is counted = counted
+  counted_stop file (errors.TooBig size) stop is counted = counted
+  counted_stop file (errors.PrintLimit part limit) stop is counted = counted
+  counted_stop file (errors.PrintAmbiguous part one other) stop is counted = counted
 
 -- a refusal and its stop
 pub uncompiled : (file : List ℕ) (s : Source) (tries : ℕ) (e : ModuleError) (stop : Stop) → IsBadModule s tries e → module_stop file e ≡ Some stop → IsUncompiled file s tries stop
 uncompiled file s tries e stop bad is = record { error = e; refused = bad; is = is }
+
+-- the tries of a walk are at most those that it may spend
+pub within_budget : (s : Source) (budget tries : ℕ) → HasWalked s budget tries → tries ≤ budget
+within_budget s budget tries (inl walked) = let few = tries_within None budget (goal_events s walked.0.subject) in let is = walked.1 in omega arith
+within_budget s budget tries (inr none) = let is = none.1 in omega arith

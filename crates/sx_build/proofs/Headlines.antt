@@ -1,12 +1,11 @@
 -- What is built stands by itself.
-use Rattle.std.proofs.Common.{◌≡◌, ℕ, true, false, List, [], ◌∷◌, refl, sym, ap, ◌∙◌, subst}
+use Rattle.std.proofs.Common.{◌≡◌, List, [], refl, sym, ap, ◌∙◌, subst}
 use Rattle.std.specs.Prelude.{Some}
 use Rattle.sha2.specs.Sha256.{sha256}
 use Rattle.sx_term.specs.declared.sort.Sort.{Sort}
 use Rattle.sx_term.specs.Tree.{Tree}
 use Rattle.sx_lines.specs.Lines.{lines_from}
 use Rattle.sx_lines.specs.Reading.{kept}
-use Rattle.sx_lines.specs.Words.{is_name}
 use Rattle.sx_token.specs.declared.token.Token.{Token}
 use Rattle.sx_grammar.specs.Grammar.{Text}
 use Rattle.sx_grammar.specs.Parts.{Parts, numbered}
@@ -14,22 +13,14 @@ use Rattle.sx_grammar.specs.Reading.{ReadsWhole}
 use Rattle.sx_earley.specs.Tokens.{plain_tokens}
 use Rattle.sx_earley.specs.Completed.{number_of}
 use Rattle.sx_rules.specs.declared.rule.Role.TheVariants.{Sub, Out}
-use Rattle.sx_rules.specs.First.{DerivesGoal}
 use Rattle.sx_rules.specs.Orders.{Entry, order_of}
-use Rattle.sx_rules.specs.Views.{modes_of}
 use Rattle.sx_notation.specs.Language.{language_data}
-use Rattle.sx_interface.specs.StatedHeader.{StatesHeader}
 use Rattle.sx_module.specs.Body.{ReadsOnly}
-use Rattle.sx_module.specs.Outcomes.{no_hypotheses}
-use Rattle.sx_module.specs.Source.{Source, main_sort}
-use Rattle.sx_module.specs.Texts.{base_text, base_of, print_text, print_line, interface_of, interface_text, derivation_text}
-use Rattle.sx_module.specs.Unit.{rules_of, goal}
+use Rattle.sx_module.specs.Source.{main_sort}
+use Rattle.sx_module.specs.Texts.{base_text, print_text, print_line, interface_of, derivation_text}
 use Rattle.sx_module.proofs.OneBody.{one_cut}
-use Rattle.sx_outside.specs.Files.{Files}
-use Rattle.sx_steps.specs.Unit.{base_file, list_file, interface_file}
-use Rattle.sx_build.specs.BuildModule.{BuiltModule}
 use Rattle.sx_build.specs.CompileModule.{source_of}
-use Rattle.sx_build.specs.Headline.{ReadsBy, ReadsOneWay, HasHeadline, Headline}
+use Rattle.sx_build.specs.Headline.{ReadsOneWay, Headline}
 use Rattle.sx_build.specs.ReadModule.{Module}
 use Rattle.sx_build.specs.ReadLanguage.{Stated}
 use Rattle.sx_build.proofs.BaseHeaders.{base_header, base_states}

@@ -19,7 +19,9 @@ use Rattle.sx_words.specs.declared.grammar_defect.GrammarDefect.{GrammarDefect}
 use Rattle.sx_steps.specs.declared.stop.Stop.{Stop}
 use Rattle.sx_steps.specs.Held.{Held, most_bytes}
 use Rattle.sx_steps.specs.Refusal.{absent, read_fault}
-use Rattle.sx_steps.specs.Steps.{Then, Goes}
+use Rattle.sx_steps.specs.declared.step_error.StepError.{StepError}
+use Rattle.sx_steps.specs.declared.step_error.StepError.TheVariants as errors
+use Rattle.sx_steps.specs.Steps.{Then, Goes, NoTries, Trying, Untried, GoesOn, AndThen}
 use Rattle.sx_steps.specs.Stops.{not_utf8, too_long, bad_rules}
 use Rattle.sx_steps.proofs.Ones.{err_same, ok_no_err}
 use Rattle.sx_build.specs.ModuleFiles.{module_file, language_file}
@@ -27,10 +29,13 @@ use Rattle.sx_build.specs.ReadModule.{Module, StatesModule, ReadsModule, IsAlone
 use Rattle.sx_build.specs.LanguageStops.{uncut_line, unread_line, bad_grammar, grammar_defect_of, metavariable, language_stop}
 use Rattle.sx_build.specs.ModuleStops.{uncut_body, unread_body, module_stop}
 use Rattle.sx_build.specs.ReadLanguage.{Stated, StatesLanguage, ReadsLanguage}
-use Rattle.sx_build.specs.CompileModule.{source_of, Compiles}
+use Rattle.sx_build.specs.CompileModule.{source_of, Compiles, CompilingTries}
 use Rattle.sx_build.specs.BuildModule.{unit_plan, BuildsUnit, BuildsOver, BuildsRead}
 use Rattle.sx_build.specs.Laws.{IsFollowed, IsTypeError, HasNoType, TypeErrorsAreFinal}
 use Rattle.sx_build.proofs.Agreeing.{read_followed}
+
+stopped_same : {A : Type 0} (s t : Stop) → ◌≡◌ {A = Result A StepError} (Err (errors.Stopped s)) (Err (errors.Stopped t)) → s ≡ t
+stopped_same s t e = cc
 
 module _ (Q : Type 0) where
   -- ---- stops
@@ -121,6 +126,22 @@ module _ (Q : Type 0) where
     pub then_final : Final (Then first next)
     then_final stop h = goes_final h.given stop h.begins h.goes
 
+  -- so it is of a step with tries
+  abbrev pub FinalTrying : {A : Type 0} → (Result A StepError → ℕ → Type 0) → Type 0
+  FinalTrying {A} step = (stop : Stop) (tries : ℕ) → step (Err (errors.Stopped stop)) tries → IsTypeError stop → Q
+
+  pub trying_final : {A : Type 0} (Walks : ℕ → Type 0) (step : Result A Stop → Type 0) → Final step → FinalTrying (Trying Walks step)
+  trying_final Walks step final stop tries h = final stop h.0
+
+  module _ {A B : Type 0} (first : Result A StepError → ℕ → Type 0) (next : A → Result B StepError → ℕ → Type 0) (begins : FinalTrying first) (goes : (given : A) (before : ℕ) → first (Ok given) before → FinalTrying (next given)) where
+    goes_on_final : (g : Result A StepError) (stop : Stop) (before after : ℕ) → first g before → GoesOn next g (Err (errors.Stopped stop)) after → IsTypeError stop → Q
+    goes_on_final (Ok given) stop before after h k = goes given before h stop after k
+    goes_on_final (Err errors.Memory) stop before after h k = let none = k.0 in absurd cc
+    goes_on_final (Err (errors.Stopped s)) stop before after h k = begins stop before (subst (λ (x : Stop). first (Err (errors.Stopped x)) before) (sym (stopped_same stop s k.0)) h)
+
+    pub and_then_final : FinalTrying (AndThen first next)
+    and_then_final stop tries h = goes_on_final h.given stop h.before h.after h.begins h.goes
+
   pub held_final : (limit : ℕ) (name : List ℕ) (files : Files) → Final (Held limit name files)
   held_final limit name files stop (inl h) = no_type_error (absent name) stop (λ h. h) h.0
   held_final limit name files stop (inr (inl h)) = no_type_error (too_long name) stop (λ h. h) h.0
@@ -147,26 +168,30 @@ module _ (Q : Type 0) where
   compiles_final file budget m l followed so stop h =
       on_stop (module_stop file h.error) stop (no_module file (source_of m l) budget h.error followed h.refused so) h.is
 
-  unit_final : (name : List ℕ) (budget : ℕ) (m : Module) (l : Stated) → IsFollowed l.language → (IsUntyped (source_of m l) → Q) → Final (BuildsUnit name budget m l)
+  unit_final : (name : List ℕ) (budget : ℕ) (m : Module) (l : Stated) → IsFollowed l.language → (IsUntyped (source_of m l) → Q) → FinalTrying (BuildsUnit name budget m l)
   unit_final name budget m l followed so =
-      then_final (Compiles (module_file name) budget m l) (λ unit result. result ≡ Ok (unit_plan name unit)) (compiles_final (module_file name) budget m l followed so)
-      (λ unit compiled stop h. absurd (ok_no_err (unit_plan name unit) stop (sym h)))
+      and_then_final (Trying (CompilingTries budget m l) (Compiles (module_file name) budget m l)) (λ unit. Untried (λ result. result ≡ Ok (unit_plan name unit)))
+      (trying_final (CompilingTries budget m l) (Compiles (module_file name) budget m l) (compiles_final (module_file name) budget m l followed so))
+      (λ unit before compiled. trying_final NoTries (λ result. result ≡ Ok (unit_plan name unit)) (λ stop h. absurd (ok_no_err (unit_plan name unit) stop (sym h))))
 
 -- ---- the command
 
 module _ (name : List ℕ) (budget : ℕ) (files : Files) where
-  over_final : (m : Module) → ReadsModule (module_file name) name files (Ok m) → StandsAlone m.header → Final (HasNoType name files) (BuildsOver name budget files m)
+  over_final : (m : Module) → ReadsModule (module_file name) name files (Ok m) → StandsAlone m.header → FinalTrying (HasNoType name files) (BuildsOver name budget files m)
   over_final m reads alone =
-      then_final (HasNoType name files) (ReadsLanguage m.header.language files) (BuildsUnit name budget m) (reads_language_final (HasNoType name files) m.header.language files)
-      (λ l states. unit_final (HasNoType name files) name budget m l (read_followed m.header.language files l states)
-      (λ untyped. record { read = m; reads = reads; alone = alone; language = l; states = states; untyped = untyped }))
+      and_then_final (HasNoType name files) (Untried (ReadsLanguage m.header.language files)) (BuildsUnit name budget m)
+      (trying_final (HasNoType name files) NoTries (ReadsLanguage m.header.language files) (reads_language_final (HasNoType name files) m.header.language files))
+      (λ l before states. unit_final (HasNoType name files) name budget m l (read_followed m.header.language files l states.0)
+      (λ untyped. record { read = m; reads = reads; alone = alone; language = l; states = states.0; untyped = untyped }))
 
-  read_final : (m : Module) → ReadsModule (module_file name) name files (Ok m) → Final (HasNoType name files) (BuildsRead name budget files m)
+  read_final : (m : Module) → ReadsModule (module_file name) name files (Ok m) → FinalTrying (HasNoType name files) (BuildsRead name budget files m)
   read_final m reads =
-      then_final (HasNoType name files) (IsAlone (module_file name) m.header) (λ done. BuildsOver name budget files m) (alone_final (HasNoType name files) (module_file name) m)
-      (λ done alone. over_final m reads alone)
+      and_then_final (HasNoType name files) (Untried (IsAlone (module_file name) m.header)) (λ done. BuildsOver name budget files m)
+      (trying_final (HasNoType name files) NoTries (IsAlone (module_file name) m.header) (alone_final (HasNoType name files) (module_file name) m))
+      (λ done before alone. over_final m reads alone.0)
 
 pub type_errors_are_final : TypeErrorsAreFinal
 type_errors_are_final name budget files =
-    then_final (HasNoType name files) (ReadsModule (module_file name) name files) (BuildsRead name budget files) (reads_final (HasNoType name files) (module_file name) name files)
-    (λ m reads. read_final name budget files m reads)
+    and_then_final (HasNoType name files) (Untried (ReadsModule (module_file name) name files)) (BuildsRead name budget files)
+    (trying_final (HasNoType name files) NoTries (ReadsModule (module_file name) name files) (reads_final (HasNoType name files) (module_file name) name files))
+    (λ m before reads. read_final name budget files m reads.0)

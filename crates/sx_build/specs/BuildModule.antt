@@ -10,8 +10,8 @@ use Rattle.sx_notation.specs.Language.{language_data}
 use Rattle.sx_language.specs.States.{States}
 use Rattle.sx_module.specs.Unit.{UnitData, IsUnit}
 use Rattle.sx_outside.specs.Files.{Files}
-use Rattle.sx_steps.specs.declared.stop.Stop.{Stop}
-use Rattle.sx_steps.specs.Steps.{Then}
+use Rattle.sx_steps.specs.declared.step_error.StepError.{StepError}
+use Rattle.sx_steps.specs.Steps.{Trying, Untried, AndThen}
 use Rattle.sx_steps.specs.Unit.{base_file, list_file, interface_file, built_line, built_plan}
 use Rattle.sx_steps.specs.Work.{Plan}
 use Rattle.sx_build.specs.ModuleFiles.{module_file, language_file}
@@ -24,36 +24,20 @@ abbrev pub unit_plan : List ℕ → UnitData → Plan
 unit_plan name unit = built_plan name unit.base unit.derivation unit.interface unit.nodes
 
 -- the module is compiled over the language, and then the three files and the line
-abbrev pub BuildsUnit : List ℕ → ℕ → Module → Stated → Result Plan Stop → Type 0
-BuildsUnit name budget m l = Then (Compiles (module_file name) budget m l) (λ unit result. result ≡ Ok (unit_plan name unit))
+abbrev pub BuildsUnit : List ℕ → ℕ → Module → Stated → Result Plan StepError → ℕ → Type 0
+BuildsUnit name budget m l = AndThen (Trying (CompilingTries budget m l) (Compiles (module_file name) budget m l)) (λ unit. Untried (λ result. result ≡ Ok (unit_plan name unit)))
 
 -- the language that the header names, and then the unit
-abbrev pub BuildsOver : List ℕ → ℕ → Files → Module → Result Plan Stop → Type 0
-BuildsOver name budget files m = Then (ReadsLanguage m.header.language files) (BuildsUnit name budget m)
+abbrev pub BuildsOver : List ℕ → ℕ → Files → Module → Result Plan StepError → ℕ → Type 0
+BuildsOver name budget files m = AndThen (Untried (ReadsLanguage m.header.language files)) (BuildsUnit name budget m)
 
 -- a module without `use` and `import` lines, and then the language and the unit
-abbrev pub BuildsRead : List ℕ → ℕ → Files → Module → Result Plan Stop → Type 0
-BuildsRead name budget files m = Then (IsAlone (module_file name) m.header) (λ done. BuildsOver name budget files m)
+abbrev pub BuildsRead : List ℕ → ℕ → Files → Module → Result Plan StepError → ℕ → Type 0
+BuildsRead name budget files m = AndThen (Untried (IsAlone (module_file name) m.header)) (λ done. BuildsOver name budget files m)
 
 -- the steps of the command, with so many tries to spend
-abbrev pub BuildsModule : List ℕ → ℕ → Files → Result Plan Stop → Type 0
-BuildsModule name budget files = Then (ReadsModule (module_file name) name files) (BuildsRead name budget files)
-
--- the walk of the module's goal over the language that the header names makes so many tries
-pub record OverTries (budget : ℕ) (files : Files) (m : Module) (tries : ℕ) : Type 0 where
-  pub language : Stated
-  pub states : ReadsLanguage m.header.language files (Ok language)
-  pub walked : CompilingTries budget m language tries
-
--- so it is of a module without `use` and `import` lines
-abbrev pub AloneTries : ℕ → Files → Module → ℕ → Type 0
-AloneTries budget files m tries = StandsAlone m.header × OverTries budget files m tries
-
--- so it is of the module in the file
-pub record ModuleTries (name : List ℕ) (budget : ℕ) (files : Files) (tries : ℕ) : Type 0 where
-  pub read : Module
-  pub reads : ReadsModule (module_file name) name files (Ok read)
-  pub alone : AloneTries budget files read tries
+abbrev pub BuildsModule : List ℕ → ℕ → Files → Result Plan StepError → ℕ → Type 0
+BuildsModule name budget files = AndThen (Untried (ReadsModule (module_file name) name files)) (BuildsRead name budget files)
 
 -- The three files hold the texts of the unit that the module NAME.mod gives over the language that its header names, as L.lang states it. All other
 -- files are as before, and the line tells the number of the derivation's nodes.

@@ -6,14 +6,14 @@ ghost use Rattle.sx_term.specs.Term.{tree};
 ghost use Rattle.sx_notation.specs.Language.{IsLanguage, language_data};
 ghost use Rattle.sx_module.specs.Source.{IsSource, IsEnvironment};
 ghost use Rattle.sx_module.specs.Unit.{unit_of};
-ghost use Rattle.sx_steps.specs.Stop.{Gives, OnlyReads, IsNoFault, Tried, RisesWithin};
+ghost use Rattle.sx_steps.specs.Stop.{Gives, OnlyReads, IsNoFault, Counts, RisesWithin, Does};
 ghost use Rattle.sx_steps.specs.Work.{plan_of};
 ghost use Rattle.sx_build.specs.ModuleFiles.{module_file};
 ghost use Rattle.sx_build.specs.ReadModule.{module_of, IsHeaded};
 ghost use Rattle.sx_build.specs.ReadLanguage.{stated_of};
 ghost use Rattle.sx_build.specs.CompileModule as spec;
 ghost use Rattle.sx_build.specs.CompileModule.{Compiles, CompilingTries};
-ghost use Rattle.sx_build.specs.BuildModule.{unit_plan, BuildsUnit, BuildsOver, BuildsRead, BuildsModule, OverTries, AloneTries, ModuleTries};
+ghost use Rattle.sx_build.specs.BuildModule.{unit_plan, BuildsUnit, BuildsOver, BuildsRead, BuildsModule};
 
 use crate::module_stops::bad_module;
 use crate::read_language::{LanguageFile, read_language_file};
@@ -52,7 +52,7 @@ fn compile_module<L: Ledger>(
     requires short { length source.now.bytes.items ≤ 262144 }
     ensures step { Gives unit_of (Compiles file.now budget (module_of source.now) (stated_of language.now)) result }
     ensures no_fault { IsNoFault result }
-    ensures tries { Tried (CompilingTries budget (module_of source.now) (stated_of language.now)) result steps.old steps.new }
+    ensures tries { Counts (CompilingTries budget (module_of source.now) (stated_of language.now)) result steps.old steps.new }
     ensures most { RisesWithin budget steps.old steps.new }
 {
     let environment = empty_environment(alloc, &language.language);
@@ -89,10 +89,8 @@ fn build_unit<L: Ledger>(
     requires language { IsLanguage language.now.language }
     requires stated { IsSource source.now.bytes.items (module_of source.now).header [] }
     requires short { length source.now.bytes.items ≤ 262144 }
-    ensures step { Gives plan_of (BuildsUnit name.now budget (module_of source.now) (stated_of language.now)) result }
+    ensures step { Does plan_of (BuildsUnit name.now budget (module_of source.now) (stated_of language.now)) result steps.old steps.new }
     ensures no_fault { IsNoFault result }
-    ensures tries { Tried (CompilingTries budget (module_of source.now) (stated_of language.now)) result steps.old steps.new }
-    ensures most { RisesWithin budget steps.old steps.new }
 {
     match compile_module(alloc, file, source, language, budget, steps) {
         Ok(unit) => match built_work(
@@ -123,12 +121,10 @@ fn build_over<S: Shelf, L: Ledger>(
     requires file { file.now ≡ module_file name.now }
     requires stated { IsSource source.now.bytes.items (module_of source.now).header [] }
     requires short { length source.now.bytes.items ≤ 262144 }
-    ensures step { WhereTold (S.content shelf.old) (λ files. Gives plan_of (BuildsOver name.now budget files (module_of source.now)) result) }
+    ensures step { WhereTold (S.content shelf.old) (λ files. Does plan_of (BuildsOver name.now budget files (module_of source.now)) result steps.old steps.new) }
     ensures reads { OnlyReads (S.content shelf.old) (S.content shelf.new)
         (S.read_faults shelf.old) (S.read_faults shelf.new)
         (S.write_faults shelf.old) (S.write_faults shelf.new) result }
-    ensures tries { WhereTold (S.content shelf.old) (λ files. Tried (OverTries budget files (module_of source.now)) result steps.old steps.new) }
-    ensures most { RisesWithin budget steps.old steps.new }
 {
     match read_language_file(alloc, &source.header.language, shelf) {
         Ok(language) => build_unit(alloc, name, file, source, &language, budget, steps),
@@ -149,12 +145,10 @@ fn build_read<S: Shelf, L: Ledger>(
     requires file { file.now ≡ module_file name.now }
     requires headed { IsHeaded (module_of source.now) }
     requires short { length source.now.bytes.items ≤ 262144 }
-    ensures step { WhereTold (S.content shelf.old) (λ files. Gives plan_of (BuildsRead name.now budget files (module_of source.now)) result) }
+    ensures step { WhereTold (S.content shelf.old) (λ files. Does plan_of (BuildsRead name.now budget files (module_of source.now)) result steps.old steps.new) }
     ensures reads { OnlyReads (S.content shelf.old) (S.content shelf.new)
         (S.read_faults shelf.old) (S.read_faults shelf.new)
         (S.write_faults shelf.old) (S.write_faults shelf.new) result }
-    ensures tries { WhereTold (S.content shelf.old) (λ files. Tried (AloneTries budget files (module_of source.now)) result steps.old steps.new) }
-    ensures most { RisesWithin budget steps.old steps.new }
 {
     match check_alone(alloc, file, source) {
         Ok(()) => build_over(alloc, name, file, source, budget, shelf, steps),
@@ -170,12 +164,10 @@ pub fn plan_build_module<S: Shelf, L: Ledger>(
     shelf: &mut S,
     steps: &mut Steps<L>,
 ) -> Result<Work, StepError>
-    ensures step { WhereTold (S.content shelf.old) (λ files. Gives plan_of (BuildsModule name.now budget files) result) }
+    ensures step { WhereTold (S.content shelf.old) (λ files. Does plan_of (BuildsModule name.now budget files) result steps.old steps.new) }
     ensures reads { OnlyReads (S.content shelf.old) (S.content shelf.new)
         (S.read_faults shelf.old) (S.read_faults shelf.new)
         (S.write_faults shelf.old) (S.write_faults shelf.new) result }
-    ensures tries { WhereTold (S.content shelf.old) (λ files. Tried (ModuleTries name.now budget files) result steps.old steps.new) }
-    ensures most { RisesWithin budget steps.old steps.new }
 {
     let file = with_suffix(alloc, name, ".mod")?;
     match read_module(alloc, &file, name, shelf) {

@@ -1,9 +1,10 @@
 //! What is proved of `build NAME`.
 
 ghost use Rattle.sx_build.specs.Headline.{Headline};
-ghost use Rattle.sx_build.specs.Laws.{BuildsAgree, TypeErrorsAreFinal};
+ghost use Rattle.sx_build.specs.Laws.{BuildsAgree, TypeErrorsAreFinal, WalksAreWithin};
 
-/// By the name and the files there is one result, read faults and the readings that a refusal shows aside.
+/// By the name and the files there is one result and one number of tries; read faults, want of memory and the readings that a refusal
+/// shows aside.
 pub fn builds_agree()
     ensures { BuildsAgree }
 {}
@@ -17,4 +18,9 @@ pub fn type_errors_are_final()
 /// body and the signature of the interface read in exactly one way, and the list is that of a derivation by the language's rules alone.
 pub fn built_has_headline()
     ensures { Headline }
+{}
+
+/// The walk of a module makes no more tries than it may spend.
+pub fn walks_are_within()
+    ensures { WalksAreWithin }
 {}

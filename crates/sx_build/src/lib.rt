@@ -2,7 +2,8 @@
 //!
 //! - `plan_build_module`: what is to be written, or why nothing is. The module's file is read, then that of its language; the module is
 //!   compiled; and its three files and the line are planned.
-//! - `builds_agree`: by the name and the files there is one result, read faults and the readings that a refusal shows aside.
+//! - `builds_agree`: by the name and the files there is one result and one number of tries; read faults, want of memory and the readings
+//!   that a refusal shows aside. `walks_are_within`: a walk makes no more tries than it may spend.
 //! - `built_has_headline`: the three files that are left say of one another, by the language alone, what a build promises.
 //! - `type_errors_are_final`: a type error comes only where the body's goal has no derivation at all.
 #![tactic(auto)]
@@ -15,7 +16,7 @@ mod read_language;
 mod read_module;
 
 pub use build_module::plan_build_module;
-pub use laws::{built_has_headline, builds_agree, type_errors_are_final};
+pub use laws::{builds_agree, built_has_headline, type_errors_are_final, walks_are_within};
 
 #[cfg(test)]
 mod tests;

@@ -1,14 +1,16 @@
 -- Steps have one result, read faults aside.
-use Rattle.std.proofs.Common.{◌≡◌, ◌≢◌, ℕ, ◌≤◌, List, length, ap, ◌∙◌, sym, subst, inl, inr, arith}
+use Rattle.std.proofs.Common.{◌≡◌, ◌≢◌, ℕ, ◌+◌, ◌≤◌, List, length, ap, ◌∙◌, sym, subst, inl, inr, arith}
 use Rattle.std.specs.Prelude.{Result, Ok, Err, Option, Some, None}
 use Rattle.sx_outside.specs.Files.{Files}
 use Rattle.sx_steps.specs.declared.stop.Stop.{Stop}
 use Rattle.sx_steps.specs.declared.status.Status.TheVariants as statuses
 use Rattle.sx_steps.specs.Refusal.{status_of}
-use Rattle.sx_steps.specs.Steps.{Then, Goes}
+use Rattle.sx_steps.specs.declared.step_error.StepError.{StepError}
+use Rattle.sx_steps.specs.declared.step_error.StepError.TheVariants as errors
+use Rattle.sx_steps.specs.Steps.{Then, Goes, NoTries, Trying, GoesOn, AndThen}
 use Rattle.sx_steps.specs.Held.{Held, IsLong}
 use Rattle.sx_steps.specs.Lower.{Lower}
-use Rattle.sx_steps.specs.Agree.{IsNoReadFault, Agree}
+use Rattle.sx_steps.specs.Agree.{IsNoReadFault, Agree, IsSure, NearlySame, AnswersBy}
 
 -- ---- steps
 
@@ -80,6 +82,106 @@ module _ {A B : Type 0} (first : Result A Stop → Type 0) (next : A → Result 
 
   pub then_nearly : IsNearlyOne (Then first next)
   then_nearly x y h k n m = goes_nearly h.given k.given x y h.begins k.begins h.goes k.goes n m
+
+-- ---- steps with tries
+
+-- the step has one answer, but for stops that are so related, and one number of tries; read faults and want of memory aside
+abbrev pub IsOneBy : {A : Type 0} → (Stop → Stop → Type 0) → (Result A StepError → ℕ → Type 0) → Type 0
+IsOneBy {A} Related step = (x y : Result A StepError) (m n : ℕ) → step x m → step y n → IsSure x → IsSure y → AnswersBy Related x y × (m ≡ n)
+
+-- so it is of a step with one number of tries
+abbrev pub IsOneNumber : (ℕ → Type 0) → Type 0
+IsOneNumber Walks = (m n : ℕ) → Walks m → Walks n → m ≡ n
+
+pub no_tries_one : IsOneNumber NoTries
+no_tries_one m n h k = h ∙ sym k
+
+-- what a step without want of memory answers
+abbrev pub as_answer : {A : Type 0} → Result A Stop → Result A StepError
+as_answer (Ok x) = Ok x
+as_answer (Err stop) = Err (errors.Stopped stop)
+
+sums : (m n a b c d : ℕ) → m ≡ a + b → n ≡ c + d → a ≡ c → b ≡ d → m ≡ n
+sums m n a b c d e f g h = omega arith
+
+module _ (Related : Stop → Stop → Type 0) where
+  -- a step with one answer
+  module _ {A : Type 0} (Walks : ℕ → Type 0) (step : Result A Stop → Type 0) (one : IsOneNumber Walks)
+      (answers : (x y : Result A Stop) → step x → step y → IsNoReadFault x → IsNoReadFault y → AnswersBy Related (as_answer x) (as_answer y)) where
+    pub trying_by : IsOneBy Related (Trying Walks step)
+    trying_by (Ok x) (Ok y) m n h k p q = (answers (Ok x) (Ok y) h.0 k.0 tt tt, one m n h.1 k.1)
+    trying_by (Ok x) (Err (errors.Stopped t)) m n h k p q = (answers (Ok x) (Err t) h.0 k.0 tt q, one m n h.1 k.1)
+    trying_by (Err (errors.Stopped s)) (Ok y) m n h k p q = (answers (Err s) (Ok y) h.0 k.0 p tt, one m n h.1 k.1)
+    trying_by (Err (errors.Stopped s)) (Err (errors.Stopped t)) m n h k p q = (answers (Err s) (Err t) h.0 k.0 p q, one m n h.1 k.1)
+    trying_by (Ok x) (Err errors.Memory) m n h k p q = absurd q
+    trying_by (Err errors.Memory) y m n h k p q = absurd p
+    trying_by (Err (errors.Stopped s)) (Err errors.Memory) m n h k p q = absurd q
+
+  module _ {A B : Type 0} (first : Result A StepError → ℕ → Type 0) (next : A → Result B StepError → ℕ → Type 0) (one : IsOneBy Related first) (more : (given : A) (before : ℕ) → first (Ok given) before → IsOneBy Related (next given)) where
+    sure_as : (x y : Result B StepError) → x ≡ y → IsSure x → IsSure y
+    sure_as x y same sure = subst (λ (z : Result B StepError). IsSure z) same sure
+
+    -- the first answers, and what goes on from them
+    goes_on_by : (g k : Result A StepError) (x y : Result B StepError) (a b c d : ℕ) → first g a → first k c → GoesOn next g x b → GoesOn next k y d → IsSure x → IsSure y → AnswersBy Related x y × (a ≡ c) × (b ≡ d)
+    goes_on_by (Ok v) (Ok w) x y a b c d f e h j p q =
+        let same = one (Ok v) (Ok w) a c f e tt tt in
+        let rest = more v a f x y b d h (subst (λ (z : A). next z y d) (sym same.0) j) p q in
+        (rest.0, same.1, rest.1)
+    goes_on_by (Ok v) (Err errors.Memory) x y a b c d f e h j p q = absurd (sure_as y (Err errors.Memory) j.0 q)
+    goes_on_by (Ok v) (Err (errors.Stopped t)) x y a b c d f e h j p q = absurd ((one (Ok v) (Err (errors.Stopped t)) a c f e tt (sure_as y (Err (errors.Stopped t)) j.0 q)).0)
+    goes_on_by (Err errors.Memory) k x y a b c d f e h j p q = absurd (sure_as x (Err errors.Memory) h.0 p)
+    goes_on_by (Err (errors.Stopped s)) (Ok w) x y a b c d f e h j p q = absurd ((one (Err (errors.Stopped s)) (Ok w) a c f e (sure_as x (Err (errors.Stopped s)) h.0 p) tt).0)
+    goes_on_by (Err (errors.Stopped s)) (Err errors.Memory) x y a b c d f e h j p q = absurd (sure_as y (Err errors.Memory) j.0 q)
+    goes_on_by (Err (errors.Stopped s)) (Err (errors.Stopped t)) x y a b c d f e h j p q =
+        let same = one (Err (errors.Stopped s)) (Err (errors.Stopped t)) a c f e (sure_as x (Err (errors.Stopped s)) h.0 p) (sure_as y (Err (errors.Stopped t)) j.0 q) in (
+          subst (λ (z : Result B StepError). AnswersBy Related z y) (sym h.0) (subst (λ (z : Result B StepError). AnswersBy Related (Err (errors.Stopped s)) z) (sym j.0) same.0),
+          same.1,
+          h.1 ∙ sym j.1,
+        )
+
+    pub and_then_by : IsOneBy Related (AndThen first next)
+    and_then_by x y m n h k p q =
+        let both = goes_on_by h.given k.given x y h.before h.after k.before k.after h.begins k.begins h.goes k.goes p q in
+        (both.0, sums m n h.before h.after k.before k.after h.sum k.sum both.1 both.2)
+
+-- answers of one step, and of one but for readings
+same_answers : {A : Type 0} (x y : Result A Stop) → x ≡ y → AnswersBy ◌≡◌ (as_answer x) (as_answer y)
+same_answers (Ok a) (Ok b) same = ok_same a b same
+same_answers (Ok a) (Err t) same = ok_no_err a t same
+same_answers (Err s) (Ok b) same = ok_no_err b s (sym same)
+same_answers (Err s) (Err t) same = err_same s t same
+
+near_answers : {A : Type 0} (x y : Result A Stop) → Agree x y → AnswersBy NearlySame (as_answer x) (as_answer y)
+near_answers (Ok a) (Ok b) agree = both_values a b agree
+near_answers (Ok a) (Err t) agree = value_stop a t agree
+near_answers (Err s) (Ok b) (inl same) = ok_no_err b s (sym same)
+near_answers (Err s) (Ok b) (inr none) = none
+near_answers (Err s) (Err t) (inl same) = inl (err_same s t same)
+near_answers (Err s) (Err t) (inr show) = inr show
+
+pub trying_one : {A : Type 0} (Walks : ℕ → Type 0) (step : Result A Stop → Type 0) → IsOneNumber Walks → IsOne step → IsOneBy ◌≡◌ (Trying Walks step)
+trying_one Walks step one is_one = trying_by ◌≡◌ Walks step one (λ x y h k n m. same_answers x y (is_one x y h k n m))
+
+pub trying_nearly : {A : Type 0} (Walks : ℕ → Type 0) (step : Result A Stop → Type 0) → IsOneNumber Walks → IsNearlyOne step → IsOneBy NearlySame (Trying Walks step)
+trying_nearly Walks step one nearly_one = trying_by NearlySame Walks step one (λ x y h k n m. near_answers x y (nearly_one x y h k n m))
+
+-- answers that are one, as equal ones
+pub answers_same : {A : Type 0} (x y : Result A StepError) → AnswersBy ◌≡◌ x y → x ≡ y
+answers_same (Ok a) (Ok b) same = ap (λ (v : _). Ok v) same
+answers_same (Ok a) (Err e) same = absurd same
+answers_same (Err errors.Memory) y same = absurd same
+answers_same (Err (errors.Stopped s)) (Ok b) same = absurd same
+answers_same (Err (errors.Stopped s)) (Err errors.Memory) same = absurd same
+answers_same (Err (errors.Stopped s)) (Err (errors.Stopped t)) same = ap (λ (v : Stop). Err (errors.Stopped v)) same
+
+-- answers that are one are nearly so
+pub answers_near : {A : Type 0} (x y : Result A StepError) → AnswersBy ◌≡◌ x y → AnswersBy NearlySame x y
+answers_near (Ok a) (Ok b) same = same
+answers_near (Ok a) (Err e) same = same
+answers_near (Err errors.Memory) y same = same
+answers_near (Err (errors.Stopped s)) (Ok b) same = same
+answers_near (Err (errors.Stopped s)) (Err errors.Memory) same = same
+answers_near (Err (errors.Stopped s)) (Err (errors.Stopped t)) same = inl same
 
 -- ---- files
 

@@ -1,10 +1,10 @@
 -- How a result goes through steps one after another.
-use Rattle.std.proofs.Common.{ℕ, refl, inl, inr}
+use Rattle.std.proofs.Common.{◌≡◌, ℕ, ◌+◌, ◌-◌, ◌≤◌, refl, inl, inr, arith}
 use Rattle.std.specs.Prelude.{Result, Ok, Err, Option}
 use Rattle.sx_outside.specs.Files.{Files}
 use Rattle.sx_steps.specs.declared.stop.Stop.{Stop}
-use Rattle.sx_steps.specs.Steps.{Then, Goes}
-use Rattle.sx_steps.specs.Stop.{Gives, GivesFor, OnlyReads, IsNoFault, RisesBy, RisesUpTo, Counts, Tried}
+use Rattle.sx_steps.specs.Steps.{Then, Goes, Trying, Untried, GoesOn, AndThen}
+use Rattle.sx_steps.specs.Stop.{Gives, GivesFor, OnlyReads, IsNoFault, RisesUpTo, Counts, Does}
 use Rattle.sx_steps.specs.declared.step_error.StepError.{StepError}
 use Rattle.sx_steps.specs.declared.step_error.StepError.TheVariants as errors
 
@@ -48,23 +48,69 @@ went_by first next result (Err stop) begins goes = absurd cc
 pub went : {A B : Type 0} (first : Result A Stop → Type 0) (next : A → Result B Stop → Type 0) (result : B) → Then first next (Ok result) → Went first next result
 went first next result steps = went_by first next result steps.given steps.begins steps.goes
 
--- where the tries of walks were counted, they were tried
-pub tried_counted : {X : Type 0} (Walks : ℕ → Type 0) (result : Result X StepError) (before after : ℕ) → Counts Walks result before after → Tried Walks result before after
-tried_counted Walks (Ok x) before after rises = rises
-tried_counted Walks (Err errors.Memory) before after rises = inr rises
-tried_counted Walks (Err (errors.Stopped stop)) before after rises = inr rises
+-- ---- steps with tries
 
-module _ (Walks Others : ℕ → Type 0) (before after : ℕ) (more : (tries : ℕ) → Walks tries → Others tries) where
-  rises_more : RisesBy Walks before after → RisesBy Others before after
-  rises_more rises = (rises.0, more rises.0 rises.1, rises.2)
+-- where the first step with tries stops, all of them do
+pub stops_as : {Y A B : Type 0} (seen : Y → B) (first : Result A StepError → ℕ → Type 0) (next : A → Result B StepError → ℕ → Type 0) (e : StepError) (before after : ℕ) →
+    ((tries : ℕ) × first (Err e) tries × (after ≡ before + tries)) → Does seen (AndThen first next) (Err e) before after
+stops_as seen first next e before after here =
+    let sum = here.2 in
+    (here.0, record { given = Err e; before = here.0; after = 0; begins = here.1; goes = (refl, refl); sum = omega arith }, here.2)
 
-  up_more : RisesUpTo Walks before after → RisesUpTo Others before after
-  up_more rises = (rises.0, more rises.0 rises.1, rises.2, rises.3)
+pub stops_at : {X Y A B : Type 0} (view : X → A) (seen : Y → B) (first : Result A StepError → ℕ → Type 0) (next : A → Result B StepError → ℕ → Type 0) (e : StepError) (before after : ℕ) →
+    Does view first (Err e) before after → Does seen (AndThen first next) (Err e) before after
+stops_at view seen first next e before after here = stops_as seen first next e before after here
 
-  -- the same tries, seen as those of other walks
-  pub tried_more : {X : Type 0} (result : Result X StepError) → Tried Walks result before after → Tried Others result before after
-  tried_more (Ok x) tried = rises_more tried
-  tried_more (Err errors.Memory) (inl none) = inl none
-  tried_more (Err errors.Memory) (inr rises) = inr (up_more rises)
-  tried_more (Err (errors.Stopped stop)) (inl none) = inl none
-  tried_more (Err (errors.Stopped stop)) (inr rises) = inr (rises_more rises)
+-- memory may lack before the first step
+pub lacks_first : {Y A B : Type 0} (seen : Y → B) (Walks : ℕ → Type 0) (first : Result A Stop → Type 0) (next : A → Result B StepError → ℕ → Type 0) (steps : ℕ) → Does seen (AndThen (Trying Walks first) next) (Err errors.Memory) steps steps
+lacks_first seen Walks first next steps = stops_as seen (Trying Walks first) next errors.Memory steps steps (0, inl refl, omega arith)
+
+-- where the first step with tries gives something, the next one goes on
+pub goes_from : {Y A B : Type 0} (seen : Y → B) (first : Result A StepError → ℕ → Type 0) (next : A → Result B StepError → ℕ → Type 0) (given : A) (result : Result Y StepError) (before between after : ℕ) →
+    ((tries : ℕ) × first (Ok given) tries × (between ≡ before + tries)) → Does seen (next given) result between after → Does seen (AndThen first next) result before after
+goes_from seen first next given result before between after begins there =
+    let one = begins.2 in
+    let two = there.2 in
+    (begins.0 + there.0, record { given = Ok given; before = begins.0; after = there.0; begins = begins.1; goes = there.1; sum = refl }, omega arith)
+
+-- a step without tries, as one with tries
+pub untried : {X A : Type 0} (view : X → A) (step : Result A Stop → Type 0) (result : Result X StepError) (steps : ℕ) → Gives view step result → Does view (Untried step) result steps steps
+untried view step (Ok x) steps gives = (0, (gives, refl), omega arith)
+untried view step (Err errors.Memory) steps gives = (0, inl refl, omega arith)
+untried view step (Err (errors.Stopped stop)) steps gives = (0, (gives, refl), omega arith)
+
+-- how many tries were made at most, as a number of tries
+made_of : (Walks : ℕ → Type 0) (before after : ℕ) → RisesUpTo Walks before after → (tries : ℕ) × ((all : ℕ) × Walks all × (tries ≤ all)) × (after ≡ before + tries)
+made_of Walks before after rises =
+    let low = rises.2 in
+    let high = rises.3 in
+    (after - before, (rises.0, rises.1, omega arith), omega arith)
+
+-- a step with the tries of its walk, whose value is about one of the step's
+pub trying_for : {X A : Type 0} (Is : X → A → Type 0) (Walks : ℕ → Type 0) (step : Result A Stop → Type 0) (e : StepError) (before after : ℕ) → GivesFor Is step (Err e) → Counts {X = X} Walks (Err e) before after →
+    (tries : ℕ) × Trying Walks step (Err e) tries × (after ≡ before + tries)
+trying_for Is Walks step errors.Memory before after gives (inl none) = (0, inl refl, omega arith)
+trying_for Is Walks step errors.Memory before after gives (inr rises) = let made = made_of Walks before after rises in (made.0, inr made.1, made.2)
+trying_for Is Walks step (errors.Stopped stop) before after gives rises = (rises.0, (gives, rises.1), rises.2)
+
+-- so of a step whose value is seen by view
+pub trying_by_view : {X A : Type 0} (view : X → A) (Walks : ℕ → Type 0) (step : Result A Stop → Type 0) (result : Result X StepError) (before after : ℕ) → Gives view step result → Counts Walks result before after → Does view (Trying Walks step) result before after
+trying_by_view view Walks step (Ok x) before after gives rises = (rises.0, (gives, rises.1), rises.2)
+trying_by_view view Walks step (Err errors.Memory) before after gives (inl none) = (0, inl refl, omega arith)
+trying_by_view view Walks step (Err errors.Memory) before after gives (inr rises) = let made = made_of Walks before after rises in (made.0, inr made.1, made.2)
+trying_by_view view Walks step (Err (errors.Stopped stop)) before after gives rises = (rises.0, (gives, rises.1), rises.2)
+
+-- where steps with tries end without a stop, the first of them gave something, and the next one went on from it
+pub record WentOn {A B : Type 0} (first : Result A StepError → ℕ → Type 0) (next : A → Result B StepError → ℕ → Type 0) (result : B) : Type 0 where
+  pub given : A
+  pub before : ℕ
+  pub after : ℕ
+  pub begins : first (Ok given) before
+  pub goes : next given (Ok result) after
+
+went_on_by : {A B : Type 0} (first : Result A StepError → ℕ → Type 0) (next : A → Result B StepError → ℕ → Type 0) (result : B) (given : Result A StepError) (before after : ℕ) → first given before → GoesOn next given (Ok result) after → WentOn first next result
+went_on_by first next result (Ok given) before after begins goes = record { given = given; before = before; after = after; begins = begins; goes = goes }
+went_on_by first next result (Err e) before after begins goes = let none = goes.0 in absurd cc
+
+pub went_on : {A B : Type 0} (first : Result A StepError → ℕ → Type 0) (next : A → Result B StepError → ℕ → Type 0) (result : B) (tries : ℕ) → AndThen first next (Ok result) tries → WentOn first next result
+went_on first next result tries steps = went_on_by first next result steps.given steps.before steps.after steps.begins steps.goes

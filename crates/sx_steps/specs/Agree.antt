@@ -6,6 +6,8 @@ use Rattle.sx_words.specs.declared.refusal.Defect.{Defect}
 use Rattle.sx_words.specs.declared.refusal.Defect.TheVariants as defect
 use Rattle.sx_steps.specs.declared.stop.Stop.{Stop}
 use Rattle.sx_steps.specs.declared.status.Status.TheVariants as statuses
+use Rattle.sx_steps.specs.declared.step_error.StepError.{StepError}
+use Rattle.sx_steps.specs.declared.step_error.StepError.TheVariants as errors
 use Rattle.sx_steps.specs.Refusal.{status_of}
 
 -- the result is no read fault
@@ -33,3 +35,19 @@ DifferInReadings x y = ⊥
 -- the results are equal, but for the two readings that they show where a text has more than one
 abbrev pub Agree : {A : Type 0} → Result A Stop → Result A Stop → Type 0
 Agree x y = (x ≡ y) ⊎ DifferInReadings x y
+
+-- memory did not lack, and no read failed
+abbrev pub IsSure : {A : Type 0} → Result A StepError → Type 0
+IsSure (Ok x) = Unit {0}
+IsSure (Err errors.Memory) = ⊥
+IsSure (Err (errors.Stopped stop)) = status_of stop ≡ statuses.ReadFault → ⊥
+
+-- the stops are one, but for the two readings that they show
+abbrev pub NearlySame : Stop → Stop → Type 0
+NearlySame s t = (s ≡ t) ⊎ AreReadings s t
+
+-- both gave the same, or both stopped, with stops that are so related
+abbrev pub AnswersBy : {A : Type 0} → (Stop → Stop → Type 0) → Result A StepError → Result A StepError → Type 0
+AnswersBy Related (Ok x) (Ok y) = x ≡ y
+AnswersBy Related (Err (errors.Stopped s)) (Err (errors.Stopped t)) = Related s t
+AnswersBy Related x y = ⊥

@@ -48,17 +48,20 @@ RisesBy Walks before after = (tries : ℕ) × Walks tries × (after ≡ before +
 abbrev pub RisesUpTo : (ℕ → Type 0) → ℕ → ℕ → Type 0
 RisesUpTo Walks before after = (tries : ℕ) × Walks tries × (before ≤ after) × (after ≤ before + tries)
 
--- the steps rose by the tries of these walks, or by at most as many where memory lacked
+-- the steps rose by the tries of these walks, and where memory lacked not at all, or by at most as many
 abbrev pub Counts : {X : Type 0} → (ℕ → Type 0) → Result X StepError → ℕ → ℕ → Type 0
 Counts Walks (Ok x) before after = RisesBy Walks before after
-Counts Walks (Err errors.Memory) before after = RisesUpTo Walks before after
+Counts Walks (Err errors.Memory) before after = (after ≡ before) ⊎ RisesUpTo Walks before after
 Counts Walks (Err (errors.Stopped stop)) before after = RisesBy Walks before after
 
--- so they rose, or not at all where something stopped them before
-abbrev pub Tried : {X : Type 0} → (ℕ → Type 0) → Result X StepError → ℕ → ℕ → Type 0
-Tried Walks (Ok x) before after = RisesBy Walks before after
-Tried Walks (Err errors.Memory) before after = (after ≡ before) ⊎ RisesUpTo Walks before after
-Tried Walks (Err (errors.Stopped stop)) before after = (after ≡ before) ⊎ RisesBy Walks before after
+-- what the code's step answers, seen by view
+abbrev pub seen_by : {X A : Type 0} → (X → A) → Result X StepError → Result A StepError
+seen_by view (Ok x) = Ok (view x)
+seen_by view (Err e) = Err e
+
+-- the answer, seen by view, is one of the step's, and the steps rose by the tries that it makes
+abbrev pub Does : {X A : Type 0} → (X → A) → (Result A StepError → ℕ → Type 0) → Result X StepError → ℕ → ℕ → Type 0
+Does view step result before after = (tries : ℕ) × step (seen_by view result) tries × (after ≡ before + tries)
 
 -- the steps rose by at most so many
 abbrev pub RisesWithin : ℕ → ℕ → ℕ → Type 0

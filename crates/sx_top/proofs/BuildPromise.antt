@@ -15,7 +15,7 @@ use Rattle.sx_top.specs.FindFirst.{no_hypotheses, rules_of, IsFirstOf}
 use Rattle.sx_top.specs.Search.{goal_events, ComesTo, Searches}
 use Rattle.sx_steps.specs.Work.{Plan}
 use Rattle.sx_top.specs.BuildCore.{core_plan, BuildsWhole, BuiltUnit}
-use Rattle.sx_steps.proofs.StepsOn.{went}
+use Rattle.sx_steps.proofs.StepsOn.{went, went_on}
 use Rattle.sx_steps.proofs.Units.{written}
 use Rattle.sx_top.proofs.Propers.{proper}
 
@@ -31,15 +31,15 @@ searches_first file budget problem answer moded searches =
     found_is_first (modes_of problem.forms) (rules_of problem) no_hypotheses moded problem.goal None budget 1 answer
     (comes_found file problem budget (walk None budget (goal_events problem)) answer searches)
 
-pub build_promise : (name : List ℕ) (budget : ℕ) (old new : Files) (plan : Plan) → BuildsWhole name budget old (Ok plan) → new ≡ after plan.files old → BuiltUnit name old new plan.lines
+pub build_promise : (name : List ℕ) (budget : ℕ) (old new : Files) (plan : Plan) (tries : ℕ) → BuildsWhole name budget old (Ok plan) tries → new ≡ after plan.files old → BuiltUnit name old new plan.lines
 unfolding core_plan
-build_promise name budget old new plan built files_are =
-    let read = went _ _ _ built in
-    let held = went _ _ _ read.begins in
-    let search = went _ _ _ read.goes in
+build_promise name budget old new plan tries built files_are =
+    let read = went_on _ _ _ tries built in
+    let held = went _ _ _ read.begins.0 in
+    let search = went_on _ _ _ read.after read.goes in
     let problem = read.given in
     let answer = search.given in
-    let made : plan ≡ core_plan name problem answer = cc (search.goes) in
+    let made : plan ≡ core_plan name problem answer = cc (search.goes.0) in
     let stands = written name (subject_text problem.forms problem.goal) (list_text problem.rules (order_of answer.0)) (term_lines answer.1) old in
     let files : new ≡ after ((core_plan name problem answer).files) old = files_are ∙ ap (λ (p : Plan). after p.files old) made in
     subst (λ (fs : Files). BuiltUnit name old fs plan.lines) (sym files)
@@ -49,7 +49,7 @@ build_promise name budget old new plan built files_are =
       answer = answer;
       held = held.begins.0;
       stated = held.goes;
-      first = searches_first (core_file name) budget problem answer (proper held.given problem held.goes).moded search.begins;
+      first = searches_first (core_file name) budget problem answer (proper held.given problem held.goes).moded search.begins.0;
       base = stands.0;
       list = stands.1;
       interface = stands.2;

@@ -1,6 +1,6 @@
 -- How a run ends, by its course.
-use Rattle.std.proofs.Common.{◌≡◌, ℕ, ◌+◌, ◌<◌, ◌≤◌, true, false, List, refl, sym, ap, ◌∙◌, subst, inl, inr, ◌⊎◌, arith}
-use Rattle.std.specs.Prelude.{Result, Ok, Err, Option, Some, None}
+use Rattle.std.proofs.Common.{◌≡◌, ℕ, ◌<◌, true, false, List, refl, sym, ap, ◌∙◌, subst, inl, inr, ◌⊎◌, arith}
+use Rattle.std.specs.Prelude.{Result, Ok, Err, Option, Some}
 use Rattle.sx_words.specs.Commands.{Meant, builds, compiles, checks, verifies, samples}
 use Rattle.sx_words.specs.declared.file_defect.FileDefect.{FileDefect}
 use Rattle.sx_words.specs.declared.file_defect.FileDefect.TheVariants as file_defect
@@ -13,22 +13,21 @@ use Rattle.sx_outside.specs.Told.{Told, WhereTold}
 use Rattle.sx_outside.specs.declared.answer.WriteAnswer.{WriteAnswer}
 use Rattle.sx_outside.specs.declared.answer.WriteAnswer.TheVariants as write
 use Rattle.sx_steps.specs.Work.{Plan, plan_of}
-use Rattle.sx_steps.specs.Stop.{Gives, OnlyReads, RisesBy, RisesUpTo, Tried}
+use Rattle.sx_steps.specs.Stop.{OnlyReads, Does}
 use Rattle.sx_top.specs.Commands.{by_now, Spelled}
 use Rattle.sx_top.specs.Course.{Seen, seen, Course, lacking, stopped, short, failed, written, answered, status_after, Begins, Leaves}
-use Rattle.sx_top.specs.Outcome.{Outcome, Runs, Walks, Promises}
-use Rattle.sx_top.specs.Tries.{TriesOf}
+use Rattle.sx_top.specs.Outcome.{Outcome, Runs, Promises}
 use Rattle.sx_top.specs.Performing.{Performs}
 use Rattle.sx_top.specs.Telling.{IsTold}
 use Rattle.sx_steps.specs.declared.stop.Stop.{Stop}
 use Rattle.sx_steps.specs.Refusal.{file_status, defect_status, status_of}
-use Rattle.sx_top.specs.Ending.{ComesTo, Ends, KeepsPromise, IsAfterRead, HasNoDefect, IsDoneOrShort, IsCounted, HasWalks}
+use Rattle.sx_top.specs.Ending.{ComesTo, Ends, KeepsPromise, IsAfterRead, HasNoDefect, IsDoneOrShort}
 use Rattle.sx_steps.specs.declared.status.Status.{Status}
 use Rattle.sx_steps.specs.declared.status.Status.TheVariants as statuses
 use Rattle.sx_steps.specs.declared.step_error.StepError.{StepError}
 use Rattle.sx_steps.specs.declared.step_error.StepError.TheVariants as errors
 use Rattle.sx_steps.specs.declared.work.Work.{Work}
-use Rattle.sx_steps.proofs.StepsOn.{went}
+use Rattle.sx_steps.proofs.StepsOn.{went_on}
 use Rattle.sx_build.proofs.Promise.{build_promise as build_module_promise}
 use Rattle.sx_top.proofs.BuildPromise.{build_promise}
 use Rattle.sx_top.proofs.VerifyPromise.{verify_promise}
@@ -37,37 +36,37 @@ use Rattle.sx_top.proofs.Writes.{told_same, told_goes}
 
 -- ---- runs with a plan, and without one
 
-begins_with : (Holds : Result Plan Stop → Type 0) (result : Result Plan Stop) (course : Course) → Begins (λ other. other ≡ result) course → Holds result → Begins Holds course
-begins_with Holds result lacking begins holds = tt
+begins_with : (Holds : Result Plan StepError → Type 0) (result : Result Plan StepError) (course : Course) → Begins (λ other. other ≡ result) course → Holds result → Begins Holds course
+begins_with Holds result lacking begins holds = subst Holds (sym begins) holds
 begins_with Holds result (stopped stop answer) begins holds = subst Holds (sym begins) holds
 begins_with Holds result (short plan number) begins holds = subst Holds (sym begins) holds
 begins_with Holds result (failed plan number answer) begins holds = subst Holds (sym begins) holds
 begins_with Holds result (written plan answer) begins holds = subst Holds (sym begins) holds
 
 -- a run that had a plan, after reads that did not fail
-pub ends_performed : (words : List (List ℕ)) (plan : Plan) (status : Status) (files between files' : Option Files) (bytes bytes' : Option (List ℕ)) (reads read reads' writes wrote writes' sends sends' : ℕ) →
-    between ≡ files → read ≡ reads → wrote ≡ writes → ComesTo words files (Ok plan) → Performs plan status (seen between bytes read wrote sends) (seen files' bytes' reads' writes' sends') →
-    Ends words status (seen files bytes reads writes sends) (seen files' bytes' reads' writes' sends')
-ends_performed words plan status files between files' bytes bytes' reads read reads' writes wrote writes' sends sends' same still kept comes performs = record {
+pub ends_performed : (words : List (List ℕ)) (plan : Plan) (status : Status) (files between files' : Option Files) (bytes bytes' : Option (List ℕ)) (reads read reads' writes wrote writes' sends sends' before after : ℕ) →
+    between ≡ files → read ≡ reads → wrote ≡ writes → ComesTo words files before after (Ok plan) → Performs plan status (seen between bytes read wrote sends) (seen files' bytes' reads' writes' sends') →
+    Ends words status (seen files bytes reads writes sends) (seen files' bytes' reads' writes' sends') before after
+ends_performed words plan status files between files' bytes bytes' reads read reads' writes wrote writes' sends sends' before after same still kept comes performs = record {
   course = performs.course;
   is = performs.is;
-  begins = begins_with (ComesTo words files) (Ok plan) performs.course performs.begins comes;
+  begins = begins_with (ComesTo words files before after) (Ok plan) performs.course performs.begins comes;
   leaves =
       let old : seen between bytes read wrote sends ≡ seen files bytes reads writes sends = λ i. seen (same i) bytes (still i) (kept i) sends in
       subst (λ (s : Seen). Leaves performs.course s (seen files' bytes' reads' writes' sends')) old performs.leaves;
 }
 
 -- a run that had none
-pub ends_told : (words : List (List ℕ)) (e : StepError) (status : Status) (files files' : Option Files) (bytes bytes' : Option (List ℕ)) (reads reads' writes writes' sends sends' : ℕ) →
-    OnlyReads {X = Work} files files' reads reads' writes writes' (Err e) → WhereTold files (λ held. Gives plan_of (Outcome words held) (Err e)) → IsTold e status bytes bytes' sends sends' →
-    Ends words status (seen files bytes reads writes sends) (seen files' bytes' reads' writes' sends')
-ends_told words errors.Memory status files files' bytes bytes' reads reads' writes writes' sends sends' so outcome told = record {
+pub ends_told : (words : List (List ℕ)) (e : StepError) (status : Status) (files files' : Option Files) (bytes bytes' : Option (List ℕ)) (reads reads' writes writes' sends sends' before after : ℕ) →
+    OnlyReads {X = Work} files files' reads reads' writes writes' (Err e) → WhereTold files (λ held. Does plan_of (Outcome words held) (Err e) before after) → IsTold e status bytes bytes' sends sends' →
+    Ends words status (seen files bytes reads writes sends) (seen files' bytes' reads' writes' sends') before after
+ends_told words errors.Memory status files files' bytes bytes' reads reads' writes writes' sends sends' before after so outcome told = record {
   course = lacking;
   is = sym told.0;
-  begins = tt;
+  begins = outcome;
   leaves = λ i. seen (so.content i) (told.1 i) (so.kept (λ fault. fault) i) (so.writes i) (told.2 i);
 }
-ends_told words (errors.Stopped stop) status files files' bytes bytes' reads reads' writes writes' sends sends' so outcome told = record {
+ends_told words (errors.Stopped stop) status files files' bytes bytes' reads reads' writes writes' sends sends' before after so outcome told = record {
   course = stopped stop told.0;
   is = told.1;
   begins = outcome;
@@ -121,29 +120,24 @@ answered_done stop write.Done is = subst IsOfStop is (defect_of_stop stop.refusa
 answered_done stop write.Failed is = cc
 answered_done stop write.NoMemory is = cc
 
--- a run that had no plan is not done
-pub never_done : (e : StepError) (status : Status) (bytes bytes' : Option (List ℕ)) (sends sends' : ℕ) → IsTold e status bytes bytes' sends sends' → status ≡ statuses.Done → ⊥
-never_done errors.Memory status bytes bytes' sends sends' told done = let at : statuses.NoMemory ≡ statuses.Done = sym told.0 ∙ done in cc
-never_done (errors.Stopped stop) status bytes bytes' sends sends' told done = answered_done stop told.0 (told.1 ∙ done)
-
 -- ---- promises
 
 -- each command keeps its promise
-kept : (command : Meant) (plan : Plan) (old new : Files) → Runs command old (Ok plan) → new ≡ after plan.files old → Promises command old new plan.lines
-kept (builds true name tries nodes audits) plan old new runs is = build_promise name tries old new plan runs is
-kept (builds false name tries nodes audits) plan old new runs is = build_module_promise name tries old new plan runs is
-kept (compiles name tries nodes audits) plan old new runs is = absurd runs
-kept (checks name tries) plan old new runs is = absurd runs
-kept (verifies true name) plan old new runs is = verify_promise replayed_derives name old new plan runs is
-kept (verifies false name) plan old new runs is = absurd runs
-kept (samples number) plan old new runs is = absurd runs
+kept : (command : Meant) (plan : Plan) (old new : Files) (made : ℕ) → Runs command old (Ok plan) made → new ≡ after plan.files old → Promises command old new plan.lines
+kept (builds true name tries nodes audits) plan old new made runs is = build_promise name tries old new plan made runs is
+kept (builds false name tries nodes audits) plan old new made runs is = build_module_promise name tries old new plan made runs is
+kept (compiles name tries nodes audits) plan old new made runs is = absurd runs
+kept (checks name tries) plan old new made runs is = absurd runs
+kept (verifies true name) plan old new made runs is = verify_promise replayed_derives name old new plan runs.0 is
+kept (verifies false name) plan old new made runs is = absurd runs
+kept (samples number) plan old new made runs is = absurd runs
 
-kept_by : (words : List (List ℕ)) (plan : Plan) (old new : Files) → Outcome words old (Ok plan) → new ≡ after plan.files old → (command : Meant) → Spelled words command → Promises command old new plan.lines
+kept_by : (words : List (List ℕ)) (plan : Plan) (old new : Files) (tries : ℕ) → Outcome words old (Ok plan) tries → new ≡ after plan.files old → (command : Meant) → Spelled words command → Promises command old new plan.lines
 unfolding Outcome
-kept_by words plan old new outcome is command read =
-    let steps = went _ _ _ outcome in
-    let same = one_command by_now words steps.given command steps.begins read in
-    subst (λ (k : Meant). Promises k old new plan.lines) same (kept steps.given plan old new steps.goes is)
+kept_by words plan old new tries outcome is command read =
+    let steps = went_on _ _ _ tries outcome in
+    let same = one_command by_now words steps.given command steps.begins.0 read in
+    subst (λ (k : Meant). Promises k old new plan.lines) same (kept steps.given plan old new steps.after steps.goes is)
 
 -- files that are told stay told
 stays : (course : Course) (old new : Seen) → Leaves course old new → Told (λ before now. Unit {0}) old.files new.files
@@ -156,18 +150,18 @@ stays (written plan answer) old new leaves = told_goes _ _ old.files new.files l
 no_promise : (words : List (List ℕ)) (course : Course) (status : Status) (old new : Seen) → Leaves course old new → (status ≡ statuses.Done → ⊥) → Told (KeepsPromise words status old.bytes new.bytes) old.files new.files
 no_promise words course status old new leaves never = told_goes _ _ old.files new.files (stays course old new leaves) (λ before now told is done. absurd (never done))
 
-promise_by : (words : List (List ℕ)) (course : Course) (status : Status) (old new : Seen) → status_after course ≡ status → Begins (ComesTo words old.files) course → Leaves course old new → Told (KeepsPromise words status old.bytes new.bytes) old.files new.files
-promise_by words lacking status old new is begins leaves = no_promise words lacking status old new leaves (λ done. let at : statuses.NoMemory ≡ statuses.Done = is ∙ done in cc)
-promise_by words (stopped stop answer) status old new is begins leaves = no_promise words (stopped stop answer) status old new leaves (λ done. answered_done stop answer (is ∙ done))
-promise_by words (short plan number) status old new is begins leaves = no_promise words (short plan number) status old new leaves (λ done. let at : statuses.NoMemory ≡ statuses.Done = is ∙ done in cc)
-promise_by words (failed plan number answer) status old new is begins leaves = no_promise words (failed plan number answer) status old new leaves (λ done. let at : statuses.WriteFault ≡ statuses.Done = is ∙ done in cc)
-promise_by words (written plan write.Done) status old new is begins leaves =
-    told_goes _ _ old.files new.files leaves.files (λ before now told wrote done command spelled. (plan.lines, kept_by words plan before now (begins before told) wrote command spelled, leaves.lines.bytes))
-promise_by words (written plan write.Failed) status old new is begins leaves = no_promise words (written plan write.Failed) status old new leaves (λ done. let at : statuses.WriteFault ≡ statuses.Done = is ∙ done in cc)
-promise_by words (written plan write.NoMemory) status old new is begins leaves = no_promise words (written plan write.NoMemory) status old new leaves (λ done. let at : statuses.NoMemory ≡ statuses.Done = is ∙ done in cc)
+promise_by : (words : List (List ℕ)) (course : Course) (status : Status) (old new : Seen) (first last : ℕ) → status_after course ≡ status → Begins (ComesTo words old.files first last) course → Leaves course old new → Told (KeepsPromise words status old.bytes new.bytes) old.files new.files
+promise_by words lacking status old new first last is begins leaves = no_promise words lacking status old new leaves (λ done. let at : statuses.NoMemory ≡ statuses.Done = is ∙ done in cc)
+promise_by words (stopped stop answer) status old new first last is begins leaves = no_promise words (stopped stop answer) status old new leaves (λ done. answered_done stop answer (is ∙ done))
+promise_by words (short plan number) status old new first last is begins leaves = no_promise words (short plan number) status old new leaves (λ done. let at : statuses.NoMemory ≡ statuses.Done = is ∙ done in cc)
+promise_by words (failed plan number answer) status old new first last is begins leaves = no_promise words (failed plan number answer) status old new leaves (λ done. let at : statuses.WriteFault ≡ statuses.Done = is ∙ done in cc)
+promise_by words (written plan write.Done) status old new first last is begins leaves =
+    told_goes _ _ old.files new.files leaves.files (λ before now told wrote done command spelled. (plan.lines, (let b = begins before told in kept_by words plan before now b.0 b.1 wrote command spelled), leaves.lines.bytes))
+promise_by words (written plan write.Failed) status old new first last is begins leaves = no_promise words (written plan write.Failed) status old new leaves (λ done. let at : statuses.WriteFault ≡ statuses.Done = is ∙ done in cc)
+promise_by words (written plan write.NoMemory) status old new first last is begins leaves = no_promise words (written plan write.NoMemory) status old new leaves (λ done. let at : statuses.NoMemory ≡ statuses.Done = is ∙ done in cc)
 
-pub promise_kept : (words : List (List ℕ)) (status : Status) (old new : Seen) → Ends words status old new → Told (KeepsPromise words status old.bytes new.bytes) old.files new.files
-promise_kept words status old new ends = promise_by words ends.course status old new ends.is ends.begins ends.leaves
+pub promise_kept : (words : List (List ℕ)) (status : Status) (old new : Seen) (first last : ℕ) → Ends words status old new first last → Told (KeepsPromise words status old.bytes new.bytes) old.files new.files
+promise_kept words status old new first last ends = promise_by words ends.course status old new first last ends.is ends.begins ends.leaves
 
 -- ---- faults
 
@@ -183,8 +177,8 @@ read_by (written plan write.Failed) status old new is leaves fault = let at : st
 read_by (written plan write.NoMemory) status old new is leaves fault = let at : statuses.NoMemory ≡ statuses.ReadFault = is ∙ fault in absurd cc
 
 -- the status of a failed read has its cause
-pub read_cause : (words : List (List ℕ)) (status : Status) (old new : Seen) → Ends words status old new → status ≡ statuses.ReadFault → Rose old.reads new.reads
-read_cause words status old new ends fault = read_by ends.course status old new ends.is ends.leaves fault
+pub read_cause : (words : List (List ℕ)) (status : Status) (old new : Seen) (first last : ℕ) → Ends words status old new first last → status ≡ statuses.ReadFault → Rose old.reads new.reads
+read_cause words status old new first last ends fault = read_by ends.course status old new ends.is ends.leaves fault
 
 write_by : (course : Course) (status : Status) (old new : Seen) → status_after course ≡ status → Leaves course old new → status ≡ statuses.WriteFault → Rose old.writes new.writes ⊎ Rose old.sends new.sends
 write_by lacking status old new is leaves fault = let at : statuses.NoMemory ≡ statuses.WriteFault = is ∙ fault in absurd cc
@@ -198,8 +192,8 @@ write_by (written plan write.Failed) status old new is leaves fault = inr (leave
 write_by (written plan write.NoMemory) status old new is leaves fault = let at : statuses.NoMemory ≡ statuses.WriteFault = is ∙ fault in absurd cc
 
 -- so has that of a failed write
-pub write_cause : (words : List (List ℕ)) (status : Status) (old new : Seen) → Ends words status old new → status ≡ statuses.WriteFault → Rose old.writes new.writes ⊎ Rose old.sends new.sends
-write_cause words status old new ends fault = write_by ends.course status old new ends.is ends.leaves fault
+pub write_cause : (words : List (List ℕ)) (status : Status) (old new : Seen) (first last : ℕ) → Ends words status old new first last → status ≡ statuses.WriteFault → Rose old.writes new.writes ⊎ Rose old.sends new.sends
+write_cause words status old new first last ends fault = write_by ends.course status old new ends.is ends.leaves fault
 
 -- what stays does not rise
 no_rise : {A : Type 0} (before after : ℕ) → before < after → after ≡ before → A
@@ -213,8 +207,8 @@ failed_by (failed plan number answer) status old new is leaves less = sym is
 failed_by (written plan answer) status old new is leaves less = no_rise old.writes new.writes less leaves.writes
 
 -- a failed write of a file gives its status
-pub write_forces : (words : List (List ℕ)) (status : Status) (old new : Seen) → Ends words status old new → old.writes < new.writes → status ≡ statuses.WriteFault
-write_forces words status old new ends less = failed_by ends.course status old new ends.is ends.leaves less
+pub write_forces : (words : List (List ℕ)) (status : Status) (old new : Seen) (first last : ℕ) → Ends words status old new first last → old.writes < new.writes → status ≡ statuses.WriteFault
+write_forces words status old new first last ends less = failed_by ends.course status old new ends.is ends.leaves less
 
 sent_by : (course : Course) (status : Status) (old new : Seen) → status_after course ≡ status → Leaves course old new → old.sends < new.sends → status ≡ statuses.WriteFault
 sent_by lacking status old new is leaves less = no_rise old.sends new.sends less (ap (λ (s : Seen). s.sends) leaves)
@@ -228,8 +222,8 @@ sent_by (written plan write.Failed) status old new is leaves less = sym is
 sent_by (written plan write.NoMemory) status old new is leaves less = no_rise old.sends new.sends less (leaves.lines.faults.kept (λ same. cc))
 
 -- so does a failed write on the sink
-pub send_forces : (words : List (List ℕ)) (status : Status) (old new : Seen) → Ends words status old new → old.sends < new.sends → status ≡ statuses.WriteFault
-send_forces words status old new ends less = sent_by ends.course status old new ends.is ends.leaves less
+pub send_forces : (words : List (List ℕ)) (status : Status) (old new : Seen) (first last : ℕ) → Ends words status old new first last → old.sends < new.sends → status ≡ statuses.WriteFault
+send_forces words status old new first last ends less = sent_by ends.course status old new ends.is ends.leaves less
 
 is_read : (status : Status) → (status ≡ statuses.ReadFault) ⊎ (status ≡ statuses.ReadFault → ⊥)
 is_read statuses.Done = inr (λ same. cc)
@@ -257,49 +251,20 @@ reads_by (failed plan number answer) status old new is leaves less = no_rise old
 reads_by (written plan answer) status old new is leaves less = no_rise old.reads new.reads less leaves.reads
 
 -- a failed read gives its status, where its line was sent
-pub read_forces : (words : List (List ℕ)) (status : Status) (old new : Seen) → Ends words status old new → old.reads < new.reads → IsAfterRead status old.sends new.sends
-read_forces words status old new ends less = reads_by ends.course status old new ends.is ends.leaves less
+pub read_forces : (words : List (List ℕ)) (status : Status) (old new : Seen) (first last : ℕ) → Ends words status old new first last → old.reads < new.reads → IsAfterRead status old.sends new.sends
+read_forces words status old new first last ends less = reads_by ends.course status old new ends.is ends.leaves less
 
-complete_by : (words : List (List ℕ)) (course : Course) (status : Status) (old new : Seen) (files : Files) → status_after course ≡ status → Begins (ComesTo words old.files) course → Leaves course old new → old.files ≡ Some files → HasNoDefect words files
+complete_by : (words : List (List ℕ)) (course : Course) (status : Status) (old new : Seen) (first last : ℕ) (files : Files) → status_after course ≡ status → Begins (ComesTo words old.files first last) course → Leaves course old new → old.files ≡ Some files → HasNoDefect words files
     → (Rose old.reads new.reads → ⊥) → (Rose old.writes new.writes → ⊥) → (Rose old.sends new.sends → ⊥) → IsDoneOrShort status
-complete_by words lacking status old new files is begins leaves told none no_read no_write no_send = inr (sym is)
-complete_by words (stopped stop answer) status old new files is begins leaves told none no_read no_write no_send = absurd (no_read (leaves.reads.rose (none stop (begins files told))))
-complete_by words (short plan number) status old new files is begins leaves told none no_read no_write no_send = inr (sym is)
-complete_by words (failed plan number answer) status old new files is begins leaves told none no_read no_write no_send = absurd (no_write (leaves.writes.rose tt))
-complete_by words (written plan write.Done) status old new files is begins leaves told none no_read no_write no_send = inl (sym is)
-complete_by words (written plan write.Failed) status old new files is begins leaves told none no_read no_write no_send = absurd (no_send (leaves.lines.faults.rose refl))
-complete_by words (written plan write.NoMemory) status old new files is begins leaves told none no_read no_write no_send = inr (sym is)
+complete_by words lacking status old new first last files is begins leaves told none no_read no_write no_send = inr (sym is)
+complete_by words (stopped stop answer) status old new first last files is begins leaves told none no_read no_write no_send = absurd (no_read (let b = begins files told in leaves.reads.rose (none stop b.0 b.1)))
+complete_by words (short plan number) status old new first last files is begins leaves told none no_read no_write no_send = inr (sym is)
+complete_by words (failed plan number answer) status old new first last files is begins leaves told none no_read no_write no_send = absurd (no_write (leaves.writes.rose tt))
+complete_by words (written plan write.Done) status old new first last files is begins leaves told none no_read no_write no_send = inl (sym is)
+complete_by words (written plan write.Failed) status old new first last files is begins leaves told none no_read no_write no_send = absurd (no_send (leaves.lines.faults.rose refl))
+complete_by words (written plan write.NoMemory) status old new first last files is begins leaves told none no_read no_write no_send = inr (sym is)
 
 -- words and files without a defect, and no fault
-pub is_complete : (words : List (List ℕ)) (status : Status) (old new : Seen) (files : Files) → Ends words status old new → old.files ≡ Some files → HasNoDefect words files
+pub is_complete : (words : List (List ℕ)) (status : Status) (old new : Seen) (first last : ℕ) (files : Files) → Ends words status old new first last → old.files ≡ Some files → HasNoDefect words files
     → (Rose old.reads new.reads → ⊥) → (Rose old.writes new.writes → ⊥) → (Rose old.sends new.sends → ⊥) → IsDoneOrShort status
-is_complete words status old new files ends told none no_read no_write no_send = complete_by words ends.course status old new files ends.is ends.begins ends.leaves told none no_read no_write no_send
-
--- ---- tries
-
-within : (Walks : ℕ → Type 0) (before after : ℕ) → RisesBy Walks before after → (tries : ℕ) × Walks tries × (after ≤ before + tries)
-within Walks before after rises = let e = rises.2 in (rises.0, rises.1, omega arith)
-
--- the steps of a run that had a plan
-pub counted : (words : List (List ℕ)) (files : Files) (status : Status) (before after : ℕ) → RisesBy (HasWalks words files) before after → IsCounted words files status before after
-counted words files status before after rises = record { most = inr (within (HasWalks words files) before after rises); exact = λ done. rises }
-
-up_to : (Walks : ℕ → Type 0) (before after : ℕ) → RisesUpTo Walks before after → (tries : ℕ) × Walks tries × (after ≤ before + tries)
-up_to Walks before after rises = (rises.0, rises.1, rises.3)
-
--- the steps of a run that had none
-pub counted_none : (words : List (List ℕ)) (files : Files) (status : Status) (e : StepError) (before after : ℕ) → (status ≡ statuses.Done → ⊥) → Tried {X = Work} (HasWalks words files) (Err e) before after → IsCounted words files status before after
-counted_none words files status errors.Memory before after never (inl none) = record { most = inl none; exact = λ done. absurd (never done) }
-counted_none words files status errors.Memory before after never (inr rises) = record { most = inr (up_to (HasWalks words files) before after rises); exact = λ done. absurd (never done) }
-counted_none words files status (errors.Stopped stop) before after never (inl none) = record { most = inl none; exact = λ done. absurd (never done) }
-counted_none words files status (errors.Stopped stop) before after never (inr rises) = record { most = inr (within (HasWalks words files) before after rises); exact = λ done. absurd (never done) }
-
--- the tries of a command are those of its walks
-pub tries_of : (command : Meant) (files : Files) (result : Result Work StepError) (before after : ℕ) → TriesOf command files result before after → Tried (Walks command files) result before after
-tries_of (builds true name tries nodes audits) files result before after tried = tried
-tries_of (builds false name tries nodes audits) files result before after tried = tried
-tries_of (compiles name tries nodes audits) files result before after tried = absurd tried
-tries_of (checks name tries) files result before after tried = absurd tried
-tries_of (verifies true name) files result before after tried = tried
-tries_of (verifies false name) files result before after tried = absurd tried
-tries_of (samples number) files result before after tried = absurd tried
+is_complete words status old new first last files ends told none no_read no_write no_send = complete_by words ends.course status old new first last files ends.is ends.begins ends.leaves told none no_read no_write no_send

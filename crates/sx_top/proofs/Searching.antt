@@ -29,7 +29,7 @@ use Rattle.sx_top.specs.FindFirst.{no_hypotheses, rules_of}
 use Rattle.sx_top.specs.CoreStops.{underivable}
 use Rattle.sx_steps.specs.Stops.{tries_spent, depth_spent, too_deep, too_big}
 use Rattle.sx_top.specs.LowerStops.{derive_stop}
-use Rattle.sx_top.specs.Search.{goal_events, IsStuckGoal, ComesTo, HasWalked}
+use Rattle.sx_top.specs.Search.{goal_events, IsStuckGoal, ComesTo, HasWalked, WalksAreWithin}
 use Rattle.sx_top.specs.Terms.{AreTerms}
 use Rattle.sx_top.specs.Proper.{IsProper, IsGiven, HasTerms}
 use Rattle.sx_top.proofs.Propers.{terms_of}
@@ -157,3 +157,7 @@ module _ (p : Problem) (budget before after : ℕ) where
   -- and never more than the budget
   pub counts_most : (r : Result Listed DeriveError) → AreCounted (tries_of None budget (goal_events p)) before after r → (before ≤ after) × (after ≤ before + budget)
   counts_most r counted = let most = counted_most r counted in let few = tries_few None budget (goal_events p) in (most.0, let h = most.1 in omega arith)
+
+-- a walk makes no more tries than it may spend
+pub within_budget : WalksAreWithin
+within_budget budget problem tries walked = let few = tries_few None budget (goal_events problem) in omega arith

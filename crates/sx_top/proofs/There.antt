@@ -1,9 +1,16 @@
 -- There are steps for each command that the words may spell by now, and it has at most 1,000,000 tries to spend.
-use Rattle.std.proofs.Common.{ℕ, List, sym, subst, inl, inr}
-use Rattle.sx_words.specs.Commands.{Meant}
+use Rattle.std.proofs.Common.{ℕ, Bool, true, false, List, sym, subst, inl, inr}
+use Rattle.std.specs.Prelude.{Result}
+use Rattle.sx_outside.specs.Files.{Files}
+use Rattle.sx_steps.specs.declared.step_error.StepError.{StepError}
+use Rattle.sx_steps.specs.Steps.{Untried}
+use Rattle.sx_steps.specs.Work.{Plan}
+use Rattle.sx_words.specs.Commands.{Meant, verifies}
 use Rattle.sx_words.proofs.FewLaws.{HasFew, spelled_few}
 use Rattle.sx_words.proofs.StageLaws.{modules}
 use Rattle.sx_top.specs.Commands.{by_now, Spelled, IsThere}
+use Rattle.sx_top.specs.Outcome.{Runs}
+use Rattle.sx_top.specs.VerifyCore.{VerifiesWhole}
 
 pub spelled_there : (words : List (List ℕ)) (command : Meant) → Spelled words command → IsThere command
 spelled_there words command spelled =
@@ -11,3 +18,8 @@ spelled_there words command spelled =
       | inl built ↦ subst IsThere (sym built.is) (subst HasFew built.is (spelled_few by_now words command spelled))
       | inr verified ↦ subst IsThere (sym verified.is) tt
     ]
+
+-- a command to verify that is there verifies a core file
+pub runs_verify : (core : Bool) (name : List ℕ) (files : Files) (result : Result Plan StepError) (made : ℕ) → IsThere (verifies core name) → Untried (VerifiesWhole name files) result made → Runs (verifies core name) files result made
+runs_verify true name files result made there verified = verified
+runs_verify false name files result made there verified = absurd there

@@ -28,7 +28,7 @@ use Rattle.sx_steps.specs.Unit.{base_file, list_file, interface_file}
 use Rattle.sx_steps.proofs.Ones.{err_same, ok_no_err}
 use Rattle.sx_steps.proofs.StepsOn.{went}
 use Rattle.sx_build.specs.Laws.{IsTypeError}
-use Rattle.sx_build.proofs.TypeErrors.{OnTypeError, Final, then_final, held_final, type_errors_are_final as module_errors_are_final}
+use Rattle.sx_build.proofs.TypeErrors.{OnTypeError, Final, FinalTrying, then_final, trying_final, and_then_final, held_final, type_errors_are_final as module_errors_are_final}
 use Rattle.sx_top.specs.BuildCore.{core_plan, BuildsGoal, BuildsWhole}
 use Rattle.sx_top.specs.Commands.{Commands, Spelled}
 use Rattle.sx_top.specs.CoreStops.{variable_name, bad_entry, differs}
@@ -38,7 +38,8 @@ use Rattle.sx_top.specs.Laws.{HasNoDerivation, IsUntyped, TypeErrorsAreFinal}
 use Rattle.sx_top.specs.LowerStops.{core_stop, replay_stop}
 use Rattle.sx_top.specs.Outcome.{Runs, Outcome}
 use Rattle.sx_top.specs.ReadCore.{core_file, rule_names, Reads}
-use Rattle.sx_top.specs.Search.{goal_events, passed, ComesTo, Searches}
+use Rattle.sx_steps.specs.Steps.{NoTries, Trying, Untried}
+use Rattle.sx_top.specs.Search.{goal_events, passed, ComesTo, Searches, HasWalked}
 use Rattle.sx_top.specs.VerifyCore.{verified_plan, Replays, VerifiesOutputs, VerifiesEntries, VerifiesList, VerifiesSubject, VerifiesWhole}
 use Rattle.sx_top.specs.Written.{Equals, Compares, StatesEntries, ReadsEntries}
 use Rattle.sx_top.proofs.Propers.{proper}
@@ -150,31 +151,34 @@ read_moded : (file : List ℕ) (files : Files) (p : Problem) → Reads file file
 read_moded file files p read = let at = went _ _ _ read in (proper at.given p at.goes).moded
 
 module _ (name : List ℕ) (budget : ℕ) (files : Files) where
-  goal_final : (p : Problem) → Reads (core_file name) files (Ok p) → Final (HasNoDerivation name files) (BuildsGoal name (core_file name) budget p)
+  goal_final : (p : Problem) → Reads (core_file name) files (Ok p) → FinalTrying (HasNoDerivation name files) (BuildsGoal name (core_file name) budget p)
   goal_final p read =
-      then_final (HasNoDerivation name files) (Searches (core_file name) budget p) (λ answer result. result ≡ Ok (core_plan name p answer))
-      (λ stop h error. record { problem = p; reads = read; none = searches_final (core_file name) budget p (read_moded (core_file name) files p read) stop h error })
-      (λ answer first stop h. absurd (ok_no_err (core_plan name p answer) stop (sym h)))
+      and_then_final (HasNoDerivation name files) (Trying (HasWalked budget p) (Searches (core_file name) budget p)) (λ answer. Untried (λ result. result ≡ Ok (core_plan name p answer)))
+      (trying_final (HasNoDerivation name files) (HasWalked budget p) (Searches (core_file name) budget p)
+      (λ stop h error. record { problem = p; reads = read; none = searches_final (core_file name) budget p (read_moded (core_file name) files p read) stop h error }))
+      (λ answer before first. trying_final (HasNoDerivation name files) NoTries (λ result. result ≡ Ok (core_plan name p answer)) (λ stop h. absurd (ok_no_err (core_plan name p answer) stop (sym h))))
 
-  builds_final : Final (HasNoDerivation name files) (BuildsWhole name budget files)
+  builds_final : FinalTrying (HasNoDerivation name files) (BuildsWhole name budget files)
   builds_final =
-      then_final (HasNoDerivation name files) (Reads (core_file name) files) (BuildsGoal name (core_file name) budget) (reads_final (HasNoDerivation name files) (core_file name) files)
-      (λ p read. goal_final p read)
+      and_then_final (HasNoDerivation name files) (Untried (Reads (core_file name) files)) (BuildsGoal name (core_file name) budget)
+      (trying_final (HasNoDerivation name files) NoTries (Reads (core_file name) files) (reads_final (HasNoDerivation name files) (core_file name) files))
+      (λ p before read. goal_final p read.0)
 
 -- ---- commands
 
-runs_final : (command : Meant) (files : Files) → Final (IsUntyped command files) (Runs command files)
-runs_final (builds true name tries nodes audits) files stop h error = builds_final name tries files stop h error
-runs_final (builds false name tries nodes audits) files stop h error = module_errors_are_final name tries files stop h error
-runs_final (compiles name tries nodes audits) files stop h error = absurd h
-runs_final (checks name tries) files stop h error = absurd h
-runs_final (verifies true name) files stop h error = verifies_final ⊥ name files stop h error
-runs_final (verifies false name) files stop h error = absurd h
-runs_final (samples number) files stop h error = absurd h
+runs_final : (command : Meant) (files : Files) → FinalTrying (IsUntyped command files) (Runs command files)
+runs_final (builds true name tries nodes audits) files stop made h error = builds_final name tries files stop made h error
+runs_final (builds false name tries nodes audits) files stop made h error = module_errors_are_final name tries files stop made h error
+runs_final (compiles name tries nodes audits) files stop made h error = absurd h
+runs_final (checks name tries) files stop made h error = absurd h
+runs_final (verifies true name) files stop made h error = verifies_final ⊥ name files stop h.0 error
+runs_final (verifies false name) files stop made h error = absurd h
+runs_final (samples number) files stop made h error = absurd h
 
 pub type_errors_are_final : TypeErrorsAreFinal
 unfolding Outcome
 type_errors_are_final words files =
-    then_final ((command : Meant) × Spelled words command × IsUntyped command files) (Commands words) (λ command. Runs command files)
-    (λ stop h. other_stop ((command : Meant) × Spelled words command × IsUntyped command files) (bad_word h.0) stop (λ e. e) h.2)
-    (λ command spelled stop h error. (command, spelled, runs_final command files stop h error))
+    and_then_final ((command : Meant) × Spelled words command × IsUntyped command files) (Untried (Commands words)) (λ command. Runs command files)
+    (trying_final ((command : Meant) × Spelled words command × IsUntyped command files) NoTries (Commands words)
+    (λ stop h. other_stop ((command : Meant) × Spelled words command × IsUntyped command files) (bad_word h.0) stop (λ e. e) h.2))
+    (λ command before spelled stop made h error. (command, spelled.0, runs_final command files stop made h error))

@@ -28,7 +28,7 @@ use Rattle.sx_top.specs.LowerStops.{core_stop, replay_stop}
 use Rattle.sx_top.specs.Proper.{IsProper}
 use Rattle.sx_top.specs.ReadCore.{core_file, rule_names, Reads}
 use Rattle.sx_steps.specs.Unit.{base_file, list_file, interface_file}
-use Rattle.sx_top.specs.Search.{Searches}
+use Rattle.sx_top.specs.Search.{Searches, HasWalked}
 use Rattle.sx_top.specs.Written.{Compares, StatesEntries, ReadsEntries}
 use Rattle.sx_top.specs.BuildCore.{core_plan, BuildsGoal, BuildsWhole}
 use Rattle.sx_top.specs.VerifyCore.{verified_plan, Replays, VerifiesOutputs, VerifiesEntries, VerifiesList, VerifiesSubject, VerifiesWhole}
@@ -40,7 +40,9 @@ use Rattle.sx_top.specs.Outcome.{Runs, Outcome}
 use Rattle.sx_top.specs.Laws.{IsNoBuild, OneCoreOutcome, OneOutcome}
 use Rattle.sx_steps.proofs.StepsOn.{went}
 use Rattle.sx_build.proofs.Agreeing.{builds_nearly}
-use Rattle.sx_steps.proofs.Ones.{IsOne, IsNearlyOne, nearly, then_one, then_nearly, held_one, lower_but, ok_same}
+use Rattle.sx_steps.specs.Agree.{NearlySame}
+use Rattle.sx_steps.specs.Steps.{NoTries, Trying, Untried}
+use Rattle.sx_steps.proofs.Ones.{IsOne, IsOneBy, nearly, then_one, and_then_by, trying_one, trying_nearly, no_tries_one, answers_same, answers_near, held_one, lower_but, ok_same}
 use Rattle.sx_top.proofs.WholeOnes.{compares_one, searches_one}
 use Rattle.sx_top.proofs.Propers.{proper}
 use Rattle.sx_top.proofs.FirstBads.{bad_not_good, one_bad}
@@ -92,10 +94,11 @@ module _ (name : List ℕ) (files : Files) where
         then_one (Compares (base_file name) (subject_text p.forms p.goal) files) (λ done. VerifiesList name files p)
         (compares_one (base_file name) (subject_text p.forms p.goal) files) (λ done held. verify_list_one)
 
-    goal_one : (budget : ℕ) → IsOne (BuildsGoal name (core_file name) budget p)
+    goal_one : (budget : ℕ) → IsOneBy ◌≡◌ (BuildsGoal name (core_file name) budget p)
     goal_one budget =
-        then_one (Searches (core_file name) budget p) (λ answer result. result ≡ Ok (core_plan name p answer))
-        (searches_one (core_file name) budget p is_proper.moded) (λ answer found x y h k n m. h ∙ sym k)
+        and_then_by ◌≡◌ (Trying (HasWalked budget p) (Searches (core_file name) budget p)) (λ answer. Untried (λ result. result ≡ Ok (core_plan name p answer)))
+        (trying_one (HasWalked budget p) (Searches (core_file name) budget p) (λ m n h k. h ∙ sym k) (searches_one (core_file name) budget p is_proper.moded))
+        (λ answer before found. trying_one NoTries (λ result. result ≡ Ok (core_plan name p answer)) no_tries_one (λ x y h k n m. h ∙ sym k))
 
 -- ---- commands
 
@@ -114,40 +117,41 @@ module _ (core_one : (bytes : List ℕ) (a b : Result Problem CoreFileError) →
   read_proper : (file : List ℕ) (files : Files) (p : Problem) → Reads file files (Ok p) → IsProper p
   read_proper file files p read = let at = went _ _ _ read in proper at.given p at.goes
 
-  builds_one : (name : List ℕ) (budget : ℕ) (files : Files) → IsOne (BuildsWhole name budget files)
+  builds_one : (name : List ℕ) (budget : ℕ) (files : Files) → IsOneBy ◌≡◌ (BuildsWhole name budget files)
   builds_one name budget files =
-      then_one (Reads (core_file name) files) (BuildsGoal name (core_file name) budget) (reads_one (core_file name) files)
-      (λ p read. goal_one name files p (read_proper (core_file name) files p read) budget)
+      and_then_by ◌≡◌ (Untried (Reads (core_file name) files)) (BuildsGoal name (core_file name) budget) (trying_one NoTries (Reads (core_file name) files) no_tries_one (reads_one (core_file name) files))
+      (λ p before read. goal_one name files p (read_proper (core_file name) files p read.0) budget)
 
   verifies_one : (name : List ℕ) (files : Files) → IsOne (VerifiesWhole name files)
   verifies_one name files =
       then_one (Reads (core_file name) files) (VerifiesSubject name files) (reads_one (core_file name) files)
       (λ p read. subject_one name files p (read_proper (core_file name) files p read))
 
-  runs_one : (command : Meant) (files : Files) → IsNoBuild command → IsOne (Runs command files)
-  runs_one (builds true name tries nodes audits) files kept x y h k n m = builds_one name tries files x y h k n m
-  runs_one (builds false name tries nodes audits) files kept x y h k n m = absurd kept
-  runs_one (compiles name tries nodes audits) files kept x y h k n m = absurd h
-  runs_one (checks name tries) files kept x y h k n m = absurd h
-  runs_one (verifies true name) files kept x y h k n m = verifies_one name files x y h k n m
-  runs_one (verifies false name) files kept x y h k n m = absurd h
-  runs_one (samples number) files kept x y h k n m = absurd h
+  runs_one : (command : Meant) (files : Files) → IsNoBuild command → IsOneBy ◌≡◌ (Runs command files)
+  runs_one (builds true name tries nodes audits) files kept x y a b h k n m = builds_one name tries files x y a b h k n m
+  runs_one (builds false name tries nodes audits) files kept x y a b h k n m = absurd kept
+  runs_one (compiles name tries nodes audits) files kept x y a b h k n m = absurd h
+  runs_one (checks name tries) files kept x y a b h k n m = absurd h
+  runs_one (verifies true name) files kept x y a b h k n m = trying_one NoTries (VerifiesWhole name files) no_tries_one (verifies_one name files) x y a b h k n m
+  runs_one (verifies false name) files kept x y a b h k n m = absurd h
+  runs_one (samples number) files kept x y a b h k n m = absurd h
 
   pub core_outcome_by : OneCoreOutcome
   unfolding Outcome
-  core_outcome_by words none files =
-      then_one (Commands words) (λ command. Runs command files) (commands_one words) (λ command read. runs_one command files (none command read))
+  core_outcome_by words none files a b m n h k p q =
+      let one = and_then_by ◌≡◌ (Untried (Commands words)) (λ command. Runs command files) (trying_one NoTries (Commands words) no_tries_one (commands_one words)) (λ command before read. runs_one command files (none command read.0)) a b m n h k p q in
+      (answers_same a b one.0, one.1)
 
-  runs_nearly : (command : Meant) (files : Files) → IsNearlyOne (Runs command files)
-  runs_nearly (builds true name tries nodes audits) files x y h k n m = nearly (BuildsWhole name tries files) (builds_one name tries files) x y h k n m
-  runs_nearly (builds false name tries nodes audits) files x y h k n m = builds_nearly name tries files x y h k n m
-  runs_nearly (compiles name tries nodes audits) files x y h k n m = absurd h
-  runs_nearly (checks name tries) files x y h k n m = absurd h
-  runs_nearly (verifies true name) files x y h k n m = nearly (VerifiesWhole name files) (verifies_one name files) x y h k n m
-  runs_nearly (verifies false name) files x y h k n m = absurd h
-  runs_nearly (samples number) files x y h k n m = absurd h
+  runs_nearly : (command : Meant) (files : Files) → IsOneBy NearlySame (Runs command files)
+  runs_nearly (builds true name tries nodes audits) files x y a b h k n m = let one = builds_one name tries files x y a b h k n m in (answers_near x y one.0, one.1)
+  runs_nearly (builds false name tries nodes audits) files x y a b h k n m = builds_nearly name tries files x y a b h k n m
+  runs_nearly (compiles name tries nodes audits) files x y a b h k n m = absurd h
+  runs_nearly (checks name tries) files x y a b h k n m = absurd h
+  runs_nearly (verifies true name) files x y a b h k n m = trying_nearly NoTries (VerifiesWhole name files) no_tries_one (nearly (VerifiesWhole name files) (verifies_one name files)) x y a b h k n m
+  runs_nearly (verifies false name) files x y a b h k n m = absurd h
+  runs_nearly (samples number) files x y a b h k n m = absurd h
 
   pub one_outcome_by : OneOutcome
   unfolding Outcome
   one_outcome_by words files =
-      then_nearly (Commands words) (λ command. Runs command files) (nearly (Commands words) (commands_one words)) (λ command read. runs_nearly command files)
+      and_then_by NearlySame (Untried (Commands words)) (λ command. Runs command files) (trying_nearly NoTries (Commands words) no_tries_one (nearly (Commands words) (commands_one words))) (λ command before read. runs_nearly command files)

@@ -7,8 +7,8 @@ use Rattle.sx_rules.specs.First.{Answer}
 use Rattle.sx_core.specs.Problem.{Problem}
 use Rattle.sx_core.specs.CoreRead.{IsCoreAnswer}
 use Rattle.sx_top.specs.CoreTexts.{subject_text, list_text, term_lines}
-use Rattle.sx_steps.specs.declared.stop.Stop.{Stop}
-use Rattle.sx_steps.specs.Steps.{Then}
+use Rattle.sx_steps.specs.declared.step_error.StepError.{StepError}
+use Rattle.sx_steps.specs.Steps.{Trying, Untried, AndThen}
 use Rattle.sx_top.specs.ReadCore.{core_file, Reads}
 use Rattle.sx_steps.specs.Unit.{base_file, list_file, interface_file, built_line, built_plan}
 use Rattle.sx_top.specs.FindFirst.{IsFirstOf}
@@ -21,26 +21,17 @@ core_plan name problem answer =
     built_plan name (subject_text problem.forms problem.goal) (list_text problem.rules (order_of answer.0)) (term_lines answer.1) (nodes_of answer.0)
 
 -- the first derivation of the problem's goal, and then the three files and the line
-abbrev pub BuildsGoal : List ℕ → List ℕ → ℕ → Problem → Result Plan Stop → Type 0
+abbrev pub BuildsGoal : List ℕ → List ℕ → ℕ → Problem → Result Plan StepError → ℕ → Type 0
 BuildsGoal name file budget problem =
-    Then (Searches file budget problem) (λ answer result. result ≡ Ok (core_plan name problem answer))
+    AndThen (Trying (HasWalked budget problem) (Searches file budget problem)) (λ answer. Untried (λ result. result ≡ Ok (core_plan name problem answer)))
 
 -- the steps of the command, with the name of its file
-abbrev pub BuildsFrom : List ℕ → List ℕ → ℕ → Files → Result Plan Stop → Type 0
-BuildsFrom name file budget files = Then (Reads file files) (BuildsGoal name file budget)
+abbrev pub BuildsFrom : List ℕ → List ℕ → ℕ → Files → Result Plan StepError → ℕ → Type 0
+BuildsFrom name file budget files = AndThen (Untried (Reads file files)) (BuildsGoal name file budget)
 
 -- the steps of the command, with so many tries to spend
-abbrev pub BuildsWhole : List ℕ → ℕ → Files → Result Plan Stop → Type 0
+abbrev pub BuildsWhole : List ℕ → ℕ → Files → Result Plan StepError → ℕ → Type 0
 BuildsWhole name budget files = BuildsFrom name (core_file name) budget files
-
--- the walk of the goal that the file states makes so many tries
-pub record FileTries (file : List ℕ) (budget : ℕ) (files : Files) (tries : ℕ) : Type 0 where
-  pub problem : Problem
-  pub reads : Reads file files (Ok problem)
-  pub walked : HasWalked budget problem tries
-
-abbrev pub WholeTries : List ℕ → ℕ → Files → ℕ → Type 0
-WholeTries name budget files tries = FileTries (core_file name) budget files tries
 
 -- The three files are those of the first derivation of the goal that NAME.core states, all other files are as before,
 -- and the line tells the number of its nodes.

@@ -8,6 +8,8 @@ use Rattle.sx_outside.specs.declared.answer.WriteAnswer.{WriteAnswer}
 use Rattle.sx_outside.specs.declared.answer.WriteAnswer.TheVariants as write
 use Rattle.sx_steps.specs.Work.{Plan}
 use Rattle.sx_steps.specs.declared.stop.Stop.{Stop}
+use Rattle.sx_steps.specs.declared.step_error.StepError.{StepError}
+use Rattle.sx_steps.specs.declared.step_error.StepError.TheVariants as errors
 use Rattle.sx_steps.specs.Refusal.{write_fault, line_of, status_of}
 use Rattle.sx_steps.specs.declared.status.Status.{Status}
 use Rattle.sx_steps.specs.declared.status.Status.TheVariants as statuses
@@ -48,10 +50,10 @@ status_after (short plan number) = statuses.NoMemory
 status_after (failed plan number answer) = statuses.WriteFault
 status_after (written plan answer) = answered statuses.Done answer
 
--- this holds of what the steps came to, where memory did not lack before
-abbrev pub Begins : (Result Plan Stop → Type 0) → Course → Type 0
-Begins Holds lacking = Unit {0}
-Begins Holds (stopped stop answer) = Holds (Err stop)
+-- this holds of what the steps came to
+abbrev pub Begins : (Result Plan StepError → Type 0) → Course → Type 0
+Begins Holds lacking = Holds (Err errors.Memory)
+Begins Holds (stopped stop answer) = Holds (Err (errors.Stopped stop))
 Begins Holds (short plan number) = Holds (Ok plan)
 Begins Holds (failed plan number answer) = Holds (Ok plan)
 Begins Holds (written plan answer) = Holds (Ok plan)

@@ -1,27 +1,29 @@
 -- How a run ends, by its words, the status, and what is seen of the shelf and the sink.
-use Rattle.std.specs.Prelude.{◌≡◌, ◌⊎◌, ℕ, ◌+◌, ◌≤◌, List, ◌++◌, Result, Err, Option}
+use Rattle.std.specs.Prelude.{◌≡◌, ◌⊎◌, ℕ, ◌+◌, List, ◌++◌, Result, Err, Option}
 use Rattle.sx_outside.specs.Files.{Files}
 use Rattle.sx_outside.specs.Told.{Told, WhereTold}
 use Rattle.sx_outside.specs.Faults.{Rose}
 use Rattle.sx_steps.specs.Work.{Plan}
 use Rattle.sx_steps.specs.declared.stop.Stop.{Stop}
+use Rattle.sx_steps.specs.declared.step_error.StepError.{StepError}
+use Rattle.sx_steps.specs.declared.step_error.StepError.TheVariants as errors
 use Rattle.sx_steps.specs.Refusal.{status_of}
-use Rattle.sx_top.specs.Outcome.{Outcome, Promises, Walks}
+use Rattle.sx_top.specs.Outcome.{Outcome, Promises}
 use Rattle.sx_top.specs.Commands.{Spelled}
 use Rattle.sx_top.specs.Course.{Seen, Course, status_after, Begins, Leaves}
 use Rattle.sx_words.specs.Commands.{Meant}
 use Rattle.sx_steps.specs.declared.status.Status.{Status}
 use Rattle.sx_steps.specs.declared.status.Status.TheVariants as statuses
 
--- by the words and the files, where these are told, the steps come to this
-abbrev pub ComesTo : List (List ℕ) → Option Files → Result Plan Stop → Type 0
-ComesTo words told result = WhereTold told (λ files. Outcome words files result)
+-- by the words and the files, where these are told, the steps come to this, and the tries that they make were counted
+abbrev pub ComesTo : List (List ℕ) → Option Files → ℕ → ℕ → Result Plan StepError → Type 0
+ComesTo words told before after result = WhereTold told (λ files. (tries : ℕ) × Outcome words files result tries × (after ≡ before + tries))
 
--- the course of the run: its status, what its steps came to, and what it leaves
-pub record Ends (words : List (List ℕ)) (status : Status) (old new : Seen) : Type 0 where
+-- the course of the run: its status, what its steps came to, with their tries, and what it leaves
+pub record Ends (words : List (List ℕ)) (status : Status) (old new : Seen) (before after : ℕ) : Type 0 where
   pub course : Course
   pub is : status_after course ≡ status
-  pub begins : Begins (ComesTo words old.files) course
+  pub begins : Begins (ComesTo words old.files before after) course
   pub leaves : Leaves course old new
 
 -- the command that the words are keeps its promise, with lines that the sink got where it tells what it got
@@ -38,17 +40,8 @@ IsAfterRead status before after = (status ≡ statuses.ReadFault) ⊎ ((status �
 
 -- the words and files have no defect: nothing but a failed read stops their steps
 abbrev pub HasNoDefect : List (List ℕ) → Files → Type 0
-HasNoDefect words files = (stop : Stop) → Outcome words files (Err stop) → status_of stop ≡ statuses.ReadFault
+HasNoDefect words files = (stop : Stop) (tries : ℕ) → Outcome words files (Err (errors.Stopped stop)) tries → status_of stop ≡ statuses.ReadFault
 
 -- done, or memory lacked
 abbrev pub IsDoneOrShort : Status → Type 0
 IsDoneOrShort status = (status ≡ statuses.Done) ⊎ (status ≡ statuses.NoMemory)
-
--- the walks of the command that the words are make so many tries
-abbrev pub HasWalks : List (List ℕ) → Files → ℕ → Type 0
-HasWalks words files tries = (command : Meant) × Spelled words command × Walks command files tries
-
--- the steps rose by no more than the tries of the walks: not at all where there are none, and by just as many where the run is done
-pub record IsCounted (words : List (List ℕ)) (files : Files) (status : Status) (before after : ℕ) : Type 0 where
-  pub most : (after ≡ before) ⊎ ((tries : ℕ) × HasWalks words files tries × (after ≤ before + tries))
-  pub exact : status ≡ statuses.Done → (tries : ℕ) × HasWalks words files tries × (after ≡ before + tries)

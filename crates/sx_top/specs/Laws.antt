@@ -6,7 +6,9 @@ use Rattle.sx_rules.specs.First.{IsUnderivable}
 use Rattle.sx_core.specs.Problem.{Problem}
 use Rattle.sx_words.specs.Commands.{Meant, builds}
 use Rattle.sx_steps.specs.declared.stop.Stop.{Stop}
-use Rattle.sx_steps.specs.Agree.{IsNoReadFault, Agree}
+use Rattle.sx_steps.specs.declared.step_error.StepError.{StepError}
+use Rattle.sx_steps.specs.declared.step_error.StepError.TheVariants as errors
+use Rattle.sx_steps.specs.Agree.{IsSure, NearlySame, AnswersBy}
 use Rattle.sx_steps.specs.Work.{Plan}
 use Rattle.sx_build.specs.Laws.{IsTypeError, HasNoType}
 use Rattle.sx_top.specs.Commands.{Spelled}
@@ -21,17 +23,17 @@ abbrev pub IsNoBuild : Meant → Type 0
 IsNoBuild (builds false name tries nodes audits) = ⊥
 IsNoBuild command = Unit {0}
 
--- words that build no module have with the files one outcome, read faults aside
+-- words that build no module have with the files one outcome and one number of tries, read faults and want of memory aside
 abbrev pub OneCoreOutcome : Type 0
 OneCoreOutcome =
-    (words : List (List ℕ)) → ((command : Meant) → Spelled words command → IsNoBuild command) → (files : Files) (a b : Result Plan Stop) →
-    Outcome words files a → Outcome words files b → IsNoReadFault a → IsNoReadFault b → a ≡ b
+    (words : List (List ℕ)) → ((command : Meant) → Spelled words command → IsNoBuild command) → (files : Files) (a b : Result Plan StepError) (m n : ℕ) →
+    Outcome words files a m → Outcome words files b n → IsSure a → IsSure b → (a ≡ b) × (m ≡ n)
 
--- Words and files have one outcome, read faults aside. Where a text has more than one reading, which two a refusal shows is free.
+-- Words and files have one outcome and one number of tries, read faults and want of memory aside. Where a text has more than one reading, which two a refusal shows is free.
 abbrev pub OneOutcome : Type 0
 OneOutcome =
-    (words : List (List ℕ)) (files : Files) (a b : Result Plan Stop) →
-    Outcome words files a → Outcome words files b → IsNoReadFault a → IsNoReadFault b → Agree a b
+    (words : List (List ℕ)) (files : Files) (a b : Result Plan StepError) (m n : ℕ) →
+    Outcome words files a m → Outcome words files b n → IsSure a → IsSure b → AnswersBy NearlySame a b × (m ≡ n)
 
 -- ---- type errors
 
@@ -50,5 +52,5 @@ IsUntyped command files = ⊥
 -- a run stops with a type error only where the command's goal has no derivation at all
 abbrev pub TypeErrorsAreFinal : Type 0
 TypeErrorsAreFinal =
-    (words : List (List ℕ)) (files : Files) (stop : Stop) → Outcome words files (Err stop) → IsTypeError stop →
+    (words : List (List ℕ)) (files : Files) (stop : Stop) (tries : ℕ) → Outcome words files (Err (errors.Stopped stop)) tries → IsTypeError stop →
     (command : Meant) × Spelled words command × IsUntyped command files

@@ -17,6 +17,5 @@ pub mod Writing
 pub mod Ending
 pub mod Performing
 pub mod Telling
-pub mod Tries
 pub mod VerifyLaws
 pub mod Laws

@@ -1,5 +1,5 @@
 -- The step that finds the first derivation of a core problem's goal, by its walk.
-use Rattle.std.specs.Prelude.{◌≡◌, ℕ, ◌^◌, ◌-◌, min, List, [], Result, Ok, Err, None}
+use Rattle.std.specs.Prelude.{◌≡◌, ℕ, ◌≤◌, ◌^◌, ◌-◌, min, List, [], Result, Ok, Err, None}
 use Rattle.sx_rules.specs.Views.{modes_of, subjects_in}
 use Rattle.sx_rules.specs.First.{Answer}
 use Rattle.sx_core.specs.Problem.{Problem}
@@ -40,3 +40,7 @@ Searches file budget problem result = ComesTo file problem budget (walk None bud
 -- the walk makes so many tries
 abbrev pub HasWalked : ℕ → Problem → ℕ → Type 0
 HasWalked budget problem tries = tries ≡ tries_of None budget (goal_events problem)
+
+-- a walk makes no more tries than it may spend
+abbrev pub WalksAreWithin : Type 0
+WalksAreWithin = (budget : ℕ) (problem : Problem) (tries : ℕ) → HasWalked budget problem tries → tries ≤ budget

@@ -6,10 +6,9 @@ ghost use Rattle.sx_term.specs.Term.{tree};
 ghost use Rattle.sx_rules.specs.First.{Answer};
 ghost use Rattle.sx_core.specs.Problem.{problem as problem_data};
 ghost use Rattle.sx_derive.specs.Listing.{Lists};
-ghost use Rattle.sx_top.specs.BuildCore.{core_plan, BuildsGoal, BuildsFrom, BuildsWhole, FileTries, WholeTries};
-ghost use Rattle.sx_steps.specs.Stop.{RisesWithin, Gives, OnlyReads, IsNoFault, Counts, Tried};
+ghost use Rattle.sx_top.specs.BuildCore.{core_plan, BuildsGoal, BuildsFrom, BuildsWhole};
+ghost use Rattle.sx_steps.specs.Stop.{OnlyReads, IsNoFault, Does};
 ghost use Rattle.sx_top.specs.Proper.{IsProper, ListsGiven};
-ghost use Rattle.sx_top.specs.Search.{HasWalked};
 ghost use Rattle.sx_top.specs.Terms.{AreTerms};
 ghost use Rattle.sx_steps.specs.Work.{plan_of};
 
@@ -53,10 +52,8 @@ fn plan_goal<L: Ledger>(
     steps: &mut Steps<L>,
 ) -> Result<Work, StepError>
     requires { IsProper (problem_data problem.now) }
-    ensures step { Gives plan_of (BuildsGoal name.now file.now budget (problem_data problem.now)) result }
+    ensures step { Does plan_of (BuildsGoal name.now file.now budget (problem_data problem.now)) result steps.old steps.new }
     ensures no_fault { IsNoFault result }
-    ensures tries { Counts (HasWalked budget (problem_data problem.now)) result steps.old steps.new }
-    ensures most { RisesWithin budget steps.old steps.new }
 {
     match find_first(alloc, file, problem, budget, steps) {
         Ok(listed) => match make_work(alloc, name, problem, &listed) {
@@ -76,12 +73,10 @@ fn plan_file<S: Shelf, L: Ledger>(
     shelf: &mut S,
     steps: &mut Steps<L>,
 ) -> Result<Work, StepError>
-    ensures step { WhereTold (S.content shelf.old) (λ files. Gives plan_of (BuildsFrom name.now file.now budget files) result) }
+    ensures step { WhereTold (S.content shelf.old) (λ files. Does plan_of (BuildsFrom name.now file.now budget files) result steps.old steps.new) }
     ensures reads { OnlyReads (S.content shelf.old) (S.content shelf.new)
         (S.read_faults shelf.old) (S.read_faults shelf.new)
         (S.write_faults shelf.old) (S.write_faults shelf.new) result }
-    ensures tries { WhereTold (S.content shelf.old) (λ files. Tried (FileTries file.now budget files) result steps.old steps.new) }
-    ensures most { RisesWithin budget steps.old steps.new }
 {
     match read_problem(alloc, file, shelf) {
         Ok(problem) => plan_goal(alloc, name, file, &problem, budget, steps),
@@ -97,12 +92,10 @@ pub fn plan_build_core<S: Shelf, L: Ledger>(
     shelf: &mut S,
     steps: &mut Steps<L>,
 ) -> Result<Work, StepError>
-    ensures step { WhereTold (S.content shelf.old) (λ files. Gives plan_of (BuildsWhole name.now budget files) result) }
+    ensures step { WhereTold (S.content shelf.old) (λ files. Does plan_of (BuildsWhole name.now budget files) result steps.old steps.new) }
     ensures reads { OnlyReads (S.content shelf.old) (S.content shelf.new)
         (S.read_faults shelf.old) (S.read_faults shelf.new)
         (S.write_faults shelf.old) (S.write_faults shelf.new) result }
-    ensures tries { WhereTold (S.content shelf.old) (λ files. Tried (WholeTries name.now budget files) result steps.old steps.new) }
-    ensures most { RisesWithin budget steps.old steps.new }
 {
     match with_suffix(alloc, name, ".core") {
         Ok(file) => plan_file(alloc, name, &file, budget, shelf, steps),

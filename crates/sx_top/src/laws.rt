@@ -1,9 +1,10 @@
 //! What holds of runs.
 
 ghost use Rattle.sx_top.specs.Laws.{OneCoreOutcome, OneOutcome, TypeErrorsAreFinal};
+ghost use Rattle.sx_top.specs.Search.{WalksAreWithin};
 
-/// By the words and the files there is one outcome, read faults aside: what is to be written, or one refusal. For a module the two
-/// readings that a refusal shows of a text with more than one are free.
+/// By the words and the files there is one outcome, read faults and want of memory aside: what is to be written, or one refusal, and
+/// one number of tries. For a module the two readings that a refusal shows of a text with more than one are free.
 pub fn one_outcome()
     ensures core { OneCoreOutcome }
     ensures whole { OneOutcome }
@@ -12,4 +13,9 @@ pub fn one_outcome()
 /// A type error comes only where the command's goal has no derivation at all, of whatever depth and size.
 pub fn type_errors_are_final()
     ensures { TypeErrorsAreFinal }
+{}
+
+/// The walk of a core problem's goal makes no more tries than it may spend.
+pub fn walks_are_within()
+    ensures { WalksAreWithin }
 {}

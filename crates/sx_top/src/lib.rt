@@ -20,6 +20,6 @@ mod verify_laws;
 mod written;
 
 pub use call::run;
-pub use laws::{one_outcome, type_errors_are_final};
+pub use laws::{one_outcome, type_errors_are_final, walks_are_within};
 pub use sx_steps::Status;
 pub use verify_laws::{built_is_verified, found_is_within};

@@ -4,9 +4,7 @@ ghost use Rattle.sx_outside.specs.Told.{WhereTold};
 ghost use Rattle.sx_words.specs.View.{command_view};
 ghost use Rattle.sx_top.specs.Commands.{IsThere};
 ghost use Rattle.sx_top.specs.Outcome.{Outcome, Runs};
-ghost use Rattle.sx_top.specs.Ending.{HasWalks};
-ghost use Rattle.sx_steps.specs.Stop.{RisesWithin, Gives, OnlyReads, Tried};
-ghost use Rattle.sx_top.specs.Tries.{TriesOf};
+ghost use Rattle.sx_steps.specs.Stop.{OnlyReads, Does};
 ghost use Rattle.sx_steps.specs.Work.{plan_of};
 
 use crate::build_core::plan_build_core;
@@ -28,12 +26,10 @@ fn run_command<S: Shelf, L: Ledger>(
     steps: &mut Steps<L>,
 ) -> Result<Work, StepError>
     requires { IsThere (command_view command.now) }
-    ensures step { WhereTold (S.content shelf.old) (λ files. Gives plan_of (Runs (command_view command.now) files) result) }
+    ensures step { WhereTold (S.content shelf.old) (λ files. Does plan_of (Runs (command_view command.now) files) result steps.old steps.new) }
     ensures reads { OnlyReads (S.content shelf.old) (S.content shelf.new)
         (S.read_faults shelf.old) (S.read_faults shelf.new)
         (S.write_faults shelf.old) (S.write_faults shelf.new) result }
-    ensures tries { WhereTold (S.content shelf.old) (λ files. TriesOf (command_view command.now) files result steps.old steps.new) }
-    ensures most { RisesWithin 1000000 steps.old steps.new }
 {
     match command {
         Command::Build {
@@ -55,19 +51,17 @@ fn run_command<S: Shelf, L: Ledger>(
     }
 }
 
-/// What the words come to: what is to be written, or why nothing is.
+/// What the words come to: what is to be written, or why nothing is, and how many tries were made.
 pub fn plan<S: Shelf, L: Ledger>(
     alloc: Global,
     words: &[Text],
     shelf: &mut S,
     steps: &mut Steps<L>,
 ) -> Result<Work, StepError>
-    ensures outcome { WhereTold (S.content shelf.old) (λ files. Gives plan_of (Outcome words.now files) result) }
+    ensures outcome { WhereTold (S.content shelf.old) (λ files. Does plan_of (Outcome words.now files) result steps.old steps.new) }
     ensures reads { OnlyReads (S.content shelf.old) (S.content shelf.new)
         (S.read_faults shelf.old) (S.read_faults shelf.new)
         (S.write_faults shelf.old) (S.write_faults shelf.new) result }
-    ensures tries { WhereTold (S.content shelf.old) (λ files. Tried (HasWalks words.now files) result steps.old steps.new) }
-    ensures most { RisesWithin 1000000 steps.old steps.new }
 {
     match read_command(alloc, words) {
         Ok(command) => run_command(alloc, &command, shelf, steps),

@@ -1,22 +1,48 @@
 use Rattle.std.proofs.Common.{◌≡◌, ℕ, List, ap, subst}
-use Rattle.std.specs.Prelude.{Ok, Err}
+use Rattle.std.specs.Prelude.{Result, Ok, Err}
 use Rattle.sx_module.specs.Unit.{unit_of}
+use Rattle.sx_steps.specs.declared.stop.Stop.{Stop}
+use Rattle.sx_steps.specs.declared.step_error.StepError.TheVariants as errors
+use Rattle.sx_steps.specs.Steps.{Trying, Untried}
 use Rattle.sx_steps.specs.Stop.{Gives}
-use Rattle.sx_steps.specs.Work.{plan_of}
-use Rattle.sx_steps.proofs.StepsOn.{stops_first}
+use Rattle.sx_steps.specs.Work.{Plan, plan_of}
+use Rattle.sx_steps.proofs.StepsOn.{goes_from, stops_at, untried, trying_by_view}
 use Rattle.sx_build.specs.ModuleFiles.{module_file}
 use Rattle.sx_build.specs.ReadModule.{module_of}
 use Rattle.sx_build.specs.ReadLanguage.{stated_of}
-use Rattle.sx_build.specs.CompileModule.{Compiles}
+use Rattle.sx_build.specs.CompileModule.{Compiles, CompilingTries}
 use Rattle.sx_build.specs.BuildModule.{unit_plan}
 use Rattle.sx_build.proofs.build_module.build_unit.Goals as goal
 
 pub returns-in-Ok-built_work-clause-step : goal.returns-in-Ok-built_work-clause-step
-returns-in-Ok-built_work-clause-step g c = record { given = Ok (unit_of c.in-Ok.unit); begins = c.in-Ok.ensures.step; goes = ap Ok c.in-Ok-built_work.ensures }
+returns-in-Ok-built_work-clause-step g c =
+    let name = c.args.name.now in
+    let m = module_of c.args.source.now in
+    let l = stated_of c.args.language.now in
+    let unit = unit_of c.in-Ok.unit in
+    let walked = c.in-Ok.ensures.tries in
+    goes_from plan_of (Trying (CompilingTries c.args.budget m l) (Compiles (module_file name) c.args.budget m l)) (λ unit. Untried (λ result. result ≡ Ok (unit_plan name unit))) unit (Ok c.in-Ok-built_work.work)
+    c.args.steps.now c.compile_module.new.steps c.compile_module.new.steps
+    (walked.0, (subst (λ (file : List ℕ). Compiles file c.args.budget m l (Ok unit)) c.requires.file c.in-Ok.ensures.step, walked.1), walked.2)
+    (untried plan_of (λ (result : Result Plan Stop). result ≡ Ok (unit_plan name unit)) (Ok c.in-Ok-built_work.work) c.compile_module.new.steps (ap (λ (plan : Plan). Ok plan) c.in-Ok-built_work.ensures))
+
+pub returns-in-Ok-clause-step : goal.returns-in-Ok-clause-step
+returns-in-Ok-clause-step g c =
+    let name = c.args.name.now in
+    let m = module_of c.args.source.now in
+    let l = stated_of c.args.language.now in
+    let unit = unit_of c.in-Ok.unit in
+    let walked = c.in-Ok.ensures.tries in
+    goes_from plan_of (Trying (CompilingTries c.args.budget m l) (Compiles (module_file name) c.args.budget m l)) (λ unit. Untried (λ result. result ≡ Ok (unit_plan name unit))) unit (Err errors.Memory)
+    c.args.steps.now c.compile_module.new.steps c.compile_module.new.steps
+    (walked.0, (subst (λ (file : List ℕ). Compiles file c.args.budget m l (Ok unit)) c.requires.file c.in-Ok.ensures.step, walked.1), walked.2)
+    (untried plan_of (λ (result : Result Plan Stop). result ≡ Ok (unit_plan name unit)) (Err errors.Memory) c.compile_module.new.steps tt)
 
 pub returns-clause-step : goal.returns-clause-step
 returns-clause-step g c =
     let m = module_of c.args.source.now in
     let l = stated_of c.args.language.now in
-    stops_first unit_of plan_of (Compiles (module_file c.args.name.now) c.args.budget m l) (λ unit result. result ≡ Ok (unit_plan c.args.name.now unit)) c.in-Err.e
-    (subst (λ (file : List ℕ). Gives unit_of (Compiles file c.args.budget m l) (Err c.in-Err.e)) c.requires.file c.in-Err.ensures.step)
+    stops_at unit_of plan_of (Trying (CompilingTries c.args.budget m l) (Compiles (module_file c.args.name.now) c.args.budget m l)) (λ unit. Untried (λ result. result ≡ Ok (unit_plan c.args.name.now unit))) c.in-Err.e
+    c.args.steps.now c.compile_module.new.steps
+    (trying_by_view unit_of (CompilingTries c.args.budget m l) (Compiles (module_file c.args.name.now) c.args.budget m l) (Err c.in-Err.e) c.args.steps.now c.compile_module.new.steps
+    (subst (λ (file : List ℕ). Gives unit_of (Compiles file c.args.budget m l) (Err c.in-Err.e)) c.requires.file c.in-Err.ensures.step) c.in-Err.ensures.tries)

@@ -1,30 +1,35 @@
-use Rattle.std.proofs.Common.{ℕ, List, subst, ◌∙◌}
-use Rattle.std.specs.Prelude.{Ok, Err}
-use Rattle.sx_steps.specs.Stop.{Gives}
+use Rattle.std.proofs.Common.{ℕ, List, refl, sym, subst, ◌∙◌, arith}
+use Rattle.std.specs.Prelude.{Result, Ok, Err}
+use Rattle.sx_module.proofs.Tries.{err_is}
+use Rattle.sx_steps.specs.declared.step_error.StepError.{StepError}
+use Rattle.sx_steps.specs.declared.work.Work.{Work}
+use Rattle.sx_steps.specs.Steps.{NoTries, Untried}
+use Rattle.sx_steps.specs.Stop.{Gives, Does}
 use Rattle.sx_steps.specs.Work.{plan_of}
-use Rattle.sx_steps.proofs.StepsOn.{goes_next, stops_first, tried_more}
+use Rattle.sx_steps.proofs.StepsOn.{goes_from, stops_at, untried, lacks_first}
 use Rattle.sx_build.specs.ModuleFiles.{module_file}
 use Rattle.sx_build.specs.ReadModule.{module_of, ReadsModule}
-use Rattle.sx_build.specs.BuildModule.{BuildsRead, AloneTries, ModuleTries}
+use Rattle.sx_build.specs.BuildModule.{BuildsRead, BuildsModule}
 use Rattle.sx_build.proofs.build_module.plan_build_module.Goals as goal
 
 pub returns-in-Ok-clause-step : goal.returns-in-Ok-clause-step
 returns-in-Ok-clause-step g c = λ files told.
     let name = c.args.name.now in
     let m = module_of c.in-Ok.source in
-    goes_next plan_of (ReadsModule (module_file name) name files) (BuildsRead name c.args.budget files) m c.build_read.result
-    (subst (λ (file : List ℕ). ReadsModule file name files (Ok m)) c.in_ok-file.ensures (c.in-Ok.ensures.step files told))
+    goes_from plan_of (Untried (ReadsModule (module_file name) name files)) (BuildsRead name c.args.budget files) m c.build_read.result c.args.steps.now c.args.steps.now c.build_read.new.steps
+    (0, (subst (λ (file : List ℕ). ReadsModule file name files (Ok m)) c.in_ok-file.ensures (c.in-Ok.ensures.step files told), refl), omega arith)
     (c.build_read.ensures.step files (c.in-Ok.ensures.reads.content ∙ told))
 
 pub returns-clause-step : goal.returns-clause-step
 returns-clause-step g c = λ files told.
     let name = c.args.name.now in
-    stops_first module_of plan_of (ReadsModule (module_file name) name files) (BuildsRead name c.args.budget files) c.in-Err.e
-    (subst (λ (file : List ℕ). Gives module_of (ReadsModule file name files) (Err c.in-Err.e)) c.in_ok-file.ensures (c.in-Err.ensures.step files told))
+    stops_at module_of plan_of (Untried (ReadsModule (module_file name) name files)) (BuildsRead name c.args.budget files) c.in-Err.e c.args.steps.now c.args.steps.now
+    (untried module_of (ReadsModule (module_file name) name files) (Err c.in-Err.e) c.args.steps.now
+    (subst (λ (file : List ℕ). Gives module_of (ReadsModule file name files) (Err c.in-Err.e)) c.in_ok-file.ensures (c.in-Err.ensures.step files told)))
 
-pub returns-in-Ok-clause-tries : goal.returns-in-Ok-clause-tries
-returns-in-Ok-clause-tries g c = λ files told.
-    let m = module_of c.in-Ok.source in
-    tried_more (AloneTries c.args.budget files m) (ModuleTries c.args.name.now c.args.budget files) _ _
-    (λ tries alone. record { read = m; reads = subst (λ (file : List ℕ). ReadsModule file c.args.name.now files (Ok m)) c.in_ok-file.ensures (c.in-Ok.ensures.step files told); alone = alone }) c.build_read.result
-    (c.build_read.ensures.tries files (c.in-Ok.ensures.reads.content ∙ told))
+pub returns-in_err-file-clause-step : goal.returns-in_err-file-clause-step
+returns-in_err-file-clause-step g c = λ files told.
+    let name = c.args.name.now in
+    let s = c.args.steps.now in
+    err_is (λ (result : Result Work StepError). Does plan_of (BuildsModule name c.args.budget files) result s s) c.from_residual.result _ c.from_residual.ensures.1
+    (λ e is. subst (λ (e : StepError). Does plan_of (BuildsModule name c.args.budget files) (Err e) s s) (sym is) (lacks_first plan_of NoTries (ReadsModule (module_file name) name files) (BuildsRead name c.args.budget files) s))

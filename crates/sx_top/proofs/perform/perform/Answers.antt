@@ -1,11 +1,11 @@
-use Rattle.std.proofs.Common.{ℕ, ◌<◌, List, map, length, refl, sym, ◌∙◌, subst}
+use Rattle.std.proofs.Common.{ℕ, ◌<◌, List, map, length, refl, sym, subst}
 use Rattle.std.proofs.lemmas.List.{length-map}
 use Rattle.sx_outside.specs.Sink.{IsAppending}
 use Rattle.sx_outside.specs.Told.{Told}
 use Rattle.sx_steps.specs.declared.work.Output.{Output}
 use Rattle.sx_steps.specs.Refusal.{write_fault, line_of}
 use Rattle.sx_steps.specs.Work.{file_of, plan_of}
-use Rattle.sx_top.specs.Course.{Sent, name_at, short, failed, written}
+use Rattle.sx_top.specs.Course.{Sent, short, failed, written}
 use Rattle.sx_top.specs.Writing.{Wrote}
 use Rattle.sx_top.specs.declared.perform.WriteEnd.TheVariants as write_ends
 use Rattle.sx_top.proofs.Writes.{name_there}

@@ -1,3 +1,4 @@
+use Rattle.std.proofs.Common.{inr}
 use Rattle.std.specs.Prelude.{Ok, Err}
 use Rattle.sx_rules.specs.Views.{hypotheses}
 use Rattle.sx_core.specs.Problem.{problem}
@@ -26,8 +27,9 @@ no_answer-requires g c =
 
 pub returns-clause-tries : goal.returns-clause-tries
 returns-clause-tries g c =
-    counts_short (problem c.args.problem.now) c.args.budget c.args.steps.now c.derive_list.new.steps (Err c.in-Err.error)
-    (counted_plain c.args.problem.now (hypotheses c.nothing_given-given.result) c.nothing_given-given.ensures.none c.args.budget c.args.steps.now c.derive_list.new.steps (Err c.in-Err.error) c.in-Err.ensures.steps)
+    inr
+    (counts_short (problem c.args.problem.now) c.args.budget c.args.steps.now c.derive_list.new.steps (Err c.in-Err.error)
+    (counted_plain c.args.problem.now (hypotheses c.nothing_given-given.result) c.nothing_given-given.ensures.none c.args.budget c.args.steps.now c.derive_list.new.steps (Err c.in-Err.error) c.in-Err.ensures.steps))
 
 pub returns-clause-most : goal.returns-clause-most
 returns-clause-most g c =
