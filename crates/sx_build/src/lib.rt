@@ -17,6 +17,3 @@ mod read_module;
 
 pub use build_module::plan_build_module;
 pub use laws::{builds_agree, built_has_headline, type_errors_are_final, walks_are_within};
-
-#[cfg(test)]
-mod tests;

@@ -58,7 +58,15 @@ pub fn run<S: Shelf, I: Source, K: Sink, L: Ledger>(
 {
     let _ = input;
     match plan(alloc, words, shelf, steps) {
-        Ok(work) => perform(alloc, &work, shelf, out),
-        Err(error) => tell(alloc, &error, out),
+        Ok(work) => {
+            let status = perform(alloc, &work, shelf, out);
+            drop(work);
+            status
+        }
+        Err(error) => {
+            let status = tell(alloc, &error, out);
+            drop(error);
+            status
+        }
     }
 }

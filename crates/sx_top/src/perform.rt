@@ -50,7 +50,9 @@ fn send_fault<K: Sink>(alloc: Global, name: &Text, out: &mut K) -> WriteAnswer
         place: Place::Nowhere,
         defect: Defect::File(FileDefect::WriteFault),
     };
-    match refusal_line(alloc, name, &refusal) {
+    let line = refusal_line(alloc, name, &refusal);
+    drop(refusal);
+    match line {
         Ok(line) => out.write(&line),
         Err(_) => WriteAnswer::NoMemory,
     }
