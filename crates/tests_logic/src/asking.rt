@@ -1,4 +1,4 @@
-//! What `derive` answers, in numbers.
+//! What `derive` answers, in short.
 
 ghost use Rattle.std.specs.Prelude.{◌≡◌, ◌^◌, ◌≤◌, ◌<◌, [], MatchOption, length, map};
 ghost use Rattle.sx_term.specs.Term.{tree};
@@ -15,80 +15,101 @@ use sx_derive::{Blame, Cause, DeriveError, Derived, derive};
 use sx_rules::{Goal, Hyps, Proof, RuleSet};
 use sx_term::{Steps, Term};
 
-/// An answer in numbers: 0 and the rule of the derivation, or 9 for a hypothesis; 1 and what is
-/// stuck; 2 and the tries that are spent; 3 and the depth that is spent; or else 4.
-pub(crate) type Told = (u32, (u32, usize, usize, u64));
+/// An answer in short.
+#[derive(Clone, Copy, PartialEq, Eq, Debug)]
+pub(crate) enum Told {
+    /// A derivation that ends with this rule.
+    By(u32),
+    /// A hypothesis.
+    Given,
+    /// No derivation.
+    Stuck(Stuck),
+    /// So many tries are spent.
+    TriesSpent(u64),
+    /// A goal is deeper than so many.
+    DepthSpent(u32),
+    /// Another refusal.
+    Other,
+}
 
-/// The label of a node, or 9.
-fn label(term: &Term) -> u32 {
+/// The label of a stuck goal's subject, how many steps lead to the goal, the first of them, and why
+/// it is stuck.
+#[derive(Clone, Copy, PartialEq, Eq, Debug)]
+pub(crate) struct Stuck {
+    pub subject: Option<u32>,
+    pub steps: usize,
+    pub first: Option<usize>,
+    pub why: Why,
+}
+
+/// Why a goal is stuck.
+#[derive(Clone, Copy, PartialEq, Eq, Debug)]
+pub(crate) enum Why {
+    NoRule,
+    /// The rule's premise, by their numbers, asks that equal lexemes are apart.
+    Equal(u32, usize),
+    /// The rule's premise got an output with this label, and asks for another.
+    Mismatch(u32, usize, Option<u32>),
+    /// An output with this label is not the wanted one.
+    Unwanted(Option<u32>),
+}
+
+/// The label of a node.
+fn label(term: &Term) -> Option<u32> {
     match term {
-        Term::Node { label, kids: _ } => *label,
-        _ => 9,
+        Term::Node { label, kids: _ } => Some(*label),
+        _ => None,
     }
 }
 
-/// The label of the first of the terms, or 9.
-fn first_label(terms: &[Term]) -> u32 {
-    match terms.get(0) {
-        Some(term) => label(term),
-        None => 9,
-    }
+/// The label of the first of the terms.
+fn first_label(terms: &[Term]) -> Option<u32> {
+    label(terms.first()?)
 }
 
-/// The rule of a proof, or 9.
-fn rule_of(proof: &Proof) -> u32 {
+/// How a derivation ends.
+fn last_step(proof: &Proof) -> Told {
     match proof {
-        Proof::Given(_) => 9,
+        Proof::Given(_) => Told::Given,
         Proof::By {
             rule,
             binds: _,
             kids: _,
-        } => *rule,
+        } => Told::By(*rule),
     }
 }
 
-/// The cause in short: 1 where no rule matches; 2 where the first premise of the third rule finds
-/// equal terms; the label of the output that the first premise of the third rule got; 30 and the
-/// label of the output that is not the wanted one; or else 3.
-fn short_cause(cause: &Cause) -> u64 {
+/// The cause in short.
+fn cause_in_short(cause: &Cause) -> Why {
     match cause {
-        Cause::NoRule => 1,
-        Cause::Equal {
-            rule: 2,
-            premise: 0,
-        } => 2,
+        Cause::NoRule => Why::NoRule,
+        Cause::Equal { rule, premise } => Why::Equal(*rule, *premise),
         Cause::Mismatch {
-            by: Some((2, 0)),
+            by: Some((rule, premise)),
             got,
-        } => u64::from(first_label(got)),
-        Cause::Mismatch { by: None, got } => u64::from(first_label(got)).saturating_add(30),
-        _ => 3,
+        } => Why::Mismatch(*rule, *premise, first_label(got)),
+        Cause::Mismatch { by: None, got } => Why::Unwanted(first_label(got)),
     }
 }
 
-/// The label of the stuck goal's subject, the length of the path and its first step, and the cause
-/// in short.
-fn stuck(blame: &Blame) -> (u32, usize, usize, u64) {
-    let step = match blame.path.steps.get(0) {
-        Some(step) => *step,
-        None => 9,
-    };
-    (
-        first_label(&blame.goal.inputs),
-        blame.path.steps.len(),
-        step,
-        short_cause(&blame.cause),
-    )
+/// The blame in short.
+fn stuck_goal(blame: &Blame) -> Stuck {
+    Stuck {
+        subject: first_label(&blame.goal.inputs),
+        steps: blame.path.steps.len(),
+        first: blame.path.steps.first().copied(),
+        why: cause_in_short(&blame.cause),
+    }
 }
 
-/// The answer in numbers.
-fn told(answered: &Result<Derived, DeriveError>) -> Told {
+/// The answer in short.
+fn in_short(answered: &Result<Derived, DeriveError>) -> Told {
     match answered {
-        Ok(it) => (0, (rule_of(&it.proof), 0, 0, 0)),
-        Err(DeriveError::Underivable(blame)) => (1, stuck(blame)),
-        Err(DeriveError::BudgetSpent(tries)) => (2, (0, 0, 0, *tries)),
-        Err(DeriveError::DepthSpent(depth)) => (3, (*depth, 0, 0, 0)),
-        Err(_) => (4, (0, 0, 0, 0)),
+        Ok(it) => last_step(&it.proof),
+        Err(DeriveError::Underivable(blame)) => Told::Stuck(stuck_goal(blame)),
+        Err(DeriveError::BudgetSpent(tries)) => Told::TriesSpent(*tries),
+        Err(DeriveError::DepthSpent(depth)) => Told::DepthSpent(*depth),
+        Err(_) => Told::Other,
     }
 }
 
@@ -122,7 +143,7 @@ fn derive_with<L: Ledger>(
     let mut steps = Steps::<L>::new(blank);
     let answered = derive(alloc, rules, &given, goal, wanted, budget, &mut steps);
     drop(given);
-    let told = told(&answered);
+    let told = in_short(&answered);
     drop(answered);
     told
 }
@@ -167,7 +188,7 @@ fn derive_from<L: Ledger>(
 {
     let mut steps = Steps::<L>::new(blank);
     let answered = derive(alloc, rules, given, goal, None, budget, &mut steps);
-    let told = told(&answered);
+    let told = in_short(&answered);
     drop(answered);
     told
 }

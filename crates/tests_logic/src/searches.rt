@@ -5,7 +5,7 @@ ghost use Rattle.sx_rules.specs.Views.{hypotheses};
 ghost use Rattle.sx_rules.specs.Derivations.{ShallowJudgements};
 ghost use Rattle.sx_arena.specs.Entered.{ArePairsShallow};
 
-use crate::asking::{Told, answer, answer_from, answer_wanted};
+use crate::asking::{Stuck, Told, Why, answer, answer_from, answer_wanted};
 use crate::samples::{OTHER_Z, PAIR, W, Z, rules};
 use crate::terms::{judgement, one_term};
 use std::alloc::Global;
@@ -42,23 +42,23 @@ fn by_rules(
 fn finds_a_pair(rt: HostRuntime) {
     let alloc = rt.alloc();
     let told = by_rules(alloc, (Z, W, PAIR), "(3 (0) (1))", 6);
-    assert!(rt; told == Some((0, (2, 0, 0, 0))));
+    assert!(rt; told == Some(Told::By(2)));
 }
 
 #[test]
 fn spends_the_tries(rt: HostRuntime) {
     let alloc = rt.alloc();
     let told = by_rules(alloc, (Z, W, PAIR), "(3 (0) (1))", 5);
-    assert!(rt; told == Some((2, (0, 0, 0, 5))));
+    assert!(rt; told == Some(Told::TriesSpent(5)));
 }
 
 #[test]
 fn spends_the_depth(rt: HostRuntime) {
     let alloc = rt.alloc();
     let deep = by_rules(alloc, (LOOP, Z, PAIR), "(0)", 3000);
-    assert!(rt; deep == Some((3, (3000, 0, 0, 0))));
+    assert!(rt; deep == Some(Told::DepthSpent(3000)));
     let spent = by_rules(alloc, (LOOP, Z, PAIR), "(0)", 2999);
-    assert!(rt; spent == Some((2, (0, 0, 0, 2999))));
+    assert!(rt; spent == Some(Told::TriesSpent(2999)));
 }
 
 /// What is answered where the term 0 is to have this type, by the rules that give it two types.
@@ -79,25 +79,31 @@ fn wanting(alloc: Global, output: &str) -> Option<Told> {
 #[test]
 fn finds_the_wanted_output(rt: HostRuntime) {
     let alloc = rt.alloc();
-    assert!(rt; wanting(alloc, "(4)") == Some((0, (0, 0, 0, 0))));
-    assert!(rt; wanting(alloc, "(5)") == Some((0, (1, 0, 0, 0))));
-    assert!(rt; wanting(alloc, "(0)") == Some((1, (0, 0, 9, 34))));
+    assert!(rt; wanting(alloc, "(4)") == Some(Told::By(0)));
+    assert!(rt; wanting(alloc, "(5)") == Some(Told::By(1)));
+    let unwanted = Stuck {
+        subject: Some(0),
+        steps: 0,
+        first: None,
+        why: Why::Unwanted(Some(4)),
+    };
+    assert!(rt; wanting(alloc, "(0)") == Some(Told::Stuck(unwanted)));
 }
 
 #[test]
 fn goes_back_to_another_output(rt: HostRuntime) {
     let alloc = rt.alloc();
     let found = by_rules(alloc, (OTHER_Z, Z, PAIR), "(3 (0) (0))", 6);
-    assert!(rt; found == Some((0, (2, 0, 0, 0))));
+    assert!(rt; found == Some(Told::By(2)));
     let spent = by_rules(alloc, (OTHER_Z, Z, PAIR), "(3 (0) (0))", 5);
-    assert!(rt; spent == Some((2, (0, 0, 0, 5))));
+    assert!(rt; spent == Some(Told::TriesSpent(5)));
 }
 
 #[test]
 fn lexemes_that_are_apart(rt: HostRuntime) {
     let alloc = rt.alloc();
     let told = by_rules(alloc, (PAIR, APART, W), "(0)", 9);
-    assert!(rt; told == Some((0, (1, 0, 0, 0))));
+    assert!(rt; told == Some(Told::By(1)));
 }
 
 /// The hypothesis that the term 0 has the type 5.
@@ -132,5 +138,5 @@ fn given_one(alloc: Global) -> Option<Told> {
 
 #[test]
 fn takes_a_hypothesis_before_a_rule(rt: HostRuntime) {
-    assert!(rt; given_one(rt.alloc()) == Some((0, (9, 0, 0, 0))));
+    assert!(rt; given_one(rt.alloc()) == Some(Told::Given));
 }

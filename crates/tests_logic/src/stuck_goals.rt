@@ -1,6 +1,6 @@
 //! Which goal is stuck where nothing is derived, and why.
 
-use crate::asking::{Told, answer};
+use crate::asking::{Stuck, Told, Why, answer};
 use crate::samples::{PAIR, W, Z, rules};
 use std::alloc::Global;
 
@@ -19,15 +19,28 @@ fn by_pairs(alloc: Global, subject: &str, budget: u64) -> Option<Told> {
     told
 }
 
+/// What is told where no rule fits a goal for the term 2.
+fn no_rule(steps: usize, first: usize) -> Option<Told> {
+    Some(Told::Stuck(Stuck {
+        subject: Some(2),
+        steps,
+        first: Some(first),
+        why: Why::NoRule,
+    }))
+}
+
 #[test]
 fn places_of_stuck_goals(rt: HostRuntime) {
     let alloc = rt.alloc();
-    let second = by_pairs(alloc, "(3 (0) (2))", 9);
-    assert!(rt; second == Some((1, (2, 1, 1, 1))));
-    let first = by_pairs(alloc, "(3 (1) (0))", 6);
-    assert!(rt; first == Some((1, (1, 1, 0, 5))));
-    let below = by_pairs(alloc, "(3 (0) (3 (0) (2)))", 30);
-    assert!(rt; below == Some((1, (2, 2, 1, 1))));
+    assert!(rt; by_pairs(alloc, "(3 (0) (2))", 9) == no_rule(1, 1));
+    assert!(rt; by_pairs(alloc, "(3 (0) (3 (0) (2)))", 30) == no_rule(2, 1));
+    let first = Stuck {
+        subject: Some(1),
+        steps: 1,
+        first: Some(0),
+        why: Why::Mismatch(2, 0, Some(5)),
+    };
+    assert!(rt; by_pairs(alloc, "(3 (1) (0))", 6) == Some(Told::Stuck(first)));
 }
 
 /// What is answered for the term 1, where x and x would have to be apart.
@@ -40,5 +53,11 @@ fn never(alloc: Global) -> Option<Told> {
 
 #[test]
 fn equal_lexemes(rt: HostRuntime) {
-    assert!(rt; never(rt.alloc()) == Some((1, (1, 0, 9, 2))));
+    let equal = Stuck {
+        subject: Some(1),
+        steps: 0,
+        first: None,
+        why: Why::Equal(2, 0),
+    };
+    assert!(rt; never(rt.alloc()) == Some(Told::Stuck(equal)));
 }

@@ -22,13 +22,22 @@ then typing (3 ?0 ?1) (4)
 end
 ";
 
-/// The tries that led to a derivation; 0 where the search paused, and 1,000,000 where it did
-/// anything else.
-fn tries(found: &Result<Found, SearchError>) -> u64 {
+/// What a call of a search comes to.
+#[derive(Clone, Copy, PartialEq, Eq, Debug)]
+enum Call {
+    /// A derivation, after so many tries.
+    Found(u64),
+    /// The tries of the call are spent.
+    Paused,
+    /// No derivation is left, or another stop.
+    Over,
+}
+
+fn call_of(found: &Result<Found, SearchError>) -> Call {
     match found {
-        Ok(Found::Next(_, tries)) => *tries,
-        Ok(Found::Paused) => 0,
-        _ => 1_000_000,
+        Ok(Found::Next(_, tries)) => Call::Found(*tries),
+        Ok(Found::Paused) => Call::Paused,
+        _ => Call::Over,
     }
 }
 
@@ -39,7 +48,7 @@ fn three_calls<L: Ledger>(
     goal: Goal,
     budgets: (u64, u64, u64),
     blank: Blank,
-) -> Option<(u64, u64, u64)>
+) -> Option<[Call; 3]>
     requires name { blank.name ≡ L.name }
     requires parts { blank.parts ≡ L.parts }
     requires some { 0 < blank.parts }
@@ -52,16 +61,16 @@ fn three_calls<L: Ledger>(
         Ok(it) => {
             let mut search = it;
             let found = search.next(rules, &given, budgets.0, &mut steps);
-            let first = tries(&found);
+            let first = call_of(&found);
             drop(found);
             let found = search.next(rules, &given, budgets.1, &mut steps);
-            let second = tries(&found);
+            let second = call_of(&found);
             drop(found);
             let found = search.next(rules, &given, budgets.2, &mut steps);
-            let third = tries(&found);
+            let third = call_of(&found);
             drop(found);
             drop(search);
-            Some((first, second, third))
+            Some([first, second, third])
         }
     }
 }
@@ -72,13 +81,13 @@ fn calls(
     rules: &RuleSet,
     subject: &str,
     budgets: (u64, u64, u64),
-) -> Option<(u64, u64, u64)> {
+) -> Option<[Call; 3]> {
     let goal = goal(alloc, subject)?;
     three_calls::<Brand>(alloc, rules, goal, budgets, Blank::new(1))
 }
 
 /// What three calls for a pair of two terms come to.
-fn pair_calls(alloc: Global, budgets: (u64, u64, u64)) -> Option<(u64, u64, u64)> {
+fn pair_calls(alloc: Global, budgets: (u64, u64, u64)) -> Option<[Call; 3]> {
     let rules = rules(alloc, Z, W, PAIR)?;
     let told = calls(alloc, &rules, "(3 (0) (1))", budgets);
     drop(rules);
@@ -88,8 +97,8 @@ fn pair_calls(alloc: Global, budgets: (u64, u64, u64)) -> Option<(u64, u64, u64)
 #[test]
 fn goes_on_after_a_pause(rt: HostRuntime) {
     let alloc = rt.alloc();
-    assert!(rt; pair_calls(alloc, (6, 9, 9)) == Some((6, 1_000_000, 1_000_000)));
-    assert!(rt; pair_calls(alloc, (5, 1, 9)) == Some((0, 1, 1_000_000)));
+    assert!(rt; pair_calls(alloc, (6, 9, 9)) == Some([Call::Found(6), Call::Over, Call::Over]));
+    assert!(rt; pair_calls(alloc, (5, 1, 9)) == Some([Call::Paused, Call::Found(1), Call::Over]));
 }
 
 /// The text of a pair of this text with itself.
@@ -112,7 +121,7 @@ fn tree_text(alloc: Global, levels: usize) -> Result<Vec<u8>, NoMemory> {
 }
 
 /// What three calls for the type of a tree of six levels come to.
-fn tree_calls(alloc: Global, budgets: (u64, u64, u64)) -> Option<(u64, u64, u64)> {
+fn tree_calls(alloc: Global, budgets: (u64, u64, u64)) -> Option<[Call; 3]> {
     let bytes = tree_text(alloc, 6).ok()?;
     let text = Text::make(alloc, &bytes).ok()?;
     let rules = rules(alloc, Z, OTHER_Z, LOOSE_PAIR)?;
@@ -125,6 +134,10 @@ fn tree_calls(alloc: Global, budgets: (u64, u64, u64)) -> Option<(u64, u64, u64)
 #[test]
 fn the_first_of_very_many(rt: HostRuntime) {
     let alloc = rt.alloc();
-    assert!(rt; tree_calls(alloc, (253, 1, 3)) == Some((253, 1, 3)));
-    assert!(rt; tree_calls(alloc, (252, 1, 1)) == Some((0, 1, 1)));
+    assert!(rt;
+        tree_calls(alloc, (253, 1, 3)) == Some([Call::Found(253), Call::Found(1), Call::Found(3)])
+    );
+    assert!(rt;
+        tree_calls(alloc, (252, 1, 1)) == Some([Call::Paused, Call::Found(1), Call::Found(1)])
+    );
 }
