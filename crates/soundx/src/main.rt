@@ -3,21 +3,13 @@
 
 ghost use Rattle.std.specs.Prelude.{◌≡◌, ◌<◌};
 
-mod folder;
-mod input;
-mod output;
-mod words;
-
-use folder::Folder;
-use input::Input;
-use output::Output;
 use std::marker::Brand;
 use std::process::ExitCode;
 use std::sync::ledger::{Blank, Ledger};
+use sx_host::{ArgumentsError, Folder, Input, Output, read_arguments};
 use sx_outside::Sink;
 use sx_term::{Steps, Text};
 use sx_top::{Status, run};
-use words::{WordsError, read_words};
 
 /// Runs the words over the current folder, standard input and standard output.
 fn run_with<L: Ledger>(rt: &HostRuntime, words: &[Text], blank: Blank) -> Status
@@ -46,10 +38,10 @@ fn refuse_words(rt: &HostRuntime) -> Status {
 }
 
 fn main(rt: HostRuntime) -> ExitCode {
-    let status = match read_words(&rt) {
+    let status = match read_arguments(&rt) {
         Ok(words) => run_with::<Brand>(&rt, &words, Blank::new(1)),
-        Err(WordsError::Memory) => Status::NoMemory,
-        Err(WordsError::NoText) => refuse_words(&rt),
+        Err(ArgumentsError::Memory) => Status::NoMemory,
+        Err(ArgumentsError::NoText) => refuse_words(&rt),
     };
     ExitCode::from(status.code())
 }

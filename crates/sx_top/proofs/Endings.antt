@@ -127,7 +127,7 @@ kept : (command : Meant) (plan : Plan) (old new : Files) (made : ℕ) → Runs c
 kept (builds true name tries nodes audits) plan old new made runs is = build_promise name tries old new plan made runs is
 kept (builds false name tries nodes audits) plan old new made runs is = build_module_promise name tries old new plan made runs is
 kept (compiles name tries nodes audits) plan old new made runs is = absurd runs
-kept (checks name tries) plan old new made runs is = absurd runs
+kept (checks name tries nodes) plan old new made runs is = absurd runs
 kept (verifies true name) plan old new made runs is = verify_promise replayed_derives name old new plan runs.0 is
 kept (verifies false name) plan old new made runs is = absurd runs
 kept (samples number) plan old new made runs is = absurd runs

@@ -7,14 +7,14 @@ use Rattle.sx_steps.specs.Steps.{Untried}
 use Rattle.sx_steps.specs.Work.{Plan}
 use Rattle.sx_words.specs.Commands.{Meant, verifies}
 use Rattle.sx_words.proofs.FewLaws.{HasFew, spelled_few}
-use Rattle.sx_words.proofs.StageLaws.{modules}
+use Rattle.sx_words.proofs.StageLaws.{by_now as there_by_now}
 use Rattle.sx_top.specs.Commands.{by_now, Spelled, IsThere}
 use Rattle.sx_top.specs.Outcome.{Runs}
 use Rattle.sx_top.specs.VerifyCore.{VerifiesWhole}
 
 pub spelled_there : (words : List (List ℕ)) (command : Meant) → Spelled words command → IsThere command
 spelled_there words command spelled =
-    elim (modules words command spelled) [
+    elim (there_by_now words command spelled) [
       | inl built ↦ subst IsThere (sym built.is) (subst HasFew built.is (spelled_few by_now words command spelled))
       | inr verified ↦ subst IsThere (sym verified.is) tt
     ]

@@ -170,7 +170,7 @@ runs_final : (command : Meant) (files : Files) → FinalTrying (IsUntyped comman
 runs_final (builds true name tries nodes audits) files stop made h error = builds_final name tries files stop made h error
 runs_final (builds false name tries nodes audits) files stop made h error = module_errors_are_final name tries files stop made h error
 runs_final (compiles name tries nodes audits) files stop made h error = absurd h
-runs_final (checks name tries) files stop made h error = absurd h
+runs_final (checks name tries nodes) files stop made h error = absurd h
 runs_final (verifies true name) files stop made h error = verifies_final ⊥ name files stop h.0 error
 runs_final (verifies false name) files stop made h error = absurd h
 runs_final (samples number) files stop made h error = absurd h

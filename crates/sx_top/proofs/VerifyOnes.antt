@@ -131,7 +131,7 @@ module _ (core_one : (bytes : List ℕ) (a b : Result Problem CoreFileError) →
   runs_one (builds true name tries nodes audits) files kept x y a b h k n m = builds_one name tries files x y a b h k n m
   runs_one (builds false name tries nodes audits) files kept x y a b h k n m = absurd kept
   runs_one (compiles name tries nodes audits) files kept x y a b h k n m = absurd h
-  runs_one (checks name tries) files kept x y a b h k n m = absurd h
+  runs_one (checks name tries nodes) files kept x y a b h k n m = absurd h
   runs_one (verifies true name) files kept x y a b h k n m = trying_one NoTries (VerifiesWhole name files) no_tries_one (verifies_one name files) x y a b h k n m
   runs_one (verifies false name) files kept x y a b h k n m = absurd h
   runs_one (samples number) files kept x y a b h k n m = absurd h
@@ -146,7 +146,7 @@ module _ (core_one : (bytes : List ℕ) (a b : Result Problem CoreFileError) →
   runs_nearly (builds true name tries nodes audits) files x y a b h k n m = let one = builds_one name tries files x y a b h k n m in (answers_near x y one.0, one.1)
   runs_nearly (builds false name tries nodes audits) files x y a b h k n m = builds_nearly name tries files x y a b h k n m
   runs_nearly (compiles name tries nodes audits) files x y a b h k n m = absurd h
-  runs_nearly (checks name tries) files x y a b h k n m = absurd h
+  runs_nearly (checks name tries nodes) files x y a b h k n m = absurd h
   runs_nearly (verifies true name) files x y a b h k n m = trying_nearly NoTries (VerifiesWhole name files) no_tries_one (nearly (VerifiesWhole name files) (verifies_one name files)) x y a b h k n m
   runs_nearly (verifies false name) files x y a b h k n m = absurd h
   runs_nearly (samples number) files x y a b h k n m = absurd h

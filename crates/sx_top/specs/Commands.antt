@@ -2,13 +2,13 @@
 use Rattle.std.specs.Prelude.{◌≡◌, ℕ, ◌≤◌, true, List, Result, Ok, Err}
 use Rattle.sx_words.specs.Commands.{Meant, builds, verifies, SpellsAt, IsMisfitAt}
 use Rattle.sx_words.specs.declared.stage.Stage.{Stage}
-use Rattle.sx_words.specs.declared.stage.Stage.TheVariants.{Modules}
+use Rattle.sx_words.specs.declared.stage.Stage.TheVariants.{Now}
 use Rattle.sx_steps.specs.declared.stop.Stop.{Stop}
 use Rattle.sx_steps.specs.Refusal.{bad_word}
 
 -- the commands that there are by now: `build` and `build --core`, with `--tries`, and `verify --core`
 abbrev pub by_now : Stage
-by_now = Modules
+by_now = Now
 
 -- the words spell the command, of those that there are by now
 abbrev pub Spelled : List (List ℕ) → Meant → Type 0

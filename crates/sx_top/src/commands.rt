@@ -15,7 +15,7 @@ use sx_words::{Command, Defect, FileDefect, Stage, WordsError, read_words_at};
 fn by_now() -> Stage
     ensures { result ≡ stage_by_now }
 {
-    Stage::Modules
+    Stage::Now
 }
 
 /// The refusal of words that are no command.

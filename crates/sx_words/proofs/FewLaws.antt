@@ -29,7 +29,7 @@ none_within = omega arith
 abbrev pub HasFew : Meant → Type 0
 HasFew (builds of_core name most_tries most_nodes audits) = most_tries ≤ 1000000
 HasFew (compiles name most_tries most_nodes audits) = Unit {0}
-HasFew (checks name most_tries) = Unit {0}
+HasFew (checks name most_tries most_nodes) = Unit {0}
 HasFew (verifies of_core name) = Unit {0}
 HasFew (samples number) = Unit {0}
 

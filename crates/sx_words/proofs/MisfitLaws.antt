@@ -6,7 +6,7 @@ use Rattle.std.proofs.lemmas.Bool.{and_parts}
 use Rattle.sx_lines.specs.Words.{after, is_name}
 use Rattle.sx_words.specs.declared.command.Command.{Command}
 use Rattle.sx_words.specs.declared.stage.Stage.{Stage}
-use Rattle.sx_words.specs.declared.stage.Stage.TheVariants.{CoreGoals, CoreFiles, Modules, Whole}
+use Rattle.sx_words.specs.declared.stage.Stage.TheVariants.{Now, Whole}
 use Rattle.sx_words.specs.declared.verb.Verb.{Verb}
 use Rattle.sx_words.specs.declared.verb.Verb.TheVariants.{Build, Compile, Check, Verify}
 use Rattle.sx_words.specs.declared.words_error.WordsError.{WordsError}
@@ -43,45 +43,35 @@ Opens stage verb s = (may_end stage verb s ≡ true) ⊎ ((may_end stage verb s 
 -- with an option more too
 opens_more : (stage : Stage) (verb : Verb) (place : ℕ) (s : Settings) (option : Given) → takes stage verb option ≡ true → Opens stage verb s → Opens stage verb (with_option place s option)
 unfolding with_option is_new
-opens_more CoreGoals verb place s core t h = inl refl
-opens_more CoreGoals verb place s (tries n) t h = absurd cc
-opens_more CoreGoals verb place s (nodes n) t h = absurd cc
-opens_more CoreGoals verb place s (audit kind setting) t h = absurd cc
-opens_more CoreFiles verb place s core t h = inl refl
-opens_more CoreFiles verb place s (tries n) t h = h
-opens_more CoreFiles verb place s (nodes n) t h = absurd cc
-opens_more CoreFiles verb place s (audit kind setting) t h = absurd cc
-opens_more Modules Build place s option t h = inl refl
-opens_more Modules Compile place s core t h = absurd cc
-opens_more Modules Compile place s (tries n) t h = h
-opens_more Modules Compile place s (nodes n) t h = absurd cc
-opens_more Modules Compile place s (audit kind setting) t h = absurd cc
-opens_more Modules Check place s core t h = absurd cc
-opens_more Modules Check place s (tries n) t h = h
-opens_more Modules Check place s (nodes n) t h = absurd cc
-opens_more Modules Check place s (audit kind setting) t h = absurd cc
-opens_more Modules Verify place s core t h = inl refl
-opens_more Modules Verify place s (tries n) t h = absurd cc
-opens_more Modules Verify place s (nodes n) t h = absurd cc
-opens_more Modules Verify place s (audit kind setting) t h = absurd cc
-opens_more Whole verb place s option t h = inl refl
+opens_more Now Build place s option t h = inl refl
+opens_more Now Compile place s core t h = absurd cc
+opens_more Now Compile place s (tries n) t h = absurd cc
+opens_more Now Compile place s (nodes n) t h = absurd cc
+opens_more Now Compile place s (audit kind setting) t h = absurd cc
+opens_more Now Check place s core t h = absurd cc
+opens_more Now Check place s (tries n) t h = absurd cc
+opens_more Now Check place s (nodes n) t h = absurd cc
+opens_more Now Check place s (audit kind setting) t h = absurd cc
+opens_more Now Verify place s core t h = inl refl
+opens_more Now Verify place s (tries n) t h = absurd cc
+opens_more Now Verify place s (nodes n) t h = absurd cc
+opens_more Now Verify place s (audit kind setting) t h = absurd cc
+opens_more Whole Build place s option t h = inl refl
+opens_more Whole Compile place s option t h = inl refl
+opens_more Whole Check place s option t h = inl refl
+opens_more Whole Verify place s option t h = inl refl
 
 -- at first
 opens_first : (stage : Stage) (verb : Verb) → has_verb stage verb ≡ true → Opens stage verb nothing_said
 unfolding is_new
-opens_first CoreGoals Build t = inr (refl, refl, refl)
-opens_first CoreGoals Compile t = absurd cc
-opens_first CoreGoals Check t = absurd cc
-opens_first CoreGoals Verify t = absurd cc
-opens_first CoreFiles Build t = inr (refl, refl, refl)
-opens_first CoreFiles Compile t = absurd cc
-opens_first CoreFiles Check t = absurd cc
-opens_first CoreFiles Verify t = inr (refl, refl, refl)
-opens_first Modules Build t = inl refl
-opens_first Modules Compile t = absurd cc
-opens_first Modules Check t = absurd cc
-opens_first Modules Verify t = inr (refl, refl, refl)
-opens_first Whole verb t = inl refl
+opens_first Now Build t = inl refl
+opens_first Now Compile t = absurd cc
+opens_first Now Check t = absurd cc
+opens_first Now Verify t = inr (refl, refl, refl)
+opens_first Whole Build t = inl refl
+opens_first Whole Compile t = inl refl
+opens_first Whole Check t = inl refl
+opens_first Whole Verify t = inl refl
 
 some_name : is_name false (codes "A") ≡ true
 unfolding is_name
@@ -103,13 +93,14 @@ core_begins = refl
 
 core_ends : (stage : Stage) (verb : Verb) (place : ℕ) (s : Settings) → may_end stage verb (with_option place s core) ≡ true
 unfolding with_option
-core_ends CoreGoals verb place s = refl
-core_ends CoreFiles verb place s = refl
-core_ends Modules Build place s = refl
-core_ends Modules Compile place s = refl
-core_ends Modules Check place s = refl
-core_ends Modules Verify place s = refl
-core_ends Whole verb place s = refl
+core_ends Now Build place s = refl
+core_ends Now Compile place s = refl
+core_ends Now Check place s = refl
+core_ends Now Verify place s = refl
+core_ends Whole Build place s = refl
+core_ends Whole Compile place s = refl
+core_ends Whole Check place s = refl
+core_ends Whole Verify place s = refl
 
 core_read : (stage : Stage) (verb : Verb) (place : ℕ) (s : Settings) → takes stage verb core ≡ true → is_new s core ≡ true
     → after_verb stage verb place s (codes "--core" ∷ codes "A" ∷ []) ≡ Ok (meant verb (with_option place s core) (codes "A"))
@@ -253,15 +244,11 @@ misfit stage words n h = record {
 }
 
 build_there : (stage : Stage) → has_verb stage Build ≡ true
-build_there CoreGoals = refl
-build_there CoreFiles = refl
-build_there Modules = refl
+build_there Now = refl
 build_there Whole = refl
 
 build_takes : (stage : Stage) → takes stage Build core ≡ true
-build_takes CoreGoals = refl
-build_takes CoreFiles = refl
-build_takes Modules = refl
+build_takes Now = refl
 build_takes Whole = refl
 
 core_new : is_new nothing_said core ≡ true

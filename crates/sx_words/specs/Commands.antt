@@ -4,7 +4,8 @@ use Rattle.std.specs.List.{AllByRecursion}
 use Rattle.std.specs.Str.{bytes_eq}
 use Rattle.sx_lines.specs.Words.{is_name}
 use Rattle.sx_words.specs.declared.stage.Stage.{Stage}
-use Rattle.sx_words.specs.declared.stage.Stage.TheVariants.{CoreGoals, CoreFiles, Modules, Whole}
+use Rattle.sx_words.specs.declared.stage.Stage.TheVariants.{Now, Whole}
+use Rattle.sx_words.specs.declared.row.Row.{Row}
 use Rattle.sx_words.specs.declared.verb.Verb.{Verb}
 use Rattle.sx_words.specs.declared.verb.Verb.TheVariants.{Build, Compile, Check, Verify}
 
@@ -32,7 +33,7 @@ pub record Settings : Type 0 where
 pub data Meant : Type 0 where
   builds : Bool → List ℕ → ℕ → ℕ → List AuditWord → Meant
   compiles : List ℕ → ℕ → ℕ → List AuditWord → Meant
-  checks : List ℕ → ℕ → Meant
+  checks : List ℕ → ℕ → ℕ → Meant
   verifies : Bool → List ℕ → Meant
   samples : ℕ → Meant
 
@@ -66,62 +67,37 @@ IsGiven (tries n) = (1 ≤ n) × (n ≤ 1000000)
 IsGiven (nodes n) = (1 ≤ n) × (n ≤ 1000000)
 IsGiven (audit kind setting) = NoColon kind
 
--- ---- what there is by now
+-- ---- what there is
 
--- the command is there
-abbrev pub has_verb : Stage → Verb → Bool
-has_verb CoreGoals Build = true
-has_verb CoreGoals verb = false
-has_verb CoreFiles Build = true
-has_verb CoreFiles Verify = true
-has_verb CoreFiles verb = false
-has_verb Modules Build = true
-has_verb Modules Verify = true
-has_verb Modules verb = false
-has_verb Whole verb = true
-
--- the option is there
-abbrev pub has_option : Stage → Given → Bool
-has_option CoreGoals core = true
-has_option CoreGoals option = false
-has_option CoreFiles core = true
-has_option CoreFiles (tries n) = true
-has_option CoreFiles option = false
-has_option Modules core = true
-has_option Modules (tries n) = true
-has_option Modules option = false
-has_option Whole option = true
-
--- the command is there for modules: where it is not, it is on a core file
-abbrev pub has_modules : Stage → Verb → Bool
-has_modules CoreGoals verb = false
-has_modules CoreFiles verb = false
-has_modules Modules Build = true
-has_modules Modules verb = false
-has_modules Whole verb = true
+-- The table of what there is: whether a command is there for modules, and which options it takes. Of a command that is not there, nothing.
+abbrev pub row : Stage → Verb → Row
+row Now Build = record { modules = true; core = true; tries = true; nodes = false; audits = false }
+row Now Verify = record { modules = false; core = true; tries = false; nodes = false; audits = false }
+row Now verb = record { modules = false; core = false; tries = false; nodes = false; audits = false }
+row Whole Build = record { modules = true; core = true; tries = true; nodes = true; audits = true }
+row Whole Compile = record { modules = true; core = false; tries = true; nodes = true; audits = true }
+row Whole Check = record { modules = true; core = false; tries = true; nodes = true; audits = false }
+row Whole Verify = record { modules = true; core = true; tries = false; nodes = false; audits = false }
 
 -- `sample` is there
 abbrev pub has_sample : Stage → Bool
-has_sample CoreGoals = false
-has_sample CoreFiles = false
-has_sample Modules = false
+has_sample Now = false
 has_sample Whole = true
 
--- ---- which options a command takes
+-- the row has the option
+abbrev pub has_option : Row → Given → Bool
+has_option r core = r.core
+has_option r (tries n) = r.tries
+has_option r (nodes n) = r.nodes
+has_option r (audit kind setting) = r.audits
 
--- the option goes with the command
-abbrev pub goes_with : Verb → Given → Bool
-goes_with Build option = true
-goes_with Compile core = false
-goes_with Compile option = true
-goes_with Check (tries n) = true
-goes_with Check option = false
-goes_with Verify core = true
-goes_with Verify option = false
+-- the command is there, for modules or for core files
+abbrev pub has_verb : Stage → Verb → Bool
+has_verb stage verb = (row stage verb).modules || (row stage verb).core
 
 -- the command takes the option
 abbrev pub takes : Stage → Verb → Given → Bool
-takes stage verb option = has_option stage option && goes_with verb option
+takes stage verb option = has_option (row stage verb) option
 
 -- an auditor of the kind is named
 abbrev pub has_kind : List AuditWord → List ℕ → Bool
@@ -166,7 +142,7 @@ MayStand stage verb place s (option ∷ options) =
 
 -- the name may come: `--core` stands, or the command is there for modules
 abbrev pub may_end : Stage → Verb → Settings → Bool
-may_end stage verb s = has_modules stage verb || s.core
+may_end stage verb s = (row stage verb).modules || s.core
 
 -- what is not said of tries and nodes is 1,000,000
 abbrev pub or_most : Option ℕ → ℕ
@@ -176,7 +152,7 @@ or_most n = unwrap_or n 1000000
 unfoldable pub meant : Verb → Settings → List ℕ → Meant
 meant Build s name = builds s.core name (or_most s.tries) (or_most s.nodes) s.audits
 meant Compile s name = compiles name (or_most s.tries) (or_most s.nodes) s.audits
-meant Check s name = checks name (or_most s.tries)
+meant Check s name = checks name (or_most s.tries) (or_most s.nodes)
 meant Verify s name = verifies s.core name
 
 -- ---- which words spell a command

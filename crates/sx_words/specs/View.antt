@@ -22,7 +22,7 @@ audit_view a = record { kind = a.kind; setting = a.setting; word = a.word }
 abbrev pub command_view : Command → Meant
 command_view (command.Build of_core name most_tries most_nodes audits) = builds of_core name most_tries most_nodes (map audit_view audits.items)
 command_view (command.Compile name most_tries most_nodes audits) = compiles name most_tries most_nodes (map audit_view audits.items)
-command_view (command.Check name most_tries) = checks name most_tries
+command_view (command.Check name most_tries most_nodes) = checks name most_tries most_nodes
 command_view (command.Verify of_core name) = verifies of_core name
 command_view (command.Sample n) = samples n
 

@@ -25,6 +25,7 @@ pub enum Command {
     Check {
         name: Text,
         tries: u64,
+        nodes: u64,
     },
     /// Replays the written files of a module, or with `core` of a core file.
     Verify {

@@ -18,6 +18,7 @@ mod place;
 mod print_defect;
 mod reading;
 mod refusal;
+mod row;
 mod rule_defect;
 mod stage;
 mod text_defect;

@@ -10,6 +10,7 @@ ghost use Rattle.std.specs.Str.{IsUtf8};
 use crate::audit::Audit;
 use crate::command::Command;
 use crate::given::{Given, option_of};
+use crate::row::row_of;
 use crate::stage::Stage;
 use crate::verb::Verb;
 use indexmap::IndexSet;
@@ -54,53 +55,18 @@ impl Options {
     }
 }
 
-/// Whether the option is there.
-fn has_option(stage: Stage, option: &Given<'_>) -> bool
-    ensures { result ≡ spec.has_option stage (given_view option.now) }
-{
-    match stage {
-        Stage::CoreGoals => matches!(option, Given::Core),
-        Stage::CoreFiles | Stage::Modules => matches!(option, Given::Core | Given::Tries(_)),
-        Stage::Whole => true,
-    }
-}
-
-/// Whether the command is there for modules: where it is not, it is on a core file.
-fn has_modules(stage: Stage, verb: Verb) -> bool
-    ensures { result ≡ spec.has_modules stage verb }
-{
-    match stage {
-        Stage::CoreGoals => false,
-        Stage::CoreFiles => false,
-        Stage::Modules => matches!(verb, Verb::Build),
-        Stage::Whole => true,
-    }
-}
-
 /// Whether the name may come after what was said.
 pub(crate) fn may_end(stage: Stage, verb: Verb, said: &Options) -> bool
     ensures { result ≡ spec.may_end stage verb (settings_view said.now) }
 {
-    has_modules(stage, verb) || said.core
-}
-
-/// Whether the option goes with the command.
-fn goes_with(verb: Verb, option: &Given<'_>) -> bool
-    ensures { result ≡ spec.goes_with verb (given_view option.now) }
-{
-    match verb {
-        Verb::Build => true,
-        Verb::Compile => !matches!(option, Given::Core),
-        Verb::Check => matches!(option, Given::Tries(_)),
-        Verb::Verify => matches!(option, Given::Core),
-    }
+    row_of(stage, verb).modules || said.core
 }
 
 /// Whether the command takes the option.
 fn takes(stage: Stage, verb: Verb, option: &Given<'_>) -> bool
     ensures { result ≡ spec.takes stage verb (given_view option.now) }
 {
-    has_option(stage, option) && goes_with(verb, option)
+    row_of(stage, verb).has_option(option)
 }
 
 /// Whether the option may stand after what was said.
@@ -237,7 +203,7 @@ pub(crate) fn command(
         }),
         Verb::Check => {
             drop(audits);
-            Ok(Command::Check { name, tries })
+            Ok(Command::Check { name, tries, nodes })
         }
         Verb::Verify => {
             drop(audits);

@@ -11,6 +11,7 @@ ghost use Rattle.sx_words.specs.View.{command_view, settings_view, Refuses, IsAn
 use crate::command::Command;
 use crate::given::count_of;
 use crate::options::{Options, command, may_end, option_after, say};
+use crate::row::row_of;
 use crate::stage::Stage;
 use crate::verb::Verb;
 use crate::words_error::WordsError;
@@ -129,23 +130,15 @@ fn verb_named(word: &[u8]) -> Option<Verb>
 fn has_verb(stage: Stage, verb: Verb) -> bool
     ensures { result ≡ command.has_verb stage verb }
 {
-    match stage {
-        Stage::CoreGoals => matches!(verb, Verb::Build),
-        Stage::CoreFiles | Stage::Modules => matches!(verb, Verb::Build | Verb::Verify),
-        Stage::Whole => true,
-    }
+    let row = row_of(stage, verb);
+    row.modules || row.core
 }
 
 /// Whether `sample` is there.
 fn has_sample(stage: Stage) -> bool
     ensures { result ≡ command.has_sample stage }
 {
-    match stage {
-        Stage::CoreGoals => false,
-        Stage::CoreFiles => false,
-        Stage::Modules => false,
-        Stage::Whole => true,
-    }
+    matches!(stage, Stage::Whole)
 }
 
 /// The command that a word is, where it is there.
@@ -200,7 +193,7 @@ fn command_of(alloc: Global, stage: Stage, words: &[Text]) -> Result<Command, Wo
 /// name.
 ///
 /// The first word is `build`, `compile`, `check`, `verify` or `sample`. Then come options, in any order and each at most
-/// once: `--tries=N` of `build`, `compile` and `check`; `--nodes=N` and `--audit=KIND:SETTING`, once for each kind, of
+/// once: `--tries=N` and `--nodes=N` of `build`, `compile` and `check`; `--audit=KIND:SETTING`, once for each kind, of
 /// `build` and `compile`; `--core` of `build` and `verify`, not with `--nodes` and `--audit`. The last word is a name, or
 /// for `sample` a number from 1 to 300. N is a number from 1 to 1,000,000 without a leading zero.
 ///

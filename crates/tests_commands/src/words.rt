@@ -70,12 +70,14 @@ fn words_of_commands(rt: HostRuntime) {
         misfit(alloc, b"Build Main"),
         misfit(alloc, b"build Main"),
         misfit(alloc, b"build Main --core"),
-        misfit(alloc, b"check --nodes=1 Let"),
+        misfit(alloc, b"check --tries=1 --nodes=1 Let"),
+        misfit(alloc, b"check --core Let"),
+        misfit(alloc, b"check --audit=deny:R Let"),
         misfit(alloc, b"verify --core One"),
         misfit(alloc, b"verify 1One"),
         misfit(alloc, b"verify One-Two"),
     ];
-    assert_eq!(rt; places, [2, 1, 0, 3, 2, 0, 2, 2]);
+    assert_eq!(rt; places, [2, 1, 0, 3, 0, 2, 2, 0, 2, 2]);
 }
 
 #[test]
@@ -117,38 +119,9 @@ fn words_of_a_sample(rt: HostRuntime) {
 }
 
 #[test]
-fn words_of_goals(rt: HostRuntime) {
+fn words_by_now(rt: HostRuntime) {
     let alloc = rt.alloc();
-    let stage = Stage::CoreGoals;
-    let places = [
-        misfit_at(alloc, stage, b"build --core One"),
-        misfit_at(alloc, stage, b"verify One"),
-        misfit_at(alloc, stage, b"sample 1"),
-        misfit_at(alloc, stage, b"build One"),
-        misfit_at(alloc, stage, b"build --core --tries=5 One"),
-        misfit_at(alloc, stage, b"build --core One Two"),
-    ];
-    assert_eq!(rt; places, [0, 1, 1, 2, 3, 4]);
-}
-
-#[test]
-fn words_of_core_files(rt: HostRuntime) {
-    let alloc = rt.alloc();
-    let stage = Stage::CoreFiles;
-    let places = [
-        misfit_at(alloc, stage, b"build --tries=5 --core One"),
-        misfit_at(alloc, stage, b"verify --core One"),
-        misfit_at(alloc, stage, b"verify One"),
-        misfit_at(alloc, stage, b"build --tries=5 One"),
-        misfit_at(alloc, stage, b"build --core --nodes=5 One"),
-    ];
-    assert_eq!(rt; places, [0, 0, 2, 3, 3]);
-}
-
-#[test]
-fn words_of_modules(rt: HostRuntime) {
-    let alloc = rt.alloc();
-    let stage = Stage::Modules;
+    let stage = Stage::Now;
     let places = [
         misfit_at(alloc, stage, b"build Main"),
         misfit_at(alloc, stage, b"build --tries=5 Main"),
@@ -158,10 +131,13 @@ fn words_of_modules(rt: HostRuntime) {
         misfit_at(alloc, stage, b"verify --tries=5 Main"),
         misfit_at(alloc, stage, b"build --nodes=5 Main"),
         misfit_at(alloc, stage, b"build --audit=deny:R Main"),
+        misfit_at(alloc, stage, b"build --core --core One"),
+        misfit_at(alloc, stage, b"build --core One Two"),
         misfit_at(alloc, stage, b"build Main --tries=5"),
         misfit_at(alloc, stage, b"compile Main"),
+        misfit_at(alloc, stage, b"sample 1"),
     ];
-    assert_eq!(rt; places, [0, 0, 0, 0, 2, 2, 2, 2, 3, 1]);
+    assert_eq!(rt; places, [0, 0, 0, 0, 2, 2, 2, 2, 3, 4, 3, 1, 1]);
 }
 
 /// Whether the auditor is that of the test.

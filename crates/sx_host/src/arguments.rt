@@ -6,20 +6,21 @@ use sx_term::Text;
 
 /// Why there are no words.
 #[derive(Clone, Copy, PartialEq, Eq, Debug)]
-pub enum WordsError {
+pub enum ArgumentsError {
+    /// Memory is lacking.
     Memory,
-    /// A word is no text.
+    /// A word is no UTF-8, so no text.
     NoText,
 }
 
-/// The command line without the program's name.
-pub fn read_words(rt: &HostRuntime) -> Result<Vec<Text>, WordsError> {
+/// The words of the command line, without the program's name.
+pub fn read_arguments(rt: &HostRuntime) -> Result<Vec<Text>, ArgumentsError> {
     let args = match env::args(rt) {
         Ok(args) => args,
         Err(e) => {
             return Err(match e.kind() {
-                ErrorKind::OutOfMemory => WordsError::Memory,
-                _ => WordsError::NoText,
+                ErrorKind::OutOfMemory => ArgumentsError::Memory,
+                _ => ArgumentsError::NoText,
             });
         }
     };
@@ -28,10 +29,10 @@ pub fn read_words(rt: &HostRuntime) -> Result<Vec<Text>, WordsError> {
         if number > 0 {
             let text = match Text::make(rt.alloc(), word.as_bytes()) {
                 Ok(text) => text,
-                Err(_) => return Err(WordsError::Memory),
+                Err(_) => return Err(ArgumentsError::Memory),
             };
             if words.push(text).is_err() {
-                return Err(WordsError::Memory);
+                return Err(ArgumentsError::Memory);
             }
         }
     }
