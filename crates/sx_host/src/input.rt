@@ -5,6 +5,9 @@ ghost use Rattle.std.specs.Prelude.{◌≡◌, None};
 use std::io::Read;
 use sx_outside::{Source, TakeAnswer};
 
+/// The most bytes that are taken at once.
+const MOST_TAKEN: usize = 4096;
+
 /// Standard input, with how many takes have failed.
 #[derive(Drop)]
 pub struct Input<'a> {
@@ -28,9 +31,14 @@ impl<'a> Source for Input<'a> {
         if into.is_empty() {
             return TakeAnswer::Took(0);
         }
-        match self.rt.stdin().read(into) {
+        let mut bytes = [0u8; MOST_TAKEN];
+        let most = into.len().min(MOST_TAKEN);
+        match self.rt.stdin().read(&mut bytes[..most]) {
             Ok(0) => TakeAnswer::End,
-            Ok(count) => TakeAnswer::Took(count),
+            Ok(count) => {
+                into[..count].copy_from_slice(&bytes[..count]);
+                TakeAnswer::Took(count)
+            }
             Err(_) => {
                 self.failed = self.failed.saturating_add(1);
                 TakeAnswer::Failed
