@@ -1,8 +1,9 @@
 -- The greatest levels that are asked for, and the least levels of productions.
-use Rattle.std.proofs.Common.{◌≡◌, ℕ, zero, suc, ◌<◌, ◌≤◌, List, [], ◌∷◌, length, set, max, min, drop, get_or, ◌↔◌, map, Some, sym, refl, ap, ◌∙◌, subst, arith, ◌⊎◌, inl, inr, ⊎_elim, Contains}
+use Rattle.std.proofs.Common.{◌≡◌, ℕ, zero, suc, ◌<◌, ◌≤◌, List, [], ◌∷◌, length, ◌++◌, set, max, min, take, drop, get_or, ◌↔◌, map, Some, sym, refl, ap, ◌∙◌, subst, arith, ◌⊎◌, inl, inr, ⊎_elim, Contains}
 use Rattle.std.specs.Prelude.{slice_get, slice_index_or, None, option_map}
 use Rattle.std.proofs.lemmas.Bool.{cases_eq, cases_lt}
-use Rattle.std.proofs.lemmas.List.{length-set, get_or-set_same, get_or-set_other, at_drop_all, length-map}
+use Rattle.std.proofs.Math.Seq.{take-append_seam}
+use Rattle.std.proofs.lemmas.List.{length-set, get_or-set_same, get_or-set_other, length-map}
 use Rattle.std.proofs.lemmas.Option.{slice_get-map, slice_get_within, slice_get_read, get_or_from_slice_get}
 use Rattle.sx_grammar.specs.declared.symbol.Symbol.TheVariants as Named
 use Rattle.sx_grammar.specs.declared.sort_line.SortLine.{SortLine}
@@ -134,13 +135,20 @@ greatest_some v (p ∷ ps) sort below = ⊎_elim
     (λ found. inr (suc found.0, found.1, found.2, found.3, found.4))
     (greatest_some (raised_by v p.symbols.items) ps sort (after_parts v p ps below))
 
-pub greatest_is : (ps : List NumberedProduction) (v w : List ℕ) (n : ℕ) → HavePartsBelow (length v) ps → ((sort : ℕ) → slice_index_or v sort 0 ≡ 0) → greatest_after w (drop n ps) ≡ greatest_after v ps → length ps ≤ n → AreGreatest ps w
-greatest_is ps v w n below none same past =
-    let is : greatest_after v ps ≡ w = sym same ∙ at_drop_all (greatest_after w) ps n past in
-    subst (AreGreatest ps) is (record {
+pub greatest_is : (ps : List NumberedProduction) (v w : List ℕ) → HavePartsBelow (length v) ps → ((sort : ℕ) → slice_index_or v sort 0 ≡ 0) → w ≡ greatest_after v ps → AreGreatest ps w
+greatest_is ps v w below none same =
+    subst (AreGreatest ps) (sym same) (record {
       bound = λ sort least asks. greatest_bound v ps asks.0 asks.1 asks.2 sort least below asks.3 asks.4;
       some = λ sort. ⊎_elim (λ old. inl (old ∙ none sort)) (λ found. inr found) (greatest_some v ps sort below);
     })
+
+pub greatest_size : (v : List ℕ) (ps : List NumberedProduction) → length (greatest_after v ps) ≡ length v
+greatest_size v [] = refl
+greatest_size v (p ∷ ps) = greatest_size (raised_by v p.symbols.items) ps ∙ raised_by_size v p.symbols.items
+
+-- what is read after the front of a list is written anew, as far as the list goes
+pub written_all : (old new : List ℕ) (n : ℕ) → length new ≡ n → take n (new ++ drop (length new) old) ≡ new
+written_all old new n e = subst (λ m. take m (new ++ drop (length new) old) ≡ new) e (take-append_seam new (drop (length new) old))
 
 lowered_size : (v : List ℕ) (p : NumberedProduction) → length (lowered v p) ≡ length v
 lowered_size v p = length-set v p.sort (min (slice_index_or v p.sort 255) p.level)
@@ -184,13 +192,16 @@ least_some v (p ∷ ps) sort below = ⊎_elim
     (λ found. inr (suc found.0, found.1, found.2, found.3, found.4))
     (least_some (lowered v p) ps sort (after_sorts v p ps below))
 
-pub least_is : (ps : List NumberedProduction) (v w : List ℕ) (n : ℕ) → HaveSortsBelow (length v) ps → ((sort : ℕ) → slice_index_or v sort 255 ≡ 255) → least_after w (drop n ps) ≡ least_after v ps → length ps ≤ n → AreLeast ps w
-least_is ps v w n below none same past =
-    let is : least_after v ps ≡ w = sym same ∙ at_drop_all (least_after w) ps n past in
-    subst (AreLeast ps) is (record {
+pub least_is : (ps : List NumberedProduction) (v w : List ℕ) → HaveSortsBelow (length v) ps → ((sort : ℕ) → slice_index_or v sort 255 ≡ 255) → w ≡ least_after v ps → AreLeast ps w
+least_is ps v w below none same =
+    subst (AreLeast ps) (sym same) (record {
       bound = λ sort level has. subst (λ s. slice_index_or (least_after v ps) s 255 ≤ level) has.3 (subst (λ l. slice_index_or (least_after v ps) has.1.sort 255 ≤ l) has.4 (least_bound v ps has.0 has.1 below has.2));
       some = λ sort. ⊎_elim (λ old. inl (old ∙ none sort)) (λ found. inr found) (least_some v ps sort below);
     })
+
+pub least_size : (v : List ℕ) (ps : List NumberedProduction) → length (least_after v ps) ≡ length v
+least_size v [] = refl
+least_size v (p ∷ ps) = least_size (lowered v p) ps ∙ lowered_size v p
 
 -- sorts and parts have numbers of sort lines
 names_length : (p : Parts) → length (names p) ≡ length p.sorts

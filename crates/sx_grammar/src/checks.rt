@@ -20,6 +20,7 @@ pub(crate) fn good_literals(alloc: Global, from: &GrammarParts) -> Result<Vec<&T
 {
     let texts = literals(alloc, from)?;
     if let Some(text) = first_bad(&texts) {
+        drop(texts);
         return Err(GrammarError::BadLiteral(text.copy(alloc)?));
     }
     Ok(texts)
@@ -33,7 +34,9 @@ pub(crate) fn good_sorts(alloc: Global, from: &GrammarParts) -> Result<Names, Gr
     ensures refused { IfErr result (IsRefused (parts from.now)) }
 {
     let list = names(alloc, from)?;
-    match number(alloc, &list)? {
+    let numbering = number(alloc, &list);
+    drop(list);
+    match numbering? {
         Numbering::Distinct(known) => Ok(known),
         Numbering::Again(name) => Err(GrammarError::SameSort(name.copy(alloc)?)),
     }
@@ -51,7 +54,9 @@ pub(crate) fn known_sorts(
     ensures refused { IfErr result (IsRefused (parts from.now)) }
 {
     let named = sorts_named(alloc, from)?;
-    if let Some(name) = first_unknown(known, &named) {
+    let unknown = first_unknown(known, &named);
+    drop(named);
+    if let Some(name) = unknown {
         return Err(GrammarError::UnknownSort(name.copy(alloc)?));
     }
     Ok(())
@@ -64,8 +69,13 @@ pub(crate) fn good_labels(alloc: Global, from: &GrammarParts) -> Result<(), Gram
     ensures refused { IfErr result (IsRefused (parts from.now)) }
 {
     let list = labels(alloc, from)?;
-    match number(alloc, &list)? {
-        Numbering::Distinct(_) => Ok(()),
+    let numbering = number(alloc, &list);
+    drop(list);
+    match numbering? {
+        Numbering::Distinct(known) => {
+            drop(known);
+            Ok(())
+        }
         Numbering::Again(label) => Err(GrammarError::SameLabel(label.copy(alloc)?)),
     }
 }

@@ -41,9 +41,13 @@ pub(crate) fn number<'a>(alloc: Global, list: &[&'a Text]) -> Result<Numbering<'
     let mut names = Names::new(alloc);
     for text in list {
         if names.number(text.bytes()).is_some() {
+            drop(names);
             return Ok(Numbering::Again(*text));
         }
-        names.push(alloc, text.bytes())?;
+        if let Err(e) = names.push(alloc, text.bytes()) {
+            drop(names);
+            return Err(e);
+        }
     }
     Ok(Numbering::Distinct(names))
 }

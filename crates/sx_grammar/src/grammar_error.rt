@@ -1,35 +1,42 @@
 //! Why parts are no grammar.
 
 use std::alloc::{AllocError, AllocFailed};
+use std::fmt;
 use sx_term::{NoMemory, Text};
 use thiserror::Error;
 
 /// Want of memory, or the first refusal that holds of the parts.
-#[derive(Debug, Drop, Error)]
+#[derive(Drop, Error)]
 pub enum GrammarError {
     #[error("out of memory")]
     Memory,
     /// The text is a literal or a bracket, and neither a word nor symbol characters without `//`.
-    #[error("bad literal {0:?}")]
+    #[error("a bad literal")]
     BadLiteral(Text),
     /// Two sorts have the name.
-    #[error("two sorts {0:?}")]
+    #[error("a sort stands twice")]
     SameSort(Text),
     /// The name is not that of a sort.
-    #[error("no sort {0:?}")]
+    #[error("a name is not that of a sort")]
     UnknownSort(Text),
     /// Two productions have the label.
-    #[error("two productions {0:?}")]
+    #[error("a label stands twice")]
     SameLabel(Text),
     /// The production with this label is of a plain sort and has a typed part.
-    #[error("plain production {0:?} has a typed part")]
+    #[error("a plain production has a typed part")]
     PlainHasTyped(Text),
     /// A part asks for a level of the sort above that of one of its productions, and the sort has no brackets.
-    #[error("no brackets of sort {0:?}")]
+    #[error("a sort has no brackets")]
     NoBrackets(Text),
     /// The sort derives itself.
-    #[error("sort {0:?} derives itself")]
+    #[error("a sort derives itself")]
     Cyclic(Text),
+}
+
+impl fmt::Debug for GrammarError {
+    fn fmt<W: fmt::Write>(&self, f: &mut fmt::Formatter<W>) -> fmt::Result {
+        fmt::Display::fmt(self, f)
+    }
 }
 
 impl From<AllocError> for GrammarError {

@@ -26,6 +26,27 @@ fn raise(levels: &mut [u8], symbols: &[NumberedSymbol])
     }
 }
 
+/// The same to those that the symbols of the productions ask for.
+fn raise_all(levels: &mut [u8], productions: &[NumberedProduction])
+    requires { HavePartsBelow (length levels.old) productions.now }
+    ensures { levels.new ≡ greatest_after levels.old productions.now }
+{
+    for production in productions {
+        raise(levels, &production.symbols);
+    }
+}
+
+/// Lowers the least level of each sort to those of its productions.
+fn lower_all(levels: &mut [u8], productions: &[NumberedProduction])
+    requires { HaveSortsBelow (length levels.old) productions.now }
+    ensures { levels.new ≡ least_after levels.old productions.now }
+{
+    for production in productions {
+        let i = production.sort as usize;
+        levels[i] = levels[i].min(production.level);
+    }
+}
+
 /// The level, for each sort.
 fn all_at(alloc: Global, level: u8, sorts: usize) -> Result<Vec<u8>, AllocError>
     ensures size { IfOk result (λ v. length v.items ≡ sorts) }
@@ -45,9 +66,7 @@ fn greatest_levels(
     ensures greatest { IfOk result (λ v. AreGreatest productions.now v.items) }
 {
     let mut levels = all_at(alloc, 0, sorts)?;
-    for production in productions {
-        raise(&mut levels, &production.symbols);
-    }
+    raise_all(&mut levels, productions);
     Ok(levels)
 }
 
@@ -62,10 +81,7 @@ fn least_levels(
     ensures least { IfOk result (λ v. AreLeast productions.now v.items) }
 {
     let mut levels = all_at(alloc, 255, sorts)?;
-    for production in productions {
-        let i = production.sort as usize;
-        levels[i] = levels[i].min(production.level);
-    }
+    lower_all(&mut levels, productions);
     Ok(levels)
 }
 

@@ -66,6 +66,24 @@ fn names_of(alloc: Global, from: &GrammarParts) -> Result<(Vec<&Text>, Names), G
     }
 }
 
+/// The ranks of the sorts; or a plain production with a typed part, a sort without brackets or a cyclic sort.
+fn ranks_of(
+    alloc: Global,
+    from: &GrammarParts,
+    productions: &[NumberedProduction],
+) -> Result<Vec<u32>, GrammarError>
+    requires labels { HasLabels (parts from.now) }
+    requires numbered { AreNumbered (parts from.now) productions.now }
+    requires limits { IsWithinLimits (parts from.now) }
+    ensures good { OnOk result (IsGrammar (parts from.now)) }
+    ensures ranking { IfOk result (λ v. AreRanks (numbered (parts from.now)) v.items) }
+    ensures refused { IfErr result (IsRefused (parts from.now)) }
+{
+    keeps_sorts(alloc, from, productions)?;
+    has_brackets(alloc, from, productions)?;
+    not_cyclic(alloc, from, productions)
+}
+
 /// The productions with numbers, and the ranks of the sorts; or a plain production with a typed part, a sort without brackets or a cyclic sort.
 fn productions_of(
     alloc: Global,
@@ -84,10 +102,13 @@ fn productions_of(
     ensures refused { IfErr result (IsRefused (parts from.now)) }
 {
     let productions = number_productions(alloc, sorts, literals, &from.productions)?;
-    keeps_sorts(alloc, from, &productions)?;
-    has_brackets(alloc, from, &productions)?;
-    let ranks = not_cyclic(alloc, from, &productions)?;
-    Ok((productions, ranks))
+    match ranks_of(alloc, from, &productions) {
+        Ok(ranks) => Ok((productions, ranks)),
+        Err(e) => {
+            drop(productions);
+            Err(e)
+        }
+    }
 }
 
 /// What is numbered of the parts of a grammar.

@@ -1,8 +1,8 @@
 //! The shapes of productions.
 
-ghost use Rattle.std.specs.Prelude.{◌≡◌, IfOk, slice_get, map};
+ghost use Rattle.std.specs.Prelude.{◌≡◌, ◌++◌, IfOk, OnOk, slice_get, map};
 ghost use Rattle.sx_term.specs.Shapes.{shape};
-ghost use Rattle.sx_grammar.specs.Told.{is_typed, sort_with, numbered_shape};
+ghost use Rattle.sx_grammar.specs.Told.{is_typed, sort_with, numbered_kids, numbered_shape};
 
 use crate::numbered::{NumberedProduction, NumberedSymbol};
 use crate::sort_line::SortLine;
@@ -30,17 +30,30 @@ pub(crate) fn sort_with(sorts: &[SortLine], number: u32) -> Sort
     Sort::Plain(number)
 }
 
+/// Adds the sort of the symbol, which a literal does not have.
+fn put_kid(
+    sorts: &[SortLine],
+    symbol: &NumberedSymbol,
+    kids: &mut Vec<Sort>,
+) -> Result<(), NoMemory>
+    ensures { OnOk result (kids.new.items ≡ kids.old.items ++ numbered_kids sorts.now symbol.now) }
+{
+    let kid = match symbol {
+        NumberedSymbol::Lit(_) => return Ok(()),
+        NumberedSymbol::Lex(kind) => Sort::Lex(*kind),
+        NumberedSymbol::Part { sort, least: _ } => sort_with(sorts, *sort),
+    };
+    kids.push(kid)?;
+    Ok(())
+}
+
 /// The constructor that the production is.
 fn con(alloc: Global, sorts: &[SortLine], production: &NumberedProduction) -> Result<Con, NoMemory>
     ensures { IfOk result (λ c. shape c ≡ numbered_shape sorts.now production.now) }
 {
     let mut kids = Vec::new(alloc);
     for symbol in &production.symbols {
-        match symbol {
-            NumberedSymbol::Lit(_) => {}
-            NumberedSymbol::Lex(kind) => kids.push(Sort::Lex(*kind))?,
-            NumberedSymbol::Part { sort, least: _ } => kids.push(sort_with(sorts, *sort))?,
-        }
+        put_kid(sorts, symbol, &mut kids)?;
     }
     Ok(Con {
         sort: sort_with(sorts, production.sort),

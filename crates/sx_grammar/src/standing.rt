@@ -1,12 +1,22 @@
 //! The literals and names of a grammar's parts as they stand.
 
-ghost use Rattle.std.specs.Prelude.{◌≡◌, ◌++◌, map, flat_map, OnOk, IfOk};
-ghost use Rattle.sx_grammar.specs.Parts.{parts, names, labels, literals, sorts_named, symbol_literals, symbol_sorts, bracket_literals, texts};
+ghost use Rattle.std.specs.Prelude.{◌≡◌, [], ◌∷◌, ◌++◌, map, flat_map, OnOk, IfOk};
+ghost use Rattle.sx_grammar.specs.Parts.{parts, line, names, labels, literals, sorts_named, symbol_literals, symbol_sorts, bracket_literals, texts};
 
 use crate::grammar_parts::GrammarParts;
+use crate::production::Production;
+use crate::sort_line::SortLine;
 use crate::symbol::Symbol;
 use std::alloc::{AllocError, Global};
 use sx_term::Text;
+
+/// Adds the text.
+fn put<'a>(text: &'a Text, out: &mut Vec<&'a Text>) -> Result<(), AllocError>
+    ensures { OnOk result (texts out.new.items ≡ texts out.old.items ++ text.now ∷ []) }
+{
+    out.push(text)?;
+    Ok(())
+}
 
 /// Adds the literals among the symbols.
 fn add_literals<'a>(symbols: &'a [Symbol], out: &mut Vec<&'a Text>) -> Result<(), AllocError>
@@ -14,7 +24,7 @@ fn add_literals<'a>(symbols: &'a [Symbol], out: &mut Vec<&'a Text>) -> Result<()
 {
     for symbol in symbols {
         if let Symbol::Lit(text) = symbol {
-            out.push(text)?;
+            put(text, out)?;
         }
     }
     Ok(())
@@ -26,7 +36,7 @@ fn add_sorts<'a>(symbols: &'a [Symbol], out: &mut Vec<&'a Text>) -> Result<(), A
 {
     for symbol in symbols {
         if let Symbol::Part { sort, least: _ } = symbol {
-            out.push(sort)?;
+            put(sort, out)?;
         }
     }
     Ok(())
@@ -40,8 +50,31 @@ fn add_brackets<'a>(
     ensures { OnOk result (texts out.new.items ≡ texts out.old.items ++ bracket_literals brackets.now) }
 {
     if let Some((opening, closing)) = brackets {
-        out.push(opening)?;
-        out.push(closing)?;
+        put(opening, out)?;
+        put(closing, out)?;
+    }
+    Ok(())
+}
+
+/// Adds the literals of the bracket pairs of the sorts.
+fn add_brackets_of<'a>(sorts: &'a [SortLine], out: &mut Vec<&'a Text>) -> Result<(), AllocError>
+    ensures { OnOk result (texts out.new.items ≡ texts out.old.items ++ flat_map (λ s. bracket_literals s.brackets) sorts.now) }
+{
+    for sort in sorts {
+        add_brackets(&sort.brackets, out)?;
+    }
+    Ok(())
+}
+
+/// Adds the literals of the productions.
+fn add_literals_of<'a>(
+    productions: &'a [Production],
+    out: &mut Vec<&'a Text>,
+) -> Result<(), AllocError>
+    ensures { OnOk result (texts out.new.items ≡ texts out.old.items ++ flat_map (λ r. flat_map symbol_literals r.symbols) (map line productions.now)) }
+{
+    for production in productions {
+        add_literals(&production.symbols, out)?;
     }
     Ok(())
 }
@@ -51,12 +84,8 @@ pub(crate) fn literals(alloc: Global, from: &GrammarParts) -> Result<Vec<&Text>,
     ensures { IfOk result (λ v. texts v.items ≡ literals (parts from.now)) }
 {
     let mut out = Vec::new(alloc);
-    for sort in &from.sorts {
-        add_brackets(&sort.brackets, &mut out)?;
-    }
-    for production in &from.productions {
-        add_literals(&production.symbols, &mut out)?;
-    }
+    add_brackets_of(&from.sorts, &mut out)?;
+    add_literals_of(&from.productions, &mut out)?;
     Ok(out)
 }
 
@@ -66,7 +95,7 @@ pub(crate) fn sorts_named(alloc: Global, from: &GrammarParts) -> Result<Vec<&Tex
 {
     let mut out = Vec::new(alloc);
     for production in &from.productions {
-        out.push(&production.sort)?;
+        put(&production.sort, &mut out)?;
         add_sorts(&production.symbols, &mut out)?;
     }
     Ok(out)
@@ -78,7 +107,7 @@ pub(crate) fn names(alloc: Global, from: &GrammarParts) -> Result<Vec<&Text>, Al
 {
     let mut out = Vec::new(alloc);
     for sort in &from.sorts {
-        out.push(&sort.name)?;
+        put(&sort.name, &mut out)?;
     }
     Ok(out)
 }
@@ -89,7 +118,7 @@ pub(crate) fn labels(alloc: Global, from: &GrammarParts) -> Result<Vec<&Text>, A
 {
     let mut out = Vec::new(alloc);
     for production in &from.productions {
-        out.push(&production.label)?;
+        put(&production.label, &mut out)?;
     }
     Ok(out)
 }

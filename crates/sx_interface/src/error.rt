@@ -1,25 +1,32 @@
 //! Why a header or an interface is refused.
 
 use std::alloc::{AllocError, AllocFailed};
+use std::fmt;
 use sx_lines::NoLine;
 use sx_term::NoMemory;
 use thiserror::Error;
 
 /// Why a header or an interface is refused.
-#[derive(Debug, Drop, Error)]
+#[derive(Drop, Error)]
 pub enum HeaderError {
     /// Memory is lacking.
     #[error("out of memory")]
     Memory,
     /// The bytes are not UTF-8: how many bytes stand before the first bad sequence.
-    #[error("not UTF-8 at byte {0}")]
+    #[error("not UTF-8")]
     NotUtf8(usize),
     /// The number of the first line that is not as defined, or 1 more than the number of lines where one is missing.
-    #[error("line {0}: bad header")]
+    #[error("a bad line")]
     Header(u32),
     /// The number of another version, in the first line of an interface.
-    #[error("version {0}")]
+    #[error("another version")]
     Version(u64),
+}
+
+impl fmt::Debug for HeaderError {
+    fn fmt<W: fmt::Write>(&self, f: &mut fmt::Formatter<W>) -> fmt::Result {
+        fmt::Display::fmt(self, f)
+    }
 }
 
 impl From<AllocError> for HeaderError {

@@ -18,7 +18,7 @@ use sx_lines::Rest;
 use sx_term::Text;
 
 /// The header of a module file.
-#[derive(Debug, Drop)]
+#[derive(Drop)]
 pub struct Header {
     /// The module's name.
     pub name: Text,

@@ -4,7 +4,7 @@ use crate::marks::Digest;
 use sx_term::Text;
 
 /// An import, with the digest of its interface file.
-#[derive(Debug, Drop)]
+#[derive(Drop)]
 pub struct ImportMark {
     /// The import's name.
     pub name: Text,
@@ -13,7 +13,7 @@ pub struct ImportMark {
 }
 
 /// What importers read of a module.
-#[derive(Debug, Drop)]
+#[derive(Drop)]
 pub struct Interface {
     /// The module's name.
     pub module: Text,

@@ -11,10 +11,10 @@ pub enum CoreError {
     Memory,
     /// No core text stands at the place. The byte with this number, from 0, is the first that can't stand where it does; it is the
     /// number of bytes where the text is cut off.
-    #[error("bad core text at byte {0}")]
+    #[error("a bad core text")]
     BadCore(usize),
     /// A core text stands there, of a term with this depth, which is more than 1,000.
-    #[error("depth {0} is over 1000")]
+    #[error("a core text is too deep")]
     TooDeep(u64),
 }
 

@@ -10,10 +10,10 @@ pub enum TermError {
     #[error("out of memory")]
     Memory,
     /// The instance has this depth, which is more than 1,000.
-    #[error("depth {0} is over 1000")]
+    #[error("a term is too deep")]
     TooDeep(u32),
     /// The instance has so many nodes, lexemes and variables, which are more than 1,000,000. The number stays at the greatest u64.
-    #[error("a term has {0} nodes, over 1000000")]
+    #[error("a term has too many nodes")]
     TooBig(u64),
 }
 

@@ -10,7 +10,7 @@ pub enum TextError {
     #[error("out of memory")]
     Memory,
     /// The bytes are not UTF-8: so many of them stand before the first bad sequence.
-    #[error("not UTF-8 at byte {0}")]
+    #[error("not UTF-8")]
     NotUtf8(usize),
 }
 

@@ -20,7 +20,7 @@ loop-text-preserved c =
     let at = text_at c.args.list.now n c.text-item.result c.loop-text-test.true c.text-item.is in
     let new = new_here x c.loop-text.names c.number.result
     (subst (λ t. MatchOption c.number.result (¬ (Contains c.loop-text.names t)) (λ i. slice_get c.loop-text.names i ≡ Some t)) c.bytes.ensures.value c.number.ensures.exact) (sym c.is_some.ensures ∙ c.if-is_some.false) in
-    let pushed = c.in_ok-push.ensures ∙ ap (λ t. c.loop-text.names ++ t ∷ []) c.bytes-in-loop-text.ensures.value in
+    let pushed = c.in_default.ensures ∙ ap (λ t. c.loop-text.names ++ t ∷ []) c.bytes-in-loop-text.ensures.value in
     record {
       same = pushed ∙ ap (λ l. l ++ x ∷ []) c.loop-text.invariant.same ∙ sym (take_seam (texts c.args.list.now) n x at);
       distinct = subst AreDistinct (sym pushed) (distinct_push c.loop-text.names x c.loop-text.invariant.distinct new);
