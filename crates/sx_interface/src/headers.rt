@@ -1,11 +1,12 @@
 //! Headers of module files.
 
-ghost use Rattle.std.specs.Prelude.{◌≡◌, [], ◌+◌, ◌-◌, ◌^◌, ◌<◌, ◌≤◌, length, drop, IfOk, Ok, IfErr, IfSome};
+ghost use Rattle.std.specs.Prelude.{◌≡◌, [], ◌+◌, ◌-◌, ◌^◌, ◌<◌, ◌≤◌, length, drop, IfOk, Ok, IfErr, IfSome, true, false};
 ghost use Rattle.sx_lines.specs.FirstBad.{IsFirstBad};
 ghost use Rattle.sx_interface.specs.Headers.{HeaderParts};
 ghost use Rattle.sx_interface.specs.StatedHeader.{StatesHeader};
 ghost use Rattle.std.specs.Str.{IsUtf8};
 ghost use Rattle.sx_lines.specs.Lines.{lines_from};
+ghost use Rattle.sx_lines.specs.Words.{is_name};
 ghost use Rattle.sx_lines.specs.Reading.{Gives, kept};
 ghost use Rattle.sx_interface.specs.Headers as spec;
 ghost use Rattle.sx_interface.specs.HeaderView.{parts_view, rows_view, header_view};
@@ -13,6 +14,7 @@ ghost use Rattle.sx_interface.specs.Reading.{Refuses, RefusesText, IsText, line_
 
 use crate::error::HeaderError;
 use crate::rows::{end_line, module_line, name_row, name_rows};
+use crate::texts::name_text;
 use std::alloc::Global;
 use sx_lines::Rest;
 use sx_term::Text;
@@ -51,15 +53,16 @@ fn read_rows<'a>(
     bytes: &'a [u8],
     uses: &mut Vec<Text>,
     imports: &mut Vec<Text>,
-) -> Result<(Text, Rest<'a>), HeaderError>
+) -> Result<(&'a [u8], Rest<'a>), HeaderError>
     requires numbered { length bytes.now + 1 < 2 ^ 32 }
     requires uses { uses.old.items ≡ [] }
     requires imports { imports.old.items ≡ [] }
-    ensures { Gives (λ x. rows_view name.now x.0 uses.new.items imports.new.items x.1.bytes.now x.1.number) Refuses result
+    ensures rows { Gives (λ x. rows_view name.now x.0.now uses.new.items imports.new.items x.1.bytes.now x.1.number) Refuses result
         (spec.header_of name.now (kept (lines_from 1 bytes.entry.now))) }
+    ensures named { IfOk result (λ x. is_name false x.0.now ≡ true) }
 {
     let rest = module_line(name.bytes(), Rest::all(bytes))?;
-    let (language, rest) = name_row(alloc, b"language ", rest)?;
+    let (language, rest) = name_row(b"language ", rest)?;
     let rest = name_rows(alloc, b"use ", rest, uses)?;
     let rest = name_rows(alloc, b"import ", rest, imports)?;
     let body = end_line(rest)?;
@@ -74,12 +77,19 @@ fn header_parts<'a>(alloc: Global, name: &Text, bytes: &'a [u8]) -> Result<Parts
     let mut uses = Vec::new(alloc);
     let mut imports = Vec::new(alloc);
     match read_rows(alloc, name, bytes, &mut uses, &mut imports) {
-        Ok((language, body)) => Ok(Parts {
-            language,
-            uses,
-            imports,
-            body,
-        }),
+        Ok((language, body)) => match name_text(alloc, language) {
+            Ok(language) => Ok(Parts {
+                language,
+                uses,
+                imports,
+                body,
+            }),
+            Err(_) => {
+                drop(imports);
+                drop(uses);
+                Err(HeaderError::Memory)
+            }
+        },
         Err(e) => {
             drop(imports);
             drop(uses);

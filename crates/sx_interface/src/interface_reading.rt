@@ -14,7 +14,8 @@ ghost use Rattle.sx_lines.specs.Reading.{Gives, the_line, next_line, no_line};
 ghost use Rattle.sx_lines.specs.Rows.{distinct_rows};
 ghost use Rattle.sx_interface.specs.Interfaces as spec;
 ghost use Rattle.sx_interface.specs.Interfaces.{Mark};
-ghost use Rattle.sx_interface.specs.InterfaceView.{mark_view, marks_view, pair_view, rows_view, interface_view};
+ghost use Rattle.sx_interface.specs.InterfaceView.{marks_view, pair_view, rows_view, interface_view};
+ghost use Rattle.sx_interface.specs.declared.error.HeaderError.TheVariants.{Memory};
 ghost use Rattle.sx_interface.specs.Reading.{Refuses, RefusesText, IsText, AnswersVersion, line_of};
 
 use crate::error::HeaderError;
@@ -25,7 +26,7 @@ use crate::rows::is_row;
 use crate::texts::{name_text, utf8_text};
 use std::alloc::Global;
 use sx_lines::{Rest, after, is_name, number_within, split_word};
-use sx_term::Text;
+use sx_term::{NoMemory, Text};
 
 /// What is left after the line with this text.
 #[tactic(auto, unfolding(sx_lines::specs::Reading::the_line))]
@@ -85,16 +86,14 @@ fn mark_after<'a>(text: &'a [u8], front: &[u8]) -> Option<(&'a [u8], Digest)>
 
 /// The name and the digest in the next row, and what is left after it.
 #[tactic(auto, unfolding(sx_lines::specs::Reading::next_line))]
-fn language_row<'a>(alloc: Global, rest: Rest<'a>) -> Result<(ImportMark, Rest<'a>), HeaderError>
-    ensures line { Gives (λ x. (mark_view x.0, left x.1)) Refuses result (next_line (spec.mark_after (codes "language ")) (left rest.entry)) }
+fn language_row<'a>(rest: Rest<'a>) -> Result<((&'a [u8], Digest), Rest<'a>), HeaderError>
+    ensures line { Gives (λ x. (pair_view x.0, left x.1)) Refuses result (next_line (spec.mark_after (codes "language ")) (left rest.entry)) }
+    ensures named { IfOk result (λ x. is_name false x.0.0.now ≡ true) }
     ensures utf8 { IsUtf8 rest.entry.bytes.now → IfOk result (λ x. IsUtf8 x.1.bytes.now) }
 {
     let (line, more) = rest.next()?;
     match mark_after(line.text, b"language ") {
-        Some((name, digest)) => {
-            let name = name_text(alloc, name)?;
-            Ok((ImportMark { name, digest }, more))
-        }
+        Some(mark) => Ok((mark, more)),
         None => Err(HeaderError::Header(line.number)),
     }
 }
@@ -173,12 +172,13 @@ fn import_rows<'a>(
 
 /// The text of the next line, and what is left after it.
 #[tactic(auto, unfolding(sx_lines::specs::Reading::next_line))]
-fn signature_line<'a>(alloc: Global, rest: Rest<'a>) -> Result<(Text, Rest<'a>), HeaderError>
+fn signature_line<'a>(rest: Rest<'a>) -> Result<(&'a [u8], Rest<'a>), HeaderError>
     requires { IsUtf8 rest.bytes.now }
-    ensures { Gives (λ x. (x.0, left x.1)) Refuses result (next_line Some (left rest.entry)) }
+    ensures line { Gives (λ x. (x.0.now, left x.1)) Refuses result (next_line Some (left rest.entry)) }
+    ensures utf8 { IfOk result (λ x. IsUtf8 x.0.now) }
 {
     let (line, more) = rest.next()?;
-    Ok((utf8_text(alloc, line.text)?, more))
+    Ok((line.text, more))
 }
 
 /// That no line is left.
@@ -192,29 +192,85 @@ fn end(rest: Rest<'_>) -> Result<(), HeaderError>
     }
 }
 
-/// The language, the digest of the base file and the signature that lines state, with the marks of the imports.
+/// The language with its digest, the digest of the base file and the signature that lines state, with the marks of the imports.
 #[tactic(auto, unfolding(crate::specs::Interfaces::interface_of))]
-fn read_rows(
+fn read_rows<'a>(
     alloc: Global,
     name: &Text,
-    bytes: &[u8],
+    bytes: &'a [u8],
     imports: &mut Vec<ImportMark>,
-) -> Result<(ImportMark, Digest, Text), HeaderError>
+) -> Result<((&'a [u8], Digest), Digest, &'a [u8]), HeaderError>
     requires numbered { length bytes.now + 1 < 2 ^ 32 }
     requires utf8 { IsUtf8 bytes.now }
     requires imports { imports.old.items ≡ [] }
-    ensures { Gives (λ x. rows_view name.now (mark_view x.0) x.1.bytes (marks_view imports.new.items) x.2) Refuses result
-        (spec.interface_of name.now (lines_from 1 bytes.now)) }
+    ensures rows { Gives (λ x. rows_view name.now (pair_view x.0) x.1.bytes (marks_view imports.new.items) x.2.now) Refuses result
+        (spec.interface_of name.now (lines_from 1 bytes.entry.now)) }
+    ensures named { IfOk result (λ x. is_name false x.0.0.now ≡ true) }
+    ensures utf8 { IfOk result (λ x. IsUtf8 x.2.now) }
 {
     let rest = exact_line(b"sxint 1", Rest::all(bytes))?;
     let rest = module_line(name.bytes(), rest)?;
-    let (language, rest) = language_row(alloc, rest)?;
+    let (language, rest) = language_row(rest)?;
     let (base_digest, rest) = base_row(rest)?;
     let rest = import_rows(alloc, rest, imports)?;
     let rest = exact_line(b"---", rest)?;
-    let (signature, rest) = signature_line(alloc, rest)?;
+    let (signature, rest) = signature_line(rest)?;
     end(rest)?;
     Ok((language, base_digest, signature))
+}
+
+/// The texts of a name and of bytes that are UTF-8.
+fn two_texts(alloc: Global, name: &[u8], bytes: &[u8]) -> Result<(Text, Text), NoMemory>
+    requires named { is_name false name.now ≡ true }
+    requires utf8 { IsUtf8 bytes.now }
+    ensures { IfOk result (λ x. x ≡ (name.now, bytes.now)) }
+{
+    let name = name_text(alloc, name)?;
+    match utf8_text(alloc, bytes) {
+        Ok(text) => Ok((name, text)),
+        Err(e) => {
+            drop(name);
+            Err(e)
+        }
+    }
+}
+
+/// The interface with these imports, of the name, the language, the digests and the signature.
+fn interface_with(
+    alloc: Global,
+    name: &Text,
+    language: (&[u8], Digest),
+    base_digest: Digest,
+    signature: &[u8],
+    imports: Vec<ImportMark>,
+) -> Result<Interface, HeaderError>
+    requires named { is_name false language.0.now ≡ true }
+    requires utf8 { IsUtf8 signature.now }
+    ensures good { IfOk result (λ it. interface_view it ≡ rows_view name.now (pair_view language.entry) base_digest.bytes (marks_view imports.items) signature.now) }
+    ensures refused { IfErr result (λ e. e ≡ Memory) }
+{
+    match two_texts(alloc, language.0, signature) {
+        Ok((text, signature)) => match name.copy(alloc) {
+            Ok(module) => Ok(Interface {
+                module,
+                language: text,
+                language_digest: language.1,
+                base_digest,
+                imports,
+                signature,
+            }),
+            Err(_) => {
+                drop(signature);
+                drop(text);
+                drop(imports);
+                Err(HeaderError::Memory)
+            }
+        },
+        Err(_) => {
+            drop(imports);
+            Err(HeaderError::Memory)
+        }
+    }
 }
 
 /// The interface that lines state.
@@ -225,22 +281,9 @@ fn interface(alloc: Global, name: &Text, bytes: &[u8]) -> Result<Interface, Head
 {
     let mut imports = Vec::new(alloc);
     match read_rows(alloc, name, bytes, &mut imports) {
-        Ok((language, base_digest, signature)) => match name.copy(alloc) {
-            Ok(module) => Ok(Interface {
-                module,
-                language: language.name,
-                language_digest: language.digest,
-                base_digest,
-                imports,
-                signature,
-            }),
-            Err(_) => {
-                drop(signature);
-                drop(language);
-                drop(imports);
-                Err(HeaderError::Memory)
-            }
-        },
+        Ok((language, base_digest, signature)) => {
+            interface_with(alloc, name, language, base_digest, signature, imports)
+        }
         Err(e) => {
             drop(imports);
             Err(e)

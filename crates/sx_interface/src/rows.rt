@@ -1,6 +1,6 @@
 //! The rows of headers and interfaces.
 
-ghost use Rattle.std.specs.Prelude.{◌≡◌, ℕ, ◌+◌, [], ◌∷◌, ◌++◌, List, codes, true, false, IfSome};
+ghost use Rattle.std.specs.Prelude.{◌≡◌, ℕ, ◌+◌, [], ◌∷◌, ◌++◌, List, codes, true, false, IfOk, IfSome};
 ghost use Rattle.std.specs.Option.{option_copied};
 ghost use Rattle.std.specs.Str.{bytes_eq};
 ghost use Rattle.sx_lines.specs.Left.{left};
@@ -57,16 +57,13 @@ pub fn module_line<'a>(name: &[u8], rest: Rest<'a>) -> Result<Rest<'a>, HeaderEr
 
 /// The name in the next row, and what is left after it.
 #[tactic(auto, unfolding(sx_lines::specs::Reading::next_line))]
-pub fn name_row<'a>(
-    alloc: Global,
-    front: &[u8],
-    rest: Rest<'a>,
-) -> Result<(Text, Rest<'a>), HeaderError>
-    ensures { Gives (λ x. (x.0, kept (left x.1))) Refuses result (next_line (spec.name_after front.now) (kept (left rest.entry))) }
+pub fn name_row<'a>(front: &[u8], rest: Rest<'a>) -> Result<(&'a [u8], Rest<'a>), HeaderError>
+    ensures row { Gives (λ x. (x.0.now, kept (left x.1))) Refuses result (next_line (spec.name_after front.now) (kept (left rest.entry))) }
+    ensures named { IfOk result (λ x. is_name false x.0.now ≡ true) }
 {
     let (line, more) = rest.next_kept()?;
     match name_after(line.text, front) {
-        Some(name) => Ok((name_text(alloc, name)?, more)),
+        Some(name) => Ok((name, more)),
         None => Err(HeaderError::Header(line.number)),
     }
 }
