@@ -11,7 +11,7 @@ pub enum ListError {
     Memory,
     /// The number of the first line that is not as defined, from 1; that of a line that is missing is 1 more than the number
     /// of lines.
-    #[error("line {0} is no line of a derivation list")]
+    #[error("a line is no line of a derivation list")]
     BadList(u32),
 }
 
