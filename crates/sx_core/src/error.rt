@@ -2,12 +2,13 @@
 
 use crate::kind::Kind;
 use std::alloc::AllocError;
+use std::fmt;
 use sx_rules::RuleError;
 use sx_term::NoMemory;
 use thiserror::Error;
 
 /// Why a core file is refused. Lines count from 1.
-#[derive(Debug, Drop, Error)]
+#[derive(Drop, Error)]
 pub enum CoreFileError {
     /// Memory is lacking.
     #[error("out of memory")]
@@ -24,6 +25,12 @@ pub enum CoreFileError {
     /// The rules of the file are no rule set.
     #[error("the rules are no rule set")]
     Rules(RuleError),
+}
+
+impl fmt::Debug for CoreFileError {
+    fn fmt<W: fmt::Write>(&self, f: &mut fmt::Formatter<W>) -> fmt::Result {
+        fmt::Display::fmt(self, f)
+    }
 }
 
 impl From<NoMemory> for CoreFileError {

@@ -20,15 +20,28 @@ use std::alloc::Global;
 use sx_lines::Rest;
 use sx_term::NoMemory;
 
+/// Adds the names of the lexical sorts to no names.
+fn add_lexical_names(alloc: Global, names: &mut Names) -> Result<(), NoMemory>
+    requires { names.old ≡ [] }
+    ensures { OnOk result (names.new ≡ sort_names []) }
+{
+    names.push(alloc, b"id")?;
+    names.push(alloc, b"num")?;
+    names.push(alloc, b"str")
+}
+
 /// The names of the lexical sorts.
 pub(crate) fn lexical_names(alloc: Global) -> Result<Names, NoMemory>
     ensures { IfOk result (λ names. names ≡ sort_names []) }
 {
     let mut names = Names::new(alloc);
-    names.push(alloc, b"id")?;
-    names.push(alloc, b"num")?;
-    names.push(alloc, b"str")?;
-    Ok(names)
+    match add_lexical_names(alloc, &mut names) {
+        Ok(()) => Ok(names),
+        Err(e) => {
+            drop(names);
+            Err(e)
+        }
+    }
 }
 
 /// The sort of the line, where it is that of a sort.
@@ -59,6 +72,7 @@ fn find_sort(alloc: Global, table: &mut SortTable, text: &[u8]) -> Result<(), No
     match line_sort(alloc, text)? {
         Some(row) => {
             if table.names.has(&row.name) {
+                drop(row);
                 return Ok(());
             }
             table.names.push(alloc, row.name.bytes())?;

@@ -4,7 +4,7 @@ use std::alloc::AllocFailed;
 use sx_term::NoMemory;
 
 /// Why a line is not taken: memory is lacking, or such a line may not stand there.
-#[derive(Debug, Drop)]
+#[derive(Drop)]
 pub(crate) enum StepError {
     Memory,
     Order,

@@ -9,7 +9,7 @@ use std::alloc::{AllocFailed, Global};
 use sx_term::{CoreError, NoMemory, Term, read_core};
 
 /// Why the rest of a line is no row of terms.
-#[derive(Debug, Drop)]
+#[derive(Drop)]
 pub enum RowError {
     Memory,
     Shape,
