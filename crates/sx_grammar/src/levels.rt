@@ -1,6 +1,7 @@
 //! Levels of sorts, and the brackets that they ask for.
 
-ghost use Rattle.std.specs.Prelude.{◌≡◌, ℕ, ◌<◌, ◌↔◌, length, slice_index_or, max, min, None, IsTrue, IfOk, OnOk, IfErr};
+ghost use Rattle.std.specs.Prelude.{◌≡◌, ℕ, List, ◌<◌, ◌↔◌, length, slice_index_or, max, min, None, IsTrue, IfOk, OnOk, IfErr};
+ghost use Rattle.sx_grammar.specs.declared.numbered.NumberedProduction.{NumberedProduction as ProductionOf};
 ghost use Rattle.sx_grammar.specs.Parts.{parts};
 ghost use Rattle.sx_grammar.specs.Tables.{AreNumbered};
 ghost use Rattle.sx_grammar.specs.Cycles.{HaveSortsBelow, HavePartsBelow};
@@ -97,16 +98,13 @@ fn lacks_brackets(sort: &SortLine, asked: u8, least: u8) -> bool
 fn has_brackets_at(
     alloc: Global,
     from: &GrammarParts,
-    _productions: &[NumberedProduction],
     asked: &[u8],
     least: &[u8],
 ) -> Result<(), GrammarError>
     requires sorts { KeepsSorts (parts from.now) }
-    requires numbered { AreNumbered (parts from.now) _productions.now }
     requires asked_size { length asked.now ≡ length from.now.sorts.items }
     requires least_size { length least.now ≡ length from.now.sorts.items }
-    requires greatest { AreGreatest _productions.now asked.now }
-    requires least { AreLeast _productions.now least.now }
+    requires levels { (ps : List ProductionOf) × AreNumbered (parts from.now) ps × AreGreatest ps asked.now × AreLeast ps least.now }
     ensures good { OnOk result (HasBrackets (parts from.now)) }
     ensures refused { IfErr result (IsRefused (parts from.now)) }
 {
@@ -132,7 +130,7 @@ pub(crate) fn has_brackets(
 {
     let asked = greatest_levels(alloc, productions, from.sorts.len())?;
     match least_levels(alloc, productions, from.sorts.len()) {
-        Ok(least) => has_brackets_at(alloc, from, productions, &asked, &least),
+        Ok(least) => has_brackets_at(alloc, from, &asked, &least),
         Err(e) => {
             drop(asked);
             Err(GrammarError::from(e))

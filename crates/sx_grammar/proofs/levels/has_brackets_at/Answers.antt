@@ -17,7 +17,7 @@ returns-then-lacks_brackets-clause-refused c =
     let l = get_or c.args.least.now c.loop-i.i 0 in
     let in_asked : c.loop-i.i < length c.args.asked.now = omega (arith, lt, c.requires.asked_size) in
     let in_least : c.loop-i.i < length c.args.least.now = omega (arith, lt, c.requires.least_size) in
-    let is = lacks_is p c.args._productions.now c.loop-i.i s c.args.asked.now c.args.least.now a l c.requires.sorts.0.0 c.requires.numbered at c.requires.greatest c.requires.least
+    let is = lacks_is p c.requires.levels.0 c.loop-i.i s c.args.asked.now c.args.least.now a l c.requires.sorts.0.0 c.requires.levels.1 at c.requires.levels.2 c.requires.levels.3
     (read_here c.args.asked.now c.loop-i.i 0 0 in_asked) (read_here c.args.least.now c.loop-i.i 255 0 in_least) c.lacks_brackets.ensures.range in
     (c.requires.sorts, (s, first_here (LacksBrackets p) p.sorts c.loop-i.i s at c.loop-i.invariant (is.0 (c.lacks_brackets.ensures.is.0 c.if-lacks_brackets.true)), sym c.in_ok-copy.ensures))
 
@@ -31,7 +31,7 @@ loop-i-preserved c =
     let l = get_or c.args.least.now c.loop-i.i 0 in
     let in_asked : c.loop-i.i < length c.args.asked.now = omega (arith, lt, c.requires.asked_size) in
     let in_least : c.loop-i.i < length c.args.least.now = omega (arith, lt, c.requires.least_size) in
-    let is = lacks_is p c.args._productions.now c.loop-i.i s c.args.asked.now c.args.least.now a l c.requires.sorts.0.0 c.requires.numbered at c.requires.greatest c.requires.least
+    let is = lacks_is p c.requires.levels.0 c.loop-i.i s c.args.asked.now c.args.least.now a l c.requires.sorts.0.0 c.requires.levels.1 at c.requires.levels.2 c.requires.levels.3
     (read_here c.args.asked.now c.loop-i.i 0 0 in_asked) (read_here c.args.least.now c.loop-i.i 255 0 in_least) c.lacks_brackets.ensures.range in
     none_more (LacksBrackets p) p.sorts c.loop-i.i s at c.loop-i.invariant (λ lacks. false≢true (sym c.if-lacks_brackets.false ∙ c.lacks_brackets.ensures.is.1 (is.1 lacks)))
 
