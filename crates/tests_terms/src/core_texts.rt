@@ -69,11 +69,17 @@ fn core_text_is_read_and_written(rt: HostRuntime) -> Result<(), Fail> {
 #[test]
 fn bad_core_texts(rt: HostRuntime) {
     let alloc = rt.alloc();
-    assert!(rt; read_whole(alloc, b"(00)") == Answer::BadCore(2));
-    assert!(rt; read_whole(alloc, b"(0 i2:x)") == Answer::BadCore(8));
+    let hold = [
+        read_whole(alloc, b"(00)") == Answer::BadCore(2),
+        read_whole(alloc, b"(0 i2:x)") == Answer::BadCore(8),
+    ];
+    assert_eq!(rt; hold, [true; 2]);
     let accent = read_whole(alloc, "(0 s1:\u{e9})".as_bytes());
-    assert!(rt; accent == Answer::BadCore(6));
-    assert!(rt; read_whole(alloc, b"?x") == Answer::BadCore(1));
+    let hold = [
+        accent == Answer::BadCore(6),
+        read_whole(alloc, b"?x") == Answer::BadCore(1),
+    ];
+    assert_eq!(rt; hold, [true; 2]);
 }
 
 /// The place after the variable whose core text stands at place 1, and its number.
@@ -119,7 +125,10 @@ fn deep_core_texts(rt: HostRuntime) -> Result<(), Fail> {
     let alloc = rt.alloc();
     let open = read_whole(alloc, &opened(alloc, 87_381)?);
     let closed = read_whole(alloc, &closed(alloc, 87_381)?);
-    assert!(rt; open == Answer::BadCore(262_143));
-    assert!(rt; closed == Answer::TooDeep(87_382));
+    let hold = [
+        open == Answer::BadCore(262_143),
+        closed == Answer::TooDeep(87_382),
+    ];
+    assert_eq!(rt; hold, [true; 2]);
     Ok(())
 }

@@ -169,11 +169,14 @@ fn by_one_table(alloc: Global) -> Result<Answers, NoMemory> {
 #[test]
 fn cut_with_one_table(rt: HostRuntime) -> Result<(), Fail> {
     let answers = by_one_table(rt.alloc())?;
-    assert!(rt; answers.each_kind);
-    assert!(rt; answers.blanks == [Answer::Tokens(0); 3]);
-    assert!(rt; answers.bad_tokens == [Answer::BadToken(2); 3]);
-    assert!(rt; answers.open_strings == [Answer::OpenString(2), Answer::OpenString(0)]);
-    assert!(rt; answers.not_utf8 == [Answer::NotUtf8(1); 2]);
+    let hold = [
+        answers.each_kind,
+        answers.blanks == [Answer::Tokens(0); 3],
+        answers.bad_tokens == [Answer::BadToken(2); 3],
+        answers.open_strings == [Answer::OpenString(2), Answer::OpenString(0)],
+        answers.not_utf8 == [Answer::NotUtf8(1); 2],
+    ];
+    assert_eq!(rt; hold, [true; 5]);
     Ok(())
 }
 
@@ -205,6 +208,9 @@ fn answer_for(alloc: Global, n: u32) -> Option<Answer>
 #[test]
 fn ten_thousand(rt: HostRuntime) {
     let alloc = rt.alloc();
-    assert!(rt; answer_for(alloc, 10_000) == Some(Answer::Tokens(10_000)));
-    assert!(rt; answer_for(alloc, 10_001) == Some(Answer::TooManyTokens));
+    let hold = [
+        answer_for(alloc, 10_000) == Some(Answer::Tokens(10_000)),
+        answer_for(alloc, 10_001) == Some(Answer::TooManyTokens),
+    ];
+    assert_eq!(rt; hold, [true; 2]);
 }

@@ -65,10 +65,13 @@ fn parts_and_copies(rt: HostRuntime) -> Result<(), Fail> {
     let three = first_kids(alloc, 3)?;
     let below = is_there(alloc, core, &three);
     drop(three);
-    assert!(rt; is_copied(alloc, core) == Some(true));
-    assert!(rt; number == Some(true));
-    assert!(rt; name == Some(false));
-    assert!(rt; below == Some(false));
+    let hold = [
+        is_copied(alloc, core) == Some(true),
+        number == Some(true),
+        name == Some(false),
+        below == Some(false),
+    ];
+    assert_eq!(rt; hold, [true; 4]);
     Ok(())
 }
 
@@ -109,12 +112,15 @@ fn patterns_match(rt: HostRuntime) -> Result<(), Fail> {
     let set = set(alloc, &mut bound, 0, "(2)");
     let second = is_bound(alloc, &bound, 0, "(2)");
     drop(bound);
-    assert!(rt; clash == Some(Fit::Clash));
-    assert!(rt; none);
-    assert!(rt; matched == Some(Fit::Matched));
-    assert!(rt; first == Some(true));
-    assert!(rt; instance == Some(true));
-    assert!(rt; set.is_some());
-    assert!(rt; second == Some(true));
+    let hold = [
+        clash == Some(Fit::Clash),
+        none,
+        matched == Some(Fit::Matched),
+        first == Some(true),
+        instance == Some(true),
+        set.is_some(),
+        second == Some(true),
+    ];
+    assert_eq!(rt; hold, [true; 7]);
     Ok(())
 }

@@ -9,26 +9,32 @@ fn number(text: &[u8]) -> Option<u64> {
 
 #[test]
 fn numbers(rt: HostRuntime) {
-    assert!(rt; number(b"0") == Some(0));
-    assert!(rt; number(b"").is_none());
-    assert!(rt; number(b"01").is_none());
-    assert!(rt; number(b"00").is_none());
-    assert!(rt; number(b"1000000") == Some(1_000_000));
-    assert!(rt; number(b"18446744073709551615") == Some(u64::MAX));
-    assert!(rt; number(b"18446744073709551616").is_none());
-    assert!(rt; number(b"+1").is_none());
-    assert!(rt; number_within(300, b"301").is_none());
+    let hold = [
+        number(b"0") == Some(0),
+        number(b"").is_none(),
+        number(b"01").is_none(),
+        number(b"00").is_none(),
+        number(b"1000000") == Some(1_000_000),
+        number(b"18446744073709551615") == Some(u64::MAX),
+        number(b"18446744073709551616").is_none(),
+        number(b"+1").is_none(),
+        number_within(300, b"301").is_none(),
+    ];
+    assert_eq!(rt; hold, [true; 9]);
 }
 
 #[test]
 fn names(rt: HostRuntime) {
     let letters = [b'a'; 65];
-    assert!(rt; is_name(false, &letters[..64]));
-    assert!(rt; !is_name(false, &letters));
-    assert!(rt; is_name(true, b"T-One"));
-    assert!(rt; !is_name(false, b"T-One"));
-    assert!(rt; !is_name(true, b"1a"));
-    assert!(rt; is_name(false, b"a_1"));
+    let hold = [
+        is_name(false, &letters[..64]),
+        !is_name(false, &letters),
+        is_name(true, b"T-One"),
+        !is_name(false, b"T-One"),
+        !is_name(true, b"1a"),
+        is_name(false, b"a_1"),
+    ];
+    assert_eq!(rt; hold, [true; 6]);
 }
 
 /// Whether this follows the front in the text.
@@ -47,7 +53,10 @@ fn is_split(text: &[u8], word: &[u8], rest: &[u8]) -> bool {
 
 #[test]
 fn fronts_and_words(rt: HostRuntime) {
-    assert!(rt; is_after(b"use Let", b"use ", b"Let"));
-    assert!(rt; after(b"us", b"use ").is_none());
-    assert!(rt; is_split(b"Let  12", b"Let", b" 12"));
+    let hold = [
+        is_after(b"use Let", b"use ", b"Let"),
+        after(b"us", b"use ").is_none(),
+        is_split(b"Let  12", b"Let", b" 12"),
+    ];
+    assert_eq!(rt; hold, [true; 3]);
 }

@@ -40,11 +40,14 @@ fn number_of_none(line: Result<Line, NoLine>) -> Option<u32> {
 #[test]
 fn lines_of_a_text(rt: HostRuntime) {
     let bytes = b"one\ntwo\r\n\nfour\r";
-    assert!(rt; is_line(line_behind(bytes, 0), 1, b"one"));
-    assert!(rt; is_line(line_behind(bytes, 1), 2, b"two"));
-    assert!(rt; is_line(line_behind(bytes, 2), 3, b""));
-    assert!(rt; is_line(line_behind(bytes, 3), 4, b"four\r"));
-    assert!(rt; number_of_none(line_behind(bytes, 4)) == Some(5));
+    let hold = [
+        is_line(line_behind(bytes, 0), 1, b"one"),
+        is_line(line_behind(bytes, 1), 2, b"two"),
+        is_line(line_behind(bytes, 2), 3, b""),
+        is_line(line_behind(bytes, 3), 4, b"four\r"),
+        number_of_none(line_behind(bytes, 4)) == Some(5),
+    ];
+    assert_eq!(rt; hold, [true; 5]);
 }
 
 /// The kept line behind so many others, or what stands there in its place.
@@ -67,6 +70,9 @@ fn kept_behind(bytes: &[u8], before: u32) -> Result<Line, NoLine>
 #[test]
 fn kept_lines(rt: HostRuntime) {
     let bytes = b"// a comment\n \t\n /not\n//\n";
-    assert!(rt; is_line(kept_behind(bytes, 0), 3, b" /not"));
-    assert!(rt; number_of_none(kept_behind(bytes, 1)) == Some(5));
+    let hold = [
+        is_line(kept_behind(bytes, 0), 3, b" /not"),
+        number_of_none(kept_behind(bytes, 1)) == Some(5),
+    ];
+    assert_eq!(rt; hold, [true; 2]);
 }

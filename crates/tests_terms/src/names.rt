@@ -27,11 +27,14 @@ fn names_are_numbered(rt: HostRuntime) {
     };
     let is_last = names.name(2).is_none();
     drop(names);
-    assert!(rt; first == Some(0));
-    assert!(rt; second == Some(1));
-    assert!(rt; again == Some(0));
-    assert!(rt; is_named);
-    assert!(rt; is_last);
+    let hold = [
+        first == Some(0),
+        second == Some(1),
+        again == Some(0),
+        is_named,
+        is_last,
+    ];
+    assert_eq!(rt; hold, [true; 5]);
 }
 
 /// How many bytes stand before the first that is not UTF-8.
@@ -57,10 +60,13 @@ fn shape(alloc: Global, literal: &str) -> Option<LiteralShape> {
 #[test]
 fn texts_and_literals(rt: HostRuntime) {
     let alloc = rt.alloc();
-    assert!(rt; not_utf8(alloc, b"a\xff") == Some(1));
-    assert!(rt; has_bytes(alloc, b"let") == Some(true));
-    assert!(rt; shape(alloc, "let") == Some(LiteralShape::Word));
-    assert!(rt; shape(alloc, "->") == Some(LiteralShape::Symbol));
-    assert!(rt; shape(alloc, "a//") == Some(LiteralShape::Bad));
-    assert!(rt; shape(alloc, "://") == Some(LiteralShape::Bad));
+    let hold = [
+        not_utf8(alloc, b"a\xff") == Some(1),
+        has_bytes(alloc, b"let") == Some(true),
+        shape(alloc, "let") == Some(LiteralShape::Word),
+        shape(alloc, "->") == Some(LiteralShape::Symbol),
+        shape(alloc, "a//") == Some(LiteralShape::Bad),
+        shape(alloc, "://") == Some(LiteralShape::Bad),
+    ];
+    assert_eq!(rt; hold, [true; 6]);
 }

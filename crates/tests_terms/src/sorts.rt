@@ -34,8 +34,11 @@ fn terms_are_well_sorted(rt: HostRuntime) -> Result<(), Fail> {
     let variable = fits(alloc, &shapes, "(0 ?0)", &[Sort::Lex(LexKind::Id)]);
     let number = fits(alloc, &shapes, "(0 n1:7)", &[]);
     drop(shapes);
-    assert!(rt; name == Some(true));
-    assert!(rt; variable == Some(true));
-    assert!(rt; number == Some(false));
+    let hold = [
+        name == Some(true),
+        variable == Some(true),
+        number == Some(false),
+    ];
+    assert_eq!(rt; hold, [true; 3]);
     Ok(())
 }
