@@ -1,6 +1,7 @@
 use Rattle.std.proofs.Common.{rules, arith, length, sym, subst, ◌+◌}
 use Rattle.std.proofs.lemmas.Result.{on_ok_weaker}
 use Rattle.sx_term.specs.declared.term.Term.TheViews.{the_lemmas}
+use Rattle.sx_term.proofs.Cores.{Grows-trans}
 use Rattle.sx_term.proofs.Kids.{tree-at_node, greatest_depth-kids, greatest_depth-at}
 use Rattle.sx_grammar.specs.Parts.{numbered}
 use Rattle.sx_grammar.specs.Tables.{literals_of}
@@ -100,3 +101,33 @@ put_symbols-loop-symbol-preserved t c =
 pub put_symbols-returns-clause-ok : goal.put_symbols-returns-clause-ok
 put_symbols-returns-clause-ok t c =
     leads_to_end c.args.grammar.now.parts c.args.vars.now c.args.symbols.now c.args.kids.now c.loop-symbol.symbol-index c.loop-symbol.next _ _ c.loop-symbol-test.false c.loop-symbol.invariant.leads
+
+pub put_term-returns-in-None-clause-appends : goal.put_term-returns-in-None-clause-appends
+put_term-returns-in-None-clause-appends t c = c.put_symbols.ensures.appends
+
+pub put_term-returns-in_err-put_literal-in-Some-clause-appends : goal.put_term-returns-in_err-put_literal-in-Some-clause-appends
+put_term-returns-in_err-put_literal-in-Some-clause-appends t c = c.put_literal.ensures.appends
+
+pub put_term-returns-in_err-put_symbols-in-Some-clause-appends : goal.put_term-returns-in_err-put_symbols-in-Some-clause-appends
+put_term-returns-in_err-put_symbols-in-Some-clause-appends t c = Grows-trans _ _ _ c.put_literal.ensures.appends c.put_symbols-in-Some.ensures.appends
+
+pub put_term-returns-in_ok-put_symbols-in-Some-clause-appends : goal.put_term-returns-in_ok-put_symbols-in-Some-clause-appends
+put_term-returns-in_ok-put_symbols-in-Some-clause-appends t c = Grows-trans _ _ _ (Grows-trans _ _ _ c.put_literal.ensures.appends c.put_symbols-in-Some.ensures.appends) c.put_literal-in-Some.ensures.appends
+
+pub put_term-returns-in-Lex-clause-appends : goal.put_term-returns-in-Lex-clause-appends
+put_term-returns-in-Lex-clause-appends t c = c.put_token.ensures.appends
+
+pub put_term-returns-in-Var-clause-appends : goal.put_term-returns-in-Var-clause-appends
+put_term-returns-in-Var-clause-appends t c = c.put_variable.ensures.appends
+
+pub put_symbols-returns-in_err-put_literal-in-Lit-clause-appends : goal.put_symbols-returns-in_err-put_literal-in-Lit-clause-appends
+put_symbols-returns-in_err-put_literal-in-Lit-clause-appends t c = Grows-trans _ _ _ c.loop-symbol.invariant.appends c.put_literal.ensures.appends
+
+pub put_symbols-returns-in_err-put_term-in-Lex-clause-appends : goal.put_symbols-returns-in_err-put_term-in-Lex-clause-appends
+put_symbols-returns-in_err-put_term-in-Lex-clause-appends t c = Grows-trans _ _ _ c.loop-symbol.invariant.appends c.put_term.ensures.appends
+
+pub put_symbols-returns-in_err-put_term-in-Part-clause-appends : goal.put_symbols-returns-in_err-put_term-in-Part-clause-appends
+put_symbols-returns-in_err-put_term-in-Part-clause-appends t c = Grows-trans _ _ _ c.loop-symbol.invariant.appends c.put_term-in-Part.ensures.appends
+
+pub put_symbols-returns-clause-appends : goal.put_symbols-returns-clause-appends
+put_symbols-returns-clause-appends t c = c.loop-symbol.invariant.appends
