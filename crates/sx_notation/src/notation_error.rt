@@ -2,6 +2,7 @@
 
 use crate::unread::Unread;
 use std::alloc::{AllocError, AllocFailed};
+use std::fmt;
 use sx_core::Kind;
 use sx_grammar::GrammarError;
 use sx_rules::RuleError;
@@ -10,13 +11,13 @@ use sx_token::TokenError;
 use thiserror::Error;
 
 /// Why a language file or a line is refused. Lines have the numbers that the caller gave them, and lines of a file count from 1.
-#[derive(Debug, Drop, Error)]
+#[derive(Drop, Error)]
 pub enum NotationError {
     /// Memory is lacking.
     #[error("out of memory")]
     Memory,
     /// The file is not UTF-8; as many bytes stand before the first bad sequence.
-    #[error("not UTF-8 at byte {0}")]
+    #[error("not UTF-8")]
     NotUtf8(usize),
     /// The line is bad, and what is bad about it.
     #[error("a bad line")]
@@ -45,6 +46,12 @@ pub enum NotationError {
         error: RuleError,
         variable: Option<Text>,
     },
+}
+
+impl fmt::Debug for NotationError {
+    fn fmt<W: fmt::Write>(&self, f: &mut fmt::Formatter<W>) -> fmt::Result {
+        fmt::Display::fmt(self, f)
+    }
 }
 
 impl From<NoMemory> for NotationError {

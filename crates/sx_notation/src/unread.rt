@@ -3,7 +3,7 @@
 use sx_term::Text;
 
 /// Why a text has not one reading. Places count its bytes from 0.
-#[derive(Debug, Drop)]
+#[derive(Drop)]
 pub enum Unread {
     /// Reading needs more than 2,000,000 items.
     TooHard,

@@ -1,4 +1,5 @@
 use Rattle.std.proofs.Common.{length, sym, subst, ◌+◌}
+use Rattle.sx_term.proofs.Cores.{Grows-trans}
 use Rattle.sx_grammar.specs.Parts.{numbered}
 use Rattle.sx_grammar.specs.Tables.{literals_of}
 use Rattle.sx_notation.proofs.Placing.{Progress, puttable_at, within_lexeme, within_part, past_literal, past_lexeme, past_part, to_end}
@@ -40,3 +41,15 @@ loop-symbol-preserved c =
 pub returns-clause-ok : goal.returns-clause-ok
 returns-clause-ok c =
     to_end (literals_of c.args.grammar.now.parts) (numbered c.args.grammar.now.parts) c.args.vars.now c.args.symbols.now c.args.contents.now c.loop-symbol.symbol-index c.loop-symbol.next _ _ c.loop-symbol-test.false c.loop-symbol.invariant
+
+pub returns-in_err-put_literal-in-Lit-clause-appends : goal.returns-in_err-put_literal-in-Lit-clause-appends
+returns-in_err-put_literal-in-Lit-clause-appends c = Grows-trans _ _ _ c.loop-symbol.invariant.appends c.put_literal.ensures.appends
+
+pub returns-in_err-put_content-in-Lex-clause-appends : goal.returns-in_err-put_content-in-Lex-clause-appends
+returns-in_err-put_content-in-Lex-clause-appends c = Grows-trans _ _ _ c.loop-symbol.invariant.appends c.put_content.ensures.appends
+
+pub returns-in_err-put_content-in-Part-clause-appends : goal.returns-in_err-put_content-in-Part-clause-appends
+returns-in_err-put_content-in-Part-clause-appends c = Grows-trans _ _ _ c.loop-symbol.invariant.appends c.put_content-in-Part.ensures.appends
+
+pub returns-clause-appends : goal.returns-clause-appends
+returns-clause-appends c = c.loop-symbol.invariant.appends
