@@ -59,10 +59,13 @@ fn stands_at(alloc: Global, steps: &[usize], at: Option<u32>) -> Result<bool, Fa
 
 #[test]
 fn brackets_do_not_belong_to_a_part(rt: HostRuntime) -> Result<(), Fail> {
-    assert!(rt; stands_at(rt.alloc(), &[], Some(0))?);
-    assert!(rt; stands_at(rt.alloc(), &[0], Some(1))?);
-    assert!(rt; stands_at(rt.alloc(), &[1], Some(4))?);
-    assert!(rt; stands_at(rt.alloc(), &[2], None)?);
+    let hold = [
+        stands_at(rt.alloc(), &[], Some(0))?,
+        stands_at(rt.alloc(), &[0], Some(1))?,
+        stands_at(rt.alloc(), &[1], Some(4))?,
+        stands_at(rt.alloc(), &[2], None)?,
+    ];
+    assert_eq!(rt; hold, [true; 4]);
     Ok(())
 }
 

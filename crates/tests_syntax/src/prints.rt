@@ -88,20 +88,26 @@ fn variable_is_printed_as(alloc: Global, words: &[u8]) -> Result<bool, Fail> {
 #[test]
 fn brackets_where_they_are_needed(rt: HostRuntime) -> Result<(), Fail> {
     let function = "(2 (1 i1:x (4) (0 i1:x)) (3 n1:1))";
-    assert!(rt; is_printed_as(rt.alloc(), function, EXP, b"> ( \\ x : Int . x ) 1")?);
     let left = "(2 (2 (0 i1:f) (0 i1:g)) (0 i1:h))";
-    assert!(rt; is_printed_as(rt.alloc(), left, EXP, b"> f g h")?);
     let right = "(2 (0 i1:f) (2 (0 i1:g) (0 i1:h)))";
-    assert!(rt; is_printed_as(rt.alloc(), right, EXP, b"> f ( g h )")?);
+    let hold = [
+        is_printed_as(rt.alloc(), function, EXP, b"> ( \\ x : Int . x ) 1")?,
+        is_printed_as(rt.alloc(), left, EXP, b"> f g h")?,
+        is_printed_as(rt.alloc(), right, EXP, b"> f ( g h )")?,
+    ];
+    assert_eq!(rt; hold, [true; 3]);
     Ok(())
 }
 
 #[test]
 fn arrows_and_variables(rt: HostRuntime) -> Result<(), Fail> {
     let right = "(5 (4) (5 (4) (4)))";
-    assert!(rt; is_printed_as(rt.alloc(), right, TY, b"> Int -> Int -> Int")?);
     let left = "(5 (5 (4) (4)) (4))";
-    assert!(rt; is_printed_as(rt.alloc(), left, TY, b"> ( Int -> Int ) -> Int")?);
-    assert!(rt; variable_is_printed_as(rt.alloc(), b"> ~e x")?);
+    let hold = [
+        is_printed_as(rt.alloc(), right, TY, b"> Int -> Int -> Int")?,
+        is_printed_as(rt.alloc(), left, TY, b"> ( Int -> Int ) -> Int")?,
+        variable_is_printed_as(rt.alloc(), b"> ~e x")?,
+    ];
+    assert_eq!(rt; hold, [true; 3]);
     Ok(())
 }

@@ -8,19 +8,25 @@ use std::test::Fail;
 #[test]
 fn one_reading(rt: HostRuntime) -> Result<(), Fail> {
     let row = b"seq(1,seq(2,last(3)))".as_slice();
-    assert!(rt; is_read_as(rt.alloc(), Sample::Rows, b"1 2 3", row)?);
     let sum = b"plus(plus(last(1),last(2)),last(3))".as_slice();
-    assert!(rt; is_read_as(rt.alloc(), Sample::Sums(51), b"1 + 2 + 3", sum)?);
+    let hold = [
+        is_read_as(rt.alloc(), Sample::Rows, b"1 2 3", row)?,
+        is_read_as(rt.alloc(), Sample::Sums(51), b"1 + 2 + 3", sum)?,
+    ];
+    assert_eq!(rt; hold, [true; 2]);
     Ok(())
 }
 
 #[test]
 fn no_reading(rt: HostRuntime) -> Result<(), Fail> {
     let second = b"no reading beyond token 2".as_slice();
-    assert!(rt; is_read_as(rt.alloc(), Sample::Sums(50), b"1 + + 2 3", second)?);
-    assert!(rt; is_read_as(rt.alloc(), Sample::Sums(50), b"1 +", second)?);
     let start = b"no reading beyond token 0".as_slice();
-    assert!(rt; is_read_as(rt.alloc(), Sample::Sums(50), b"", start)?);
+    let hold = [
+        is_read_as(rt.alloc(), Sample::Sums(50), b"1 + + 2 3", second)?,
+        is_read_as(rt.alloc(), Sample::Sums(50), b"1 +", second)?,
+        is_read_as(rt.alloc(), Sample::Sums(50), b"", start)?,
+    ];
+    assert_eq!(rt; hold, [true; 3]);
     Ok(())
 }
 
@@ -65,8 +71,11 @@ fn are_read_as(alloc: Global, count: usize, words: &[u8]) -> Result<bool, Fail> 
 
 #[test]
 fn depths(rt: HostRuntime) -> Result<(), Fail> {
-    assert!(rt; are_read(rt.alloc(), 998)?);
-    assert!(rt; are_read_as(rt.alloc(), 999, b"depth 1001")?);
+    let hold = [
+        are_read(rt.alloc(), 998)?,
+        are_read_as(rt.alloc(), 999, b"depth 1001")?,
+    ];
+    assert_eq!(rt; hold, [true; 2]);
     Ok(())
 }
 
@@ -89,14 +98,20 @@ fn too_many_items(rt: HostRuntime) -> Result<(), Fail> {
 #[test]
 fn brackets_stay_in_a_reading(rt: HostRuntime) -> Result<(), Fail> {
     let words = b"plus([plus(last(1),last(2))],last(3))".as_slice();
-    assert!(rt; is_read_as(rt.alloc(), Sample::Sums(50), b"( 1 + 2 ) + 3", words)?);
-    assert!(rt; is_read_as(rt.alloc(), Sample::Sums(51), b"( 1 + 2 ) + 3", words)?);
+    let hold = [
+        is_read_as(rt.alloc(), Sample::Sums(50), b"( 1 + 2 ) + 3", words)?,
+        is_read_as(rt.alloc(), Sample::Sums(51), b"( 1 + 2 ) + 3", words)?,
+    ];
+    assert_eq!(rt; hold, [true; 2]);
     Ok(())
 }
 
 #[test]
 fn a_chain_of_sorts(rt: HostRuntime) -> Result<(), Fail> {
-    assert!(rt; is_read_as(rt.alloc(), Sample::Chain, b"1", b"up(last(1))")?);
-    assert!(rt; is_read_as(rt.alloc(), Sample::Chain, b"", b"up(none)")?);
+    let hold = [
+        is_read_as(rt.alloc(), Sample::Chain, b"1", b"up(last(1))")?,
+        is_read_as(rt.alloc(), Sample::Chain, b"", b"up(none)")?,
+    ];
+    assert_eq!(rt; hold, [true; 2]);
     Ok(())
 }

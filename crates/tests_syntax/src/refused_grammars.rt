@@ -90,17 +90,57 @@ fn with(alloc: Global, label: &str, of: &str, level: u8, piece: Piece) -> Result
     added(alloc, parts, filled)
 }
 
-#[test]
-fn a_grammar_is_made(rt: HostRuntime) -> Result<(), Fail> {
-    let words = with(rt.alloc(), "typed", "Exp", 50, Piece::Part("Ty", 90))?;
-    assert_eq!(rt; words.as_str(), "");
-    Ok(())
+/// Whether the language with one more production, of one symbol, is refused by these words, or is
+/// one where there are none.
+fn is_told(
+    alloc: Global,
+    label: &str,
+    of: &str,
+    level: u8,
+    piece: Piece,
+    wanted: &str,
+) -> Result<bool, Fail> {
+    let words = with(alloc, label, of, level, piece)?;
+    let is = words.as_str() == wanted;
+    drop(words);
+    Ok(is)
 }
 
 #[test]
-fn bad_literal(rt: HostRuntime) -> Result<(), Fail> {
-    let words = with(rt.alloc(), "note", "Ty", 0, Piece::Lit("//"))?;
-    assert_eq!(rt; words.as_str(), "BadLiteral //");
+fn one_more_production(rt: HostRuntime) -> Result<(), Fail> {
+    let alloc = rt.alloc();
+    let bad = Piece::Lit("//");
+    let hold = [
+        is_told(alloc, "typed", "Exp", 50, Piece::Part("Ty", 90), "")?,
+        is_told(alloc, "note", "Ty", 0, bad, "BadLiteral //")?,
+        is_told(
+            alloc,
+            "app",
+            "Exp",
+            50,
+            Piece::Part("Env", 0),
+            "UnknownSort Env",
+        )?,
+        is_told(alloc, "int", "Ty", 90, Piece::Lit("Str"), "SameLabel int")?,
+        is_told(
+            alloc,
+            "size",
+            "Ty",
+            90,
+            Piece::Part("Exp", 0),
+            "PlainHasTyped size",
+        )?,
+        is_told(
+            alloc,
+            "up",
+            "Exp",
+            95,
+            Piece::Part("Ty", 91),
+            "NoBrackets Ty",
+        )?,
+        is_told(alloc, "loop", "Exp", 0, Piece::Part("Exp", 0), "Cyclic Exp")?,
+    ];
+    assert_eq!(rt; hold, [true; 7]);
     Ok(())
 }
 
@@ -116,41 +156,6 @@ fn same_sort(rt: HostRuntime) -> Result<(), Fail> {
     let filled = add_twice(rt.alloc(), &mut parts);
     let words = added(rt.alloc(), parts, filled)?;
     assert_eq!(rt; words.as_str(), "SameSort Ty");
-    Ok(())
-}
-
-#[test]
-fn unknown_sort(rt: HostRuntime) -> Result<(), Fail> {
-    let words = with(rt.alloc(), "app", "Exp", 50, Piece::Part("Env", 0))?;
-    assert_eq!(rt; words.as_str(), "UnknownSort Env");
-    Ok(())
-}
-
-#[test]
-fn same_label(rt: HostRuntime) -> Result<(), Fail> {
-    let words = with(rt.alloc(), "int", "Ty", 90, Piece::Lit("Str"))?;
-    assert_eq!(rt; words.as_str(), "SameLabel int");
-    Ok(())
-}
-
-#[test]
-fn plain_has_typed(rt: HostRuntime) -> Result<(), Fail> {
-    let words = with(rt.alloc(), "size", "Ty", 90, Piece::Part("Exp", 0))?;
-    assert_eq!(rt; words.as_str(), "PlainHasTyped size");
-    Ok(())
-}
-
-#[test]
-fn no_brackets(rt: HostRuntime) -> Result<(), Fail> {
-    let words = with(rt.alloc(), "up", "Exp", 95, Piece::Part("Ty", 91))?;
-    assert_eq!(rt; words.as_str(), "NoBrackets Ty");
-    Ok(())
-}
-
-#[test]
-fn cyclic(rt: HostRuntime) -> Result<(), Fail> {
-    let words = with(rt.alloc(), "loop", "Exp", 0, Piece::Part("Exp", 0))?;
-    assert_eq!(rt; words.as_str(), "Cyclic Exp");
     Ok(())
 }
 

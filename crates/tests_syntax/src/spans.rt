@@ -125,9 +125,8 @@ fn node(label: u32, from: u32, to: u32) -> Span {
 fn spans_of_sums(rt: HostRuntime) -> Result<(), Fail> {
     let spans = [node(0, 0, 1), node(0, 2, 3), node(1, 0, 3)];
     let sum = told(rt.alloc(), Sample::Sums(51), b"1 + 2", &spans)?;
-    assert_eq!(rt; sum, only(3, 3));
     let open = told(rt.alloc(), Sample::Sums(51), b"1 + +", &[node(0, 0, 1)])?;
-    assert_eq!(rt; open, only(1, 2));
+    assert_eq!(rt; [sum, open], [only(3, 3), only(1, 2)]);
     Ok(())
 }
 
@@ -151,10 +150,9 @@ fn spans_of_brackets(rt: HostRuntime) -> Result<(), Fail> {
 #[test]
 fn spans_of_nothing(rt: HostRuntime) -> Result<(), Fail> {
     let nothing = told(rt.alloc(), Sample::OpenRows, b"", &[node(0, 0, 0)])?;
-    assert_eq!(rt; nothing, only(1, 0));
     let spans = [node(0, 0, 0), node(0, 1, 1), node(1, 0, 1)];
     let one = told(rt.alloc(), Sample::OpenRows, b"1", &spans)?;
-    assert_eq!(rt; one, only(3, 1));
+    assert_eq!(rt; [nothing, one], [only(1, 0), only(3, 1)]);
     Ok(())
 }
 
@@ -178,8 +176,7 @@ fn most_items(rt: HostRuntime) -> Result<(), Fail> {
         found: 0,
         reach: 1995,
     };
-    assert_eq!(rt; most, spans);
     let more = numbers(rt.alloc(), 1996)?;
-    assert_eq!(rt; more, Counted::TooHard);
+    assert_eq!(rt; [most, more], [spans, Counted::TooHard]);
     Ok(())
 }
