@@ -3,7 +3,7 @@ use Rattle.std.proofs.Common.{◌≡◌, ◌↔◌, arith, ℕ, zero, suc, ◌+�
 use Rattle.std.specs.Prelude.{option_map}
 use Rattle.std.specs.declared.alloc.Global.{Global}
 use Rattle.sx_term.specs.declared.term.Term.{Term, Node}
-use Rattle.sx_term.specs.Tree.{Tree, Trees, node, none, ◌▹◌, listed, forest}
+use Rattle.sx_term.specs.Tree.{Tree, Trees, listed}
 use Rattle.sx_term.specs.Term.{tree}
 use Rattle.sx_term.specs.Instances.{Stands, StandsInKids}
 use Rattle.sx_term.proofs.Kids.{trees, tree-at_node, trees-drop, trees-drop_all}
