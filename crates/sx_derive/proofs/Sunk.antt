@@ -1,68 +1,90 @@
 -- The way from a goal without an answer to the stuck goal.
 use Rattle.std.proofs.Common.{◌≡◌, ℕ, zero, suc, ◌-◌, ◌<◌, ◌≤◌, Bool, true, false, List, length, Option, sym, ap, ◌∙◌, arith, subst}
-use Rattle.std.specs.Prelude.{Vec}
-use Rattle.std.specs.declared.alloc.Global.{Global}
 use Rattle.sx_term.specs.Tree.{Tree}
-use Rattle.sx_rules.specs.Deep.{AreShallow}
 use Rattle.sx_rules.specs.Rules.{Rule, Hypotheses}
 use Rattle.sx_rules.specs.Modes.{Modes, Goal}
-use Rattle.sx_rules.specs.Views.{goal as goal_of}
-use Rattle.sx_rules.specs.declared.rule.Goal.{Goal as GoalOf}
+use Rattle.sx_arena.specs.Arena.{AreBelow}
 use Rattle.sx_arena.specs.Pairs.{pairs_of, ArePairs}
 use Rattle.sx_arena.specs.declared.fact.Fact.{Fact}
 use Rattle.sx_arena.specs.declared.pairs.Pair.{Pair}
 use Rattle.sx_derive.specs.Blames.{blame_of}
 use Rattle.sx_derive.specs.Candidates.{goal_in, AreFacts}
 use Rattle.sx_derive.specs.Problems.{IsProblem}
-use Rattle.sx_derive.specs.Descents.{AreHyps, spot_goal, blame_in, IsDescent, IsLead}
+use Rattle.sx_derive.specs.Descents.{AreHyps, spot_goal, blame_in, IsDescent}
 use Rattle.sx_derive.specs.Quiet.{IsQuiet, IsSilent}
-use Rattle.sx_derive.specs.Store.{store_trees}
+use Rattle.sx_derive.specs.Store.{IsStore, Grows, store_trees}
 use Rattle.sx_derive.specs.Stuck.{Blame, IsStuck}
 use Rattle.sx_derive.specs.Walk.{goal_events, events}
 use Rattle.sx_derive.specs.declared.blame.Blame.{Blame as BlameOf}
 use Rattle.sx_derive.specs.declared.descent.Descent.{Descent}
 use Rattle.sx_derive.specs.declared.descent.Descent.TheVariants.{Stuck, Below}
-use Rattle.sx_derive.specs.declared.descent.Lead.TheVariants.{Ends, Goes}
 use Rattle.sx_derive.specs.declared.descent.Reason.{Reason}
 use Rattle.sx_derive.specs.declared.descent.Spot.{Spot}
 use Rattle.sx_derive.specs.declared.problem.Problem.{Problem}
 use Rattle.sx_derive.specs.declared.store.Store.{Store}
+use Rattle.sx_derive.proofs.Descended.{hyps_stay, for_hyps}
 use Rattle.sx_derive.proofs.Led.{descent_weaker}
+use Rattle.sx_derive.proofs.Stored.{grows_same, grows_then}
 
--- what holds with that many levels left
-pub record Sinking (modes subjects : Modes) (rules : List Rule) (hyps : Hypotheses) (budget levels : ℕ) (first : Goal) (start : List ℕ) (left : ℕ) (here : Goal) (way : List ℕ) : Type 0 where
-  pub shallow : AreShallow here.terms
-  pub quiet : IsSilent true budget (goal_events modes rules hyps left here)
-  pub leads : (blame : Blame) → IsStuck modes subjects rules hyps left here way blame → IsStuck modes subjects rules hyps levels first start blame
+-- what holds with that many levels left, at a goal in the store
+pub record Sinking (modes subjects : Modes) (rules : List Rule) (hyps : Hypotheses) (budget levels : ℕ) (old : Store) (facts : List Fact) (pairs : List Pair) (first : Spot) (now : Store) (left : ℕ) (known : Bool) (here : Spot) : Type 0 where
+  pub are : AreHyps modes old facts pairs hyps
+  pub grows : Grows modes rules old now
+  pub below : AreBelow (length (store_trees now)) here.terms.items
+  pub quiet : IsSilent known budget (goal_events modes rules hyps left (spot_goal now here))
+  pub leads : (blame : Blame) → IsStuck modes subjects rules hyps left (spot_goal now here) here.path.items blame →
+      IsStuck modes subjects rules hyps levels (spot_goal old first) first.path.items blame
 
-module _ (modes subjects : Modes) (rules : List Rule) (hyps : Hypotheses) (budget levels : ℕ) (first : Goal) (start : List ℕ) where
-  abbrev S : ℕ → Goal → List ℕ → Type 0
-  S left here way = Sinking modes subjects rules hyps budget levels first start left here way
+module _ (modes subjects : Modes) (rules : List Rule) (hyps : Hypotheses) (budget levels : ℕ) (old : Store) (facts : List Fact) (pairs : List Pair) (first : Spot) where
+  abbrev S : Store → ℕ → Bool → Spot → Type 0
+  S now left known here = Sinking modes subjects rules hyps budget levels old facts pairs first now left known here
 
-  pub sinking_first : AreShallow first.terms → IsSilent true budget (goal_events modes rules hyps levels first) → S levels first start
-  sinking_first a q = record { shallow = a; quiet = q; leads = λ blame x. x }
+  abbrev Leads : Blame → Type 0
+  Leads blame = IsStuck modes subjects rules hyps levels (spot_goal old first) first.path.items blame
 
-  module _ (left : ℕ) (here : Goal) (way : List ℕ) (positive : 0 < left) (d : S left here way) where
+  pub sinking_first : IsStore modes rules old → AreBelow (length (store_trees old)) first.terms.items → AreHyps modes old facts pairs hyps →
+      IsSilent false budget (goal_events modes rules hyps levels (spot_goal old first)) → S old levels false first
+  sinking_first h b a q = record { are = a; grows = grows_same modes rules old h; below = b; quiet = q; leads = λ blame x. x }
+
+  module _ (now : Store) (left : ℕ) (known : Bool) (here : Spot) (positive : 0 < left) (d : S now left known here) where
     one_less : suc (left - 1) ≡ left
     one_less = omega arith
 
-    pub sink_quiet : IsSilent true budget (goal_events modes rules hyps (suc (left - 1)) here)
-    sink_quiet = subst (λ (n : ℕ). IsSilent true budget (goal_events modes rules hyps n here)) (sym one_less) d.quiet
+    sink_are : AreHyps modes now facts pairs hyps
+    sink_are = hyps_stay modes rules old now facts pairs hyps d.grows d.are
 
-    sink_leads : (blame : Blame) → IsStuck modes subjects rules hyps (suc (left - 1)) here way blame → IsStuck modes subjects rules hyps levels first start blame
-    sink_leads blame x = d.leads blame (subst (λ (n : ℕ). IsStuck modes subjects rules hyps n here way blame) one_less x)
+    pub sink_quiet : (x : Hypotheses) × AreHyps modes now facts pairs x × IsSilent known budget (goal_events modes rules x (suc (left - 1)) (spot_goal now here))
+    sink_quiet = (hyps, sink_are, subst (λ (n : ℕ). IsSilent known budget (goal_events modes rules hyps n (spot_goal now here))) (sym one_less) d.quiet)
 
-    pub sink_ends : (blame : BlameOf) → IsLead modes subjects rules hyps budget (left - 1) here way (Ends blame) → IsStuck modes subjects rules hyps levels first start (blame_of blame)
-    sink_ends blame x = sink_leads (blame_of blame) x
+    sink_leads : (blame : Blame) → IsStuck modes subjects rules hyps (suc (left - 1)) (spot_goal now here) here.path.items blame → Leads blame
+    sink_leads blame x = d.leads blame (subst (λ (n : ℕ). IsStuck modes subjects rules hyps n (spot_goal now here) here.path.items blame) one_less x)
 
-    pub sink_goes : (next : GoalOf) (path : Vec ℕ Global) → IsLead modes subjects rules hyps budget (left - 1) here way (Goes next path) → S (left - 1) (goal_of next) path.items
-    sink_goes next path x = record { shallow = x.0; quiet = x.1; leads = λ blame h. sink_leads blame (x.2 blame h) }
+    -- what the descent from here leads to
+    module _ (new : Store) where
+      abbrev pub From : Descent → Type 0
+      From x = (h : Hypotheses) → AreHyps modes now facts pairs h →
+          IsDescent modes subjects rules h budget (left - 1) new (IsStuck modes subjects rules h (suc (left - 1)) (spot_goal now here) here.path.items) x
+
+      pub sink_descent : (x : Descent) → From x → IsDescent modes subjects rules hyps budget (left - 1) new Leads x
+      sink_descent x f =
+          descent_weaker modes subjects rules hyps budget (left - 1) new (IsStuck modes subjects rules hyps (suc (left - 1)) (spot_goal now here) here.path.items) Leads sink_leads x (f hyps sink_are)
+
+      pub sink_ends : (spot : Spot) (reason : Reason) (blame : BlameOf) → From (Stuck spot reason) → blame_of blame ≡ blame_in new spot reason →
+          (x : Hypotheses) → AreHyps modes old facts pairs x → IsStuck modes subjects rules x levels (spot_goal old first) first.path.items (blame_of blame)
+      sink_ends spot reason blame f e x are =
+          for_hyps modes old facts pairs hyps x d.are are (λ hs. IsStuck modes subjects rules hs levels (spot_goal old first) first.path.items (blame_of blame))
+          (subst (λ (b : Blame). Leads b) (sym e) (sink_descent (Stuck spot reason) f).2)
+
+      pub sink_goes : Grows modes rules now new → (next : Spot) → From (Below next) → S new (left - 1) true next
+      sink_goes g next f =
+          let x = sink_descent (Below next) f in
+          record { are = d.are; grows = grows_then modes rules old now new d.grows g; below = x.0; quiet = x.2; leads = x.3 }
 
   -- with no level left there is a stop
-  pub sunk : (left : ℕ) (here : Goal) (way : List ℕ) → left ≤ 0 → S left here way → ⊥
+  pub sunk : (now : Store) (left : ℕ) (known : Bool) (here : Spot) → left ≤ 0 → S now left known here → ⊥
   unfolding goal_events
-  sunk zero here way l d = d.quiet.quiet.no_stop tt
-  sunk (suc left) here way l d = omega arith
+  sunk now zero known here l d = d.quiet.quiet.no_stop tt
+  sunk now (suc left) known here l d = omega arith
 
 -- the events of the first goal are those with 3,000 levels
 pub events_quiet : (modes : Modes) (rules : List Rule) (hyps : Hypotheses) (budget : ℕ) (goal : Goal) → IsQuiet budget (events modes rules hyps goal 1) → IsSilent false budget (goal_events modes rules hyps 3000 goal)
@@ -70,48 +92,28 @@ unfolding events
 events_quiet modes rules hyps budget goal q = record { quiet = q; silent = λ k. (let z : ⊥ = cc in absurd z) }
 
 -- a goal in a store of its own
-module _ (modes : Modes) (rules : List Rule) (hyps : Hypotheses) (form : ℕ) (terms : List Tree) (wanted : Option (List Tree)) (p : Problem) (h : IsProblem modes rules hyps terms wanted p) (known : Bool) (budget levels : ℕ) where
+module _ (modes : Modes) (rules : List Rule) (hyps : Hypotheses) (form : ℕ) (terms : List Tree) (wanted : Option (List Tree)) (p : Problem) (h : IsProblem modes rules hyps terms wanted p) where
   abbrev goal_here : Goal
   goal_here = record { form = form; terms = terms }
 
-  goal_same : goal_in p.store form p.terms.items ≡ goal_here
+  pub goal_same : goal_in p.store form p.terms.items ≡ goal_here
   goal_same = λ i. record { form = form; terms = h.terms_are i }
 
   module _ (facts : List Fact) (pairs : List Pair) (e : facts ≡ p.facts.items) (f : pairs ≡ p.pairs.items) where
-    problem_hyps : AreHyps modes p.store facts pairs hyps
+    pub problem_hyps : AreHyps modes p.store facts pairs hyps
     problem_hyps = record {
       facts_are = subst (λ (fs : List Fact). AreFacts modes (store_trees p.store) hyps.judgements fs) (sym e) h.facts;
       pairs_below = subst (λ (ps : List Pair). ArePairs (length (store_trees p.store)) ps) (sym f) h.pairs;
       pairs_are = ap (pairs_of (store_trees p.store)) f ∙ h.pairs_are;
     }
 
-    pub problem_quiet : IsSilent known budget (goal_events modes rules hyps (suc levels) goal_here) →
-        (x : Hypotheses) × AreHyps modes p.store facts pairs x × IsSilent known budget (goal_events modes rules x (suc levels) (goal_in p.store form p.terms.items))
-    problem_quiet q =
-        (hyps, problem_hyps, subst (λ (g : Goal). IsSilent known budget (goal_events modes rules hyps (suc levels) g)) (sym goal_same) q)
+    pub problem_quiet : (known : Bool) (budget levels : ℕ) → IsSilent known budget (goal_events modes rules hyps levels goal_here) →
+        (x : Hypotheses) × AreHyps modes p.store facts pairs x × IsSilent known budget (goal_events modes rules x levels (goal_in p.store form p.terms.items))
+    problem_quiet known budget levels q =
+        (hyps, problem_hyps, subst (λ (g : Goal). IsSilent known budget (goal_events modes rules hyps levels g)) (sym goal_same) q)
 
-    module _ (subjects : Modes) (new : Store) (path : List ℕ) where
-      abbrev Leads : Blame → Type 0
-      Leads blame = IsStuck modes subjects rules hyps (suc levels) goal_here path blame
-
-      pub problem_descent : (d : Descent) →
-          ((x : Hypotheses) → AreHyps modes p.store facts pairs x → IsDescent modes subjects rules x budget levels new (IsStuck modes subjects rules x (suc levels) (goal_in p.store form p.terms.items) path) d) →
-          IsDescent modes subjects rules hyps budget levels new Leads d
-      problem_descent d x =
-          descent_weaker modes subjects rules hyps budget levels new (IsStuck modes subjects rules hyps (suc levels) (goal_in p.store form p.terms.items) path) Leads
-          (λ blame s. subst (λ (g : Goal). IsStuck modes subjects rules hyps (suc levels) g path blame) goal_same s) d (x hyps problem_hyps)
-
--- what a descent by its numbers stands for
-module _ (modes subjects : Modes) (rules : List Rule) (hyps : Hypotheses) (budget levels : ℕ) (new : Store) (goal : Goal) (path : List ℕ) where
-  abbrev D : Descent → Type 0
-  D d = IsDescent modes subjects rules hyps budget levels new (IsStuck modes subjects rules hyps (suc levels) goal path) d
-
-  pub lead_ends : (spot : Spot) (reason : Reason) (blame : BlameOf) → D (Stuck spot reason) → blame_of blame ≡ blame_in new spot reason → IsLead modes subjects rules hyps budget levels goal path (Ends blame)
-  lead_ends spot reason blame d e = subst (λ (b : Blame). IsStuck modes subjects rules hyps (suc levels) goal path b) (sym e) d.2
-
-  pub lead_goes : (spot : Spot) (next : GoalOf) → D (Below spot) → goal_of next ≡ spot_goal new spot → IsLead modes subjects rules hyps budget levels goal path (Goes next spot.path)
-  lead_goes spot next d e = (
-    subst (λ (g : Goal). AreShallow g.terms) (sym e) d.1,
-    subst (λ (g : Goal). IsSilent true budget (goal_events modes rules hyps levels g)) (sym e) d.2,
-    λ blame h. d.3 blame (subst (λ (g : Goal). IsStuck modes subjects rules hyps levels g spot.path.items blame) e h),
-  )
+    pub problem_stuck : (subjects : Modes) (levels : ℕ) (path : List ℕ) (blame : Blame) →
+        ((x : Hypotheses) → AreHyps modes p.store facts pairs x → IsStuck modes subjects rules x levels (goal_in p.store form p.terms.items) path blame) →
+        IsStuck modes subjects rules hyps levels goal_here path blame
+    problem_stuck subjects levels path blame s =
+        subst (λ (g : Goal). IsStuck modes subjects rules hyps levels g path blame) goal_same (s hyps problem_hyps)

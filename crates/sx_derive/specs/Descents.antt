@@ -3,7 +3,6 @@ use Rattle.std.specs.Prelude.{◌≡◌, ℕ, suc, ◌≤◌, true, List, [], �
 use Rattle.sx_rules.specs.Rules.{Judgement, Premise, Rule, Hypotheses}
 use Rattle.sx_rules.specs.Deep.{AreShallow}
 use Rattle.sx_rules.specs.Modes.{Modes, Goal}
-use Rattle.sx_rules.specs.Views.{goal as goal_of}
 use Rattle.sx_arena.specs.Arena.{tree_at, AreBelow}
 use Rattle.sx_arena.specs.Binds.{env_at}
 use Rattle.sx_arena.specs.Facts.{AreFacts}
@@ -11,7 +10,6 @@ use Rattle.sx_arena.specs.Matching.{Assignment}
 use Rattle.sx_arena.specs.Pairs.{pairs_of, ArePairs}
 use Rattle.sx_arena.specs.declared.fact.Fact.{Fact}
 use Rattle.sx_arena.specs.declared.pairs.Pair.{Pair}
-use Rattle.sx_derive.specs.Blames.{blame_of}
 use Rattle.sx_derive.specs.Candidates.{goal_in}
 use Rattle.sx_derive.specs.Quiet.{IsSilent}
 use Rattle.sx_derive.specs.Store.{store_trees, store_envs}
@@ -19,8 +17,6 @@ use Rattle.sx_derive.specs.Stuck.{Reason as ReasonData, no_rule, unequal, mismat
 use Rattle.sx_derive.specs.Walk.{goal_events}
 use Rattle.sx_derive.specs.declared.descent.Descent.{Descent}
 use Rattle.sx_derive.specs.declared.descent.Descent.TheVariants.{Stuck, Below}
-use Rattle.sx_derive.specs.declared.descent.Lead.{Lead}
-use Rattle.sx_derive.specs.declared.descent.Lead.TheVariants.{Ends, Goes}
 use Rattle.sx_derive.specs.declared.descent.Reason.{Reason}
 use Rattle.sx_derive.specs.declared.descent.Reason.TheVariants.{NoRule, Equal, Mismatch}
 use Rattle.sx_derive.specs.declared.descent.Spot.{Spot}
@@ -69,13 +65,6 @@ module _ (modes subjects : Modes) (rules : List Rule) (hyps : Hypotheses) (budge
   IsDescent s Leads (Below spot) =
       AreBelow (length (store_trees s)) spot.terms.items × AreShallow (spot_goal s spot).terms × IsSilent true budget (goal_events modes rules hyps levels (spot_goal s spot))
       × ((blame : Blame) → IsStuck modes subjects rules hyps levels (spot_goal s spot) spot.path.items blame → Leads blame)
-
-  -- the blame is the stuck goal of the goal at the path, or that of the goal below is
-  abbrev pub IsLead : Goal → List ℕ → Lead → Type 0
-  IsLead goal path (Ends blame) = IsStuck modes subjects rules hyps (suc levels) goal path (blame_of blame)
-  IsLead goal path (Goes next way) =
-      AreShallow (goal_of next).terms × IsSilent true budget (goal_events modes rules hyps levels (goal_of next))
-      × ((blame : Blame) → IsStuck modes subjects rules hyps levels (goal_of next) way.items blame → IsStuck modes subjects rules hyps (suc levels) goal path blame)
 
 -- the goal of a premise by its numbers, at its path
 pub record IsPremiseSpot (subjects : Modes) (rule : Rule) (j : Judgement) (terms path : List ℕ) (spot : Spot) : Type 0 where

@@ -1,8 +1,5 @@
 //! Where a goal without an answer leads.
 
-use crate::blame::Blame;
-use sx_rules::Goal;
-
 /// A goal by its numbers, and the place of its subject in the first goal's subject.
 #[derive(Drop)]
 pub struct Spot {
@@ -30,12 +27,4 @@ pub enum Reason {
 pub enum Descent {
     Stuck { spot: Spot, reason: Reason },
     Below(Spot),
-}
-
-/// The goal ends in this stuck goal, or goes on to a premise's goal without an answer, with the place of its subject in the first
-/// goal's subject.
-#[derive(Drop)]
-pub enum Lead {
-    Ends(Blame),
-    Goes { goal: Goal, path: Vec<usize> },
 }

@@ -1,28 +1,29 @@
 //! The stuck goal of a goal without an answer.
 
-ghost use Rattle.std.specs.Prelude.{◌≡◌, ℕ, suc, true, ◌^◌, ◌≤◌, ◌<◌, [], IfOk, length, None};
+ghost use Rattle.std.specs.Prelude.{◌≡◌, ℕ, false, ◌^◌, ◌≤◌, ◌<◌, [], IfOk, length, None};
 ghost use Rattle.sx_rules.specs.Deep.{AreShallow};
 ghost use Rattle.sx_rules.specs.Derivations.{ShallowJudgements};
+ghost use Rattle.sx_rules.specs.Rules.{Hypotheses};
 ghost use Rattle.sx_rules.specs.Views.{goal as goal_of, hypotheses};
 ghost use Rattle.sx_arena.specs.Arena.{IsArena, AreBelow};
 ghost use Rattle.sx_arena.specs.Entered.{ArePairsShallow};
 ghost use Rattle.sx_arena.specs.Views.{rules_of, modes_of};
 ghost use Rattle.sx_derive.specs.Blames.{blame_of, cause_of};
 ghost use Rattle.sx_derive.specs.Candidates.{goal_in};
-ghost use Rattle.sx_derive.specs.Descents.{reason_in, ReasonBelow, blame_in, IsLead};
+ghost use Rattle.sx_derive.specs.Descents.{AreHyps, spot_goal, reason_in, ReasonBelow, blame_in};
 ghost use Rattle.sx_derive.specs.Quiet.{IsQuiet, IsSilent};
-ghost use Rattle.sx_derive.specs.Store.{store_trees};
+ghost use Rattle.sx_derive.specs.Store.{IsStore, store_trees};
 ghost use Rattle.sx_derive.specs.Stuck.{IsStuck};
 ghost use Rattle.sx_derive.specs.Walk.{goal_events, events};
 ghost use Rattle.sx_derive.specs.Ways.{subjects_of};
 
 use crate::blame::{Blame, Cause};
 use crate::candidate_descent::descend;
-use crate::descent::{Descent, Lead, Reason, Spot};
+use crate::descent::{Descent, Reason, Spot};
 use crate::problem::{Problem, enter_problem};
 use crate::store::Store;
 use std::alloc::Global;
-use sx_arena::export_all;
+use sx_arena::{Fact, Pair, export_all};
 use sx_rules::{Goal, Hyps, RuleSet};
 use sx_term::{NoMemory, Path};
 
@@ -68,88 +69,37 @@ fn export_blame(alloc: Global, store: &Store, spot: Spot, reason: Reason) -> Res
     })
 }
 
-/// Where the goal leads, of which it may be known that it has no answer. What is made on the way there is dropped.
-fn lead(
-    alloc: Global,
-    rules: &RuleSet,
-    given: &Hyps,
-    goal: &Goal,
-    path: Vec<usize>,
-    levels: usize,
-    budget: u64,
-    known: bool,
-) -> Result<Lead, NoMemory>
-    requires few { length given.now.holds.items < 2 ^ 32 }
-    requires holds { ShallowJudgements (hypotheses given.now).judgements }
-    requires apart { ArePairsShallow (hypotheses given.now).pairs }
-    requires goal { AreShallow (goal_of goal.now).terms }
-    requires quiet { IsSilent known budget (goal_events (modes_of rules.now) (rules_of rules.now) (hypotheses given.now) (suc levels) (goal_of goal.now)) }
-    ensures { IfOk result (λ l. IsLead (modes_of rules.now) (subjects_of rules.now) (rules_of rules.now) (hypotheses given.now) budget levels (goal_of goal.now) path.items l) }
-{
-    let problem = enter_problem(alloc, rules, given, goal, None)?;
-    let Problem {
-        store,
-        facts,
-        pairs,
-        terms,
-        wanted,
-    } = problem;
-    drop(wanted);
-    let mut store = store;
-    let spot = Spot {
-        form: goal.form,
-        terms,
-        path,
-    };
-    match descend(
-        alloc, rules, &facts, &pairs, &mut store, spot, levels, budget, known,
-    )? {
-        Descent::Stuck { spot, reason } => {
-            let blame = export_blame(alloc, &store, spot, reason);
-            drop(store);
-            drop(pairs);
-            drop(facts);
-            Ok(Lead::Ends(blame?))
-        }
-        Descent::Below(next) => {
-            let Spot { form, terms, path } = next;
-            let below = export_goal(alloc, &store, form, &terms);
-            drop(terms);
-            drop(store);
-            drop(pairs);
-            drop(facts);
-            Ok(Lead::Goes { goal: below?, path })
-        }
-    }
-}
-
-/// The stuck goal that a goal at the path leads to.
+/// The stuck goal that a goal without an answer leads to, level by level in one store.
 fn stuck_below(
     alloc: Global,
     rules: &RuleSet,
-    given: &Hyps,
-    first: Goal,
-    start: Vec<usize>,
+    facts: &[Fact],
+    pairs: &[Pair],
+    store: &mut Store,
+    first: Spot,
     levels: usize,
     budget: u64,
 ) -> Result<Blame, NoMemory>
-    requires few { length given.now.holds.items < 2 ^ 32 }
-    requires holds { ShallowJudgements (hypotheses given.now).judgements }
-    requires apart { ArePairsShallow (hypotheses given.now).pairs }
-    requires goal { AreShallow (goal_of first).terms }
-    requires quiet { IsSilent true budget (goal_events (modes_of rules.now) (rules_of rules.now) (hypotheses given.now) levels (goal_of first)) }
-    ensures { IfOk result (λ b. IsStuck (modes_of rules.now) (subjects_of rules.now) (rules_of rules.now) (hypotheses given.now) levels (goal_of first) start.items (blame_of b)) }
+    requires few { length facts.now < 2 ^ 32 }
+    requires store { IsStore (modes_of rules.now) (rules_of rules.now) store.old }
+    requires terms { AreBelow (length (store_trees store.old)) first.terms.items }
+    requires quiet { (hyps : Hypotheses) × AreHyps (modes_of rules.now) store.old facts.now pairs.now hyps
+        × IsSilent false budget (goal_events (modes_of rules.now) (rules_of rules.now) hyps levels (spot_goal store.old first)) }
+    ensures { IfOk result (λ b. (hyps : Hypotheses) → AreHyps (modes_of rules.now) store.old facts.now pairs.now hyps →
+        IsStuck (modes_of rules.now) (subjects_of rules.now) (rules_of rules.now) hyps levels (spot_goal store.old first) first.path.items (blame_of b)) }
 {
     let mut here = first;
-    let mut way = start;
     let mut left = levels;
+    let mut known = false;
     while left > 0 {
         left -= 1;
-        match lead(alloc, rules, given, &here, way, left, budget, true)? {
-            Lead::Ends(blame) => return Ok(blame),
-            Lead::Goes { goal, path } => {
-                here = goal;
-                way = path;
+        match descend(
+            alloc, rules, facts, pairs, store, here, left, budget, known,
+        )? {
+            Descent::Stuck { spot, reason } => return export_blame(alloc, store, spot, reason),
+            Descent::Below(next) => {
+                here = next;
+                known = true;
             }
         }
     }
@@ -171,19 +121,26 @@ pub(crate) fn stuck_goal(
     requires quiet { IsQuiet budget (events (modes_of rules.now) (rules_of rules.now) (hypotheses given.now) (goal_of goal.now) 1) }
     ensures { IfOk result (λ b. IsStuck (modes_of rules.now) (subjects_of rules.now) (rules_of rules.now) (hypotheses given.now) 3000 (goal_of goal.now) [] (blame_of b)) }
 {
-    match lead(
-        alloc,
-        rules,
-        given,
-        goal,
-        Vec::new(alloc),
-        2999,
-        budget,
-        false,
-    )? {
-        Lead::Ends(blame) => Ok(blame),
-        Lead::Goes { goal: next, path } => {
-            stuck_below(alloc, rules, given, next, path, 2999, budget)
-        }
-    }
+    let problem = enter_problem(alloc, rules, given, goal, None)?;
+    let Problem {
+        store,
+        facts,
+        pairs,
+        terms,
+        wanted,
+    } = problem;
+    drop(wanted);
+    let mut store = store;
+    let first = Spot {
+        form: goal.form,
+        terms,
+        path: Vec::new(alloc),
+    };
+    let blame = stuck_below(
+        alloc, rules, &facts, &pairs, &mut store, first, 3000, budget,
+    );
+    drop(store);
+    drop(pairs);
+    drop(facts);
+    blame
 }

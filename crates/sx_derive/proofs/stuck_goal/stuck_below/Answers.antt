@@ -1,41 +1,60 @@
-use Rattle.sx_rules.specs.Views.{goal as goal_of, hypotheses}
+use Rattle.std.proofs.Common.{subst}
 use Rattle.sx_arena.specs.Views.{rules_of, modes_of}
+use Rattle.sx_arena.proofs.Patterns.{ok_weaker}
 use Rattle.sx_derive.specs.Ways.{subjects_of}
-use Rattle.sx_derive.specs.Descents.{IsLead}
-use Rattle.sx_derive.proofs.Sunk.{sink_quiet, sink_ends, sink_goes, sunk}
-use Rattle.std.proofs.Common.{subst, ◌-◌}
+use Rattle.sx_derive.specs.declared.descent.Descent.TheVariants.{Stuck}
+use Rattle.sx_derive.proofs.Sunk.{sinking_first, sink_quiet, sink_descent, sink_ends, sink_goes, sunk, From}
 use Rattle.sx_derive.proofs.stuck_goal.stuck_below.Goals as goal
 
-pub lead-requires-clause-quiet : goal.lead-requires-clause-quiet
-lead-requires-clause-quiet c =
-    let m = modes_of c.args.rules.now in
-    let su = subjects_of c.args.rules.now in
-    let rs = rules_of c.args.rules.now in
-    let hy = hypotheses c.args.given.now in
-    sink_quiet m su rs hy c.args.budget c.args.levels (goal_of c.args.first) c.args.start.items c.loop-left.left (goal_of c.loop-left.here) c.loop-left.way.items c.loop-left-test.true c.loop-left.invariant
+pub loop-left-init : goal.loop-left-init
+loop-left-init c =
+    let q = c.requires.quiet in
+    (q.0, sinking_first (modes_of c.args.rules.now) (subjects_of c.args.rules.now) (rules_of c.args.rules.now) q.0 c.args.budget c.args.levels c.args.store.now c.args.facts.now c.args.pairs.now c.args.first c.requires.store c.requires.terms q.1 q.2)
 
-pub returns-in-Ends : goal.returns-in-Ends
-returns-in-Ends c =
+pub descend-requires-clause-quiet : goal.descend-requires-clause-quiet
+descend-requires-clause-quiet c =
+    sink_quiet (modes_of c.args.rules.now) (subjects_of c.args.rules.now) (rules_of c.args.rules.now) c.loop-left.invariant.0 c.args.budget c.args.levels c.args.store.now c.args.facts.now c.args.pairs.now c.args.first
+    c.loop-left.store c.loop-left.left c.loop-left.known c.loop-left.here c.loop-left-test.true c.loop-left.invariant.1
+
+pub export_blame-requires-clause-terms : goal.export_blame-requires-clause-terms
+export_blame-requires-clause-terms c =
     let m = modes_of c.args.rules.now in
     let su = subjects_of c.args.rules.now in
     let rs = rules_of c.args.rules.now in
-    let hy = hypotheses c.args.given.now in
-    sink_ends m su rs hy c.args.budget c.args.levels (goal_of c.args.first) c.args.start.items c.loop-left.left (goal_of c.loop-left.here) c.loop-left.way.items c.loop-left-test.true c.loop-left.invariant c.in-Ends.blame
-    (subst (λ q. IsLead m su rs hy c.args.budget (c.loop-left.left - 1) (goal_of c.loop-left.here) c.loop-left.way.items q) c.in-Ends.is c.in_ok-blame.ensures)
+    let x = c.loop-left.invariant.0 in
+    let f = subst (λ d. From m su rs x c.args.budget c.args.levels c.args.store.now c.args.facts.now c.args.pairs.now c.args.first c.loop-left.store c.loop-left.left c.loop-left.known c.loop-left.here c.loop-left-test.true c.loop-left.invariant.1 c.descend.new.store d) c.in-Stuck.is c.in_ok-spot.ensures.descent in
+    (sink_descent m su rs x c.args.budget c.args.levels c.args.store.now c.args.facts.now c.args.pairs.now c.args.first c.loop-left.store c.loop-left.left c.loop-left.known c.loop-left.here c.loop-left-test.true c.loop-left.invariant.1 c.descend.new.store (Stuck c.in-Stuck.spot c.in-Stuck.reason) f).0
+
+pub export_blame-requires-clause-reason : goal.export_blame-requires-clause-reason
+export_blame-requires-clause-reason c =
+    let m = modes_of c.args.rules.now in
+    let su = subjects_of c.args.rules.now in
+    let rs = rules_of c.args.rules.now in
+    let x = c.loop-left.invariant.0 in
+    let f = subst (λ d. From m su rs x c.args.budget c.args.levels c.args.store.now c.args.facts.now c.args.pairs.now c.args.first c.loop-left.store c.loop-left.left c.loop-left.known c.loop-left.here c.loop-left-test.true c.loop-left.invariant.1 c.descend.new.store d) c.in-Stuck.is c.in_ok-spot.ensures.descent in
+    (sink_descent m su rs x c.args.budget c.args.levels c.args.store.now c.args.facts.now c.args.pairs.now c.args.first c.loop-left.store c.loop-left.left c.loop-left.known c.loop-left.here c.loop-left-test.true c.loop-left.invariant.1 c.descend.new.store (Stuck c.in-Stuck.spot c.in-Stuck.reason) f).1
+
+pub returns-in-Stuck : goal.returns-in-Stuck
+returns-in-Stuck c =
+    let m = modes_of c.args.rules.now in
+    let su = subjects_of c.args.rules.now in
+    let rs = rules_of c.args.rules.now in
+    let x = c.loop-left.invariant.0 in
+    let f = subst (λ d. From m su rs x c.args.budget c.args.levels c.args.store.now c.args.facts.now c.args.pairs.now c.args.first c.loop-left.store c.loop-left.left c.loop-left.known c.loop-left.here c.loop-left-test.true c.loop-left.invariant.1 c.descend.new.store d) c.in-Stuck.is c.in_ok-spot.ensures.descent in
+    ok_weaker _ _ (λ b e. sink_ends m su rs x c.args.budget c.args.levels c.args.store.now c.args.facts.now c.args.pairs.now c.args.first c.loop-left.store c.loop-left.left c.loop-left.known c.loop-left.here c.loop-left-test.true c.loop-left.invariant.1 c.descend.new.store
+    c.in-Stuck.spot c.in-Stuck.reason b f e) c.export_blame.result c.export_blame.ensures
 
 pub loop-left-preserved : goal.loop-left-preserved
 loop-left-preserved c =
     let m = modes_of c.args.rules.now in
     let su = subjects_of c.args.rules.now in
     let rs = rules_of c.args.rules.now in
-    let hy = hypotheses c.args.given.now in
-    sink_goes m su rs hy c.args.budget c.args.levels (goal_of c.args.first) c.args.start.items c.loop-left.left (goal_of c.loop-left.here) c.loop-left.way.items c.loop-left-test.true c.loop-left.invariant c.in-Goes.goal c.in-Goes.path
-    (subst (λ q. IsLead m su rs hy c.args.budget (c.loop-left.left - 1) (goal_of c.loop-left.here) c.loop-left.way.items q) c.in-Goes.is c.in_ok-blame.ensures)
+    let x = c.loop-left.invariant.0 in
+    let f = subst (λ d. From m su rs x c.args.budget c.args.levels c.args.store.now c.args.facts.now c.args.pairs.now c.args.first c.loop-left.store c.loop-left.left c.loop-left.known c.loop-left.here c.loop-left-test.true c.loop-left.invariant.1 c.descend.new.store d) c.in-Below.is c.in_ok-spot.ensures.descent in
+    (x, sink_goes m su rs x c.args.budget c.args.levels c.args.store.now c.args.facts.now c.args.pairs.now c.args.first c.loop-left.store c.loop-left.left c.loop-left.known c.loop-left.here c.loop-left-test.true c.loop-left.invariant.1 c.descend.new.store
+    c.in_ok-spot.ensures.grows c.in-Below.next f)
 
 pub unreachable-requires : goal.unreachable-requires
 unreachable-requires c =
-    let m = modes_of c.args.rules.now in
-    let su = subjects_of c.args.rules.now in
-    let rs = rules_of c.args.rules.now in
-    let hy = hypotheses c.args.given.now in
-    sunk m su rs hy c.args.budget c.args.levels (goal_of c.args.first) c.args.start.items c.loop-left.left (goal_of c.loop-left.here) c.loop-left.way.items c.loop-left-test.false c.loop-left.invariant
+    sunk (modes_of c.args.rules.now) (subjects_of c.args.rules.now) (rules_of c.args.rules.now) c.loop-left.invariant.0 c.args.budget c.args.levels c.args.store.now c.args.facts.now c.args.pairs.now c.args.first
+    c.loop-left.store c.loop-left.left c.loop-left.known c.loop-left.here c.loop-left-test.false c.loop-left.invariant.1
