@@ -5,9 +5,8 @@ use Rattle.sx_term.specs.Tree.{Tree}
 use Rattle.sx_rules.specs.Rules.{Judgement, Rule, Hypotheses, judgement_instance}
 use Rattle.sx_rules.specs.Modes.{Modes, inputs_of, outputs_of, Goal, goal_of}
 use Rattle.sx_arena.specs.Matching.{match_all, filled}
-use Rattle.sx_derive.specs.Walk.{goal_events}
+use Rattle.sx_derive.specs.Walk.{Answer, goal_events}
 use Rattle.sx_derive.specs.declared.ask.Asked.TheVariants.{Unanswered, Differs, Matched}
-use Rattle.sx_derive.specs.declared.first.FirstAnswer.{FirstAnswer}
 use Rattle.sx_arena.specs.declared.fact.Fact.{Fact}
 use Rattle.sx_arena.specs.declared.pairs.Pair.{Pair}
 use Rattle.sx_derive.specs.declared.store.Store.{Store}
@@ -56,7 +55,7 @@ module _ (modes : Modes) (rules : List Rule) (pairs : List Pair) (s t : Store) (
     pub ask_none : IsFirstFound modes rules t u (events_in modes rules pairs js t (levels - 1) j.form terms) None → IsAnswered modes s u env j (first_given (asked_events modes rules pairs js s env levels j)) (Unanswered kept)
     ask_none (g, e) = (terms_in u g, ap first_given (sym (made_events js l)) ∙ e)
 
-    module _ (found : FirstAnswer) (r : IsFirstFound modes rules t u (events_in modes rules pairs js t (levels - 1) j.form terms) (Some found)) (v : Store) (g : BindsGrow (trees u.arena) u.binds v.binds)
+    module _ (got : Vec ℕ Global) (r : IsFirstFound modes rules t u (events_in modes rules pairs js t (levels - 1) j.form terms) (Some got)) (v : Store) (g : BindsGrow (trees u.arena) u.binds v.binds)
         (va : v.arena ≡ u.arena) (vk : v.kids.items ≡ u.kids.items) (vf : v.frames.items ≡ u.frames.items) where
       uv : Grows modes rules u v
       uv = grows_binds modes rules u v r.0.store g va vk vf
@@ -67,26 +66,29 @@ module _ (modes : Modes) (rules : List Rule) (pairs : List Pair) (s t : Store) (
           let z = (sizes modes rules s).envs in
           env_stays (store_envs s) (store_envs u) su.envs env (omega arith)
 
-      first_is : first_given (asked_events modes rules pairs js s env levels j) ≡ Some (answer_in u found.head found.outputs.items)
-      first_is = ap first_given (sym (made_events js l)) ∙ r.1.2
+      abbrev answer_is : Answer
+      answer_is = (r.1.1.0, map (tree_at (store_trees u)) got.items)
 
-      pub ask_differs : match_all (outputs_of modes j) (map (tree_at (store_trees u)) found.outputs.items) (env_at (store_envs u) env) ≡ None →
-          IsAnswered modes s v env j (first_given (asked_events modes rules pairs js s env levels j)) (Differs kept found.outputs)
+      first_is : first_given (asked_events modes rules pairs js s env levels j) ≡ Some answer_is
+      first_is = ap first_given (sym (made_events js l)) ∙ r.1.1.1
+
+      pub ask_differs : match_all (outputs_of modes j) (map (tree_at (store_trees u)) got.items) (env_at (store_envs u) env) ≡ None →
+          IsAnswered modes s v env j (first_given (asked_events modes rules pairs js s env levels j)) (Differs kept got)
       ask_differs m = (
         terms_in v (grows_then modes rules t u v r.0 uv),
-        below_more (length (store_trees u)) (length (store_trees v)) (extends-length (store_trees u) (store_trees v) uv.trees) found.outputs.items r.1.1,
+        below_more (length (store_trees u)) (length (store_trees v)) (extends-length (store_trees u) (store_trees v) uv.trees) got.items r.1.0,
         (
-          answer_in u found.head found.outputs.items,
+          answer_is,
           first_is,
-          sym (maps_same (store_trees u) (store_trees v) uv.trees found.outputs.items r.1.1),
-          ap (match_all (outputs_of modes j) (map (tree_at (store_trees u)) found.outputs.items)) (sym env_same) ∙ m,
+          sym (maps_same (store_trees u) (store_trees v) uv.trees got.items r.1.0),
+          ap (match_all (outputs_of modes j) (map (tree_at (store_trees u)) got.items)) (sym env_same) ∙ m,
         ),
       )
 
-      pub ask_matches : (next : ℕ) → next ≤ length v.binds.cells.items → match_all (outputs_of modes j) (map (tree_at (store_trees u)) found.outputs.items) (env_at (store_envs u) env) ≡ Some (env_at (store_envs v) next) →
+      pub ask_matches : (next : ℕ) → next ≤ length v.binds.cells.items → match_all (outputs_of modes j) (map (tree_at (store_trees u)) got.items) (env_at (store_envs u) env) ≡ Some (env_at (store_envs v) next) →
           IsAnswered modes s v env j (first_given (asked_events modes rules pairs js s env levels j)) (Matched next)
       ask_matches next ln m =
-          (ln, (answer_in u found.head found.outputs.items, first_is, ap (match_all (outputs_of modes j) (map (tree_at (store_trees u)) found.outputs.items)) (sym env_same) ∙ m))
+          (ln, (answer_is, first_is, ap (match_all (outputs_of modes j) (map (tree_at (store_trees u)) got.items)) (sym env_same) ∙ m))
 
 -- facts are those of one list of judgements
 fact_unique : (modes : Modes) (ts : List Tree) (j k : Judgement) (f : Fact) → IsFact modes ts j f → IsFact modes ts k f → j ≡ k

@@ -1,5 +1,5 @@
 -- The first answer of a goal.
-use Rattle.std.proofs.Common.{◌≡◌, ℕ, List, Option, Some, None, Vec, refl, sym, ap, ◌∙◌}
+use Rattle.std.proofs.Common.{◌≡◌, ℕ, List, Option, Some, None, Vec, refl, sym, ap, ◌∙◌, subst}
 use Rattle.std.specs.declared.alloc.Global.{Global}
 use Rattle.sx_rules.specs.Rules.{Rule}
 use Rattle.sx_rules.specs.Modes.{Modes}
@@ -10,27 +10,44 @@ use Rattle.sx_arena.specs.declared.places.Limit.{Limit}
 use Rattle.sx_derive.specs.declared.store.Store.{Store}
 use Rattle.sx_derive.specs.declared.tasks.Ending.TheVariants.{Found, Passed, DepthSpent, Spent, Exhausted}
 use Rattle.sx_derive.specs.Handing.{answer_in}
-use Rattle.sx_derive.specs.Quiet.{IsQuiet, first_given, IsFirstFound}
+use Rattle.sx_derive.specs.Quiet.{IsQuiet, first_given, IsGivenIn, IsFirstFound}
+use Rattle.sx_derive.specs.Store.{IsStore, Grows, IsMark, IsCut, store_trees, store_envs, store_kids}
+use Rattle.sx_derive.specs.Chains.{head_proof}
+use Rattle.sx_derive.specs.declared.store.Mark.{Mark}
+use Rattle.sx_arena.specs.Arena.{trees}
+use Rattle.sx_term.specs.Tree.{Tree}
 use Rattle.sx_derive.specs.Walked.{IsWalkedTo}
+use Rattle.sx_derive.proofs.Cut.{cut_grows}
 use Rattle.sx_derive.proofs.Quiet.{first_ending, quiet_walk}
 
 module _ (modes : Modes) (rules : List Rule) (old new : Store) (budget : ℕ) (es fs : List (Event Answer)) (e : es ≡ fs) (q : IsQuiet budget fs) where
   ends : walk None budget es ≡ first_ending (first_given fs)
   ends = ap (walk None budget) e ∙ quiet_walk budget fs q.no_stop q.few
 
-  pub first_found : (head : Head) (outs : Vec ℕ Global) → IsWalkedTo modes rules old new None budget es (Found head outs) → IsFirstFound modes rules old new fs (Some (record { head = head; outputs = outs }))
-  first_found head outs (g, (a, b, w)) = (g, (a, b, go (first_given fs) (sym w ∙ ends)))
+  given_outs : (head : Head) (outs : Vec ℕ Global) → IsWalkedTo modes rules old new None budget es (Found head outs) → IsGivenIn (store_trees new) (first_given fs) (Some outs)
+  given_outs head outs (g, (a, b, w)) = (b, (head_proof (store_envs new) (store_kids new) head, go (first_given fs) (sym w ∙ ends)))
     where
       go : (o : Option Answer) → found (answer_in new head outs.items) ≡ first_ending o → o ≡ Some (answer_in new head outs.items)
       go None f = cc
       go (Some x) f = let z : answer_in new head outs.items ≡ x = cc in ap Some (sym z)
 
-  pub first_none : IsWalkedTo modes rules old new None budget es Exhausted → IsFirstFound modes rules old new fs None
-  first_none (g, w) = (g, go (first_given fs) (sym w ∙ ends))
+  given_none : IsWalkedTo modes rules old new None budget es Exhausted → IsGivenIn (store_trees new) (first_given fs) None
+  given_none (g, w) = go (first_given fs) (sym w ∙ ends)
     where
       go : (o : Option Answer) → exhausted ≡ first_ending o → o ≡ None
       go None f = refl
       go (Some x) f = cc
+
+  -- what is found stays where the chains are cut
+  module _ (m : Mark) (h : IsStore modes rules old) (k : IsMark old m) (last : Store) (c : IsCut m new last) where
+    given_last : (o : Option (Vec ℕ Global)) → Grows modes rules old new → IsGivenIn (store_trees new) (first_given fs) o → IsFirstFound modes rules old last fs o
+    given_last o g x = (cut_grows modes rules old new last m h k g c, subst (λ (ts : List Tree). IsGivenIn ts (first_given fs) o) (sym (ap trees c.arena)) x)
+
+    pub first_found : (head : Head) (outs : Vec ℕ Global) → IsWalkedTo modes rules old new None budget es (Found head outs) → IsFirstFound modes rules old last fs (Some outs)
+    first_found head outs w = given_last (Some outs) w.0 (given_outs head outs w)
+
+    pub first_none : IsWalkedTo modes rules old new None budget es Exhausted → IsFirstFound modes rules old last fs None
+    first_none w = given_last None w.0 (given_none w)
 
   pub first_passed : (l : Limit) → IsWalkedTo modes rules old new None budget es (Passed l) → ⊥
   first_passed l (g, (c, i, w)) = go (first_given fs) (sym w ∙ ends)

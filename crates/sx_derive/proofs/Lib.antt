@@ -6,6 +6,7 @@ pub mod Stepped
 pub mod Blamed
 pub mod BlamedOnce
 pub mod Bounded
+pub mod Cut
 pub mod Decided
 pub mod Sampled
 pub mod Chained

@@ -26,6 +26,8 @@ grows_same modes rules s h = record {
   envs = extends-same (store_envs s);
   kids = extends-same (store_kids s);
   frames = extends-same (store_frames modes rules s);
+  kid_cells = extends-same s.kids.items;
+  frame_cells = extends-same s.frames.items;
 }
 
 pub grows_then : (modes : Modes) (rules : List Rule) (a b c : Store) → Grows modes rules a b → Grows modes rules b c → Grows modes rules a c
@@ -35,10 +37,12 @@ grows_then modes rules a b c p q = record {
   envs = extends-then (store_envs a) (store_envs b) (store_envs c) p.envs q.envs;
   kids = extends-then (store_kids a) (store_kids b) (store_kids c) p.kids q.kids;
   frames = extends-then (store_frames modes rules a) (store_frames modes rules b) (store_frames modes rules c) p.frames q.frames;
+  kid_cells = extends-then a.kids.items b.kids.items c.kids.items p.kid_cells q.kid_cells;
+  frame_cells = extends-then a.frames.items b.frames.items c.frames.items p.frame_cells q.frame_cells;
 }
 
 -- more terms or more bindings
-more_envs : (modes : Modes) (rules : List Rule) (s t : Store) → IsStore modes rules s → IsArena t.arena → IsBinds (trees t.arena) t.binds → Extends (store_trees s) (store_trees t) → Extends (store_envs s) (store_envs t) →
+pub more_envs : (modes : Modes) (rules : List Rule) (s t : Store) → IsStore modes rules s → IsArena t.arena → IsBinds (trees t.arena) t.binds → Extends (store_trees s) (store_trees t) → Extends (store_envs s) (store_envs t) →
     t.kids.items ≡ s.kids.items → t.frames.items ≡ s.frames.items → Grows modes rules s t
 more_envs modes rules s t h a b x y k f =
     let c = kids_stay (store_envs s) (store_envs t) y s.kids.items h.kids in
@@ -57,6 +61,8 @@ more_envs modes rules s t h a b x y k f =
       envs = y;
       kids = z;
       frames = extends-is (store_frames modes rules s) (store_frames modes rules t) g;
+      kid_cells = extends-is s.kids.items t.kids.items k;
+      frame_cells = extends-is s.frames.items t.frames.items f;
     }
 
 pub grows_terms : (modes : Modes) (rules : List Rule) (s t : Store) → IsStore modes rules s → IsArena t.arena → Extends (store_trees s) (store_trees t) →
@@ -94,6 +100,8 @@ grows_kid modes rules s t c h p l a b k f =
         envs = y;
         kids = z;
         frames = extends-is (store_frames modes rules s) (store_frames modes rules t) (ap (frames_of modes rules (store_envs t) (store_kids t)) f ∙ d.0);
+        kid_cells = (c ∷ [], k);
+        frame_cells = extends-is s.frames.items t.frames.items f;
       },
       ap (λ ks. kids_at ks (length s.kids.items + 1)) m ∙ o.2,
     )
@@ -118,6 +126,8 @@ grows_frame modes rules s t c h p a b k f =
         envs = extends-is (store_envs s) (store_envs t) e;
         kids = extends-is (store_kids s) (store_kids t) m;
         frames = subst (λ (x : List (List _)). Extends (store_frames modes rules s) x) (sym n) o.1;
+        kid_cells = extends-is s.kids.items t.kids.items k;
+        frame_cells = (c ∷ [], f);
       },
       ap (λ fs. frames_at fs (length s.frames.items + 1)) n ∙ o.2,
     )

@@ -1,15 +1,15 @@
 -- Events without a stop, and what is given first among them.
-use Rattle.std.specs.Prelude.{◌≡◌, ℕ, suc, ◌≤◌, Bool, true, List, [], ◌∷◌, length, Option, Some, None}
+use Rattle.std.specs.Prelude.{◌≡◌, ℕ, suc, ◌≤◌, Bool, true, List, [], ◌∷◌, map, length, Option, Some, None, Vec}
+use Rattle.std.specs.declared.alloc.Global.{Global}
+use Rattle.sx_term.specs.Tree.{Tree}
 use Rattle.sx_rules.specs.Rules.{Rule}
 use Rattle.sx_rules.specs.Modes.{Modes}
+use Rattle.sx_rules.specs.Derivations.{Proof}
 use Rattle.sx_derive.specs.Walk.{Event, try, give, stop, Answer}
 use Rattle.sx_derive.specs.Search.{HasStop}
-use Rattle.sx_derive.specs.declared.first.FirstAnswer.{FirstAnswer}
 use Rattle.sx_derive.specs.declared.store.Store.{Store}
-use Rattle.sx_arena.specs.Arena.{AreBelow}
-use Rattle.sx_derive.specs.Chains.{HeadFits}
-use Rattle.sx_derive.specs.Handing.{answer_in}
-use Rattle.sx_derive.specs.Store.{Grows, store_trees, store_envs, store_kids}
+use Rattle.sx_arena.specs.Arena.{tree_at, AreBelow}
+use Rattle.sx_derive.specs.Store.{Grows, store_trees}
 
 -- how many tries stand among the events
 abbrev pub count : {A : Type 0} → List (Event A) → ℕ
@@ -35,12 +35,11 @@ pub record IsSilent {A : Type 0} (known : Bool) (budget : ℕ) (es : List (Event
   pub quiet : IsQuiet budget es
   pub silent : known ≡ true → first_given es ≡ None
 
--- the answer by its numbers is the one that is given first, where one is given
-abbrev pub IsGivenFirst : Store → Option Answer → Option FirstAnswer → Type 0
-IsGivenFirst s first None = first ≡ None
-IsGivenFirst s first (Some f) =
-    HeadFits (length (store_envs s)) (length (store_kids s)) f.head × AreBelow (length (store_trees s)) f.outputs.items × (first ≡ Some (answer_in s f.head f.outputs.items))
+-- the outputs by their numbers are those of the answer that is given first, where one is given
+abbrev pub IsGivenIn : List Tree → Option Answer → Option (Vec ℕ Global) → Type 0
+IsGivenIn ts first None = first ≡ None
+IsGivenIn ts first (Some outs) = AreBelow (length ts) outs.items × ((p : Proof) × (first ≡ Some (p, map (tree_at ts) outs.items)))
 
--- the store goes on, and has what is given first
-abbrev pub IsFirstFound : Modes → List Rule → Store → Store → List (Event Answer) → Option FirstAnswer → Type 0
-IsFirstFound modes rules old new es found = Grows modes rules old new × IsGivenFirst new (first_given es) found
+-- the store goes on, and has the outputs of what is given first
+abbrev pub IsFirstFound : Modes → List Rule → Store → Store → List (Event Answer) → Option (Vec ℕ Global) → Type 0
+IsFirstFound modes rules old new es found = Grows modes rules old new × IsGivenIn (store_trees new) (first_given es) found

@@ -75,7 +75,7 @@ pub(crate) fn ask(
     )?;
     match first {
         None => Ok(Asked::Unanswered(kept)),
-        Some(found) => {
+        Some(got) => {
             let fit = fit_places(
                 &store.arena,
                 &mut store.binds,
@@ -83,13 +83,10 @@ pub(crate) fn ask(
                 roles(rules, judgement.form),
                 true,
                 &judgement.places,
-                &found.outputs,
+                &got,
             )?;
             match fit {
-                None => Ok(Asked::Differs {
-                    terms: kept,
-                    got: found.outputs,
-                }),
+                None => Ok(Asked::Differs { terms: kept, got }),
                 Some(next) => Ok(Asked::Matched(next)),
             }
         }

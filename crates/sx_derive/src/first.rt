@@ -10,7 +10,6 @@ ghost use Rattle.sx_derive.specs.Store.{IsStore, store_trees};
 ghost use Rattle.sx_derive.specs.Walked.{events_in};
 ghost use Rattle.sx_arena.specs.Views.{rules_of, modes_of};
 
-use crate::chains::Head;
 use crate::store::Store;
 use crate::tasks::Ending;
 use crate::walk::{first_task, walk_uncounted};
@@ -19,14 +18,7 @@ use sx_arena::{Fact, Pair};
 use sx_rules::RuleSet;
 use sx_term::NoMemory;
 
-/// The first answer of a goal, by its numbers.
-#[derive(Drop)]
-pub struct FirstAnswer {
-    pub(crate) head: Head,
-    pub(crate) outputs: Vec<usize>,
-}
-
-/// The first answer of a goal, where it has one. No try is counted.
+/// The outputs of a goal's first answer, where it has one. No try is counted, and of what is made on the way only terms stay.
 pub(crate) fn first_answer(
     alloc: Global,
     rules: &RuleSet,
@@ -37,7 +29,7 @@ pub(crate) fn first_answer(
     terms: Vec<usize>,
     levels: usize,
     budget: u64,
-) -> Result<Option<FirstAnswer>, NoMemory>
+) -> Result<Option<Vec<usize>>, NoMemory>
     requires few { length facts.now < 2 ^ 32 }
     requires facts { (js : List Judgement) × AreFacts (modes_of rules.now) (store_trees store.old) js facts.now }
     requires store { IsStore (modes_of rules.now) (rules_of rules.now) store.old }
@@ -49,10 +41,13 @@ pub(crate) fn first_answer(
         IsFirstFound (modes_of rules.now) (rules_of rules.now) store.old store.new
         (events_in (modes_of rules.now) (rules_of rules.now) pairs.now js store.old levels form terms.items) r) }
 {
+    let mark = store.mark();
     let tasks = first_task(alloc, form, terms, levels)?;
     let wanted: Option<Vec<usize>> = None;
-    match walk_uncounted(alloc, rules, facts, pairs, store, &wanted, tasks, budget)? {
-        Ending::Found { head, outputs } => Ok(Some(FirstAnswer { head, outputs })),
+    let ending = walk_uncounted(alloc, rules, facts, pairs, store, &wanted, tasks, budget)?;
+    store.cut(mark);
+    match ending {
+        Ending::Found { head: _, outputs } => Ok(Some(outputs)),
         Ending::Exhausted => Ok(None),
         Ending::Passed(_) => unreachable!(),
         Ending::DepthSpent => unreachable!(),

@@ -3,7 +3,7 @@
 ghost use Rattle.std.specs.Prelude.{◌≡◌, [], List};
 ghost use Rattle.sx_rules.specs.Rules.{Rule};
 ghost use Rattle.sx_rules.specs.Modes.{Modes};
-ghost use Rattle.sx_derive.specs.Store.{IsStore};
+ghost use Rattle.sx_derive.specs.Store.{IsStore, IsMark, IsCut};
 
 use crate::chains::{Kid, Waiting};
 use std::alloc::Global;
@@ -18,6 +18,14 @@ pub struct Store {
     pub(crate) frames: Vec<Waiting>,
 }
 
+/// Where the chains of a store end: numbers of bindings, proofs and frames.
+#[derive(Clone, Copy)]
+pub struct Mark {
+    pub(crate) binds: usize,
+    pub(crate) kids: usize,
+    pub(crate) frames: usize,
+}
+
 impl Store {
     /// Nothing yet.
     pub fn new(alloc: Global) -> Store
@@ -29,5 +37,25 @@ impl Store {
             kids: Vec::new(alloc),
             frames: Vec::new(alloc),
         }
+    }
+
+    /// Where the chains end.
+    pub(crate) fn mark(&self) -> Mark
+        ensures { IsMark self.now result }
+    {
+        Mark {
+            binds: self.binds.cells.len(),
+            kids: self.kids.len(),
+            frames: self.frames.len(),
+        }
+    }
+
+    /// Drops what the chains have past the mark.
+    pub(crate) fn cut(&mut self, mark: Mark)
+        ensures { IsCut mark self.old self.new }
+    {
+        self.binds.cells.truncate(mark.binds);
+        self.kids.truncate(mark.kids);
+        self.frames.truncate(mark.frames);
     }
 }

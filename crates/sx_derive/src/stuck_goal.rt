@@ -93,9 +93,7 @@ fn stuck_below(
     let mut known = false;
     while left > 0 {
         left -= 1;
-        match descend(
-            alloc, rules, facts, pairs, store, here, left, budget, known,
-        )? {
+        match descend(alloc, rules, facts, pairs, store, here, left, budget, known)? {
             Descent::Stuck { spot, reason } => return export_blame(alloc, store, spot, reason),
             Descent::Below(next) => {
                 here = next;

@@ -5,7 +5,7 @@ ghost use Rattle.sx_rules.specs.Rules.{Judgement};
 ghost use Rattle.sx_derive.specs.Candidates.{AreFacts};
 ghost use Rattle.sx_arena.specs.Pairs.{ArePairs};
 ghost use Rattle.sx_derive.specs.Store.{IsStore, store_trees};
-ghost use Rattle.sx_derive.specs.Tasks.{TaskFits, TasksFit, WantedBelow};
+ghost use Rattle.sx_derive.specs.Tasks.{TaskFits, TasksFit, WantedBelow, IsNext};
 ghost use Rattle.sx_derive.specs.Turns.{IsPopped, IsTurn};
 ghost use Rattle.sx_arena.specs.Views.{rules_of, modes_of};
 ghost use Rattle.sx_arena.specs.declared.pairs.Pair.{Pair as PairOf};
@@ -42,6 +42,34 @@ pub(crate) fn next_task(rules: &RuleSet, facts: &[Fact], tasks: &mut Vec<Task>) 
     None
 }
 
+/// What comes of the next candidate of a task. Where it is nothing, the chains that were made for it are cut off.
+fn try_task(
+    alloc: Global,
+    rules: &RuleSet,
+    facts: &[Fact],
+    pairs: &[Pair],
+    store: &mut Store,
+    task: &Task,
+) -> Result<Step, NoMemory>
+    requires few { length facts.now < 2 ^ 32 }
+    requires facts { (js : List Judgement) × AreFacts (modes_of rules.now) (store_trees store.old) js facts.now }
+    requires store { IsStore (modes_of rules.now) (rules_of rules.now) store.old }
+    requires pairs { ArePairs (length (store_trees store.old)) pairs.now }
+    requires task { TaskFits (modes_of rules.now) (rules_of rules.now) store.old (length facts.now + length (rules_of rules.now)) task.now }
+    requires next { task.now.next < length facts.now + length (rules_of rules.now) }
+    ensures { IfOk result (λ step. (js : List Judgement) → AreFacts (modes_of rules.now) (store_trees store.old) js facts.now →
+        IsNext (modes_of rules.now) (rules_of rules.now) pairs.now js store.old store.new task.now step) }
+{
+    let mark = store.mark();
+    match try_next(alloc, rules, facts, pairs, store, task)? {
+        Step::Nothing => {
+            store.cut(mark);
+            Ok(Step::Nothing)
+        }
+        other => Ok(other),
+    }
+}
+
 /// A try of the task, and how the walk ends where it ends with it.
 pub(crate) fn turn(
     alloc: Global,
@@ -64,7 +92,7 @@ pub(crate) fn turn(
     ensures { IfOk result (λ o. (js : List Judgement) → AreFacts (modes_of rules.now) (store_trees store.old) js facts.now →
         IsTurn (modes_of rules.now) (rules_of rules.now) pairs.now js wanted.now (length facts.now + length (rules_of rules.now)) store.old store.new task tasks.old.items tasks.new.items o) }
 {
-    let step = try_next(alloc, rules, facts, pairs, store, &task)?;
+    let step = try_task(alloc, rules, facts, pairs, store, &task)?;
     tasks.push(Task {
         next: task.next + 1,
         form: task.form,

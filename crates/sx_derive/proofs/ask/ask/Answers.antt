@@ -155,7 +155,7 @@ fit_places-requires-clause-terms c =
     let b = c.requires.facts in
     let l = quiet_level m rs (hyps_in c.args.pairs.now s b.0) c.args.budget c.args.levels (asked_goal m s c.args.env j) (c.requires.quiet b.0 b.1) in
     let r0 = rw c.in-Some.is at (c.in_ok-first.ensures b.0 (facts_stay m (store_trees s) (store_trees t) held.extends b.0 c.args.facts.now b.1)) in
-    subst (λ is. AreBelow (length (store_trees c.first_answer.new.store)) is) (sym c.deref-in-Some-2.ensures.value) r0.1.1
+    subst (λ is. AreBelow (length (store_trees c.first_answer.new.store)) is) (sym c.deref-in-Some-2.ensures.value) r0.1.0
 
 pub returns-in-None-clause-grows : goal.returns-in-None-clause-grows
 returns-in-None-clause-grows c =
@@ -231,7 +231,7 @@ returns-in-None-fit-clause-answered c =
     held_as _ _ _ _ _ (λ i. selected false (c.roles.ensures i) (map (instance S) (map tree (c.deref.ensures.value i)))) c.in_ok-terms.ensures in
     let b = c.requires.facts in
     let l = quiet_level m rs (hyps_in c.args.pairs.now s b.0) c.args.budget c.args.levels (asked_goal m s c.args.env j) (c.requires.quiet b.0 b.1) in
-    λ js a. ask_differs m rs c.args.pairs.now s t c.args.env c.args.levels c.args.budget j c.in_ok-terms.terms.items c.requires.store c.requires.pairs c.requires.env held refl refl refl c.first_answer.new.store c.in_ok-kept.kept (c.in_ok-kept.ensures ∙ c.deref-2.ensures.value) js l c.in-Some.found (rw c.in-Some.is at (c.in_ok-first.ensures js (facts_stay m (store_trees s) (store_trees t) held.extends js c.args.facts.now a))) (record { arena = c.first_answer.new.store.arena; binds = c.fit_places.new.binds; kids = c.first_answer.new.store.kids; frames = c.first_answer.new.store.frames }) c.in_ok-fit-in-Some.ensures.grows refl refl refl
+    λ js a. ask_differs m rs c.args.pairs.now s t c.args.env c.args.levels c.args.budget j c.in_ok-terms.terms.items c.requires.store c.requires.pairs c.requires.env held refl refl refl c.first_answer.new.store c.in_ok-kept.kept (c.in_ok-kept.ensures ∙ c.deref-2.ensures.value) js l c.in-Some.got (rw c.in-Some.is at (c.in_ok-first.ensures js (facts_stay m (store_trees s) (store_trees t) held.extends js c.args.facts.now a))) (record { arena = c.first_answer.new.store.arena; binds = c.fit_places.new.binds; kids = c.first_answer.new.store.kids; frames = c.first_answer.new.store.frames }) c.in_ok-fit-in-Some.ensures.grows refl refl refl
     ((λ i. match_all (outputs (sym c.roles-in-Some.ensures i) (map tree (sym c.deref-in-Some.ensures.value i))) (map (tree_at (store_trees c.first_answer.new.store)) (sym c.deref-in-Some-2.ensures.value i)) (env_at (store_envs c.first_answer.new.store) c.args.env)) ∙ (rw c.in-None-fit.is at c.in_ok-fit-in-Some.ensures.fit))
 
 pub returns-in-Some-fit-clause-answered : goal.returns-in-Some-fit-clause-answered
@@ -248,5 +248,5 @@ returns-in-Some-fit-clause-answered c =
     let l = quiet_level m rs (hyps_in c.args.pairs.now s b.0) c.args.budget c.args.levels (asked_goal m s c.args.env j) (c.requires.quiet b.0 b.1) in
     λ js a.
     let k = rw c.in-Some-fit.is at c.in_ok-fit-in-Some.ensures.fit in
-    ask_matches m rs c.args.pairs.now s t c.args.env c.args.levels c.args.budget j c.in_ok-terms.terms.items c.requires.store c.requires.pairs c.requires.env held refl refl refl c.first_answer.new.store c.in_ok-kept.kept (c.in_ok-kept.ensures ∙ c.deref-2.ensures.value) js l c.in-Some.found (rw c.in-Some.is at (c.in_ok-first.ensures js (facts_stay m (store_trees s) (store_trees t) held.extends js c.args.facts.now a))) (record { arena = c.first_answer.new.store.arena; binds = c.fit_places.new.binds; kids = c.first_answer.new.store.kids; frames = c.first_answer.new.store.frames }) c.in_ok-fit-in-Some.ensures.grows refl refl refl c.in-Some-fit.next k.0
+    ask_matches m rs c.args.pairs.now s t c.args.env c.args.levels c.args.budget j c.in_ok-terms.terms.items c.requires.store c.requires.pairs c.requires.env held refl refl refl c.first_answer.new.store c.in_ok-kept.kept (c.in_ok-kept.ensures ∙ c.deref-2.ensures.value) js l c.in-Some.got (rw c.in-Some.is at (c.in_ok-first.ensures js (facts_stay m (store_trees s) (store_trees t) held.extends js c.args.facts.now a))) (record { arena = c.first_answer.new.store.arena; binds = c.fit_places.new.binds; kids = c.first_answer.new.store.kids; frames = c.first_answer.new.store.frames }) c.in_ok-fit-in-Some.ensures.grows refl refl refl c.in-Some-fit.next k.0
     ((λ i. match_all (outputs (sym c.roles-in-Some.ensures i) (map tree (sym c.deref-in-Some.ensures.value i))) (map (tree_at (store_trees c.first_answer.new.store)) (sym c.deref-in-Some-2.ensures.value i)) (env_at (store_envs c.first_answer.new.store) c.args.env)) ∙ k.1)

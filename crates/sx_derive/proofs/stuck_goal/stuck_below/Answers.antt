@@ -50,9 +50,11 @@ loop-left-preserved c =
     let su = subjects_of c.args.rules.now in
     let rs = rules_of c.args.rules.now in
     let x = c.loop-left.invariant.0 in
-    let f = subst (λ d. From m su rs x c.args.budget c.args.levels c.args.store.now c.args.facts.now c.args.pairs.now c.args.first c.loop-left.store c.loop-left.left c.loop-left.known c.loop-left.here c.loop-left-test.true c.loop-left.invariant.1 c.descend.new.store d) c.in-Below.is c.in_ok-spot.ensures.descent in
-    (x, sink_goes m su rs x c.args.budget c.args.levels c.args.store.now c.args.facts.now c.args.pairs.now c.args.first c.loop-left.store c.loop-left.left c.loop-left.known c.loop-left.here c.loop-left-test.true c.loop-left.invariant.1 c.descend.new.store
-    c.in_ok-spot.ensures.grows c.in-Below.next f)
+    let f = subst (λ d. From m su rs x c.args.budget c.args.levels c.args.store.now c.args.facts.now c.args.pairs.now c.args.first c.loop-left.store c.loop-left.left c.loop-left.known c.loop-left.here c.loop-left-test.true c.loop-left.invariant.1 c.descend.new.store d) c.in-Below.is c.in_ok-spot.ensures.descent in (
+      x,
+      sink_goes m su rs x c.args.budget c.args.levels c.args.store.now c.args.facts.now c.args.pairs.now c.args.first c.loop-left.store c.loop-left.left c.loop-left.known c.loop-left.here c.loop-left-test.true c.loop-left.invariant.1 c.descend.new.store
+          c.in_ok-spot.ensures.grows c.in-Below.next f,
+    )
 
 pub unreachable-requires : goal.unreachable-requires
 unreachable-requires c =

@@ -17,7 +17,7 @@ returns-in-Nothing c = λ js a.
     let rs = rules_of c.args.rules.now in
     let n = length c.args.facts.now + length rs in
     let s = c.args.store.now in
-    let w = c.try_next.new.store in
+    let w = c.try_task.new.store in
     let t = c.args.task in
     let after : Task = record { next = t.next + 1; form = t.form; terms = t.terms; levels = t.levels; frames = t.frames } in
     let x = c.in_ok-step.ensures js a in
@@ -30,7 +30,7 @@ returns-in-Passed c = λ js a.
     let rs = rules_of c.args.rules.now in
     let n = length c.args.facts.now + length rs in
     let s = c.args.store.now in
-    let w = c.try_next.new.store in
+    let w = c.try_task.new.store in
     let t = c.args.task in
     let after : Task = record { next = t.next + 1; form = t.form; terms = t.terms; levels = t.levels; frames = t.frames } in
     let x = c.in_ok-step.ensures js a in
@@ -43,7 +43,7 @@ returns-in-DepthSpent c = λ js a.
     let rs = rules_of c.args.rules.now in
     let n = length c.args.facts.now + length rs in
     let s = c.args.store.now in
-    let w = c.try_next.new.store in
+    let w = c.try_task.new.store in
     let t = c.args.task in
     let after : Task = record { next = t.next + 1; form = t.form; terms = t.terms; levels = t.levels; frames = t.frames } in
     let x = c.in_ok-step.ensures js a in
@@ -56,7 +56,7 @@ returns-in_ok-push-in-Goes c = λ js a.
     let rs = rules_of c.args.rules.now in
     let n = length c.args.facts.now + length rs in
     let s = c.args.store.now in
-    let w = c.try_next.new.store in
+    let w = c.try_task.new.store in
     let t = c.args.task in
     let after : Task = record { next = t.next + 1; form = t.form; terms = t.terms; levels = t.levels; frames = t.frames } in
     let x = c.in_ok-step.ensures js a in
@@ -70,7 +70,7 @@ returns-then-is_wanted c = λ js a.
     let rs = rules_of c.args.rules.now in
     let n = length c.args.facts.now + length rs in
     let s = c.args.store.now in
-    let w = c.try_next.new.store in
+    let w = c.try_task.new.store in
     let t = c.args.task in
     let after : Task = record { next = t.next + 1; form = t.form; terms = t.terms; levels = t.levels; frames = t.frames } in
     let x = c.in_ok-step.ensures js a in
@@ -83,7 +83,7 @@ returns-else-is_wanted c = λ js a.
     let rs = rules_of c.args.rules.now in
     let n = length c.args.facts.now + length rs in
     let s = c.args.store.now in
-    let w = c.try_next.new.store in
+    let w = c.try_task.new.store in
     let t = c.args.task in
     let after : Task = record { next = t.next + 1; form = t.form; terms = t.terms; levels = t.levels; frames = t.frames } in
     let x = c.in_ok-step.ensures js a in
