@@ -1,6 +1,6 @@
 -- Chains of bindings.
-use Rattle.std.proofs.Common.{◌≡◌, ℕ, zero, suc, ◌+◌, ◌-◌, ◌<◌, ◌≤◌, Bool, true, false, List, [], ◌∷◌, ◌++◌, length, get_or, Some, refl, sym, ap, ◌∙◌, arith, subst}
-use Rattle.std.specs.Prelude.{nat_eq}
+use Rattle.std.proofs.Common.{◌≡◌, ℕ, zero, suc, ◌+◌, ◌-◌, ◌<◌, ◌≤◌, Bool, true, false, List, [], ◌∷◌, ◌++◌, drop, length, get_or, Some, refl, sym, ap, ◌∙◌, arith, subst}
+use Rattle.std.specs.Prelude.{nat_eq, take}
 use Rattle.std.proofs.lemmas.Bool.Decides.{Decides-eqb}
 use Rattle.std.proofs.lemmas.List.{length_push, get_or_push}
 use Rattle.sx_term.specs.Tree.{Tree, node, none}
@@ -10,7 +10,7 @@ use Rattle.sx_arena.specs.declared.binds.Binds.{Binds}
 use Rattle.sx_arena.specs.Grown.{Extends, grown_from, Fits}
 use Rattle.sx_arena.specs.Arena.{tree_at}
 use Rattle.sx_arena.specs.Binds.{env_at, bind_step, BindFits, envs, IsBinds, BindsGrow, IsFound}
-use Rattle.sx_arena.proofs.Growing.{extends-same, extends-then, extends-length, extends-at, grown_from-one, grown-length, fits-one, grown-at, grown-same}
+use Rattle.sx_arena.proofs.Growing.{extends-same, extends-then, extends-length, extends-at, grown_from-one, grown_from-append, grown_from-extends, grown-length, fits-one, grown-at, grown-same}
 
 pub env_stays : (es fs : List Assignment) → Extends es fs → (i : ℕ) → i ≤ length es → env_at fs i ≡ env_at es i
 env_stays es fs x zero h = refl
@@ -97,4 +97,24 @@ binds_one ts old new c h t l e =
       },
       ap (env_at (envs ts new)) k ∙ ap (λ es. get_or es (length old.cells.items) unbound) f ∙ get_or_push (envs ts old) (bind_step ts (envs ts old) c) unbound (length old.cells.items) n,
       (omega arith),
+    )
+
+take_drop : {X : Type 0} (n : ℕ) (xs : List X) → xs ≡ take n xs ++ drop n xs
+take_drop zero xs = refl
+take_drop (suc n) [] = refl
+take_drop (suc n) (x ∷ xs) = ap (λ ys. x ∷ ys) (take_drop n xs)
+
+fits_front : {C V : Type 0} (step : List V → C → V) (P : List V → C → Type 0) (vs : List V) (cs ds : List C) → Fits step P vs (cs ++ ds) → Fits step P vs cs
+fits_front step P vs [] ds h = tt
+fits_front step P vs (c ∷ cs) ds h = (h.0, fits_front step P (vs ++ step vs c ∷ []) cs ds h.1)
+
+-- the first bindings are bindings, and the others go on from them
+pub binds_cut : (old new : Binds) (n : ℕ) → new.cells.items ≡ take n old.cells.items → (ts : List Tree) → IsBinds ts old → IsBinds ts new × Extends (envs ts new) (envs ts old)
+binds_cut old new n e ts h =
+    let cs = old.cells.items in
+    let f = fits_front (bind_step ts) (BindFits ts) [] (take n cs) (drop n cs) (subst (λ (ds : List Bind). Fits (bind_step ts) (BindFits ts) [] ds) (take_drop n cs) h) in
+    let g = ap (λ (ds : List Bind). grown_from (bind_step ts) [] ds) (take_drop n cs) ∙ grown_from-append (bind_step ts) [] (take n cs) (drop n cs) in
+    let x = subst (λ (ys : List Assignment). Extends (grown_from (bind_step ts) [] (take n cs)) ys) (sym g) (grown_from-extends (bind_step ts) (grown_from (bind_step ts) [] (take n cs)) (drop n cs)) in (
+      subst (λ (ds : List Bind). Fits (bind_step ts) (BindFits ts) [] ds) (sym e) f,
+      subst (λ (ds : List Bind). Extends (grown_from (bind_step ts) [] ds) (envs ts old)) (sym e) x,
     )

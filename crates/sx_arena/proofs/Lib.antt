@@ -1,4 +1,5 @@
 pub mod Sameness
+pub mod Keyed
 pub mod Matchings
 pub mod Exact
 pub mod Filled

@@ -114,7 +114,7 @@ placing_skip ts old new env last mask o places terms i k p f l e d = record {
   same = f.same ∙ ap (λ ps. match_all ps (map (tree_at ts) (drop k terms)) (env_at (envs ts new) last)) (selected_less o mask (map tree places) i (tree p) (maps_drop tree places i p l e) d);
 }
 
-placing_at : (ts : List Tree) (env : Assignment) (mask : List Bool) (o : Bool) (places : List Term) (terms : List ℕ) (i k t : ℕ) (p : Term) →
+pub placing_at : (ts : List Tree) (env : Assignment) (mask : List Bool) (o : Bool) (places : List Term) (terms : List ℕ) (i k t : ℕ) (p : Term) →
     i < length places → p ≡ get_or places i p → get_or mask i false ≡ o → k < length terms → t ≡ get_or terms k t →
     match_all (selected o (drop i mask) (drop i (map tree places))) (map (tree_at ts) (drop k terms)) env
     ≡ match_then (match (tree p) (tree_at ts t) env) (match_all (selected o (drop (i + 1) mask) (drop (i + 1) (map tree places))) (map (tree_at ts) (drop (k + 1) terms)))

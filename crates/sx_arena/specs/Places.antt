@@ -1,7 +1,8 @@
 -- The places of a judgement that are inputs, or those that are outputs.
 use Rattle.std.specs.Prelude.{◌≡◌, ℕ, ◌-◌, ◌^◌, Bool, true, false, List, map, length, min, Option, Some, None}
-use Rattle.sx_term.specs.Tree.{Tree}
+use Rattle.sx_term.specs.Tree.{Tree, Trees, node}
 use Rattle.sx_rules.specs.Modes.{inputs, outputs}
+use Rattle.sx_arena.specs.Matching.{Assignment, match, match_all}
 use Rattle.sx_arena.specs.Limits.{Cause, too_deep, too_big}
 use Rattle.sx_arena.specs.declared.arena.Arena.{Arena}
 use Rattle.sx_arena.specs.declared.places.Limit.{Limit}
@@ -25,3 +26,11 @@ abbrev pub IsLimit : Option Cause → Option Limit → Type 0
 IsLimit c None = c ≡ None
 IsLimit c (Some (TooDeep n)) = (depth : ℕ) × (c ≡ Some (too_deep depth)) × (n ≡ min depth (2 ^ 64 - 1))
 IsLimit c (Some (TooBig n)) = (size : ℕ) × (c ≡ Some (too_big size)) × (n ≡ min size (2 ^ 64 - 1))
+
+-- no node with that label matches the term
+abbrev pub Differs : ℕ → Tree → Type 0
+Differs label t = (ps : Trees) (env : Assignment) → match (node label ps) t env ≡ None
+
+-- the patterns match the terms under no bindings
+abbrev pub NeverFit : List Tree → List Tree → Type 0
+NeverFit ps ts = (env : Assignment) → match_all ps ts env ≡ None

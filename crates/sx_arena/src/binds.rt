@@ -1,7 +1,8 @@
 //! Bindings of variables to terms of an arena, as chains that share what they have in common.
 
-ghost use Rattle.std.specs.Prelude.{◌≡◌, ℕ, ◌+◌, ◌≤◌, ◌<◌, List, [], ◌∷◌, ◌++◌, IfOk, OnOk, length};
+ghost use Rattle.std.specs.Prelude.{◌≡◌, ℕ, ◌+◌, ◌≤◌, ◌<◌, List, [], ◌∷◌, ◌++◌, IfOk, OnOk, length, take};
 ghost use Rattle.sx_term.specs.Tree.{Tree};
+ghost use Rattle.sx_arena.specs.Grown.{Extends};
 ghost use Rattle.sx_arena.specs.Binds.{envs, env_at, bind_step, IsBinds, IsFound, BindsGrow};
 
 use std::alloc::Global;
@@ -42,6 +43,14 @@ impl Binds {
             before,
         })?;
         Ok(self.cells.len())
+    }
+
+    /// Drops the bindings past the first so many.
+    pub fn cut(&mut self, length: usize)
+        ensures items { self.new.cells.items ≡ take length self.old.cells.items }
+        ensures binds { (ts : List Tree) → IsBinds ts self.old → IsBinds ts self.new × Extends (envs ts self.new) (envs ts self.old) }
+    {
+        self.cells.truncate(length);
     }
 
     /// The term that a chain binds the variable to.

@@ -9,9 +9,9 @@ ghost use Rattle.sx_arena.specs.Limits.{limit_passed};
 ghost use Rattle.sx_arena.specs.Arena.{trees, tree_at, IsArena, AreBelow};
 ghost use Rattle.sx_arena.specs.Binds.{envs, env_at, IsBinds, BindsGrow, IsFit};
 ghost use Rattle.sx_arena.specs.Views.{mask_of};
-ghost use Rattle.sx_arena.specs.Places.{selected, AreHeld, IsLimit};
+ghost use Rattle.sx_arena.specs.Places.{selected, AreHeld, IsLimit, Differs, NeverFit};
 
-use crate::arena::Arena;
+use crate::arena::{Arena, Shape};
 use crate::binds::Binds;
 use crate::pattern::{fit, made};
 use std::alloc::Global;
@@ -35,6 +35,43 @@ pub fn is_output(roles: &[Place], place: usize) -> bool
     }
 }
 
+/// Whether the term is a node with the label.
+fn has_label(arena: &Arena, term: usize, label: u32) -> bool
+    requires arena { IsArena arena.now }
+    requires within { term < length (trees arena.now) }
+    ensures { result ≡ false → Differs label (tree_at (trees arena.now) term) }
+{
+    match &arena.cell(term).shape {
+        Shape::Node {
+            label: other,
+            kids: _,
+        } => label == *other,
+        _ => false,
+    }
+}
+
+/// Whether the first pattern that is a node has the label of its term: where not, the patterns match under no bindings.
+fn may_fit(arena: &Arena, roles: &[Place], outputs: bool, places: &[Term], terms: &[usize]) -> bool
+    requires arena { IsArena arena.now }
+    requires terms { AreBelow (length (trees arena.now)) terms.now }
+    ensures { result ≡ false → NeverFit (selected outputs (mask_of roles.now) (map tree places.now)) (map (tree_at (trees arena.now)) terms.now) }
+{
+    let mut taken = 0;
+    for i in 0..places.len() {
+        if is_output(roles, i) != outputs {
+            continue;
+        }
+        if taken >= terms.len() {
+            return false;
+        }
+        if let Term::Node { label, kids: _ } = &places[i] {
+            return has_label(arena, terms[taken], *label);
+        }
+        taken += 1;
+    }
+    true
+}
+
 /// The chain under which the instances of the outputs, or else of the inputs, are the terms, or None where there is none.
 pub fn fit_places(
     arena: &Arena,
@@ -53,6 +90,9 @@ pub fn fit_places(
     ensures grows { OnOk result (BindsGrow (trees arena.now) binds.old binds.new) }
     ensures fit { IfOk result (λ r. IsFit (trees arena.now) binds.new (match_all (selected outputs (mask_of roles.now) (map tree places.now)) (map (tree_at (trees arena.now)) terms.now) (env_at (envs (trees arena.now) binds.old) env)) r) }
 {
+    if !may_fit(arena, roles, outputs, places, terms) {
+        return Ok(None);
+    }
     let mut last = env;
     let mut taken = 0;
     for i in 0..places.len() {

@@ -54,7 +54,7 @@ impl Store {
     pub(crate) fn cut(&mut self, mark: Mark)
         ensures { IsCut mark self.old self.new }
     {
-        self.binds.cells.truncate(mark.binds);
+        self.binds.cut(mark.binds);
         self.kids.truncate(mark.kids);
         self.frames.truncate(mark.frames);
     }

@@ -23,9 +23,9 @@ use Rattle.sx_replay.specs.declared.replay_error.ReplayError.{ReplayError}
 use Rattle.sx_replay.specs.declared.replay_error.ReplayError.TheVariants.{Memory, WrongAt, EndsEarly, LongList, TooDeep, TooBig, DeepList}
 use Rattle.sx_replay.specs.Limits.{nothing_noted}
 use Rattle.sx_replay.specs.Machine.{Frame, Move, clash, ends, asks, entry_move, open_at, ended, read}
-use Rattle.sx_replay.specs.Reader.{reader_trees, reader_envs, stack_on, stack, IsReader, Grows, hyps_in, goal_in, IsStep}
+use Rattle.sx_replay.specs.Reader.{reader_trees, reader_envs, stack_on, stack, IsReader, GoesOn, hyps_in, goal_in, IsStep}
 use Rattle.sx_replay.specs.Following.{IsChecked, reading, StandsOpen, StandsWhole, StandsAt, StandsBefore, IsRefused}
-use Rattle.sx_replay.proofs.Readers.{stack_length, grows_same, grows_then}
+use Rattle.sx_replay.proofs.Readers.{stack_length, goes_same, goes_then}
 
 pub get_any : (xs : List EntryOf) (i : ℕ) (d x : EntryOf) → i < length xs → get_or xs i d ≡ get_or xs i x
 get_any [] i d x l = absurd (omega arith)
@@ -64,12 +64,12 @@ read_more modes rules hyps (x ∷ xs) e d (asks goal frames m) g fs n k h = read
 -- the step of an entry at a goal
 abbrev pub IsStepped : Modes → List Rule → List Pair → Reader → Reader → ℕ → List ℕ → List Judgement → Step → Entry → Type 0
 IsStepped modes rules pairs now new here inputs js step e =
-    Grows rules now new × IsStep modes rules [] new ends step (entry_move modes (hyps_in pairs now js) rules e (goal_in now here inputs) (stack modes rules now) now.noted)
+    GoesOn rules now new × IsStep modes rules [] new ends step (entry_move modes (hyps_in pairs now js) rules e (goal_in now here inputs) (stack modes rules now) now.noted)
 
 module _ (modes : Modes) (rules : List Rule) (facts : List Fact) (pairs : List Pair) (old : Reader) (form : ℕ) (terms : List ℕ) (list : List EntryOf) where
   -- the first entries are read, and the reader stands at the goal
   pub record Following (now : Reader) (i : ℕ) (here : ℕ) (inputs : List ℕ) : Type 0 where
-    pub grows : Grows rules old now
+    pub grows : GoesOn rules old now
     pub below : AreBelow (length (reader_trees now)) inputs
     pub noted : now.noted ≡ nothing_noted
     pub reads : (js : List Judgement) → AreFacts modes (reader_trees old) js facts →
@@ -77,7 +77,7 @@ module _ (modes : Modes) (rules : List Rule) (facts : List Fact) (pairs : List P
 
   pub following_first : IsReader rules old → AreBelow (length (reader_trees old)) terms → old.noted ≡ nothing_noted → old.waiting.items ≡ [] → Following old 0 form terms
   following_first h b n w = record {
-    grows = grows_same rules old h;
+    grows = goes_same rules old h;
     below = b;
     noted = n;
     reads = λ js a. (0, ap (λ (fs : List Frame). open_at (goal_in old form terms) fs nothing_noted 0) (sym (ap (stack_on modes rules (reader_envs old) []) w)), omega arith);
@@ -90,10 +90,10 @@ module _ (modes : Modes) (rules : List Rule) (facts : List Fact) (pairs : List P
       (goal_in now here inputs, stack modes rules now, r.0, ap (reading modes rules (hyps_in pairs old js) (goal_in old form terms)) (sym (take_all list i l)) ∙ r.1, r.2)
 
   module _ (now new : Reader) (i here level : ℕ) (inputs : List ℕ) (x : EntryOf) (step : Step) (hp : ArePairs (length (reader_trees old)) pairs) (f : Following now i here inputs) (l : i < length list) (e : x ≡ get_or list i x) (lv : level ≡ length now.waiting.items)
-      (h : (js : List Judgement) → AreFacts modes (reader_trees now) js facts → Grows rules now new × IsStep modes rules [] new ends step (entry_move modes (hyps_in pairs now js) rules (entry x) (goal_in now here inputs) (stack modes rules now) now.noted)) where
+      (h : (js : List Judgement) → AreFacts modes (reader_trees now) js facts → GoesOn rules now new × IsStep modes rules [] new ends step (entry_move modes (hyps_in pairs now js) rules (entry x) (goal_in now here inputs) (stack modes rules now) now.noted)) where
     -- the move of the entry, and where reading stands after it
     pub record Entered (js : List Judgement) : Type 0 where
-      pub grows : Grows rules now new
+      pub grows : GoesOn rules now new
       pub move : Move
       pub is : IsStep modes rules [] new ends step move
       pub depth : ℕ
@@ -228,7 +228,7 @@ module _ (modes : Modes) (rules : List Rule) (facts : List Fact) (pairs : List P
         let t0 = entered js0 a0 in
         let c = subst (λ (y : Step). IsStep modes rules [] new ends y t0.move) s t0.is in
         record {
-          grows = grows_then rules old now new f.grows t0.grows;
+          grows = goes_then rules old now new f.grows t0.grows;
           below = c.0;
           noted = nn;
           reads = λ js a.

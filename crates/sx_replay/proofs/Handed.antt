@@ -1,6 +1,6 @@
 -- Outputs at the rules that wait for them.
-use Rattle.std.proofs.Common.{◌≡◌, ℕ, zero, suc, ◌+◌, ◌<◌, List, [], ◌∷◌, ◌++◌, map, drop, length, get_or, Option, Some, None, Vec, refl, sym, ap, ◌∙◌, arith, subst}
-use Rattle.std.specs.Prelude.{slice_get}
+use Rattle.std.proofs.Common.{◌≡◌, ℕ, zero, suc, ◌+◌, ◌<◌, ◌≤◌, List, [], ◌∷◌, ◌++◌, map, drop, length, get_or, Option, Some, None, Vec, refl, sym, ap, ◌∙◌, arith, subst, length-take-le}
+use Rattle.std.specs.Prelude.{slice_get, take}
 use Rattle.std.specs.declared.alloc.Global.{Global}
 use Rattle.sx_term.specs.Tree.{Tree}
 use Rattle.sx_rules.specs.declared.rule.Judgement.{Judgement as JudgementOf}
@@ -12,7 +12,8 @@ use Rattle.sx_arena.specs.Matching.{Assignment, match_all}
 use Rattle.sx_arena.specs.declared.binds.Binds.{Binds}
 use Rattle.sx_arena.specs.declared.pairs.Pair.{Pair}
 use Rattle.sx_arena.specs.Arena.{trees, tree_at, AreBelow}
-use Rattle.sx_arena.specs.Binds.{env_at, BindsGrow}
+use Rattle.sx_arena.specs.Binds.{envs, env_at, IsBinds, BindsGrow}
+use Rattle.sx_arena.specs.Grown.{Extends}
 use Rattle.sx_arena.specs.Pairs.{ArePairs}
 use Rattle.sx_arena.specs.Views.{premise_of, judgement_of}
 use Rattle.sx_arena.proofs.Parted.{pairs_stay}
@@ -22,8 +23,8 @@ use Rattle.sx_replay.specs.declared.noted.Noted.{Noted}
 use Rattle.sx_replay.specs.declared.step.Step.{Step}
 use Rattle.sx_replay.specs.declared.step.Step.TheVariants.{Clash, Done, Asks}
 use Rattle.sx_replay.specs.Machine.{Frame, Move, ends, move_matched, premises_move, hand_on}
-use Rattle.sx_replay.specs.Reader.{reader_trees, reader_envs, frame_of, stack_on, stack, WaitsAt, AreWaiting, IsReader, Grows, hyps_in, IsStep, IsPremises, IsResumed, IsMoved}
-use Rattle.sx_replay.proofs.Readers.{stack_one, stack_later, frame_is, grows_same, grows_then, grows_binds, waiting_front}
+use Rattle.sx_replay.specs.Reader.{reader_trees, reader_envs, frame_of, stack_on, stack, WaitsAt, AreWaiting, IsReader, Grows, GoesOn, hyps_in, IsStep, IsPremises, IsResumed, IsMoved}
+use Rattle.sx_replay.proofs.Readers.{envs_length, stack_one, stack_stays, stack_later, frame_is, frame_stays, grows_then, grows_binds, goes_same, goes_then, waiting_front}
 use Rattle.std.proofs.lemmas.List.{length_push}
 
 -- the rule and the premise of a rule that waits
@@ -95,42 +96,62 @@ step_other modes rules cs ds r next other (Asks f t) m n h = h
 
 -- the outputs now, at the rules that wait now, make what the first outputs make
 pub record Handing (modes : Modes) (rules : List Rule) (pairs : List Pair) (old now : Reader) (firsts outs : List ℕ) : Type 0 where
-  pub grows : Grows rules old now
+  pub grows : GoesOn rules old now
   pub below : AreBelow (length (reader_trees now)) outs
   pub same : (js : List Judgement) → hand_on modes (hyps_in pairs old js) (stack modes rules old) (map (tree_at (reader_trees old)) firsts) old.noted
       ≡ hand_on modes (hyps_in pairs old js) (stack modes rules now) (map (tree_at (reader_trees now)) outs) now.noted
 
 pub handing_first : (modes : Modes) (rules : List Rule) (pairs : List Pair) (r : Reader) (outs : List ℕ) → IsReader rules r → AreBelow (length (reader_trees r)) outs → Handing modes rules pairs r r outs outs
-handing_first modes rules pairs r outs h b = record { grows = grows_same rules r h; below = b; same = λ js. refl }
+handing_first modes rules pairs r outs h b = record { grows = goes_same rules r h; below = b; same = λ js. refl }
 
--- the reader without the last rule that waits
-abbrev pub popped : Reader → Vec Waiting Global → Reader
-popped now ws = record { arena = now.arena; binds = now.binds; waiting = ws; noted = now.noted }
+-- the first bindings, as many as there were when the rule began to wait
+pub record IsCutAt (old new : Binds) (c : Waiting) : Type 0 where
+  pub items : new.cells.items ≡ take c.mark old.cells.items
+  pub binds : (ts : List Tree) → IsBinds ts old → IsBinds ts new × Extends (envs ts new) (envs ts old)
 
-pub popped_reader : (rules : List Rule) (now : Reader) (ws : Vec Waiting Global) (c : Waiting) → IsReader rules now → now.waiting.items ≡ ws.items ++ c ∷ [] → IsReader rules (popped now ws) × WaitsAt rules (length now.binds.cells.items) c
-popped_reader rules now ws c h e =
+-- the reader without the last rule that waits, and without what was bound since it began to wait
+abbrev pub popped : Reader → Vec Waiting Global → Binds → Reader
+popped now ws b = record { arena = now.arena; binds = b; waiting = ws; noted = now.noted }
+
+pub popped_reader : (rules : List Rule) (now : Reader) (ws : Vec Waiting Global) (c : Waiting) (b : Binds) → IsReader rules now → now.waiting.items ≡ ws.items ++ c ∷ [] → IsCutAt now.binds b c →
+    IsReader rules (popped now ws b) × WaitsAt rules (length b.cells.items) c
+popped_reader rules now ws c b h e k =
     let f = waiting_front rules (length now.binds.cells.items) ws.items c (subst (λ (cs : List Waiting). AreWaiting rules (length now.binds.cells.items) cs) e h.waiting) in
-    (record { arena = h.arena; binds = h.binds; waiting = f.0 }, f.1)
+    let l : length b.cells.items ≡ c.mark = ap length k.items ∙ length-take-le c.mark now.binds.cells.items f.1.mark in (
+      record {
+        arena = h.arena;
+        binds = (k.binds (reader_trees now) h.binds).0;
+        waiting = subst (λ (n : ℕ). AreWaiting rules n ws.items) (sym l) f.0;
+      },
+      record { rule = f.1.rule; judgement = f.1.judgement; found = f.1.found; premise = f.1.premise; env = f.1.env; mark = (omega arith) },
+    )
 
-module _ (modes : Modes) (rules : List Rule) (pairs : List Pair) (old now new : Reader) (firsts outs : List ℕ) (ws : Vec Waiting Global) (c : Waiting)
+module _ (modes : Modes) (rules : List Rule) (pairs : List Pair) (old now new : Reader) (firsts outs : List ℕ) (ws : Vec Waiting Global) (c : Waiting) (b : Binds) (cut : IsCutAt now.binds b c)
     (hp : ArePairs (length (reader_trees old)) pairs) (i : Handing modes rules pairs old now firsts outs) (e : now.waiting.items ≡ ws.items ++ c ∷ []) where
   read_same : (js : List Judgement) → hand_on modes (hyps_in pairs old js) (stack modes rules old) (map (tree_at (reader_trees old)) firsts) old.noted
-      ≡ hand_on modes (hyps_in pairs now js) (frame_of modes rules (reader_envs now) c ∷ stack modes rules (popped now ws)) (map (tree_at (reader_trees now)) outs) now.noted
+      ≡ hand_on modes (hyps_in pairs now js) (frame_of modes rules (reader_envs (popped now ws b)) c ∷ stack modes rules (popped now ws b)) (map (tree_at (reader_trees now)) outs) now.noted
   read_same js =
       let q = pairs_stay (reader_trees old) (reader_trees now) i.grows.trees pairs hp in
-      let st : stack modes rules now ≡ frame_of modes rules (reader_envs now) c ∷ stack modes rules (popped now ws) =
-      ap (stack_on modes rules (reader_envs now) []) e ∙ stack_one modes rules (reader_envs now) [] ws.items c in
+      let pr = popped_reader rules now ws c b i.grows.reader e cut in
+      let x : Extends (reader_envs (popped now ws b)) (reader_envs now) = (cut.binds (reader_trees now) i.grows.reader.binds).1 in
+      let n = envs_length (popped now ws b) in
+      let en = pr.1.env in
+      let mk = pr.1.mark in
+      let st : stack modes rules now ≡ frame_of modes rules (reader_envs (popped now ws b)) c ∷ stack modes rules (popped now ws b) =
+      ap (stack_on modes rules (reader_envs now) []) e ∙ stack_one modes rules (reader_envs now) [] ws.items c
+      ∙ (λ k. frame_stays modes rules (reader_envs (popped now ws b)) (reader_envs now) c x (omega arith) k
+      ∷ stack_stays modes rules (reader_envs (popped now ws b)) (reader_envs now) (length b.cells.items) x (omega arith) [] ws.items pr.0.waiting k) in
       i.same js ∙ (λ k. hand_on modes (record { judgements = js; pairs = sym q k }) (st k) (map (tree_at (reader_trees now)) outs) now.noted)
 
-  grown : (step : Step) → IsResumed modes rules pairs (popped now ws) new c outs step → Grows rules old new
-  grown step m = grows_then rules old now new i.grows (record { reader = m.grows.reader; trees = m.grows.trees; envs = m.grows.envs })
+  grown : (step : Step) → IsResumed modes rules pairs (popped now ws b) new c outs step → GoesOn rules old new
+  grown step m = goes_then rules old now new i.grows (record { reader = m.grows.reader; trees = m.grows.trees })
 
-  pub handing_more : (made : Vec ℕ Global) → IsResumed modes rules pairs (popped now ws) new c outs (Done made) → Handing modes rules pairs old new firsts made.items
+  pub handing_more : (made : Vec ℕ Global) → IsResumed modes rules pairs (popped now ws b) new c outs (Done made) → Handing modes rules pairs old new firsts made.items
   handing_more made m =
       let n = m.is [] in
       let q = pairs_stay (reader_trees old) (reader_trees now) i.grows.trees pairs hp in
-      let pr = popped_reader rules now ws c i.grows.reader e in
-      let st = stack_later modes rules (popped now ws) new pr.0 m.grows.envs n.1 in
+      let pr = popped_reader rules now ws c b i.grows.reader e cut in
+      let st = stack_later modes rules (popped now ws b) new pr.0 m.grows.envs n.1 in
       record {
         grows = grown (Done made) m;
         below = n.0;
@@ -140,18 +161,18 @@ module _ (modes : Modes) (rules : List Rule) (pairs : List Pair) (old now new : 
       }
 
   -- one rule less waits
-  pub fewer_wait : (made : Vec ℕ Global) → IsResumed modes rules pairs (popped now ws) new c outs (Done made) → length new.waiting.items < length now.waiting.items
+  pub fewer_wait : (made : Vec ℕ Global) → IsResumed modes rules pairs (popped now ws b) new c outs (Done made) → length new.waiting.items < length now.waiting.items
   fewer_wait made m =
       let n = m.is [] in
       let a = ap length n.1 in
       let b = ap length e ∙ length_push ws.items c in
       omega arith
 
-  pub handed_stop : (step : Step) → ((o : Vec ℕ Global) → step ≡ Done o → ⊥) → IsResumed modes rules pairs (popped now ws) new c outs step →
+  pub handed_stop : (step : Step) → ((o : Vec ℕ Global) → step ≡ Done o → ⊥) → IsResumed modes rules pairs (popped now ws b) new c outs step →
       IsMoved modes rules pairs old new (λ hyps. hand_on modes hyps (stack modes rules old) (map (tree_at (reader_trees old)) firsts) old.noted) step
   handed_stop step n m = record {
     grows = grown step m;
     is = λ js. subst (λ (x : Move). IsStep modes rules [] new ends step x) (sym (read_same js))
-        (step_other modes rules ws.items [] new (hand_on modes (hyps_in pairs now js) (stack modes rules (popped now ws))) ends step
-        (hand_on modes (hyps_in pairs now js) (frame_of modes rules (reader_envs now) c ∷ stack modes rules (popped now ws)) (map (tree_at (reader_trees now)) outs) now.noted) n (m.is js));
+        (step_other modes rules ws.items [] new (hand_on modes (hyps_in pairs now js) (stack modes rules (popped now ws b))) ends step
+        (hand_on modes (hyps_in pairs now js) (frame_of modes rules (reader_envs (popped now ws b)) c ∷ stack modes rules (popped now ws b)) (map (tree_at (reader_trees now)) outs) now.noted) n (m.is js));
   }

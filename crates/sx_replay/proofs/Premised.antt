@@ -117,19 +117,20 @@ module _ (modes : Modes) (rules : List Rule) (pairs : List Pair) (old mid new : 
       }
 
   -- the goal of a premise
-  pub asked_is : IsReader rules old → (made : Reader) (j : Judgement) (k number : ℕ) (terms : Vec ℕ Global) → Reached modes rules pairs old rule env mid ps (holds j ∷ drop (k + 1) rule.premises) →
+  pub asked_is : IsReader rules old → (made : Reader) (j : Judgement) (k number mark : ℕ) (terms : Vec ℕ Global) → mark ≡ length made.binds.cells.items → Reached modes rules pairs old rule env mid ps (holds j ∷ drop (k + 1) rule.premises) →
       slice_get rules number ≡ Some rule → slice_get rule.premises k ≡ Some (holds j) →
       IsMade mid made (places_made modes false (env_at (reader_envs mid) env) j) terms.items →
-      new.arena ≡ made.arena → new.binds ≡ made.binds → new.waiting.items ≡ made.waiting.items ++ record { rule = number; premise = k; env = env } ∷ [] → new.noted ≡ made.noted →
+      new.arena ≡ made.arena → new.binds ≡ made.binds → new.waiting.items ≡ made.waiting.items ++ record { rule = number; premise = k; env = env; mark = mark } ∷ [] → new.noted ≡ made.noted →
       IsPremises modes rules pairs old new rule env ps (Asks j.form terms)
-  asked_is ho made j k number terms a found prem m ua ub uw un =
-      let c : Waiting = record { rule = number; premise = k; env = env } in
+  asked_is ho made j k number mark terms me a found prem m ua ub uw un =
+      let c : Waiting = record { rule = number; premise = k; env = env; mark = mark } in
       let s = env_later rules old mid a.grows env le in
       let w : made.waiting.items ≡ mid.waiting.items = ap (λ (v : Vec Waiting Global). v.items) m.waiting in
       let g = grows_then rules old mid made a.grows (grows_terms rules mid made a.grows.reader m.held.arena m.held.extends m.binds w) in
       let l = env_later rules old made g env le in
-      let at : WaitsAt rules (length made.binds.cells.items) c = record { rule = rule; judgement = j; found = found; premise = prem; env = l.0 } in
-      let h = grows_waiting rules made new c g.reader at ua ub uw in
+      let lo = l.0 in
+      let at : WaitsAt rules (length made.binds.cells.items) c = record { rule = rule; judgement = j; found = found; premise = prem; env = (omega arith); mark = (omega arith) } in
+      let h = grows_waiting rules made new c g.reader at (omega arith) ua ub uw in
       let x = grows_then rules old made new g h in
       let n = env_later rules old new x env le in
       let env0 = env_at (reader_envs old) env in

@@ -16,26 +16,38 @@ use Rattle.sx_arena.proofs.BindChains.{env_stays, envs_stay}
 use Rattle.sx_replay.specs.declared.reader.Waiting.{Waiting}
 use Rattle.sx_replay.specs.declared.reader.Reader.{Reader}
 use Rattle.sx_replay.specs.Machine.{Frame}
-use Rattle.sx_replay.specs.Reader.{reader_trees, reader_envs, patterns_of, no_rule, frame_of, stack_on, stack, WaitsAt, AreWaiting, IsReader, Grows}
+use Rattle.sx_replay.specs.Reader.{reader_trees, reader_envs, patterns_of, no_rule, frame_of, stack_on, stack, WaitsAt, AreLater, AreWaiting, IsReader, Grows, GoesOn}
 
 -- the number of chains
 pub envs_length : (r : Reader) → length (reader_envs r) ≡ length r.binds.cells.items
 envs_length r = grown-length (bind_step (reader_trees r)) r.binds.cells.items
 
 pub waits_later : (rules : List Rule) (m n : ℕ) → m ≤ n → (c : Waiting) → WaitsAt rules m c → WaitsAt rules n c
-waits_later rules m n l c w = let e = w.env in record { rule = w.rule; judgement = w.judgement; found = w.found; premise = w.premise; env = (omega arith) }
+waits_later rules m n l c w = let e = w.mark in record { rule = w.rule; judgement = w.judgement; found = w.found; premise = w.premise; env = w.env; mark = (omega arith) }
 
 pub waiting_later : (rules : List Rule) (m n : ℕ) → m ≤ n → (cs : List Waiting) → AreWaiting rules m cs → AreWaiting rules n cs
 waiting_later rules m n l [] h = tt
-waiting_later rules m n l (c ∷ cs) h = (waits_later rules m n l c h.0, waiting_later rules m n l cs h.1)
+waiting_later rules m n l (c ∷ cs) h = (waits_later rules m n l c h.0, (h.1.0, waiting_later rules m n l cs h.1.1))
 
-pub waiting_one : (rules : List Rule) (n : ℕ) (cs : List Waiting) (c : Waiting) → AreWaiting rules n cs → WaitsAt rules n c → AreWaiting rules n (cs ++ c ∷ [])
-waiting_one rules n [] c h w = (w, tt)
-waiting_one rules n (x ∷ cs) c h w = (h.0, waiting_one rules n cs c h.1 w)
+later_one : (m : ℕ) (cs : List Waiting) (c : Waiting) → AreLater m cs → m ≤ c.mark → AreLater m (cs ++ c ∷ [])
+later_one m [] c h l = (l, tt)
+later_one m (x ∷ cs) c h l = (h.0, later_one m cs c h.1 l)
 
-pub waiting_front : (rules : List Rule) (n : ℕ) (cs : List Waiting) (c : Waiting) → AreWaiting rules n (cs ++ c ∷ []) → AreWaiting rules n cs × WaitsAt rules n c
+later_front : (m : ℕ) (cs : List Waiting) (c : Waiting) → AreLater m (cs ++ c ∷ []) → AreLater m cs × (m ≤ c.mark)
+later_front m [] c h = (tt, h.0)
+later_front m (x ∷ cs) c h = let r = later_front m cs c h.1 in ((h.0, r.0), r.1)
+
+pub waiting_one : (rules : List Rule) (n : ℕ) (cs : List Waiting) (c : Waiting) → AreWaiting rules n cs → WaitsAt rules n c → n ≤ c.mark → AreWaiting rules n (cs ++ c ∷ [])
+waiting_one rules n [] c h w l = (w, (tt, tt))
+waiting_one rules n (x ∷ cs) c h w l = let e = h.0.mark in (h.0, (later_one x.mark cs c h.1.0 (omega arith), waiting_one rules n cs c h.1.1 w l))
+
+-- the rules before one wait with bindings that were there when it began to wait
+pub waiting_front : (rules : List Rule) (n : ℕ) (cs : List Waiting) (c : Waiting) → AreWaiting rules n (cs ++ c ∷ []) → AreWaiting rules c.mark cs × WaitsAt rules n c
 waiting_front rules n [] c h = (tt, h.0)
-waiting_front rules n (x ∷ cs) c h = let r = waiting_front rules n cs c h.1 in ((h.0, r.0), r.1)
+waiting_front rules n (x ∷ cs) c h =
+    let a = later_front x.mark cs c h.1.0 in
+    let r = waiting_front rules n cs c h.1.1 in
+    ((record { rule = h.0.rule; judgement = h.0.judgement; found = h.0.found; premise = h.0.premise; env = h.0.env; mark = a.1 }, (a.0, r.0)), r.1)
 
 -- the stack with one rule more
 pub stack_one : (modes : Modes) (rules : List Rule) (es : List Assignment) (fs : List Frame) (cs : List Waiting) (c : Waiting) → stack_on modes rules es fs (cs ++ c ∷ []) ≡ frame_of modes rules es c ∷ stack_on modes rules es fs cs
@@ -57,7 +69,8 @@ pub stack_stays : (modes : Modes) (rules : List Rule) (es ds : List Assignment) 
 stack_stays modes rules es ds n x l fs [] h = refl
 stack_stays modes rules es ds n x l fs (c ∷ cs) h =
     let w = h.0.env in
-    stack_stays modes rules es ds n x l (frame_of modes rules ds c ∷ fs) cs h.1
+    let v = h.0.mark in
+    stack_stays modes rules es ds n x l (frame_of modes rules ds c ∷ fs) cs h.1.1
     ∙ ap (λ (f : Frame). stack_on modes rules es (f ∷ fs) cs) (frame_stays modes rules es ds c x (omega arith))
 
 -- the frame that a waiting rule stands for
@@ -78,6 +91,15 @@ grows_then rules a b c p q = record {
   trees = extends-then (reader_trees a) (reader_trees b) (reader_trees c) p.trees q.trees;
   envs = extends-then (reader_envs a) (reader_envs b) (reader_envs c) p.envs q.envs;
 }
+
+pub goes_same : (rules : List Rule) (r : Reader) → IsReader rules r → GoesOn rules r r
+goes_same rules r h = record { reader = h; trees = extends-same (reader_trees r) }
+
+pub goes_then : (rules : List Rule) (a b c : Reader) → GoesOn rules a b → GoesOn rules b c → GoesOn rules a c
+goes_then rules a b c p q = record { reader = q.reader; trees = extends-then (reader_trees a) (reader_trees b) (reader_trees c) p.trees q.trees }
+
+pub goes_grown : (rules : List Rule) (a b : Reader) → Grows rules a b → GoesOn rules a b
+goes_grown rules a b g = record { reader = g.reader; trees = g.trees }
 
 -- bindings that were there
 pub env_later : (rules : List Rule) (s t : Reader) → Grows rules s t → (env : ℕ) → env ≤ length s.binds.cells.items → (env ≤ length t.binds.cells.items) × (env_at (reader_envs t) env ≡ env_at (reader_envs s) env)
@@ -132,15 +154,16 @@ grows_binds rules s t h g a w =
     }
 
 -- one rule more that waits
-pub grows_waiting : (rules : List Rule) (s t : Reader) (c : Waiting) → IsReader rules s → WaitsAt rules (length s.binds.cells.items) c → t.arena ≡ s.arena → t.binds ≡ s.binds → t.waiting.items ≡ s.waiting.items ++ c ∷ [] → Grows rules s t
-grows_waiting rules s t c h w a b e =
+pub grows_waiting : (rules : List Rule) (s t : Reader) (c : Waiting) → IsReader rules s → WaitsAt rules (length s.binds.cells.items) c → length s.binds.cells.items ≤ c.mark → t.arena ≡ s.arena → t.binds ≡ s.binds →
+    t.waiting.items ≡ s.waiting.items ++ c ∷ [] → Grows rules s t
+grows_waiting rules s t c h w l a b e =
     let n : length t.binds.cells.items ≡ length s.binds.cells.items = ap (λ (y : Binds). length y.cells.items) b in
     record {
       reader = record {
         arena = subst (λ (y : Arena). IsArena y) (sym a) h.arena;
         binds = subst (λ (y : Arena). IsBinds (trees y) t.binds) (sym a) (subst (λ (y : Binds). IsBinds (reader_trees s) y) (sym b) h.binds);
         waiting = subst (λ (cs : List Waiting). AreWaiting rules (length t.binds.cells.items) cs) (sym e)
-            (waiting_later rules (length s.binds.cells.items) (length t.binds.cells.items) (omega arith) (s.waiting.items ++ c ∷ []) (waiting_one rules (length s.binds.cells.items) s.waiting.items c h.waiting w));
+            (waiting_later rules (length s.binds.cells.items) (length t.binds.cells.items) (omega arith) (s.waiting.items ++ c ∷ []) (waiting_one rules (length s.binds.cells.items) s.waiting.items c h.waiting w l));
       };
       trees = extends-is (reader_trees s) (reader_trees t) (ap trees a);
       envs = extends-is (reader_envs s) (reader_envs t) (λ i. envs (trees (a i)) (b i));

@@ -25,8 +25,8 @@ use Rattle.sx_replay.specs.declared.reader.Reader.{Reader}
 use Rattle.sx_replay.specs.declared.step.Step.{Step}
 use Rattle.sx_replay.specs.declared.step.Step.TheVariants.{Clash, Done}
 use Rattle.sx_replay.specs.Machine.{Move, ends, move_when, move_matched, premises_move, hand_on, given_move, given_named, rule_move, rule_named, entry_move}
-use Rattle.sx_replay.specs.Reader.{reader_trees, reader_envs, stack, IsReader, Grows, hyps_in, goal_in, IsStep, IsPremises, IsMoved}
-use Rattle.sx_replay.proofs.Readers.{stack_later, grows_same, grows_then, grows_binds}
+use Rattle.sx_replay.specs.Reader.{reader_trees, reader_envs, stack, IsReader, Grows, GoesOn, hyps_in, goal_in, IsStep, IsPremises, IsMoved}
+use Rattle.sx_replay.proofs.Readers.{stack_later, grows_then, grows_binds, goes_same, goes_then, goes_grown}
 use Rattle.sx_replay.proofs.Handed.{step_other}
 
 number_false : (m n : ℕ) → (m ≡ n → ⊥) → nat_eq m n ≡ false
@@ -48,7 +48,7 @@ module _ (modes : Modes) (rules : List Rule) (pairs : List Pair) (s : Reader) (r
 
   pub rule_other : (rule.conclusion.form ≡ form → ⊥) → IsMoved modes rules pairs s s tried_as Clash
   rule_other d = record {
-    grows = grows_same rules s h;
+    grows = goes_same rules s h;
     is = λ js. ap (λ b. move_when b (matched_as js (match_all (inputs_of modes rule.conclusion) (map (tree_at (reader_trees s)) terms) unbound))) (number_false rule.conclusion.form form d);
   }
 
@@ -65,7 +65,7 @@ module _ (modes : Modes) (rules : List Rule) (pairs : List Pair) (s : Reader) (r
         ∙ ap (matched_as js) e
 
     pub rule_none : match_all (inputs_of modes rule.conclusion) (map (tree_at (reader_trees s)) terms) unbound ≡ None → IsMoved modes rules pairs s bound_to tried_as Clash
-    rule_none m = record { grows = bound_later; is = λ js. tried_is js None m }
+    rule_none m = record { grows = goes_grown rules s bound_to bound_later; is = λ js. tried_is js None m }
 
     module _ (hp : ArePairs (length (reader_trees s)) pairs) (v : Reader) (env : ℕ) (m : match_all (inputs_of modes rule.conclusion) (map (tree_at (reader_trees s)) terms) unbound ≡ Some (env_at (reader_envs bound_to) env)) (step : Step)
         (p : IsPremises modes rules pairs bound_to v rule env rule.premises step) where
@@ -83,7 +83,7 @@ module _ (modes : Modes) (rules : List Rule) (pairs : List Pair) (s : Reader) (r
 
       pub rule_stop : ((o : Vec ℕ Global) → step ≡ Done o → ⊥) → IsMoved modes rules pairs s v tried_as step
       rule_stop n = record {
-        grows = grown;
+        grows = goes_grown rules s v grown;
         is = λ js. step_other modes rules s.waiting.items [] v (hand_on modes (hyps_in pairs s js) (stack modes rules s)) ends step (tried_as (hyps_in pairs s js)) n (step_is js);
       }
 
@@ -104,7 +104,7 @@ module _ (modes : Modes) (rules : List Rule) (pairs : List Pair) (s : Reader) (r
       rule_handed outs e w last k =
           let d = rule_done outs e in
           record {
-            grows = grows_then rules s v w grown k.grows;
+            grows = goes_then rules s v w (goes_grown rules s v grown) k.grows;
             is = λ js. subst (λ (r : Move). IsStep modes rules [] w ends last r) (sym (d.1 js)) (k.is js);
           }
 
@@ -148,7 +148,7 @@ module _ (modes : Modes) (rules : List Rule) (pairs : List Pair) (s : Reader) (j
 
   pub given_form : (fact.form ≡ form → ⊥) → IsMoved modes rules pairs s s given_as Clash
   given_form d = record {
-    grows = grows_same rules s h;
+    grows = goes_same rules s h;
     is = λ js. given_when false (both_false (nat_eq j.form form) (same_all (inputs_of modes j) (map (tree_at (reader_trees s)) terms)) (number_false j.form form (λ e. d (f.form ∙ e)))) (hyps_in pairs s js);
   }
 
@@ -156,7 +156,7 @@ module _ (modes : Modes) (rules : List Rule) (pairs : List Pair) (s : Reader) (j
   given_other d =
       let x = ap (λ us. same_all us (map (tree_at (reader_trees s)) terms)) (sym f.inputs) ∙ numbers_differ (reader_trees s) (distinct s.arena.cells.keys h.arena) fact.inputs.items terms f.inputs_below b d in
       record {
-        grows = grows_same rules s h;
+        grows = goes_same rules s h;
         is = λ js. given_when false (second_false (nat_eq j.form form) (same_all (inputs_of modes j) (map (tree_at (reader_trees s)) terms)) x) (hyps_in pairs s js);
       }
 
@@ -200,7 +200,7 @@ module _ (modes : Modes) (rules : List Rule) (pairs : List Pair) (old new : Read
   entry_of_old e = entry_move modes (hyps_in pairs old js) rules e (goal_in old form terms) (stack modes rules old) old.noted
 
   abbrev pub IsEntered : Reader → Step → Entry → Type 0
-  IsEntered r step e = Grows rules old r × IsStep modes rules [] r ends step (entry_of_old e)
+  IsEntered r step e = GoesOn rules old r × IsStep modes rules [] r ends step (entry_of_old e)
 
   pub given_entered : (i : ℕ) (fact : Fact) (step : Step) → i < length facts → fact ≡ get_or facts i fact →
       ((j : Judgement) → IsFact modes (reader_trees old) j fact → IsMoved modes rules pairs old new (λ hyps. given_move modes hyps j (goal_in old form terms) (stack modes rules old) old.noted) step) → IsEntered new step (of_given i)
@@ -212,7 +212,7 @@ module _ (modes : Modes) (rules : List Rule) (pairs : List Pair) (old new : Read
   pub no_given_entered : IsReader rules old → (i : ℕ) → length facts ≤ i → IsEntered old Clash (of_given i)
   no_given_entered h i l =
       let n = no_fact_at modes (reader_trees old) js facts a i l in
-      (grows_same rules old h, ap (λ (o : Option Judgement). given_named modes (hyps_in pairs old js) o (goal_in old form terms) (stack modes rules old) old.noted) n)
+      (goes_same rules old h, ap (λ (o : Option Judgement). given_named modes (hyps_in pairs old js) o (goal_in old form terms) (stack modes rules old) old.noted) n)
 
   pub rule_entered : (r : ℕ) (rule : Rule) (step : Step) → slice_get rules r ≡ Some rule →
       IsMoved modes rules pairs old new (λ hyps. rule_move modes hyps rule (goal_in old form terms) (stack modes rules old) old.noted) step → IsEntered new step (of_rule r)
@@ -221,4 +221,4 @@ module _ (modes : Modes) (rules : List Rule) (pairs : List Pair) (old new : Read
 
   pub no_rule_entered : IsReader rules old → (r : ℕ) → slice_get rules r ≡ None → IsEntered old Clash (of_rule r)
   no_rule_entered h r n =
-      (grows_same rules old h, ap (λ (o : Option Rule). rule_named modes (hyps_in pairs old js) o (goal_in old form terms) (stack modes rules old) old.noted) n)
+      (goes_same rules old h, ap (λ (o : Option Rule). rule_named modes (hyps_in pairs old js) o (goal_in old form terms) (stack modes rules old) old.noted) n)

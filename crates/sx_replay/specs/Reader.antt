@@ -54,17 +54,23 @@ stack_on modes rules es fs (c ∷ cs) = stack_on modes rules es (frame_of modes 
 abbrev pub stack : Modes → List Rule → Reader → List Frame
 stack modes rules r = stack_on modes rules (reader_envs r) [] r.waiting.items
 
--- the rule is there, and waits at a judgement premise, with bindings that are there
+-- the rule is there, and waits at a judgement premise, with bindings that were there when it began to wait
 pub record WaitsAt (rules : List Rule) (n : ℕ) (c : Waiting) : Type 0 where
   pub rule : Rule
   pub judgement : Judgement
   pub found : slice_get rules c.rule ≡ Some rule
   pub premise : slice_get rule.premises c.premise ≡ Some (holds judgement)
-  pub env : c.env ≤ n
+  pub env : c.env ≤ c.mark
+  pub mark : c.mark ≤ n
+
+-- the rules began to wait with no fewer bindings
+abbrev pub AreLater : ℕ → List Waiting → Type 0
+AreLater m [] = Unit {0}
+AreLater m (c ∷ cs) = (m ≤ c.mark) × AreLater m cs
 
 abbrev pub AreWaiting : List Rule → ℕ → List Waiting → Type 0
 AreWaiting rules n [] = Unit {0}
-AreWaiting rules n (c ∷ cs) = WaitsAt rules n c × AreWaiting rules n cs
+AreWaiting rules n (c ∷ cs) = WaitsAt rules n c × (AreLater c.mark cs × AreWaiting rules n cs)
 
 pub record IsReader (rules : List Rule) (r : Reader) : Type 0 where
   pub arena : IsArena r.arena
@@ -76,6 +82,11 @@ pub record Grows (rules : List Rule) (old new : Reader) : Type 0 where
   pub reader : IsReader rules new
   pub trees : Extends (reader_trees old) (reader_trees new)
   pub envs : Extends (reader_envs old) (reader_envs new)
+
+-- the terms stay, and of the bindings those with which rules wait
+pub record GoesOn (rules : List Rule) (old new : Reader) : Type 0 where
+  pub reader : IsReader rules new
+  pub trees : Extends (reader_trees old) (reader_trees new)
 
 -- the outputs of a judgement, or else its inputs, under bindings
 abbrev pub places_made : Modes → Bool → Assignment → Judgement → List Tree
@@ -119,5 +130,5 @@ pub record IsResumed (modes : Modes) (rules : List Rule) (pairs : List Pair) (ol
 
 -- what comes of a candidate, or of outputs handed on, is the machine's move
 pub record IsMoved (modes : Modes) (rules : List Rule) (pairs : List Pair) (old new : Reader) (move : Hypotheses → Move) (step : Step) : Type 0 where
-  pub grows : Grows rules old new
+  pub grows : GoesOn rules old new
   pub is : (js : List Judgement) → IsStep modes rules [] new ends step (move (hyps_in pairs old js))

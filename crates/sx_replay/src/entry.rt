@@ -10,7 +10,7 @@ ghost use Rattle.sx_arena.specs.Pairs.{ArePairs};
 ghost use Rattle.sx_arena.specs.Views.{rules_of, modes_of, rule_of};
 ghost use Rattle.std.specs.Prelude.{List, []};
 ghost use Rattle.sx_replay.specs.Machine.{rule_move, given_move, entry_move, ends};
-ghost use Rattle.sx_replay.specs.Reader.{IsReader, IsMoved, reader_trees, stack, goal_in, hyps_in, IsStep, Grows};
+ghost use Rattle.sx_replay.specs.Reader.{IsReader, IsMoved, reader_trees, stack, goal_in, hyps_in, IsStep, GoesOn};
 
 use crate::handing::hand_on;
 use crate::premise_loop::premises;
@@ -107,7 +107,7 @@ pub fn try_entry(
     requires terms { AreBelow (length (reader_trees reader.old)) terms.now }
     requires facts { (js : List Judgement) × AreFacts (modes_of rules.now) (reader_trees reader.old) js facts.now }
     ensures { IfOk result (λ step. (js : List Judgement) → AreFacts (modes_of rules.now) (reader_trees reader.old) js facts.now →
-        Grows (rules_of rules.now) reader.old reader.new
+        GoesOn (rules_of rules.now) reader.old reader.new
         × IsStep (modes_of rules.now) (rules_of rules.now) [] reader.new ends step
         (entry_move (modes_of rules.now) (hyps_in pairs.now reader.old js) (rules_of rules.now) (entry_of entry) (goal_in reader.old form terms.now) (stack (modes_of rules.now) (rules_of rules.now) reader.old) reader.old.noted)) }
 {

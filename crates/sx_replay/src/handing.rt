@@ -62,7 +62,8 @@ fn resume(
     }
 }
 
-/// What comes of outputs that are handed to the rules that wait, from the last one on.
+/// What comes of outputs that are handed to the rules that wait, from the last one on. What was bound since a rule began to wait is
+/// dropped when it goes on.
 pub fn hand_on(
     alloc: Global,
     rules: &RuleSet,
@@ -79,6 +80,7 @@ pub fn hand_on(
 {
     let mut outputs = outputs;
     while let Some(waiting) = reader.waiting.pop() {
+        reader.binds.cut(waiting.mark);
         match resume(alloc, rules, pairs, reader, waiting, &outputs)? {
             Step::Done(made) => outputs = made,
             other => return Ok(other),

@@ -48,10 +48,12 @@ pub fn premises(
             }
             Premise::Holds(judgement) => {
                 let terms = make(alloc, rules, judgement, false, reader, env)?;
+                let mark = reader.mark();
                 reader.waiting.push(Waiting {
                     rule: number,
                     premise: k,
                     env,
+                    mark,
                 })?;
                 return Ok(Step::Asks {
                     form: judgement.form,

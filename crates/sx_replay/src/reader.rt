@@ -16,12 +16,13 @@ use sx_arena::{Arena, Binds, make_places, roles};
 use sx_rules::{Judgement, RuleSet};
 use sx_term::NoMemory;
 
-/// A rule that waits for one of its premises, with the chain of its bindings.
+/// A rule that waits for one of its premises, with the chain of its bindings and the number of all bindings when it began to wait.
 #[derive(Clone, Copy)]
 pub struct Waiting {
     pub rule: u32,
     pub premise: usize,
     pub env: usize,
+    pub mark: usize,
 }
 
 /// The terms and the bindings made so far, the rules in work from the first goal on, and the first terms that pass a limit.
@@ -49,6 +50,13 @@ impl Reader {
                 big: None,
             },
         }
+    }
+
+    /// The number of bindings.
+    pub fn mark(&self) -> usize
+        ensures { result ≡ length self.now.binds.cells.items }
+    {
+        self.binds.cells.len()
     }
 }
 

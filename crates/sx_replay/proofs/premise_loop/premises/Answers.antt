@@ -46,7 +46,7 @@ returns-in-Holds c =
     let mid = c.loop-k.reader in
     let made = c.make.new.reader in
     asked_is (modes_of c.args.rules.now) (rules_of c.args.rules.now) c.args.pairs.now c.args.reader.now mid (record { arena = made.arena; binds = made.binds; waiting = c.push.new.self; noted = made.noted }) (rule_of c.args.rule.now) c.args.env _
-    c.requires.pairs c.requires.env c.requires.reader made (judgement_of c.in-Holds.judgement) c.loop-k.k c.args.number c.in_ok-terms-in-Holds.terms
+    c.requires.pairs c.requires.env c.requires.reader made (judgement_of c.in-Holds.judgement) c.loop-k.k c.args.number c.mark-mark.result c.in_ok-terms-in-Holds.terms c.mark-mark.ensures
     (reached_as _ _ _ _ _ _ mid _ _ _ (drop_premise _ c.loop-k.k _ _ l c.index.ensures c.in-Holds.is) c.loop-k.invariant)
     c.requires.found (premise_get _ c.loop-k.k _ _ l c.index.ensures c.in-Holds.is) c.in_ok-terms-in-Holds.ensures refl refl c.in_ok-push-in-Holds.ensures.items refl
 
