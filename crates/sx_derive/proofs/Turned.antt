@@ -13,7 +13,9 @@ use Rattle.sx_arena.specs.declared.pairs.Pair.{Pair}
 use Rattle.sx_arena.specs.declared.places.Limit.{Limit}
 use Rattle.sx_derive.specs.declared.step.Step.{Step}
 use Rattle.sx_derive.specs.declared.step.Step.TheVariants.{Nothing, Passed, DepthSpent, Done, Goes}
+use Rattle.sx_derive.specs.declared.store.Mark.{Mark}
 use Rattle.sx_derive.specs.declared.store.Store.{Store}
+use Rattle.sx_derive.proofs.Stored.{grows_same, grows_then}
 use Rattle.sx_derive.specs.declared.tasks.Task.{Task as TaskOf}
 use Rattle.sx_derive.specs.declared.tasks.Ending.TheVariants.{Found, Passed as WasPassed, DepthSpent as WasSpent}
 use Rattle.sx_arena.specs.Arena.{tree_at, AreBelow}
@@ -22,8 +24,8 @@ use Rattle.sx_derive.specs.Handing.{hyps_in, answer_in, frames_in}
 use Rattle.sx_arena.specs.Pairs.{ArePairs}
 use Rattle.sx_derive.specs.Chains.{HeadFits}
 use Rattle.sx_derive.specs.Step.{IsStep}
-use Rattle.sx_derive.specs.Store.{IsStore, Grows, store_trees, store_envs, store_kids, store_frames}
-use Rattle.sx_derive.specs.Tasks.{task_from, task_in, stacked, events_left, TaskFits, TasksFit, IsNext, wanted_in, WantedBelow}
+use Rattle.sx_derive.specs.Store.{IsStore, Grows, IsMark, store_trees, store_envs, store_kids, store_frames}
+use Rattle.sx_derive.specs.Tasks.{task_from, task_in, stacked, events_left, TaskFits, TasksFit, Piled, IsNext, wanted_in, WantedBelow}
 use Rattle.sx_derive.specs.Turns.{IsTurn}
 use Rattle.sx_arena.proofs.Arenas.{distinct, maps_same, below_more}
 use Rattle.sx_derive.proofs.Chained.{frames_stay_at}
@@ -76,6 +78,40 @@ module _ (modes : Modes) (rules : List Rule) (n : ℕ) where
   fits_pop s [] k f = (tt, f.0)
   fits_pop s (x ∷ xs) k f = let r = fits_pop s xs k f.1 in ((f.0, r.0), r.1)
 
+module _ (modes : Modes) (rules : List Rule) (n : ℕ) where
+  abbrev P : Store → List TaskOf → Store → Type 0
+  P b xs s = Piled modes rules n b xs s
+
+  pub piled_grows : (b s : Store) (xs : List TaskOf) → P b xs s → Grows modes rules b s
+  piled_grows b s [] p = p
+  piled_grows b s (x ∷ xs) p = grows_then modes rules b p.0 s p.1.0 (piled_grows p.0 s xs p.1.3)
+
+  pub piled_fits : (b s : Store) (xs : List TaskOf) → P b xs s → TasksFit modes rules s n xs
+  piled_fits b s [] p = tt
+  piled_fits b s (x ∷ xs) p = (fit_more modes rules n p.0 s x (piled_grows p.0 s xs p.1.3) p.1.2, piled_fits p.0 s xs p.1.3)
+
+  pub piled_push : (b c s : Store) (xs : List TaskOf) (t : TaskOf) → P b xs c → IsMark c t.mark → TaskFits modes rules c n t → Grows modes rules c s → P b (xs ++ t ∷ []) s
+  piled_push b c s [] t p k f g = (c, (p, k, f, g))
+  piled_push b c s (x ∷ xs) t p k f g = (p.0, (p.1.0, p.1.1, p.1.2, piled_push p.0 c s xs t p.1.3 k f g))
+
+  -- the store of the last task
+  pub piled_top : (b s : Store) (xs : List TaskOf) (t : TaskOf) → P b (xs ++ t ∷ []) s → (c : Store) × (P b xs c × IsMark c t.mark × TaskFits modes rules c n t × Grows modes rules c s)
+  piled_top b s [] t p = (p.0, (p.1.0, p.1.1, p.1.2, p.1.3))
+  piled_top b s (x ∷ xs) t p = let r = piled_top p.0 s xs t p.1.3 in (r.0, ((p.0, (p.1.0, p.1.1, p.1.2, r.1.0)), r.1.1, r.1.2, r.1.3))
+
+  piled_later : (b c s : Store) (xs : List TaskOf) → P b xs c → Grows modes rules c s → P b xs s
+  piled_later b c s [] p g = grows_then modes rules b c s p g
+  piled_later b c s (x ∷ xs) p g = (p.0, (p.1.0, p.1.1, p.1.2, piled_later p.0 c s xs p.1.3 g))
+
+  pub piled_pop : (b s : Store) (xs : List TaskOf) (t : TaskOf) → P b (xs ++ t ∷ []) s → P b xs s
+  piled_pop b s xs t p = let r = piled_top b s xs t p in piled_later b r.0 s xs r.1.0 r.1.3
+
+  -- tasks that stood in a store before have the same events
+  pub events_stay : (pairs : List Pair) (js : List Judgement) (c s : Store) (xs : List TaskOf) → ArePairs (length (store_trees c)) pairs → Grows modes rules c s → TasksFit modes rules c n xs →
+      events_left modes rules pairs js s xs ≡ events_left modes rules pairs js c xs
+  events_stay pairs js c s xs hp g f =
+      λ i. tasks_events modes rules (record { judgements = js; pairs = pairs_stay (store_trees c) (store_trees s) g.trees pairs hp i }) (stack_stays modes rules js c s n xs [] g f i)
+
 -- a task without a candidate has no events
 pub events_pop : (modes : Modes) (rules : List Rule) (pairs : List Pair) (js : List Judgement) (s : Store) (xs : List TaskOf) (k : TaskOf) → length js + length rules ≤ k.next →
     events_left modes rules pairs js s (xs ++ k ∷ []) ≡ events_left modes rules pairs js s xs
@@ -86,7 +122,7 @@ events_pop modes rules pairs js s xs k h =
 module _ (modes : Modes) (rules : List Rule) (pairs : List Pair) (js : List Judgement) (wanted : Option (Vec ℕ Global)) (n : ℕ) (old new : Store) (t after : TaskOf) (tasks : List TaskOf) (step : Step)
     (hs : IsStore modes rules old) (hp : ArePairs (length (store_trees old)) pairs) (hw : WantedBelow (length (store_trees old)) wanted) (ft : TaskFits modes rules old n t) (fs : TasksFit modes rules old n tasks)
     (less : t.next < n) (x : IsNext modes rules pairs js old new t step)
-    (a_next : after.next ≡ t.next + 1) (a_form : after.form ≡ t.form) (a_terms : after.terms.items ≡ t.terms.items) (a_levels : after.levels ≡ t.levels) (a_frames : after.frames ≡ t.frames) where
+    (a_next : after.next ≡ t.next + 1) (a_form : after.form ≡ t.form) (a_terms : after.terms.items ≡ t.terms.items) (a_levels : after.levels ≡ t.levels) (a_frames : after.frames ≡ t.frames) (a_mark : after.mark ≡ t.mark) where
   abbrev hyps : Hypotheses
   hyps = hyps_in pairs old js
 
@@ -112,6 +148,19 @@ module _ (modes : Modes) (rules : List Rule) (pairs : List Pair) (js : List Judg
 
   pub left_fits : TasksFit modes rules new n (tasks ++ after ∷ [])
   left_fits = fits_push modes rules n new tasks after (fits_more modes rules n old new tasks x.grows fs) after_fits
+
+  after_in : (c : Store) → TaskFits modes rules c n t → TaskFits modes rules c n after
+  after_in c f =
+      let z = f.frames in
+      record {
+        next = (omega arith);
+        terms = subst (λ is. AreBelow (length (store_trees c)) is) (sym a_terms) f.terms;
+        frames = (omega arith);
+      }
+
+  left_piled : (first c : Store) → Piled modes rules n first tasks c → IsMark c t.mark → TaskFits modes rules c n t → Grows modes rules c old → Piled modes rules n first (tasks ++ after ∷ []) new
+  left_piled first c p k f g =
+      piled_push modes rules n first c new tasks after p (subst (λ (m : Mark). IsMark c m) (sym a_mark) k) (after_in c f) (grows_then modes rules c old new g x.grows)
 
   after_is : task_in modes rules js new after ≡ left_task
   after_is =
@@ -142,6 +191,7 @@ module _ (modes : Modes) (rules : List Rule) (pairs : List Pair) (js : List Judg
       record {
         grows = x.grows;
         fits = left_fits;
+        piled = left_piled;
         meets = λ v. (_, q, sym left_is);
         outcome = λ left. (
           ap (walk (wanted_in old wanted) (suc left)) q ∙ ap (walk (wanted_in old wanted) left) (sym left_is),
@@ -156,6 +206,7 @@ module _ (modes : Modes) (rules : List Rule) (pairs : List Pair) (js : List Judg
       record {
         grows = x.grows;
         fits = left_fits;
+        piled = left_piled;
         meets = λ v. (_, q, (r.0, r.1, ap (λ es. stop r.0 ∷ es) (sym left_is)));
         outcome = λ left. (
           (r.0, r.1, ap (walk (wanted_in old wanted) (suc left)) q),
@@ -170,21 +221,25 @@ module _ (modes : Modes) (rules : List Rule) (pairs : List Pair) (js : List Judg
       record {
         grows = x.grows;
         fits = left_fits;
+        piled = left_piled;
         meets = λ v. (_, q, ap (λ es. stop depth_spent ∷ es) (sym left_is));
         outcome = λ left. (ap (walk (wanted_in old wanted) (suc left)) q, ap (tries_of (wanted_in old wanted) (suc left)) q);
       }
 
-  pub turn_goes : (form : ℕ) (terms : Vec ℕ Global) (levels frames : ℕ) (more : TaskOf) → step ≡ Goes form terms levels frames → more ≡ record { next = 0; form = form; terms = terms; levels = levels; frames = frames } →
+  pub turn_goes : (form : ℕ) (terms : Vec ℕ Global) (levels frames : ℕ) (mark : Mark) (more : TaskOf) → IsMark new mark → step ≡ Goes form terms levels frames →
+      more ≡ record { next = 0; form = form; terms = terms; levels = levels; frames = frames; mark = mark } →
       IsTurn modes rules pairs js wanted n old new t tasks ((tasks ++ after ∷ []) ++ more ∷ []) None
-  turn_goes form terms levels frames more e f =
+  turn_goes form terms levels frames mark more mk e f =
       let r = subst (λ (y : Step). IsStep modes rules js new answers y x.result) e x.is in
       let goal = goal_in new form terms.items in
       let fr = frames_in modes rules new frames in
       let q = old_is (goes_on (hypotheses_from 0 js levels goal fr)) r.2 in
       let z = (sizes modes rules new).frames in
       let l = r.1 in
+      let goes_to : TaskOf = record { next = 0; form = form; terms = terms; levels = levels; frames = frames; mark = mark } in
+      let goes_fits : TaskFits modes rules new n goes_to = record { next = (omega arith); terms = r.0; frames = (omega arith) } in
       let k : TasksFit modes rules new n ((tasks ++ after ∷ []) ++ more ∷ []) = subst (λ (m : TaskOf). TasksFit modes rules new n ((tasks ++ after ∷ []) ++ m ∷ [])) (sym f)
-      (fits_push modes rules n new (tasks ++ after ∷ []) (record { next = 0; form = form; terms = terms; levels = levels; frames = frames }) left_fits (record { next = (omega arith); terms = r.0; frames = (omega arith) })) in
+      (fits_push modes rules n new (tasks ++ after ∷ []) goes_to left_fits goes_fits) in
       let s : events_left modes rules pairs js new ((tasks ++ after ∷ []) ++ more ∷ []) ≡ tasks_events modes rules hyps (hypotheses_from 0 js levels goal fr ∷ left_stack) =
       ap (tasks_events modes rules (hyps_in pairs new js)) (stack_push modes rules js new (tasks ++ after ∷ []) more [] ∙ ap (λ (m : TaskOf). task_in modes rules js new m ∷ stacked modes rules js new (tasks ++ after ∷ []) []) f)
       ∙ (λ i. tasks_events modes rules (hyps_same i) (task_from 0 js rules levels goal fr ∷ stack_is i))
@@ -192,6 +247,8 @@ module _ (modes : Modes) (rules : List Rule) (pairs : List Pair) (js : List Judg
       record {
         grows = x.grows;
         fits = k;
+        piled = λ first c p u v g. subst (λ (m : TaskOf). Piled modes rules n first ((tasks ++ after ∷ []) ++ m ∷ []) new) (sym f)
+            (piled_push modes rules n first new new (tasks ++ after ∷ []) goes_to (left_piled first c p u v g) mk goes_fits (grows_same modes rules new x.grows.store));
         meets = λ v. (_, q, sym s);
         outcome = λ left. (
           ap (walk (wanted_in old wanted) (suc left)) q ∙ ap (walk (wanted_in old wanted) left) (sym s),
@@ -212,6 +269,7 @@ module _ (modes : Modes) (rules : List Rule) (pairs : List Pair) (js : List Judg
         record {
           grows = x.grows;
           fits = left_fits;
+          piled = left_piled;
           meets = λ v. (_, q, (told.0, told.1, ap (λ es. give (answer_in new head outs.items) ∷ es) (sym left_is)));
           outcome = λ left. (
             (told.0, told.1, ap (walk (wanted_in old wanted) (suc left)) q ∙ ap (λ b. found_when b (answer_in new head outs.items) (walk (wanted_in old wanted) left (tasks_events modes rules hyps left_stack))) w),
@@ -225,6 +283,7 @@ module _ (modes : Modes) (rules : List Rule) (pairs : List Pair) (js : List Judg
         record {
           grows = x.grows;
           fits = left_fits;
+          piled = left_piled;
           meets = λ v. absurd (let e : true ≡ false = ap (λ u. are_wanted (wanted_in old u) (map (tree_at (store_trees new)) outs.items)) (sym v) ∙ w in cc);
           outcome = λ left. (
             ap (walk (wanted_in old wanted) (suc left)) q ∙ ap (λ b. found_when b (answer_in new head outs.items) (walk (wanted_in old wanted) left (tasks_events modes rules hyps left_stack))) w ∙ ap (walk (wanted_in old wanted) left) (sym left_is),

@@ -16,15 +16,20 @@ use Rattle.sx_derive.specs.declared.tasks.Ending.TheVariants.{Spent, Exhausted}
 use Rattle.sx_arena.specs.Arena.{AreBelow, Extends}
 use Rattle.sx_derive.specs.Candidates.{goal_in, AreFacts}
 use Rattle.sx_derive.specs.Handing.{hyps_in}
-use Rattle.sx_derive.specs.Store.{IsStore, Grows, store_trees}
-use Rattle.sx_derive.specs.Tasks.{events_left, TasksFit, wanted_in, WantedBelow, IsEnding, IsOutcome}
+use Rattle.sx_derive.specs.Store.{IsStore, Grows, IsMark, IsCut, store_trees}
+use Rattle.sx_derive.specs.Tasks.{events_left, TaskFits, TasksFit, Piled, wanted_in, WantedBelow, IsEnding, IsOutcome}
 use Rattle.sx_derive.specs.Turns.{IsPopped, IsTurn}
 use Rattle.sx_derive.specs.Walked.{events_in, IsWalked}
 use Rattle.sx_arena.proofs.Facts.{facts_stay}
 use Rattle.sx_arena.proofs.Arenas.{maps_same, below_more}
 use Rattle.sx_derive.proofs.Stored.{grows_same, grows_then}
 use Rattle.sx_derive.proofs.Tasked.{task_starts, facts_length}
-use Rattle.sx_derive.proofs.Turned.{events_try}
+use Rattle.sx_derive.proofs.Turned.{fit_more, fits_more, fits_push, fits_pop, piled_grows, piled_fits, piled_push, piled_top, events_stay, events_try}
+use Rattle.sx_derive.proofs.Cut.{cut_grows}
+use Rattle.sx_arena.specs.Pairs.{ArePairs}
+use Rattle.sx_arena.proofs.Growing.{extends-length}
+use Rattle.sx_arena.proofs.Parted.{pairs_more_terms}
+use Rattle.sx_derive.specs.declared.store.Mark.{Mark}
 
 -- more terms change nothing of what is wanted
 pub wanted_stays : (s t : Store) → Extends (store_trees s) (store_trees t) → (w : Option (Vec ℕ Global)) → WantedBelow (length (store_trees s)) w → wanted_in t w ≡ wanted_in s w
@@ -43,6 +48,7 @@ module _ (modes : Modes) (rules : List Rule) (pairs : List Pair) (facts : List F
   pub record Walking (now : Store) (left last : ℕ) (tasks : List TaskOf) : Type 0 where
     pub grows : Grows modes rules old now
     pub fits : TasksFit modes rules now (length facts + length rules) tasks
+    pub piled : Piled modes rules (length facts + length rules) old tasks now
     pub less : left ≤ budget
     pub steps : last ≡ first + (budget - left)
     pub walks : (js : List Judgement) → AreFacts modes (store_trees old) js facts →
@@ -50,10 +56,11 @@ module _ (modes : Modes) (rules : List Rule) (pairs : List Pair) (facts : List F
     pub tries : (js : List Judgement) → AreFacts modes (store_trees old) js facts →
         tries_of (wanted_in old wanted) budget (events_first js) ≡ (budget - left) + tries_of (wanted_in old wanted) left (events_left modes rules pairs js now tasks)
 
-  pub walking_first : IsStore modes rules old → TasksFit modes rules old (length facts + length rules) start → Walking old budget first start
-  walking_first h f = record {
+  pub walking_first : IsStore modes rules old → Piled modes rules (length facts + length rules) old start old → Walking old budget first start
+  walking_first h p = record {
     grows = grows_same modes rules old h;
-    fits = f;
+    fits = piled_fits modes rules (length facts + length rules) old old start p;
+    piled = p;
     less = (omega arith);
     steps = (omega arith);
     walks = λ js a. refl;
@@ -76,6 +83,35 @@ module _ (modes : Modes) (rules : List Rule) (pairs : List Pair) (facts : List F
     module _ (task : TaskOf) (rest : List TaskOf) (p : (js : List Judgement) (s : Store) → length js ≡ length facts → IsPopped modes rules pairs js s (length facts + length rules) tasks rest (Some task)) where
       popped_is : (js : List Judgement) → AreFacts modes (store_trees old) js facts → events_left modes rules pairs js now tasks ≡ events_left modes rules pairs js now (rest ++ task ∷ [])
       popped_is js a = (p js now (sym (facts_length modes (store_trees old) js facts a))).1
+
+      -- the store that there was when the task was made
+      abbrev Top : Type 0
+      Top = (c : Store) × (Piled modes rules (length facts + length rules) old rest c × IsMark c task.mark × TaskFits modes rules c (length facts + length rules) task × Grows modes rules c now)
+
+      top : (js : List Judgement) → AreFacts modes (store_trees old) js facts → Top
+      top js a = piled_top modes rules (length facts + length rules) old now rest task ((p js now (sym (facts_length modes (store_trees old) js facts a))).3 old w.piled)
+
+      -- where the chains are cut back to it nothing changes
+      pub walking_cut : ArePairs (length (store_trees old)) pairs → (cut : Store) → IsCut task.mark now cut → (one : List Judgement) → AreFacts modes (store_trees old) one facts → Walking cut left last (rest ++ task ∷ [])
+      walking_cut hp cut k one b =
+          let n = length facts + length rules in
+          let t = top one b in
+          let c = t.0 in
+          let oc = piled_grows modes rules n old c rest t.1.0 in
+          let g = cut_grows modes rules c now cut task.mark oc.store t.1.1 t.1.3 k in
+          let hc = pairs_more_terms (length (store_trees old)) (length (store_trees c)) (extends-length (store_trees old) (store_trees c) oc.trees) pairs hp in
+          let fc = fits_push modes rules n c rest task (piled_fits modes rules n old c rest t.1.0) t.1.2 in
+          let same : (js : List Judgement) → AreFacts modes (store_trees old) js facts → events_left modes rules pairs js now tasks ≡ events_left modes rules pairs js cut (rest ++ task ∷ []) =
+          λ js a. popped_is js a ∙ events_stay modes rules n pairs js c now (rest ++ task ∷ []) hc t.1.3 fc ∙ sym (events_stay modes rules n pairs js c cut (rest ++ task ∷ []) hc g fc) in
+          record {
+            grows = grows_then modes rules old c cut oc g;
+            fits = fits_more modes rules n c cut (rest ++ task ∷ []) g fc;
+            piled = piled_push modes rules n old c cut rest task t.1.0 t.1.1 t.1.2 g;
+            less = w.less;
+            steps = w.steps;
+            walks = λ js a. w.walks js a ∙ ap (λ es. walk (wanted_in old wanted) left es) (same js a);
+            tries = λ js a. w.tries js a ∙ ap (λ es. (budget - left) + tries_of (wanted_in old wanted) left es) (same js a);
+          }
 
       begins : (js : List Judgement) → AreFacts modes (store_trees old) js facts → (more : List (Event Answer)) × (events_left modes rules pairs js now (rest ++ task ∷ []) ≡ try ∷ more)
       begins js a =
@@ -122,6 +158,7 @@ module _ (modes : Modes) (rules : List Rule) (pairs : List Pair) (facts : List F
             record {
               grows = grows_then modes rules old now new w.grows y.grows;
               fits = y.fits;
+              piled = (let t = top one b in y.piled old t.0 t.1.0 t.1.1 t.1.2 t.1.3);
               less = (omega arith);
               steps = (omega arith);
               walks = λ js a. w.walks js a ∙ ap (λ (n : ℕ). walk (wanted_in old wanted) n (events_left modes rules pairs js now tasks)) (sym k) ∙ (turned None x js a).0;
@@ -146,14 +183,23 @@ module _ (modes : Modes) (rules : List Rule) (pairs : List Pair) (facts : List F
             (grows_then modes rules old now new w.grows y.grows, subst (IsEnding new ending) (sym e) o.0, (let z = t in omega arith))
 
 -- the events of a goal are those of its first task
-pub first_events : (modes : Modes) (rules : List Rule) (pairs : List Pair) (js : List Judgement) (s : Store) (form : ℕ) (terms : Vec ℕ Global) (levels : ℕ) (tasks : List TaskOf) →
-    tasks ≡ record { next = 0; form = form; terms = terms; levels = levels; frames = 0 } ∷ [] → events_left modes rules pairs js s tasks ≡ events_in modes rules pairs js s levels form terms.items
-first_events modes rules pairs js s form terms levels tasks e = ap (events_left modes rules pairs js s) e ∙ sym (task_starts modes rules (hyps_in pairs s js) levels (goal_in s form terms.items))
+pub first_events : (modes : Modes) (rules : List Rule) (pairs : List Pair) (js : List Judgement) (s : Store) (form : ℕ) (terms : Vec ℕ Global) (levels : ℕ) (mark : Mark) (tasks : List TaskOf) →
+    tasks ≡ record { next = 0; form = form; terms = terms; levels = levels; frames = 0; mark = mark } ∷ [] → events_left modes rules pairs js s tasks ≡ events_in modes rules pairs js s levels form terms.items
+first_events modes rules pairs js s form terms levels mark tasks e = ap (events_left modes rules pairs js s) e ∙ sym (task_starts modes rules (hyps_in pairs s js) levels (goal_in s form terms.items))
 
-pub first_fits : (modes : Modes) (rules : List Rule) (s : Store) (n form : ℕ) (terms : Vec ℕ Global) (levels : ℕ) (tasks : List TaskOf) → AreBelow (length (store_trees s)) terms.items →
-    tasks ≡ record { next = 0; form = form; terms = terms; levels = levels; frames = 0 } ∷ [] → TasksFit modes rules s n tasks
-first_fits modes rules s n form terms levels tasks b e =
+pub first_fits : (modes : Modes) (rules : List Rule) (s : Store) (n form : ℕ) (terms : Vec ℕ Global) (levels : ℕ) (mark : Mark) (tasks : List TaskOf) → AreBelow (length (store_trees s)) terms.items →
+    tasks ≡ record { next = 0; form = form; terms = terms; levels = levels; frames = 0; mark = mark } ∷ [] → TasksFit modes rules s n tasks
+first_fits modes rules s n form terms levels mark tasks b e =
     subst (λ (ts : List TaskOf). TasksFit modes rules s n ts) (sym e) (record { next = (omega arith); terms = b; frames = (omega arith) }, tt)
+
+pub first_piled : (modes : Modes) (rules : List Rule) (s : Store) (n form : ℕ) (terms : Vec ℕ Global) (levels : ℕ) (mark : Mark) (tasks : List TaskOf) → IsStore modes rules s → IsMark s mark → AreBelow (length (store_trees s)) terms.items →
+    tasks ≡ record { next = 0; form = form; terms = terms; levels = levels; frames = 0; mark = mark } ∷ [] → Piled modes rules n s tasks s
+first_piled modes rules s n form terms levels mark tasks h k b e =
+    subst (λ (ts : List TaskOf). Piled modes rules n s ts s) (sym e) (s, (grows_same modes rules s h, k, record { next = (omega arith); terms = b; frames = (omega arith) }, grows_same modes rules s h))
+
+-- a task that is popped of those that it is the last of
+pub popped_same : (modes : Modes) (rules : List Rule) (pairs : List Pair) (js : List Judgement) (s : Store) (n : ℕ) (rest : List TaskOf) (t : TaskOf) → t.next < n → IsPopped modes rules pairs js s n (rest ++ t ∷ []) rest (Some t)
+popped_same modes rules pairs js s n rest t l = (l, refl, λ f. fits_pop modes rules n s rest t f, λ first p. p)
 
 pub walked_as : (modes : Modes) (rules : List Rule) (old new : Store) (wanted : Option (Vec ℕ Global)) (budget : ℕ) (es fs : List (Event Answer)) (first last : ℕ) (r : Result EndingOf NoMemory) → es ≡ fs →
     IsWalked modes rules old new wanted budget es first last r → IsWalked modes rules old new wanted budget fs first last r

@@ -42,7 +42,7 @@ pub(crate) fn first_answer(
         (events_in (modes_of rules.now) (rules_of rules.now) pairs.now js store.old levels form terms.items) r) }
 {
     let mark = store.mark();
-    let tasks = first_task(alloc, form, terms, levels)?;
+    let tasks = first_task(alloc, form, terms, levels, mark)?;
     let wanted: Option<Vec<usize>> = None;
     let ending = walk_uncounted(alloc, rules, facts, pairs, store, &wanted, tasks, budget)?;
     store.cut(mark);

@@ -63,7 +63,8 @@ impl Search {
             (events (modes_of rules.now) (rules_of rules.now) (hypotheses given.now) (goal_of goal) 1)) }
     {
         let problem = enter_problem(alloc, rules, given, &goal, None)?;
-        let tasks = first_task(alloc, goal.form, problem.terms, 2999)?;
+        let mark = problem.store.mark();
+        let tasks = first_task(alloc, goal.form, problem.terms, 2999, mark)?;
         Ok(Search {
             store: problem.store,
             facts: problem.facts,

@@ -11,13 +11,14 @@ ghost use Rattle.sx_arena.specs.Views.{rules_of, modes_of};
 use crate::candidates::{try_given, try_rule};
 use crate::chains::Head;
 use crate::step::Step;
-use crate::store::Store;
+use crate::store::{Mark, Store};
 use std::alloc::Global;
 use sx_arena::{Fact, Limit, Pair};
 use sx_rules::RuleSet;
 use sx_term::NoMemory;
 
-/// The candidates of a goal that are still to be tried: first the hypotheses and then the rules, from a number on.
+/// The candidates of a goal that are still to be tried: first the hypotheses and then the rules, from a number on; and where the chains
+/// ended when the goal was come to.
 #[derive(Drop)]
 pub struct Task {
     pub(crate) next: usize,
@@ -25,6 +26,7 @@ pub struct Task {
     pub(crate) terms: Vec<usize>,
     pub(crate) levels: usize,
     pub(crate) frames: usize,
+    pub(crate) mark: Mark,
 }
 
 /// How a walk ends: with an answer, at a limit, with the tries spent, or at the end of the events.

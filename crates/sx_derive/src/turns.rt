@@ -99,6 +99,7 @@ pub(crate) fn turn(
         terms: task.terms,
         levels: task.levels,
         frames: task.frames,
+        mark: task.mark,
     })?;
     match step {
         Step::Nothing => Ok(None),
@@ -110,12 +111,14 @@ pub(crate) fn turn(
             levels,
             frames,
         } => {
+            let mark = store.mark();
             tasks.push(Task {
                 next: 0,
                 form,
                 terms,
                 levels,
                 frames,
+                mark,
             })?;
             Ok(None)
         }

@@ -6,11 +6,11 @@ ghost use Rattle.sx_arena.specs.Arena.{AreBelow};
 ghost use Rattle.sx_derive.specs.Candidates.{AreFacts};
 ghost use Rattle.sx_arena.specs.Pairs.{ArePairs};
 ghost use Rattle.sx_derive.specs.Store.{IsStore, store_trees};
-ghost use Rattle.sx_derive.specs.Tasks.{events_left, TasksFit, WantedBelow};
+ghost use Rattle.sx_derive.specs.Tasks.{events_left, Piled, WantedBelow};
 ghost use Rattle.sx_derive.specs.Walked.{events_in, IsWalked, IsWalkedTo};
 ghost use Rattle.sx_arena.specs.Views.{rules_of, modes_of};
 
-use crate::store::Store;
+use crate::store::{Mark, Store};
 use crate::tasks::{Ending, Task};
 use crate::turns::{next_task, turn};
 use std::alloc::Global;
@@ -36,7 +36,7 @@ fn walk_tasks<L: Ledger>(
     requires store { IsStore (modes_of rules.now) (rules_of rules.now) store.old }
     requires pairs { ArePairs (length (store_trees store.old)) pairs.now }
     requires wanted { WantedBelow (length (store_trees store.old)) wanted.now }
-    requires tasks { TasksFit (modes_of rules.now) (rules_of rules.now) store.old (length facts.now + length (rules_of rules.now)) tasks.items }
+    requires tasks { Piled (modes_of rules.now) (rules_of rules.now) (length facts.now + length (rules_of rules.now)) store.old tasks.items store.old }
     ensures { (js : List Judgement) → AreFacts (modes_of rules.now) (store_trees store.old) js facts.now →
         IsWalked (modes_of rules.now) (rules_of rules.now) store.old store.new wanted.now budget
         (events_left (modes_of rules.now) (rules_of rules.now) pairs.now js store.old tasks.items) steps.old steps.new result }
@@ -49,6 +49,7 @@ fn walk_tasks<L: Ledger>(
         }
         left -= 1;
         steps.tick();
+        store.cut(task.mark);
         match turn(alloc, rules, facts, pairs, store, wanted, task, &mut tasks) {
             Err(e) => return Err(e),
             Ok(None) => {}
@@ -74,7 +75,7 @@ pub(crate) fn walk_uncounted(
     requires store { IsStore (modes_of rules.now) (rules_of rules.now) store.old }
     requires pairs { ArePairs (length (store_trees store.old)) pairs.now }
     requires wanted { WantedBelow (length (store_trees store.old)) wanted.now }
-    requires tasks { TasksFit (modes_of rules.now) (rules_of rules.now) store.old (length facts.now + length (rules_of rules.now)) tasks.items }
+    requires tasks { Piled (modes_of rules.now) (rules_of rules.now) (length facts.now + length (rules_of rules.now)) store.old tasks.items store.old }
     ensures { IfOk result (λ ending. (js : List Judgement) → AreFacts (modes_of rules.now) (store_trees store.old) js facts.now →
         IsWalkedTo (modes_of rules.now) (rules_of rules.now) store.old store.new wanted.now budget
         (events_left (modes_of rules.now) (rules_of rules.now) pairs.now js store.old tasks.items) ending) }
@@ -86,6 +87,7 @@ pub(crate) fn walk_uncounted(
             return Ok(Ending::Spent);
         }
         left -= 1;
+        store.cut(task.mark);
         match turn(alloc, rules, facts, pairs, store, wanted, task, &mut tasks) {
             Err(e) => return Err(e),
             Ok(None) => {}
@@ -101,8 +103,9 @@ pub(crate) fn first_task(
     form: u32,
     terms: Vec<usize>,
     levels: usize,
+    mark: Mark,
 ) -> Result<Vec<Task>, NoMemory>
-    ensures { IfOk result (λ r. r.items ≡ record { next = 0; form = form; terms = terms; levels = levels; frames = 0 } ∷ []) }
+    ensures { IfOk result (λ r. r.items ≡ record { next = 0; form = form; terms = terms; levels = levels; frames = 0; mark = mark } ∷ []) }
 {
     let mut tasks = Vec::new(alloc);
     tasks.push(Task {
@@ -111,6 +114,7 @@ pub(crate) fn first_task(
         terms,
         levels,
         frames: 0,
+        mark,
     })?;
     Ok(tasks)
 }
@@ -139,7 +143,8 @@ pub(crate) fn walk<L: Ledger>(
         IsWalked (modes_of rules.now) (rules_of rules.now) store.old store.new wanted.now budget
         (events_in (modes_of rules.now) (rules_of rules.now) pairs.now js store.old levels form terms.items) steps.old steps.new result }
 {
-    match first_task(alloc, form, terms, levels) {
+    let mark = store.mark();
+    match first_task(alloc, form, terms, levels, mark) {
         Err(e) => Err(e),
         Ok(tasks) => walk_tasks(
             alloc, rules, facts, pairs, store, wanted, tasks, budget, steps,

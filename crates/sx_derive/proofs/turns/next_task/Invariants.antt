@@ -2,7 +2,7 @@ use Rattle.std.proofs.Common.{◌≡◌, ◌+◌, List, length}
 use Rattle.sx_rules.specs.Rules.{Judgement}
 use Rattle.sx_arena.specs.declared.pairs.Pair.{Pair}
 use Rattle.sx_derive.specs.declared.store.Store.{Store}
-use Rattle.sx_derive.specs.Tasks.{events_left, TasksFit}
+use Rattle.sx_derive.specs.Tasks.{events_left, TasksFit, Piled}
 use Rattle.sx_arena.specs.Views.{rules_of, modes_of}
 use Rattle.sx_derive.proofs.turns.next_task.Given as goal
 
@@ -10,6 +10,7 @@ abbrev pub invariant-loop-task : goal.invariant-loop-task
 invariant-loop-task l = record {
   same : (pairs : List Pair) (js : List Judgement) (s : Store) → length js ≡ length l.facts → events_left (modes_of l.rules) (rules_of l.rules) pairs js s l.initial.tasks.items ≡ events_left (modes_of l.rules) (rules_of l.rules) pairs js s l.tasks.items;
   fits : (s : Store) → TasksFit (modes_of l.rules) (rules_of l.rules) s (length l.facts + length (rules_of l.rules)) l.initial.tasks.items → TasksFit (modes_of l.rules) (rules_of l.rules) s (length l.facts + length (rules_of l.rules)) l.tasks.items;
+  piled : (first s : Store) → Piled (modes_of l.rules) (rules_of l.rules) (length l.facts + length (rules_of l.rules)) first l.initial.tasks.items s → Piled (modes_of l.rules) (rules_of l.rules) (length l.facts + length (rules_of l.rules)) first l.tasks.items s;
 }
 
 abbrev pub decreases-loop-task : goal.decreases-loop-task

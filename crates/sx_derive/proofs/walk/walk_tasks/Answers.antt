@@ -1,10 +1,11 @@
-use Rattle.std.proofs.Common.{◌<◌, sym, arith}
+use Rattle.std.proofs.Common.{◌<◌, ◌++◌, ◌∷◌, [], sym, arith}
 use Rattle.sx_derive.specs.Store.{store_trees}
 use Rattle.sx_arena.specs.Views.{rules_of, modes_of}
 use Rattle.sx_arena.proofs.Growing.{extends-length}
 use Rattle.sx_arena.proofs.Parted.{pairs_more_terms}
 use Rattle.sx_derive.proofs.Tasked.{facts_length}
-use Rattle.sx_derive.proofs.Walking.{facts_now, wanted_below, walking_end, walking_spent, walking_failed, walking_more, walking_ends}
+use Rattle.sx_derive.proofs.Turned.{fits_pop}
+use Rattle.sx_derive.proofs.Walking.{walking_first, facts_now, wanted_below, walking_end, walking_spent, walking_failed, walking_more, walking_ends, walking_cut, popped_same}
 use Rattle.sx_derive.proofs.walk.walk_tasks.Goals as goal
 
 pub returns-then-left-eq0 : goal.returns-then-left-eq0
@@ -13,20 +14,26 @@ returns-then-left-eq0 g c = walking_spent (modes_of c.args.rules.now) (rules_of 
 pub turn-requires-clause-facts : goal.turn-requires-clause-facts
 turn-requires-clause-facts g c =
     let b = c.requires.facts in
-    (b.0, facts_now (modes_of c.args.rules.now) (rules_of c.args.rules.now) c.args.pairs.now c.args.facts.now c.args.wanted.now c.args.store.now c.args.budget c.args.tasks.items c.args.steps.now c.loop-task.store c.loop-task.left c.loop-task.steps c.loop-task.tasks.items c.loop-task.invariant b.0 b.1)
+    let w = walking_cut (modes_of c.args.rules.now) (rules_of c.args.rules.now) c.args.pairs.now c.args.facts.now c.args.wanted.now c.args.store.now c.args.budget c.args.tasks.items c.args.steps.now c.loop-task.store c.loop-task.left c.loop-task.steps c.loop-task.tasks.items c.loop-task.invariant c.in-Some.task c.next_task.new.tasks.items (λ js s e. c.in-Some.ensures c.args.pairs.now js s e) c.requires.pairs c.cut.new.self c.cut.ensures b.0 b.1 in
+    (b.0, facts_now (modes_of c.args.rules.now) (rules_of c.args.rules.now) c.args.pairs.now c.args.facts.now c.args.wanted.now c.args.store.now c.args.budget c.args.tasks.items c.args.steps.now c.cut.new.self c.loop-task.left c.loop-task.steps (c.next_task.new.tasks.items ++ c.in-Some.task ∷ []) w b.0 b.1)
 
 pub turn-requires-clause-pairs : goal.turn-requires-clause-pairs
-turn-requires-clause-pairs g c = pairs_more_terms _ _ (extends-length _ _ c.loop-task.invariant.grows.trees) _ c.requires.pairs
+turn-requires-clause-pairs g c =
+    let b = c.requires.facts in
+    let w = walking_cut (modes_of c.args.rules.now) (rules_of c.args.rules.now) c.args.pairs.now c.args.facts.now c.args.wanted.now c.args.store.now c.args.budget c.args.tasks.items c.args.steps.now c.loop-task.store c.loop-task.left c.loop-task.steps c.loop-task.tasks.items c.loop-task.invariant c.in-Some.task c.next_task.new.tasks.items (λ js s e. c.in-Some.ensures c.args.pairs.now js s e) c.requires.pairs c.cut.new.self c.cut.ensures b.0 b.1 in
+    pairs_more_terms _ _ (extends-length _ _ w.grows.trees) _ c.requires.pairs
 
 pub turn-requires-clause-wanted : goal.turn-requires-clause-wanted
-turn-requires-clause-wanted g c = wanted_below _ _ (extends-length _ _ c.loop-task.invariant.grows.trees) _ c.requires.wanted
+turn-requires-clause-wanted g c =
+    let b = c.requires.facts in
+    let w = walking_cut (modes_of c.args.rules.now) (rules_of c.args.rules.now) c.args.pairs.now c.args.facts.now c.args.wanted.now c.args.store.now c.args.budget c.args.tasks.items c.args.steps.now c.loop-task.store c.loop-task.left c.loop-task.steps c.loop-task.tasks.items c.loop-task.invariant c.in-Some.task c.next_task.new.tasks.items (λ js s e. c.in-Some.ensures c.args.pairs.now js s e) c.requires.pairs c.cut.new.self c.cut.ensures b.0 b.1 in
+    wanted_below _ _ (extends-length _ _ w.grows.trees) _ c.requires.wanted
 
 pub turn-requires-clause-task : goal.turn-requires-clause-task
 turn-requires-clause-task g c =
     let b = c.requires.facts in
-    let e = facts_length _ (store_trees c.args.store.now) b.0 c.args.facts.now b.1 in
-    let p = c.in-Some.ensures c.args.pairs.now b.0 c.loop-task.store (sym e) in
-    (p.2 c.loop-task.invariant.fits).1
+    let w = walking_cut (modes_of c.args.rules.now) (rules_of c.args.rules.now) c.args.pairs.now c.args.facts.now c.args.wanted.now c.args.store.now c.args.budget c.args.tasks.items c.args.steps.now c.loop-task.store c.loop-task.left c.loop-task.steps c.loop-task.tasks.items c.loop-task.invariant c.in-Some.task c.next_task.new.tasks.items (λ js s e. c.in-Some.ensures c.args.pairs.now js s e) c.requires.pairs c.cut.new.self c.cut.ensures b.0 b.1 in
+    (fits_pop _ _ _ c.cut.new.self c.next_task.new.tasks.items c.in-Some.task w.fits).1
 
 pub turn-requires-clause-next : goal.turn-requires-clause-next
 turn-requires-clause-next g c =
@@ -38,9 +45,8 @@ turn-requires-clause-next g c =
 pub turn-requires-clause-tasks : goal.turn-requires-clause-tasks
 turn-requires-clause-tasks g c =
     let b = c.requires.facts in
-    let e = facts_length _ (store_trees c.args.store.now) b.0 c.args.facts.now b.1 in
-    let p = c.in-Some.ensures c.args.pairs.now b.0 c.loop-task.store (sym e) in
-    (p.2 c.loop-task.invariant.fits).0
+    let w = walking_cut (modes_of c.args.rules.now) (rules_of c.args.rules.now) c.args.pairs.now c.args.facts.now c.args.wanted.now c.args.store.now c.args.budget c.args.tasks.items c.args.steps.now c.loop-task.store c.loop-task.left c.loop-task.steps c.loop-task.tasks.items c.loop-task.invariant c.in-Some.task c.next_task.new.tasks.items (λ js s e. c.in-Some.ensures c.args.pairs.now js s e) c.requires.pairs c.cut.new.self c.cut.ensures b.0 b.1 in
+    (fits_pop _ _ _ c.cut.new.self c.next_task.new.tasks.items c.in-Some.task w.fits).0
 
 pub returns-in-Err : goal.returns-in-Err
 returns-in-Err g c = λ js a.
@@ -50,13 +56,27 @@ returns-in-Err g c = λ js a.
 pub loop-task-preserved : goal.loop-task-preserved
 loop-task-preserved g c =
     let b = c.requires.facts in
+    let w = walking_cut (modes_of c.args.rules.now) (rules_of c.args.rules.now) c.args.pairs.now c.args.facts.now c.args.wanted.now c.args.store.now c.args.budget c.args.tasks.items c.args.steps.now c.loop-task.store c.loop-task.left c.loop-task.steps c.loop-task.tasks.items c.loop-task.invariant c.in-Some.task c.next_task.new.tasks.items (λ js s e. c.in-Some.ensures c.args.pairs.now js s e) c.requires.pairs c.cut.new.self c.cut.ensures b.0 b.1 in
+    let n = (c.in-Some.ensures c.args.pairs.now b.0 c.loop-task.store (sym (facts_length _ (store_trees c.args.store.now) b.0 c.args.facts.now b.1))).0 in
     let l : 0 < c.loop-task.left = (let z = c.if-left-eq0.false in omega arith) in
-    walking_more (modes_of c.args.rules.now) (rules_of c.args.rules.now) c.args.pairs.now c.args.facts.now c.args.wanted.now c.args.store.now c.args.budget c.args.tasks.items c.args.steps.now c.loop-task.store c.loop-task.left c.loop-task.steps c.loop-task.tasks.items c.loop-task.invariant c.in-Some.task c.next_task.new.tasks.items (λ js s e. c.in-Some.ensures c.args.pairs.now js s e) l c.requires.wanted c.turn.new.store c.turn.new.tasks.items (λ js a. rw c.in-Ok-None.field-0-is at (c.in-Ok-None.ensures js a)) b.0 b.1 c.tick.new.self c.tick.ensures
+    walking_more (modes_of c.args.rules.now) (rules_of c.args.rules.now) c.args.pairs.now c.args.facts.now c.args.wanted.now c.args.store.now c.args.budget c.args.tasks.items c.args.steps.now c.cut.new.self c.loop-task.left c.loop-task.steps (c.next_task.new.tasks.items ++ c.in-Some.task ∷ []) w c.in-Some.task c.next_task.new.tasks.items (λ js s e. popped_same _ _ c.args.pairs.now js s _ c.next_task.new.tasks.items c.in-Some.task n) l c.requires.wanted c.turn.new.store c.turn.new.tasks.items (λ js a. rw c.in-Ok-None.field-0-is at (c.in-Ok-None.ensures js a)) b.0 b.1 c.tick.new.self c.tick.ensures
 
 pub returns-in-Ok-Some : goal.returns-in-Ok-Some
 returns-in-Ok-Some g c = λ js a.
+    let b = c.requires.facts in
+    let w = walking_cut (modes_of c.args.rules.now) (rules_of c.args.rules.now) c.args.pairs.now c.args.facts.now c.args.wanted.now c.args.store.now c.args.budget c.args.tasks.items c.args.steps.now c.loop-task.store c.loop-task.left c.loop-task.steps c.loop-task.tasks.items c.loop-task.invariant c.in-Some.task c.next_task.new.tasks.items (λ js s e. c.in-Some.ensures c.args.pairs.now js s e) c.requires.pairs c.cut.new.self c.cut.ensures b.0 b.1 in
+    let n = (c.in-Some.ensures c.args.pairs.now b.0 c.loop-task.store (sym (facts_length _ (store_trees c.args.store.now) b.0 c.args.facts.now b.1))).0 in
     let l : 0 < c.loop-task.left = (let z = c.if-left-eq0.false in omega arith) in
-    walking_ends (modes_of c.args.rules.now) (rules_of c.args.rules.now) c.args.pairs.now c.args.facts.now c.args.wanted.now c.args.store.now c.args.budget c.args.tasks.items c.args.steps.now c.loop-task.store c.loop-task.left c.loop-task.steps c.loop-task.tasks.items c.loop-task.invariant c.in-Some.task c.next_task.new.tasks.items (λ js s e. c.in-Some.ensures c.args.pairs.now js s e) l c.requires.wanted c.turn.new.store c.turn.new.tasks.items c.in-Ok-Some.ending (λ ks b. rw c.in-Ok-Some.field-0-is at (c.in-Ok-Some.ensures ks b)) c.tick.new.self c.tick.ensures js a
+    walking_ends (modes_of c.args.rules.now) (rules_of c.args.rules.now) c.args.pairs.now c.args.facts.now c.args.wanted.now c.args.store.now c.args.budget c.args.tasks.items c.args.steps.now c.cut.new.self c.loop-task.left c.loop-task.steps (c.next_task.new.tasks.items ++ c.in-Some.task ∷ []) w c.in-Some.task c.next_task.new.tasks.items (λ js s e. popped_same _ _ c.args.pairs.now js s _ c.next_task.new.tasks.items c.in-Some.task n) l c.requires.wanted c.turn.new.store c.turn.new.tasks.items c.in-Ok-Some.ending (λ ks b. rw c.in-Ok-Some.field-0-is at (c.in-Ok-Some.ensures ks b)) c.tick.new.self c.tick.ensures js a
 
 pub returns : goal.returns
 returns g c = λ js a. walking_end (modes_of c.args.rules.now) (rules_of c.args.rules.now) c.args.pairs.now c.args.facts.now c.args.wanted.now c.args.store.now c.args.budget c.args.tasks.items c.args.steps.now c.loop-task.store c.loop-task.left c.loop-task.steps c.loop-task.tasks.items c.loop-task.invariant c.next_task.new.tasks.items (λ ks s e. c.in_default.ensures c.args.pairs.now ks s e) js a
+
+pub turn-requires-clause-store : goal.turn-requires-clause-store
+turn-requires-clause-store g c =
+    let b = c.requires.facts in
+    let w = walking_cut (modes_of c.args.rules.now) (rules_of c.args.rules.now) c.args.pairs.now c.args.facts.now c.args.wanted.now c.args.store.now c.args.budget c.args.tasks.items c.args.steps.now c.loop-task.store c.loop-task.left c.loop-task.steps c.loop-task.tasks.items c.loop-task.invariant c.in-Some.task c.next_task.new.tasks.items (λ js s e. c.in-Some.ensures c.args.pairs.now js s e) c.requires.pairs c.cut.new.self c.cut.ensures b.0 b.1 in
+    w.grows.store
+
+pub loop-task-init : goal.loop-task-init
+loop-task-init g c = walking_first (modes_of c.args.rules.now) (rules_of c.args.rules.now) c.args.pairs.now c.args.facts.now c.args.wanted.now c.args.store.now c.args.budget c.args.tasks.items c.args.steps.now c.requires.store c.requires.tasks
