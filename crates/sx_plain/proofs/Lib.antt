@@ -6,3 +6,4 @@ pub mod Gathered
 pub mod AddLaws
 pub mod MarkLaws
 pub mod Kept
+pub mod PartLaws

@@ -11,10 +11,10 @@ use Rattle.sx_plain.specs.Plain.{Body, Table, image_node, image, images}
 use Rattle.sx_plain.specs.Measures.{depth_with, greatest_with, size_with, total_with, greatest, total, node_depth, node_size, image_depths, image_sizes}
 use Rattle.sx_plain.specs.Uses.{ArePositive}
 
-abbrev depths : List Tree → List ℕ
+abbrev pub depths : List Tree → List ℕ
 depths ts = map depth_of ts
 
-abbrev sizes : List Tree → List ℕ
+abbrev pub sizes : List Tree → List ℕ
 sizes ts = map size_of ts
 
 mutual
@@ -49,11 +49,11 @@ total-listed : (us : Trees) → total (sizes (listed us)) ≡ total_size us
 total-listed none = refl
 total-listed (u ▹ us) = ap (λ (n : ℕ). size_of u + n) (total-listed us)
 
-node-depth : (o : Option Body) (label : ℕ) (us : Trees) → depth_of (image_node o label us) ≡ node_depth o (depths (listed us))
+pub node-depth : (o : Option Body) (label : ℕ) (us : Trees) → depth_of (image_node o label us) ≡ node_depth o (depths (listed us))
 node-depth None label us = ap (λ (n : ℕ). n + 1) (sym (greatest-listed us))
 node-depth (Some body) label us = instance-depth (listed us) body.flat
 
-node-size : (o : Option Body) (label : ℕ) (us : Trees) → size_of (image_node o label us) ≡ node_size o (sizes (listed us))
+pub node-size : (o : Option Body) (label : ℕ) (us : Trees) → size_of (image_node o label us) ≡ node_size o (sizes (listed us))
 node-size None label us = ap (λ (n : ℕ). n + 1) (sym (total-listed us))
 node-size (Some body) label us = instance-size (listed us) body.flat
 
@@ -90,7 +90,7 @@ size_found table t label kids ts o e s at =
     ∙ sym (ap size_of (image-at_node table t label kids e) ∙ node-size (table label) label (images table (trees kids.items)) ∙ ap (node_size (table label)) (sizes-images table kids.items))
 
 -- each image has a depth of at least 1
-positive : (t : Tree) → 1 ≤ depth_of t
+pub positive : (t : Tree) → 1 ≤ depth_of t
 positive (node label us) = omega arith
 positive (lexeme kind text) = omega arith
 positive (hole v) = omega arith

@@ -7,3 +7,4 @@ pub mod Entries
 pub mod Views
 pub mod Adds
 pub mod Marks
+pub mod PartMeasures

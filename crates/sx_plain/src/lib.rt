@@ -17,6 +17,7 @@ mod look_up;
 mod lowering;
 mod make_entry;
 mod measure;
+mod node_measure;
 mod part_use;
 mod plain_error;
 mod table;
@@ -27,5 +28,6 @@ pub use laws::{
     sorted_terms_fit,
 };
 pub use lowering::lower;
+pub use measure::Measure;
 pub use plain_error::PlainError;
 pub use table::PlainTable;

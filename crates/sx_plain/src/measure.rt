@@ -16,7 +16,7 @@ use sx_term::Term;
 
 /// How deep and how big a term is. The size stays at the greatest u64 where it would pass it.
 #[derive(Clone, Copy)]
-pub(crate) struct Measure {
+pub struct Measure {
     pub depth: u32,
     pub size: u64,
 }
@@ -84,7 +84,7 @@ fn node_measure(table: &PlainTable, kids: &[Term]) -> Measure
 }
 
 /// The size so far with that of a part, as often as it is used, or the greatest u64.
-fn with_part(so_far: u64, part: PartUse, size: u64) -> u64
+pub(crate) fn with_part(so_far: u64, part: PartUse, size: u64) -> u64
     ensures { result ≡ min (so_far + min (part.times * size) (2 ^ 64 - 1)) (2 ^ 64 - 1) }
 {
     so_far.saturating_add(u64::from(part.times).saturating_mul(size))
