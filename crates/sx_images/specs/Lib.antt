@@ -1,0 +1,4 @@
+pub mod Images
+pub mod Nodes
+pub mod Lowered
+pub mod Laws

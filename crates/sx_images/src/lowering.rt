@@ -1,0 +1,46 @@
+//! Plain images by number.
+
+ghost use Rattle.std.specs.Prelude.{◌<◌, ◌≤◌, length};
+ghost use Rattle.sx_term.specs.Tree.{depth_of};
+ghost use Rattle.sx_plain.specs.Tables.{FitsTable};
+ghost use Rattle.sx_plain.specs.Views.{table_of};
+ghost use Rattle.sx_arena.specs.Arena.{trees, tree_at, IsArena};
+ghost use Rattle.sx_images.specs.Images.{AreImages};
+ghost use Rattle.sx_images.specs.Lowered.{IsLowered};
+
+use crate::images::Images;
+use crate::making::made;
+use crate::measuring::measured;
+use std::alloc::Global;
+use sx_arena::Arena;
+use sx_plain::PlainTable;
+use sx_term::TermError;
+
+impl Images {
+    /// The number of the plain image of the term with this number. The image is measured before it is made, and refused as TooDeep where
+    /// its depth is more than 1,000, and else as TooBig where it has more than 1,000,000 nodes, lexemes and variables. After these two
+    /// refusals the arena is as before. A term that was met before costs a look-up.
+    pub fn lower(
+        &mut self,
+        alloc: Global,
+        table: &PlainTable,
+        arena: &mut Arena,
+        term: usize,
+    ) -> Result<usize, TermError>
+        requires arena { IsArena arena.old }
+        requires known { AreImages (table_of table.now) (trees arena.old) self.old }
+        requires within { term < length (trees arena.old) }
+        requires shallow { depth_of (tree_at (trees arena.old) term) ≤ 1000 }
+        requires fits { FitsTable (table_of table.now) (tree_at (trees arena.old) term) }
+        ensures { IsLowered (table_of table.now) arena.old arena.new self.new (tree_at (trees arena.old) term) result }
+    {
+        let measure = measured(alloc, table, arena, &mut self.measures, term)?;
+        if measure.depth > 1000 {
+            return Err(TermError::TooDeep(measure.depth));
+        }
+        if measure.size > 1_000_000 {
+            return Err(TermError::TooBig(measure.size));
+        }
+        Ok(made(alloc, table, arena, &mut self.numbers, term)?)
+    }
+}
