@@ -8,6 +8,8 @@ mod core_texts;
 #[cfg(test)]
 mod cutting;
 #[cfg(test)]
+mod images_by_number;
+#[cfg(test)]
 mod instances;
 #[cfg(test)]
 mod line_parts;
@@ -17,6 +19,8 @@ mod lines;
 mod names;
 #[cfg(test)]
 mod orders;
+#[cfg(test)]
+mod pairs;
 #[cfg(test)]
 mod plain_images;
 #[cfg(test)]

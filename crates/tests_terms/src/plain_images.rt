@@ -11,7 +11,7 @@ use sx_term::{Term, TermError};
 
 /// What adding an entry answers.
 #[derive(Clone, Copy, PartialEq, Eq)]
-enum Added {
+pub(crate) enum Added {
     Done,
     Memory,
     Twice(u32),
@@ -24,7 +24,13 @@ enum Added {
 }
 
 /// Adds the body that this core text spells.
-fn add(alloc: Global, table: &mut PlainTable, label: u32, arity: u32, core: &[u8]) -> Added
+pub(crate) fn add(
+    alloc: Global,
+    table: &mut PlainTable,
+    label: u32,
+    arity: u32,
+    core: &[u8],
+) -> Added
     requires { table.old.base ≤ label }
     ensures { table.new.base ≡ table.old.base }
 {
@@ -46,7 +52,7 @@ fn add(alloc: Global, table: &mut PlainTable, label: u32, arity: u32, core: &[u8
 }
 
 /// The table with `2` as `(0 ?0 ?0)`, `3` as `(1 ?1 (2 ?0))` and `4` as `(1 (1 ?0))`, over the base labels 0 and 1.
-fn three_entries(alloc: Global) -> PlainTable
+pub(crate) fn three_entries(alloc: Global) -> PlainTable
     ensures { result.base ≡ 2 }
 {
     let mut table = PlainTable::new(alloc, 2);
@@ -68,7 +74,12 @@ fn tried(alloc: Global, label: u32, arity: u32, core: &[u8]) -> (Added, bool)
 }
 
 /// So many fronts of a node, a core text in the innermost, and all of them closed.
-fn nested(alloc: Global, front: &[u8], count: u32, core: &[u8]) -> Result<Vec<u8>, AllocError> {
+pub(crate) fn nested(
+    alloc: Global,
+    front: &[u8],
+    count: u32,
+    core: &[u8],
+) -> Result<Vec<u8>, AllocError> {
     let mut bytes = Vec::new(alloc);
     for _ in 0..count {
         bytes.extend_from_slice(front)?;
@@ -129,7 +140,7 @@ fn flat_bodies_have_limits(rt: HostRuntime) -> Result<(), Fail> {
 
 /// What lowering answers.
 #[derive(Clone, Copy, PartialEq, Eq)]
-enum Lowered {
+pub(crate) enum Lowered {
     /// Whether the plain image is the wanted term.
     Is(bool),
     Memory,
@@ -140,7 +151,7 @@ enum Lowered {
 }
 
 /// The plain image of the term that this core text spells, compared with the wanted one.
-fn lower_as(alloc: Global, table: &PlainTable, core: &[u8], wanted: &str) -> Lowered {
+pub(crate) fn lower_as(alloc: Global, table: &PlainTable, core: &[u8], wanted: &str) -> Lowered {
     let (Some(term), Some(wanted)) = (term_of(alloc, core), term(alloc, wanted)) else {
         return Lowered::Unfit;
     };
