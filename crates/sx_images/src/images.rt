@@ -1,6 +1,6 @@
 //! What is known of plain images.
 
-ghost use Rattle.std.specs.Prelude.{ℕ, List};
+ghost use Rattle.std.specs.Prelude.{List};
 ghost use Rattle.sx_term.specs.Tree.{Tree};
 ghost use Rattle.sx_plain.specs.Plain.{Table};
 ghost use Rattle.sx_images.specs.Images.{AreImages};

@@ -58,7 +58,7 @@ pub node_instance : (s : ℕ → Tree) (t : Term) (label : ℕ) (kids : Vec Term
 node_instance s t label kids ts e n = ap (λ (x : List Term). node label (instances s (trees x))) n ∙ sym (ap (instance s) (tree-at_node t label kids e))
 
 -- a variable gives way to the image of its part
-image-at : (table : Table) (ts : List Term) (i : ℕ) (k : Term) → i < length ts → k ≡ get_or ts i k → image table (tree k) ≡ bound_by (listed (images table (trees ts))) i
+pub image-at : (table : Table) (ts : List Term) (i : ℕ) (k : Term) → i < length ts → k ≡ get_or ts i k → image table (tree k) ≡ bound_by (listed (images table (trees ts))) i
 image-at table [] i k l g = absurd (omega arith)
 image-at table (t ∷ ts) zero k l g = ap (λ (x : Term). image table (tree x)) g
 image-at table (t ∷ ts) (suc i) k l g = image-at table ts i k (omega arith) g

@@ -7,3 +7,4 @@ pub mod AddLaws
 pub mod MarkLaws
 pub mod Kept
 pub mod PartLaws
+pub mod BareLaws

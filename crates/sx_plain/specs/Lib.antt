@@ -8,3 +8,4 @@ pub mod Views
 pub mod Adds
 pub mod Marks
 pub mod PartMeasures
+pub mod Bare

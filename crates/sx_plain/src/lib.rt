@@ -6,10 +6,12 @@
 //!
 //! Contracts see a table as a function from labels to bodies (`specs/Plain.antt`). An image is measured before it is made, in time that
 //! grows with the term alone: an entry keeps beside its body how often and how deep each part stands there. Then each node of the image
-//! is made where it stands, and nothing is copied.
+//! is made where it stands, and nothing is copied. A node whose flat body is a part alone is no node of the image: where a term has such
+//! nodes they are taken out of it first, once, since else a part that is used often would be looked for under them each time.
 #![tactic(auto)]
 
 mod adding;
+mod bare;
 mod dropped;
 mod entry;
 mod laws;

@@ -9,6 +9,7 @@ ghost use Rattle.sx_plain.specs.Plain.{image, images};
 ghost use Rattle.sx_plain.specs.Tables.{FitsTable};
 ghost use Rattle.sx_plain.specs.Views.{table_of};
 
+use crate::bare::{has_bare, without_bare};
 use crate::measure::image_measure;
 use crate::table::PlainTable;
 use std::alloc::Global;
@@ -27,6 +28,12 @@ pub fn lower(alloc: Global, table: &PlainTable, term: &Term) -> Result<Term, Ter
     }
     if measure.size > 1_000_000 {
         return Err(TermError::TooBig(measure.size));
+    }
+    if has_bare(table, term) {
+        let rest = without_bare(alloc, table, term)?;
+        let image = made(alloc, table, &rest);
+        drop(rest);
+        return Ok(image?);
     }
     Ok(made(alloc, table, term)?)
 }
