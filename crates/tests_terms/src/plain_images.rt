@@ -205,3 +205,21 @@ fn images_have_limits(rt: HostRuntime) -> Result<(), Fail> {
     assert!(rt; too_big == Lowered::TooBig(2_199_023_255_551));
     Ok(())
 }
+
+/// What lowering the term answers, by the three entries and by `5`, which is its part as it is.
+fn lower_bare(alloc: Global, core: &[u8], wanted: &str) -> Lowered {
+    let mut table = three_entries(alloc);
+    add(alloc, &mut table, 5, 1, b"?0");
+    let answer = lower_as(alloc, &table, core, wanted);
+    drop(table);
+    answer
+}
+
+#[test]
+fn bare_nodes_give_way(rt: HostRuntime) {
+    let alloc = rt.alloc();
+    let inner = lower_bare(alloc, b"(5 (5 (2 (5 (5 i1:x)))))", "(0 i1:x i1:x)");
+    let alone = lower_bare(alloc, b"(5 (5 ?3))", "?3");
+    assert!(rt; inner == Lowered::Is(true));
+    assert!(rt; alone == Lowered::Is(true));
+}
