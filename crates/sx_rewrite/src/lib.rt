@@ -1,0 +1,32 @@
+//! Accepted sets, and derivations that are rewritten by them.
+#![tactic(auto)]
+
+mod accept_laws;
+mod accepted;
+mod flat;
+mod kept_laws;
+mod laws;
+mod measured_laws;
+mod plain_laws;
+mod rewriting_laws;
+mod rule_set_laws;
+mod samples;
+mod telling;
+mod used_laws;
+
+pub use accept_laws::{
+    accepted_sets_grow, base_rules_are_accepted, certificates_hold, flat_forms_are_sorted,
+    growth_goes_on, rejected_is_unsound, sound_rules_are_sorted, stored_is_sound,
+};
+pub use accepted::Accepted;
+pub use flat::Flat;
+pub use kept_laws::{
+    certificates_are_kept, conditions_are_kept, derivations_are_kept, desugaring_is_kept,
+};
+pub use laws::{lowered_are_derivations, lowered_are_sorted, lowering_exists, lowering_is_unique};
+pub use measured_laws::{measured_are_all, measuring_is_unique, terms_are_measured};
+pub use plain_laws::{plain_rules_are_accepted, plain_rules_lower_alike};
+pub use rewriting_laws::{rewriting_answers, rewriting_is_good, rewriting_is_unique};
+pub use rule_set_laws::good_rules_are_disciplined;
+pub use samples::sample_is_lowered;
+pub use used_laws::{lowered_are_counted, typed_variables_are_used, unused_kids_are_free};
