@@ -7,12 +7,12 @@ use Rattle.sx_term.specs.Sorts.{Shape, HasSort, HaveSorts}
 use Rattle.sx_rules.specs.Rules.{Judgement, Premise, holds, apart, Rule, judgements_of}
 use Rattle.sx_rules.specs.Modes.{inputs, outputs}
 use Rattle.sx_rules.specs.Sorts.{IsUntypedSort, JudgementIsSorted, PremisesAreSorted, JudgementsAreSorted}
-use Rattle.sx_rules.specs.Discipline.{subjects_of, IsBareSubject, AreBareSubjects, AreUntypedSorts, PlainHaveNoTyped, FormsFit}
+use Rattle.sx_rules.specs.Discipline.{IsBareSubject, AreBareSubjects, AreUntypedSorts, PlainHaveNoTyped, FormsFit}
 use Rattle.sx_rules.proofs.Sorted.{outputs-sorted}
 use Rattle.sx_plain.specs.Plain.{Table, image}
-use Rattle.sx_plain.specs.Tables.{IsCovered, Begins, Desugars}
+use Rattle.sx_plain.specs.Tables.{Begins, Desugars}
 use Rattle.sx_plain.proofs.Tables.{image-sorted, plain-covered}
-use Rattle.sx_rewrite.specs.Flat.{flat_places, flat_judgement, flat_hypotheses}
+use Rattle.sx_rewrite.specs.Flat.{flat_places, flat_judgement}
 use Rattle.sx_rewrite.specs.Accepted.{Signature}
 use Rattle.sx_rewrite.specs.Sound.{HasBaseSyntax}
 use Rattle.sx_rewrite.specs.Extensions.{BodyFits}

@@ -7,7 +7,7 @@ use Rattle.sx_term.specs.declared.sort.Sort.TheVariants.{Lex}
 use Rattle.sx_term.specs.Sorts.{Shape, HasSort, HaveSorts}
 use Rattle.sx_rules.specs.Rules.{Judgement, Premise, holds, apart, Rule, Hypotheses, judgements_of}
 use Rattle.sx_rules.specs.Modes.{Modes, AllModed}
-use Rattle.sx_rules.specs.Sorts.{FormSorts, JudgementIsSorted, PremisesAreSorted, RuleIsSorted, RulesAreSorted}
+use Rattle.sx_rules.specs.Sorts.{FormSorts, JudgementIsSorted, PremisesAreSorted, RulesAreSorted}
 use Rattle.sx_rules.specs.Derivations.{Derives}
 use Rattle.sx_plain.specs.Plain.{Table, image}
 use Rattle.sx_plain.specs.Tables.{Begins}
@@ -15,13 +15,13 @@ use Rattle.sx_plain.proofs.Tables.{sorted-below, images_stay}
 use Rattle.sx_rewrite.specs.Flat.{flat_places, flat_judgement, flat_pairs, flat_hypotheses}
 use Rattle.sx_rewrite.specs.Accepted.{ExtRule, Checked, flat_conclusion, Known, basic, checked, rule_in, Accepted, rules_of, AllCertified, AllDisciplined, Signature, IsAccepted}
 use Rattle.sx_rewrite.specs.Sound.{AreSoundBy}
-use Rattle.sx_rewrite.specs.Extensions.{Extension, with_table, extended, GrowsSoundly, BodiesFit, Fits}
+use Rattle.sx_rewrite.specs.Extensions.{with_table, extended, BodiesFit, Fits}
 use Rattle.sx_rewrite.specs.AcceptLaws.{BaseRulesAreAccepted, AcceptedSetsGrow, GrowthGoesOn}
 use Rattle.sx_rewrite.proofs.LoweredSorted.{more-sorted, list-more-sorted}
 use Rattle.sx_rewrite.proofs.Sound.{sound_rules_are_sorted}
 
 -- the set without extensions
-same-rules : (rules : List Rule) → map rule_in (map basic rules ++ []) ≡ rules
+pub same-rules : (rules : List Rule) → map rule_in (map basic rules ++ []) ≡ rules
 same-rules [] = refl
 same-rules (r ∷ rs) = ap (λ (x : List Rule). r ∷ x) (same-rules rs)
 
@@ -158,7 +158,7 @@ stored-rules : (more new : List Checked) → map rule_in (map checked (more ++ n
 stored-rules [] new = refl
 stored-rules (c ∷ cs) new = ap (λ (rs : List Rule). c.rule ∷ rs) (stored-rules cs new)
 
-all-rules : (base : List Rule) (more new : List Checked) → map rule_in (map basic base ++ map checked (more ++ new)) ≡ map rule_in (map basic base ++ map checked more) ++ map rule_in (map checked new)
+pub all-rules : (base : List Rule) (more new : List Checked) → map rule_in (map basic base ++ map checked (more ++ new)) ≡ map rule_in (map basic base ++ map checked more) ++ map rule_in (map checked new)
 all-rules [] more new = stored-rules more new
 all-rules (b ∷ bs) more new = ap (λ (rs : List Rule). b ∷ rs) (all-rules bs more new)
 

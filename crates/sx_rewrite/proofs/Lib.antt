@@ -19,3 +19,9 @@ pub mod Stable
 pub mod RuleSets
 pub mod SameRules
 pub mod KeptAccepted
+pub mod StoredAt
+pub mod RuleCounts
+pub mod KindLaws
+pub mod Begun
+pub mod Added
+pub mod ExtRules

@@ -1,5 +1,5 @@
 -- What is sound, and what is not.
-use Rattle.std.proofs.Common.{◌≡◌, ℕ, Bool, true, false, List, [], ◌∷◌, ◌⊎◌, inl, inr, map, length, Option, Some, None, refl, sym, ap, ◌∙◌, subst}
+use Rattle.std.proofs.Common.{◌≡◌, ℕ, Bool, true, false, List, [], ◌∷◌, inl, inr, map, length, Option, Some, None, refl, sym, ap, ◌∙◌, subst}
 use Rattle.std.specs.Prelude.{option_map}
 use Rattle.sx_term.specs.Tree.{Tree}
 use Rattle.sx_term.specs.declared.sort.Sort.{Sort}
@@ -23,7 +23,7 @@ use Rattle.sx_rewrite.specs.Lowers.{JudgementsBelow, PairsBelow, HypothesesBelow
 use Rattle.sx_rewrite.specs.PlainRules.{plain_of}
 use Rattle.sx_rewrite.specs.Sound.{flat_given, flat_goal, IsLoweredBody, IsFlatBody, IsSoundBy, HasBaseSyntax}
 use Rattle.sx_rewrite.specs.Extensions.{BodyFits}
-use Rattle.sx_rewrite.specs.Accepting.{IsFirstBy, IsStoredLowered, IsStored, ChecksBy, HasNoneBy, IsRejected}
+use Rattle.sx_rewrite.specs.Accepting.{IsFirstBy, IsStoredLowered, IsStored, ChecksBy}
 use Rattle.sx_rewrite.specs.AcceptLaws.{CertificatesHold, StoredIsSound, RejectedIsUnsound, SoundRulesAreSorted}
 use Rattle.sx_rewrite.proofs.Lowered.{inputs-flat, have_sorts-below, lowered_are_derivations}
 use Rattle.sx_rewrite.proofs.LoweredSorted.{lowered_are_sorted}

@@ -1,5 +1,5 @@
 -- Laws of checking extension rules.
-use Rattle.std.specs.Prelude.{◌≡◌, ℕ, List, ◌++◌, [], ◌∷◌, length}
+use Rattle.std.specs.Prelude.{ℕ, List, ◌++◌, [], ◌∷◌, length}
 use Rattle.sx_term.specs.Tree.{Tree}
 use Rattle.sx_term.specs.Sorts.{Shape}
 use Rattle.sx_rules.specs.Rules.{Rule, Hypotheses, judgement_instance}

@@ -58,3 +58,7 @@ pub record Fits (sig : Signature) (base shapes all : List Shape) (before table :
   pub moded : AllModed sig.modes (map (λ e. e.rule) rules)
   pub disciplined : AllDisciplined sig.subjects (map (λ e. e.rule) rules)
   pub bodies : BodiesFit sig all (length shapes) table rules
+
+-- some extensions in order made the set from its base rules, and the rules of each are sound after those before it
+abbrev pub HasGrownSoundly : Modes → ℕ → Accepted → Type 0
+HasGrownSoundly subjects n a = ∥ ((es : List Extension) × GrowsSoundly subjects n (without_extensions a.base) es a) ∥₁

@@ -16,7 +16,9 @@ pub mod PlainLaws
 pub mod Copied
 pub mod Rewriting
 pub mod RewritingLaws
-pub mod KeptLaws
 pub mod RuleSetLaws
+pub mod Kinds
 pub mod Stored
 pub mod AcceptedView
+pub mod ExtensionView
+pub mod Adds

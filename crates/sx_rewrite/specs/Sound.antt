@@ -1,7 +1,7 @@
 -- When an extension rule is sound after the extensions of an accepted set. The variables of the rule are constants.
 use Rattle.std.specs.Prelude.{◌≡◌, ℕ, List, [], ◌∷◌, ◌⊎◌, Option, Some, None, option_map}
 use Rattle.sx_term.specs.Tree.{Tree}
-use Rattle.sx_rules.specs.Rules.{Judgement, Rule, Hypotheses}
+use Rattle.sx_rules.specs.Rules.{Judgement, Hypotheses}
 use Rattle.sx_rules.specs.Modes.{Modes}
 use Rattle.sx_rules.specs.Discipline.{subjects_of}
 use Rattle.sx_rules.specs.Derivations.{Proof, Derives}

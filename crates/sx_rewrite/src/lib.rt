@@ -3,13 +3,17 @@
 
 mod accept_laws;
 mod accepted;
+mod adding;
+mod beginning;
+mod ext_rule;
+mod extension_data;
 mod flat;
-mod kept_laws;
 mod laws;
 mod measured_laws;
 mod plain_laws;
 mod rewriting_laws;
 mod rule_set_laws;
+mod rule_sets;
 mod samples;
 mod telling;
 mod used_laws;
@@ -19,10 +23,9 @@ pub use accept_laws::{
     growth_goes_on, rejected_is_unsound, sound_rules_are_sorted, stored_is_sound,
 };
 pub use accepted::Accepted;
+pub use ext_rule::ExtRule;
+pub use extension_data::ExtensionData;
 pub use flat::Flat;
-pub use kept_laws::{
-    certificates_are_kept, conditions_are_kept, derivations_are_kept, desugaring_is_kept,
-};
 pub use laws::{lowered_are_derivations, lowered_are_sorted, lowering_exists, lowering_is_unique};
 pub use measured_laws::{measured_are_all, measuring_is_unique, terms_are_measured};
 pub use plain_laws::{plain_rules_are_accepted, plain_rules_lower_alike};

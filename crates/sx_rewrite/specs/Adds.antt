@@ -1,0 +1,17 @@
+-- What adding an extension to an accepted set answers.
+use Rattle.std.specs.Prelude.{◌≡◌, List, ◌++◌, Result, Ok, Err}
+use Rattle.sx_term.specs.Sorts.{Shape}
+use Rattle.sx_rules.specs.Sets.{shapes_in, rules_in}
+use Rattle.sx_rewrite.specs.declared.accepted.Accepted.{Accepted}
+use Rattle.sx_rewrite.specs.declared.extension_data.ExtensionData.{ExtensionData}
+use Rattle.sx_rewrite.specs.declared.flat.Flat.{Flat}
+use Rattle.sx_rewrite.specs.Extensions.{extended}
+use Rattle.sx_rewrite.specs.AcceptedView.{accepted}
+use Rattle.sx_rewrite.specs.ExtensionView.{named_rules, extension_with}
+
+-- the set with the extension after it, whose rules have the shapes, or the set as it was
+abbrev pub IsAdded : Accepted → List Shape → ExtensionData → List Flat → Result Accepted Accepted → Type 0
+IsAdded old all ext flats (Ok new) =
+    (new.base ≡ old.base) × (shapes_in new.rules ≡ all) × (rules_in new.rules ≡ rules_in old.rules ++ named_rules ext)
+    × (accepted new ≡ extended (accepted old) (extension_with ext flats))
+IsAdded old all ext flats (Err kept) = (kept.base ≡ old.base) × (kept.rules ≡ old.rules) × (kept.plain ≡ old.plain) × (kept.flats.items ≡ old.flats.items)

@@ -1,0 +1,124 @@
+//! Adding extensions to accepted sets.
+
+ghost use Rattle.std.specs.Prelude.{◌≡◌, ◌++◌, length, map, IfOk};
+ghost use Rattle.sx_term.specs.Shapes.{shapes};
+ghost use Rattle.sx_rules.specs.Deep.{RulesAreShallow};
+ghost use Rattle.sx_rules.specs.Good.{IsRuleSet};
+ghost use Rattle.sx_rules.specs.Sets.{shapes_in, forms_in, rules_in};
+ghost use Rattle.sx_rules.specs.Views.{named, rule};
+ghost use Rattle.sx_plain.specs.Views.{table_of};
+ghost use Rattle.sx_rewrite.specs.Extensions.{Fits, with_table};
+ghost use Rattle.sx_rewrite.specs.Sound.{AreSoundBy};
+ghost use Rattle.sx_rewrite.specs.AcceptedView.{accepted, signature};
+ghost use Rattle.sx_rewrite.specs.ExtensionView.{ext_rule, named_rules, extension_with};
+ghost use Rattle.sx_rewrite.specs.Adds.{IsAdded};
+
+use crate::accepted::Accepted;
+use crate::ext_rule::ExtRule;
+use crate::extension_data::ExtensionData;
+use crate::flat::Flat;
+use crate::rule_sets::with_more;
+use std::alloc::Global;
+use sx_rules::{Rule, RuleSet};
+use sx_term::{NoMemory, Shapes};
+
+impl Accepted {
+    /// The set with the extension after it: its rules, each with the flat body and the certificate at its place, and its plain table.
+    /// The one refusal is want of memory, and hands the set back as it was.
+    pub fn add(
+        self,
+        all: &Shapes,
+        ext: ExtensionData,
+        flats: Vec<Flat>,
+    ) -> Result<Accepted, Accepted>
+        requires good { IsRuleSet (shapes all.now) (forms_in self.rules) (rules_in self.rules ++ named_rules ext) }
+        requires shallow { RulesAreShallow (map (λ e. rule e.rule) ext.rules.items) }
+        requires labels { ext.plain.base ≡ self.plain.base }
+        requires fits { Fits (signature self) (shapes_in self.base) (shapes_in self.rules) (shapes all.now) (table_of self.plain) (table_of ext.plain)
+            (map ext_rule ext.rules.items) }
+        requires sound { AreSoundBy (signature self).subjects (length (shapes_in self.base)) (with_table (accepted self) (table_of ext.plain))
+            (map ext_rule ext.rules.items) (extension_with ext flats.items).stored }
+        requires many { length flats.items ≡ length ext.rules.items }
+        ensures { IsAdded self (shapes all.now) ext flats.items result }
+    {
+        self.facts();
+        let ExtensionData { name, rules, plain } = ext;
+        drop(name);
+        let alloc = self.alloc;
+        match grown(alloc, &self.rules, all, rules) {
+            Ok(rules) => {
+                let Accepted {
+                    alloc,
+                    base,
+                    rules: before,
+                    first,
+                    plain: table,
+                    flats: stored,
+                } = self;
+                let mut stored = stored;
+                let mut flats = flats;
+                match stored.append(&mut flats) {
+                    Ok(()) => {
+                        drop(before);
+                        drop(table);
+                        drop(flats);
+                        Ok(Accepted {
+                            alloc,
+                            base,
+                            rules,
+                            first,
+                            plain,
+                            flats: stored,
+                        })
+                    }
+                    Err(_) => {
+                        drop(rules);
+                        drop(plain);
+                        drop(flats);
+                        Err(Accepted {
+                            alloc,
+                            base,
+                            rules: before,
+                            first,
+                            plain: table,
+                            flats: stored,
+                        })
+                    }
+                }
+            }
+            Err(_) => {
+                drop(plain);
+                drop(flats);
+                Err(self)
+            }
+        }
+    }
+}
+
+/// The rules of the set and then those of an extension, without their bodies.
+fn grown(
+    alloc: Global,
+    set: &RuleSet,
+    all: &Shapes,
+    rules: Vec<ExtRule>,
+) -> Result<RuleSet, NoMemory>
+    requires shallow { RulesAreShallow (map (λ e. rule e.rule) rules.items) }
+    requires good { IsRuleSet (shapes all.now) (forms_in set.now) (rules_in set.now ++ map (λ e. named e.rule) rules.items) }
+    ensures { IfOk result (λ x. (shapes_in x ≡ shapes all.now) × (forms_in x ≡ forms_in set.now) × (rules_in x ≡ rules_in set.now ++ map (λ e. named e.rule) rules.items)) }
+{
+    let more = bare(alloc, rules)?;
+    with_more(alloc, set, all, more)
+}
+
+/// The rules without their bodies.
+fn bare(alloc: Global, rules: Vec<ExtRule>) -> Result<Vec<Rule>, NoMemory>
+    ensures { IfOk result (λ x. map named x.items ≡ map (λ e. named e.rule) rules.items) }
+{
+    let mut more = Vec::with_capacity(alloc, rules.len())?;
+    for ext in rules {
+        let ExtRule { rule, body } = ext;
+        drop(body);
+        more.push(rule)?;
+    }
+    Ok(more)
+}

@@ -1,0 +1,51 @@
+//! Rule sets with more rules.
+
+ghost use Rattle.std.specs.Prelude.{◌≡◌, ◌++◌, ◌<◌, ◌≤◌, IfOk, map, length};
+ghost use Rattle.sx_term.specs.Shapes.{shapes};
+ghost use Rattle.sx_rules.specs.Deep.{RulesAreShallow};
+ghost use Rattle.sx_rules.specs.Good.{IsRuleSet};
+ghost use Rattle.sx_rules.specs.Sets.{shapes_in, forms_in, rules_in, bare_rules_in};
+ghost use Rattle.sx_rules.specs.Views.{named, rule};
+
+use std::alloc::Global;
+use sx_rules::{Rule, RuleError, RuleSet};
+use sx_term::{NoMemory, Shapes};
+
+/// The most rules that a set has.
+const MOST_RULES: u32 = 4096;
+
+/// The rules of the set and then more, which are good with these shapes. The one refusal is want of memory.
+pub(crate) fn with_more(
+    alloc: Global,
+    set: &RuleSet,
+    all: &Shapes,
+    more: Vec<Rule>,
+) -> Result<RuleSet, NoMemory>
+    requires shallow { RulesAreShallow (map rule more.items) }
+    requires good { IsRuleSet (shapes all.now) (forms_in set.now) (rules_in set.now ++ map named more.items) }
+    ensures { IfOk result (λ x. (shapes_in x ≡ shapes all.now) × (forms_in x ≡ forms_in set.now) × (rules_in x ≡ rules_in set.now ++ map named more.items)) }
+{
+    match RuleSet::extend(alloc, set, all, more) {
+        Ok(extended) => Ok(extended),
+        Err(RuleError::Memory) => Err(NoMemory::Memory),
+        Err(RuleError::TooManyRules) => unreachable!(),
+        Err(RuleError::TooManyVars(_)) => unreachable!(),
+        Err(RuleError::SameRule(_)) => unreachable!(),
+        Err(RuleError::SortDiffers(_)) => unreachable!(),
+        Err(RuleError::Discipline(_, _, _)) => unreachable!(),
+        Err(RuleError::NotModed(_, _)) => unreachable!(),
+    }
+}
+
+/// How many rules the set has.
+pub(crate) fn count(set: &RuleSet) -> u32
+    ensures { result ≡ length (bare_rules_in set.now) }
+{
+    set.facts();
+    for number in 0..MOST_RULES {
+        if set.rule(number).is_none() {
+            return number;
+        }
+    }
+    MOST_RULES
+}
