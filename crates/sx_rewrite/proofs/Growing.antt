@@ -56,10 +56,10 @@ base_rules_are_accepted sig base rules no_typed fits typed sorted moded discipli
 
 -- flat forms under a table with more entries
 module _ (shapes : List Shape) (forms : FormSorts) (subjects : Modes) (table other : Table) (keeps : (label : ℕ) → label < length shapes → table label ≡ other label) (vars : List Sort) where
-  same-image : (t : Tree) (sort : Sort) → HasSort shapes vars t sort → image table t ≡ image other t
+  pub same-image : (t : Tree) (sort : Sort) → HasSort shapes vars t sort → image table t ≡ image other t
   same-image t sort h = images_stay (length shapes) table other t keeps (sorted-below shapes vars t sort h)
 
-  same-images : (ts : List Tree) (sorts : List Sort) → HaveSorts shapes vars ts sorts → map (image table) ts ≡ map (image other) ts
+  pub same-images : (ts : List Tree) (sorts : List Sort) → HaveSorts shapes vars ts sorts → map (image table) ts ≡ map (image other) ts
   same-images [] sorts h = refl
   same-images (t ∷ ts) [] h = absurd h
   same-images (t ∷ ts) (x ∷ xs) h =
@@ -181,7 +181,7 @@ module _ (sig : Signature) (base shapes : List Shape) (a : Accepted) (ok : IsAcc
   sound-certified (e ∷ es) (c ∷ cs) h d f s = (s.0.certified, sound_rules_are_sorted sig base shapes a ok n e h.0 d.0 f.0 c s.0, sound-certified es cs h.1 d.1 f.1 s.1)
 
 -- the set with a longer table is accepted by more shapes
-longer : (sig : Signature) (base shapes all : List Shape) (a : Accepted) (table : Table) (rules : List ExtRule) → IsAccepted sig base shapes a → Fits sig base shapes all a.table table rules → IsAccepted sig base all (with_table a table)
+pub longer : (sig : Signature) (base shapes all : List Shape) (a : Accepted) (table : Table) (rules : List ExtRule) → IsAccepted sig base shapes a → Fits sig base shapes all a.table table rules → IsAccepted sig base all (with_table a table)
 longer sig base shapes all a table rules ok x = record {
   begins = (ok.begins.0 ++ x.begins.0, x.begins.1 ∙ ap (λ (ss : List Shape). ss ++ x.begins.0) ok.begins.1 ∙ append-shapes base ok.begins.0 x.begins.0);
   no_typed = x.no_typed;

@@ -25,3 +25,5 @@ pub mod KindLaws
 pub mod Begun
 pub mod Added
 pub mod ExtRules
+pub mod PlainGood
+pub mod PlainAdded

@@ -120,7 +120,7 @@ module _ (sig : Signature) (base shapes : List Shape) (table : Table) (begins : 
         or_back v j h X Y f (inl y) = inl (f y)
         or_back v j h X Y f (inr k) = inr ((outputs-same j h v).1 k)
 
-  plain-moded : (rule : Rule) → RuleIsSorted shapes sig.forms rule → IsModed sig.modes rule → IsModed sig.modes (plain_rule table rule)
+  pub plain-moded : (rule : Rule) → RuleIsSorted shapes sig.forms rule → IsModed sig.modes rule → IsModed sig.modes (plain_rule table rule)
   plain-moded rule h m =
       premises-moded rule.sorts rule rule.premises (λ v. StandsAmong v (inputs_of sig.modes rule.conclusion)) (λ v. StandsAmong v (inputs_of sig.modes (image_judgement table rule.conclusion)))
       (inputs-same rule.sorts rule.conclusion h.0) h.0 h.1 m
@@ -149,7 +149,7 @@ module _ (sig : Signature) (base shapes : List Shape) (table : Table) (begins : 
   bares-plain vars conclusion before (holds j ∷ ps) c h b a =
       (bare-plain vars conclusion before j c h.0 b a.0, bares-plain vars conclusion (j ∷ before) ps c h.1 (bare-of sig.subjects conclusion before j a.0, b) a.1)
 
-  plain-disciplined : (rule : Rule) → RuleIsSorted shapes sig.forms rule → IsDisciplined sig.subjects rule → IsDisciplined sig.subjects (plain_rule table rule)
+  pub plain-disciplined : (rule : Rule) → RuleIsSorted shapes sig.forms rule → IsDisciplined sig.subjects rule → IsDisciplined sig.subjects (plain_rule table rule)
   plain-disciplined rule h a = record {
     bare = bares-plain rule.sorts rule.conclusion [] rule.premises h.0 h.1 tt a.bare;
     every = λ v k e x.

@@ -14,4 +14,4 @@ abbrev pub IsAdded : Accepted → List Shape → ExtensionData → List Flat →
 IsAdded old all ext flats (Ok new) =
     (new.base ≡ old.base) × (shapes_in new.rules ≡ all) × (rules_in new.rules ≡ rules_in old.rules ++ named_rules ext)
     × (accepted new ≡ extended (accepted old) (extension_with ext flats))
-IsAdded old all ext flats (Err kept) = (kept.base ≡ old.base) × (kept.rules ≡ old.rules) × (kept.plain ≡ old.plain) × (kept.flats.items ≡ old.flats.items)
+IsAdded old all ext flats (Err kept) = (kept.base ≡ old.base) × (kept.rules ≡ old.rules) × (kept.plain_rules ≡ old.plain_rules) × (kept.plain ≡ old.plain) × (kept.flats.items ≡ old.flats.items)

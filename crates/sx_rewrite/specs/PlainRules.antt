@@ -1,5 +1,9 @@
 -- Plain rules: extension rules with plain images in all their places.
-use Rattle.std.specs.Prelude.{map}
+use Rattle.std.specs.Prelude.{◌≤◌, map}
+use Rattle.std.specs.List.{AllByRecursion}
+use Rattle.sx_term.specs.Tree.{Tree, depth_of, size_of}
+use Rattle.sx_rules.specs.Views.{NamedRule}
+use Rattle.sx_plain.specs.Tables.{FitsTable}
 use Rattle.sx_rules.specs.Rules.{Judgement, Premise, holds, apart, Rule}
 use Rattle.sx_plain.specs.Plain.{Table, image}
 use Rattle.sx_rewrite.specs.Accepted.{Checked, Accepted}
@@ -26,3 +30,23 @@ plain_checked table c = record { rule = plain_rule table c.rule; body = c.body; 
 -- the base rules, and the plain rules in place of the extension rules
 abbrev pub plain_of : Accepted → Accepted
 plain_of a = record { base = a.base; more = map (plain_checked a.table) a.more; table = a.table }
+
+-- the plain rule, with the name of the rule
+abbrev pub plain_named : Table → NamedRule → NamedRule
+plain_named table r = record { name = r.name; rule = plain_rule table r.rule }
+
+-- the term is no deeper than 1,000, each of its nodes has as many parts as the table asks for, and its plain image is within the limits of terms
+pub record HasImage (table : Table) (t : Tree) : Type 0 where
+  pub shallow : depth_of t ≤ 1000
+  pub fits : FitsTable table t
+  pub image_shallow : depth_of (image table t) ≤ 1000
+  pub image_small : size_of (image table t) ≤ 1000000
+
+-- so it is of the terms of the premise
+abbrev pub PremiseHasImage : Table → Premise → Type 0
+PremiseHasImage table (holds j) = AllByRecursion (HasImage table) j.places
+PremiseHasImage table (apart t u) = HasImage table t × HasImage table u
+
+-- so it is of the terms of the rule
+abbrev pub RuleHasImage : Table → Rule → Type 0
+RuleHasImage table rule = AllByRecursion (HasImage table) rule.conclusion.places × AllByRecursion (PremiseHasImage table) rule.premises

@@ -12,13 +12,18 @@ ghost use Rattle.sx_rewrite.specs.Sound.{AreSoundBy};
 ghost use Rattle.sx_rewrite.specs.AcceptedView.{accepted, signature};
 ghost use Rattle.sx_rewrite.specs.ExtensionView.{ext_rule, named_rules, extension_with};
 ghost use Rattle.sx_rewrite.specs.Adds.{IsAdded};
+ghost use Rattle.std.specs.List.{AllByRecursion};
+ghost use Rattle.sx_rewrite.specs.PlainRules.{plain_named, RuleHasImage};
 
 use crate::accepted::Accepted;
 use crate::ext_rule::ExtRule;
 use crate::extension_data::ExtensionData;
 use crate::flat::Flat;
+use crate::grown::Grown;
+use crate::plain_rule::plain_rules;
 use crate::rule_sets::with_more;
 use std::alloc::Global;
+use sx_plain::PlainTable;
 use sx_rules::{Rule, RuleSet};
 use sx_term::{NoMemory, Shapes};
 
@@ -33,6 +38,7 @@ impl Accepted {
     ) -> Result<Accepted, Accepted>
         requires good { IsRuleSet (shapes all.now) (forms_in self.rules) (rules_in self.rules ++ named_rules ext) }
         requires shallow { RulesAreShallow (map (λ e. rule e.rule) ext.rules.items) }
+        requires images { AllByRecursion (λ e. RuleHasImage (table_of ext.plain) (rule e.rule)) ext.rules.items }
         requires labels { ext.plain.base ≡ self.plain.base }
         requires fits { Fits (signature self) (shapes_in self.base) (shapes_in self.rules) (shapes all.now) (table_of self.plain) (table_of ext.plain)
             (map ext_rule ext.rules.items) }
@@ -45,12 +51,13 @@ impl Accepted {
         let ExtensionData { name, rules, plain } = ext;
         drop(name);
         let alloc = self.alloc;
-        match grown(alloc, &self.rules, all, rules) {
-            Ok(rules) => {
+        match grown(alloc, &self, all, &plain, rules) {
+            Ok(Grown { rules, plain_rules }) => {
                 let Accepted {
                     alloc,
                     base,
                     rules: before,
+                    plain_rules: plain_before,
                     first,
                     plain: table,
                     flats: stored,
@@ -60,12 +67,14 @@ impl Accepted {
                 match stored.append(&mut flats) {
                     Ok(()) => {
                         drop(before);
+                        drop(plain_before);
                         drop(table);
                         drop(flats);
                         Ok(Accepted {
                             alloc,
                             base,
                             rules,
+                            plain_rules,
                             first,
                             plain,
                             flats: stored,
@@ -73,12 +82,14 @@ impl Accepted {
                     }
                     Err(_) => {
                         drop(rules);
+                        drop(plain_rules);
                         drop(plain);
                         drop(flats);
                         Err(Accepted {
                             alloc,
                             base,
                             rules: before,
+                            plain_rules: plain_before,
                             first,
                             plain: table,
                             flats: stored,
@@ -95,8 +106,58 @@ impl Accepted {
     }
 }
 
-/// The rules of the set and then those of an extension, without their bodies.
+/// The rules of the set and then those of an extension, and the plain rules of all.
 fn grown(
+    alloc: Global,
+    set: &Accepted,
+    all: &Shapes,
+    plain: &PlainTable,
+    rules: Vec<ExtRule>,
+) -> Result<Grown, NoMemory>
+    requires shallow { RulesAreShallow (map (λ e. rule e.rule) rules.items) }
+    requires good { IsRuleSet (shapes all.now) (forms_in set.now.rules) (rules_in set.now.rules ++ map (λ e. named e.rule) rules.items) }
+    requires images { AllByRecursion (λ e. RuleHasImage (table_of plain.now) (rule e.rule)) rules.items }
+    requires plain_good { IsRuleSet (shapes all.now) (forms_in set.now.plain_rules)
+        (rules_in set.now.plain_rules ++ map (λ e. plain_named (table_of plain.now) (named e.rule)) rules.items) }
+    ensures rules { IfOk result (λ x. (shapes_in x.rules ≡ shapes all.now) × (forms_in x.rules ≡ forms_in set.now.rules)
+        × (rules_in x.rules ≡ rules_in set.now.rules ++ map (λ e. named e.rule) rules.items)) }
+    ensures plain { IfOk result (λ x. (shapes_in x.plain_rules ≡ shapes all.now) × (forms_in x.plain_rules ≡ forms_in set.now.plain_rules)
+        × (rules_in x.plain_rules ≡ rules_in set.now.plain_rules ++ map (λ e. plain_named (table_of plain.now) (named e.rule)) rules.items)) }
+{
+    match grown_plain(alloc, &set.plain_rules, all, plain, &rules) {
+        Ok(plain_rules) => match grown_rules(alloc, &set.rules, all, rules) {
+            Ok(rules) => Ok(Grown { rules, plain_rules }),
+            Err(e) => {
+                drop(plain_rules);
+                Err(e)
+            }
+        },
+        Err(e) => {
+            drop(rules);
+            Err(e)
+        }
+    }
+}
+
+/// The plain rules so far and then those of an extension.
+fn grown_plain(
+    alloc: Global,
+    set: &RuleSet,
+    all: &Shapes,
+    plain: &PlainTable,
+    rules: &[ExtRule],
+) -> Result<RuleSet, NoMemory>
+    requires images { AllByRecursion (λ e. RuleHasImage (table_of plain.now) (rule e.rule)) rules.now }
+    requires good { IsRuleSet (shapes all.now) (forms_in set.now) (rules_in set.now ++ map (λ e. plain_named (table_of plain.now) (named e.rule)) rules.now) }
+    ensures { IfOk result (λ x. (shapes_in x ≡ shapes all.now) × (forms_in x ≡ forms_in set.now)
+        × (rules_in x ≡ rules_in set.now ++ map (λ e. plain_named (table_of plain.now) (named e.rule)) rules.now)) }
+{
+    let more = plain_rules(alloc, plain, rules)?;
+    with_more(alloc, set, all, more)
+}
+
+/// The rules of the set and then those of an extension, without their bodies.
+fn grown_rules(
     alloc: Global,
     set: &RuleSet,
     all: &Shapes,

@@ -9,7 +9,8 @@ ghost use Rattle.sx_rewrite.specs.Kinds.{HaveSortsFor};
 ghost use Rattle.sx_rewrite.specs.AcceptedView.{accepted};
 
 use crate::accepted::Accepted;
-use crate::rule_sets::{count, with_more};
+use crate::grown::Grown;
+use crate::rule_sets::{copied, count};
 use std::alloc::Global;
 use sx_plain::PlainTable;
 use sx_rules::RuleSet;
@@ -30,13 +31,14 @@ impl Accepted {
         base.facts();
         let first = count(base);
         let labels = base.shapes().cons.len() as u32;
-        let own = with_more(alloc, base, base.shapes(), Vec::new(alloc))?;
+        let own = copied(alloc, base)?;
         own.facts();
-        match with_more(alloc, base, base.shapes(), Vec::new(alloc)) {
-            Ok(rules) => Ok(Accepted {
+        match two_copies(alloc, base) {
+            Ok(Grown { rules, plain_rules }) => Ok(Accepted {
                 alloc,
                 base: own,
                 rules,
+                plain_rules,
                 first,
                 plain: PlainTable::new(alloc, labels),
                 flats: Vec::new(alloc),
@@ -45,6 +47,21 @@ impl Accepted {
                 drop(own);
                 Err(e)
             }
+        }
+    }
+}
+
+/// Two equal sets. The one refusal is want of memory.
+fn two_copies(alloc: Global, set: &RuleSet) -> Result<Grown, NoMemory>
+    ensures rules { IfOk result (λ x. (shapes_in x.rules ≡ shapes_in set.now) × (forms_in x.rules ≡ forms_in set.now) × (rules_in x.rules ≡ rules_in set.now)) }
+    ensures plain { IfOk result (λ x. (shapes_in x.plain_rules ≡ shapes_in set.now) × (forms_in x.plain_rules ≡ forms_in set.now) × (rules_in x.plain_rules ≡ rules_in set.now)) }
+{
+    let rules = copied(alloc, set)?;
+    match copied(alloc, set) {
+        Ok(plain_rules) => Ok(Grown { rules, plain_rules }),
+        Err(e) => {
+            drop(rules);
+            Err(e)
         }
     }
 }

@@ -37,6 +37,14 @@ pub(crate) fn with_more(
     }
 }
 
+/// An equal set. The one refusal is want of memory.
+pub(crate) fn copied(alloc: Global, set: &RuleSet) -> Result<RuleSet, NoMemory>
+    ensures { IfOk result (λ x. (shapes_in x ≡ shapes_in set.now) × (forms_in x ≡ forms_in set.now) × (rules_in x ≡ rules_in set.now)) }
+{
+    set.facts();
+    with_more(alloc, set, set.shapes(), Vec::new(alloc))
+}
+
 /// How many rules the set has.
 pub(crate) fn count(set: &RuleSet) -> u32
     ensures { result ≡ length (bare_rules_in set.now) }
