@@ -27,3 +27,4 @@ pub mod Added
 pub mod ExtRules
 pub mod PlainGood
 pub mod PlainAdded
+pub mod Joined

@@ -52,51 +52,7 @@ impl Accepted {
         drop(name);
         let alloc = self.alloc;
         match grown(alloc, &self, all, &plain, rules) {
-            Ok(Grown { rules, plain_rules }) => {
-                let Accepted {
-                    alloc,
-                    base,
-                    rules: before,
-                    plain_rules: plain_before,
-                    first,
-                    plain: table,
-                    flats: stored,
-                } = self;
-                let mut stored = stored;
-                let mut flats = flats;
-                match stored.append(&mut flats) {
-                    Ok(()) => {
-                        drop(before);
-                        drop(plain_before);
-                        drop(table);
-                        drop(flats);
-                        Ok(Accepted {
-                            alloc,
-                            base,
-                            rules,
-                            plain_rules,
-                            first,
-                            plain,
-                            flats: stored,
-                        })
-                    }
-                    Err(_) => {
-                        drop(rules);
-                        drop(plain_rules);
-                        drop(plain);
-                        drop(flats);
-                        Err(Accepted {
-                            alloc,
-                            base,
-                            rules: before,
-                            plain_rules: plain_before,
-                            first,
-                            plain: table,
-                            flats: stored,
-                        })
-                    }
-                }
-            }
+            Ok(grown) => self.joined(grown, plain, flats),
             Err(_) => {
                 drop(plain);
                 drop(flats);

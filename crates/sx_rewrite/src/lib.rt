@@ -17,6 +17,7 @@ mod ext_rule;
 mod extension_data;
 mod flat;
 mod grown;
+mod joining;
 mod laws;
 mod measured_laws;
 mod plain_laws;

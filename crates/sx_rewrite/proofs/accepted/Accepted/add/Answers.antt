@@ -1,13 +1,12 @@
-use Rattle.std.proofs.Common.{◌≡◌, ◌+◌, ap, List, map, length, refl, sym, ◌∙◌, subst}
+use Rattle.std.proofs.Common.{◌++◌, ap, List, map, refl, sym, ◌∙◌}
 use Rattle.sx_term.specs.Shapes.{shapes}
 use Rattle.sx_rules.specs.Sets.{shapes_in, forms_in, bare_rules_in}
-use Rattle.sx_rules.specs.Views.{rule, subjects_in}
+use Rattle.sx_rules.specs.Views.{rule}
 use Rattle.sx_plain.specs.Views.{table_of}
-use Rattle.sx_rewrite.specs.declared.flat.Flat.{Flat}
-use Rattle.sx_rewrite.specs.Extensions.{HasGrownSoundly}
-use Rattle.sx_rewrite.specs.Stored.{accepted_from, IsHeld}
+use Rattle.sx_rewrite.specs.Stored.{IsHeld}
 use Rattle.sx_rewrite.specs.AcceptedView.{accepted}
 use Rattle.sx_rewrite.specs.ExtensionView.{ext_rule}
+use Rattle.sx_rewrite.proofs.Joined.{added-by}
 use Rattle.sx_rewrite.proofs.Added.{added-as, added-many, added-held, added-sound}
 use Rattle.sx_rules.specs.Sets.{rules_in}
 use Rattle.sx_rules.specs.Views.{NamedRule}
@@ -24,25 +23,25 @@ grown-requires-clause-plain_good c =
     a.rules.rules.items ext.rules.items (rules_in a.plain_rules) c.facts.ensures.accepted c.requires.fits c.facts.ensures.rules c.facts.ensures.plain.rules_are
     c.facts.ensures.forms c.facts.ensures.plain.forms_are c.requires.good
 
-pub invariant_of-result : goal.invariant_of-result
-invariant_of-result c =
-    let grown = grown-bare c.in-Ok.field-0.rules.rules.items c.args.self.rules.rules.items c.args.ext.rules.items c.in-Ok.ensures.rules.2 in
+pub joined-requires : goal.joined-requires
+joined-requires c =
+    let grown = grown-bare c.in-Ok.grown.rules.rules.items c.args.self.rules.rules.items c.args.ext.rules.items c.in-Ok.ensures.rules.2 in
     let lengths = rule-count c.args.ext.rules.items ∙ sym c.requires.many in
     let a = c.args.self in
     let ext = c.args.ext in
     let base = bare_rules_in a.base in
     let old = bare_rules_in a.rules in
-    let new = bare_rules_in c.in-Ok.field-0.rules in
+    let new = bare_rules_in c.in-Ok.grown.rules in
     let rules = map (λ e. rule e.rule) ext.rules.items in
     let exts = map ext_rule ext.rules.items in
     let more = c.args.flats.items in
-    let all = c.append.new.self.items in
+    let all = a.flats.items ++ more in
     let held : IsHeld (shapes_in a.base) (shapes_in a.rules) (forms_in a.base) (forms_in a.rules) old (accepted a) = record { accepted = c.facts.ensures.accepted; rules_are = c.facts.ensures.rules; same_forms = c.facts.ensures.forms } in
     record {
-      held = ∣ added-held base old new (table_of a.plain) a.flats.items a.first a.counted a.many exts rules (table_of ext.plain) more all grown c.in-Ok-append.ensures.items
-          (shapes_in a.base) (shapes_in a.rules) (shapes c.args.all.now) (shapes_in c.in-Ok.field-0.rules) (forms_in a.base) (forms_in a.rules) (forms_in c.in-Ok.field-0.rules) held c.in-Ok.ensures.rules.0 c.in-Ok.ensures.rules.1 lengths c.requires.fits c.requires.sound ∣₁;
-      sound = added-sound base old new (table_of a.plain) a.flats.items a.first a.counted a.many exts rules (table_of ext.plain) more all grown c.in-Ok-append.ensures.items
-          (shapes_in a.base) (shapes_in a.rules) (shapes c.args.all.now) (shapes_in c.in-Ok.field-0.rules) (forms_in a.base) (forms_in a.rules) (forms_in c.in-Ok.field-0.rules) held c.in-Ok.ensures.rules.0 c.in-Ok.ensures.rules.1 lengths c.requires.fits c.requires.sound c.facts.ensures.sound;
+      held = ∣ added-held base old new (table_of a.plain) a.flats.items a.first a.counted a.many exts rules (table_of ext.plain) more all grown refl
+          (shapes_in a.base) (shapes_in a.rules) (shapes c.args.all.now) (shapes_in c.in-Ok.grown.rules) (forms_in a.base) (forms_in a.rules) (forms_in c.in-Ok.grown.rules) held c.in-Ok.ensures.rules.0 c.in-Ok.ensures.rules.1 lengths c.requires.fits c.requires.sound ∣₁;
+      sound = added-sound base old new (table_of a.plain) a.flats.items a.first a.counted a.many exts rules (table_of ext.plain) more all grown refl
+          (shapes_in a.base) (shapes_in a.rules) (shapes c.args.all.now) (shapes_in c.in-Ok.grown.rules) (forms_in a.base) (forms_in a.rules) (forms_in c.in-Ok.grown.rules) held c.in-Ok.ensures.rules.0 c.in-Ok.ensures.rules.1 lengths c.requires.fits c.requires.sound c.facts.ensures.sound;
       plain_are = ∣ record {
         shapes_are = c.in-Ok.ensures.plain.0 ∙ sym c.in-Ok.ensures.rules.0;
         forms_are = c.in-Ok.ensures.plain.1 ∙ c.facts.ensures.plain.forms_are;
@@ -52,32 +51,14 @@ invariant_of-result c =
             ∙ ap (λ (x : List NamedRule). map (plain_named (table_of ext.plain)) x) (sym c.in-Ok.ensures.rules.2);
       } ∣₁;
       labels = c.requires.labels ∙ a.labels;
-      counted = a.counted;
-      many = added-many base old new (table_of a.plain) a.flats.items a.first a.counted a.many exts rules (table_of ext.plain) more all grown c.in-Ok-append.ensures.items lengths;
+      many = added-many base old new (table_of a.plain) a.flats.items a.first a.counted a.many exts rules (table_of ext.plain) more all grown refl lengths;
     }
 
-pub invariant_of-result-in-Err-append : goal.invariant_of-result-in-Err-append
-invariant_of-result-in-Err-append c =
+pub returns-in-Ok : goal.returns-in-Ok
+returns-in-Ok c =
     let a = c.args.self in
-    let same = sym c.in-Err-append.ensures.items in
-    let set : List Flat → _ = (λ fs. accepted_from (bare_rules_in a.base) (bare_rules_in a.rules) (table_of a.plain) fs) in
-    record {
-      held = subst (λ (fs : List Flat). ∥ IsHeld (shapes_in a.base) (shapes_in a.rules) (forms_in a.base) (forms_in a.rules) (bare_rules_in a.rules) (set fs) ∥₁) same a.held;
-      sound = subst (λ (fs : List Flat). HasGrownSoundly (subjects_in (forms_in a.base)) (length (shapes_in a.base)) (set fs)) same a.sound;
-      plain_are = a.plain_are;
-      labels = a.labels;
-      counted = a.counted;
-      many = subst (λ (fs : List Flat). length (bare_rules_in a.rules) ≡ a.first + length fs) same a.many;
-    }
-
-pub returns-in-Ok-append : goal.returns-in-Ok-append
-returns-in-Ok-append c =
-    let grown = grown-bare c.in-Ok.field-0.rules.rules.items c.args.self.rules.rules.items c.args.ext.rules.items c.in-Ok.ensures.rules.2 in
-    let a = c.args.self in
-    let ext = c.args.ext in (
-      refl,
-      c.in-Ok.ensures.rules.0,
-      c.in-Ok.ensures.rules.2,
-      added-as (bare_rules_in a.base) (bare_rules_in a.rules) (bare_rules_in c.in-Ok.field-0.rules) (table_of a.plain) a.flats.items a.first a.counted a.many (map ext_rule ext.rules.items)
-          (map (λ e. rule e.rule) ext.rules.items) (table_of ext.plain) c.args.flats.items c.append.new.self.items grown c.in-Ok-append.ensures.items,
-    )
+    let ext = c.args.ext in
+    let grown = grown-bare c.in-Ok.grown.rules.rules.items a.rules.rules.items ext.rules.items c.in-Ok.ensures.rules.2 in
+    let added = added-as (bare_rules_in a.base) (bare_rules_in a.rules) (bare_rules_in c.in-Ok.grown.rules) (table_of a.plain) a.flats.items a.first a.counted a.many (map ext_rule ext.rules.items)
+    (map (λ e. rule e.rule) ext.rules.items) (table_of ext.plain) c.args.flats.items (a.flats.items ++ c.args.flats.items) grown refl in
+    added-by a c.in-Ok.grown ext (shapes c.args.all.now) c.args.flats.items c.joined.result c.joined.ensures c.in-Ok.ensures.rules.0 c.in-Ok.ensures.rules.2 added

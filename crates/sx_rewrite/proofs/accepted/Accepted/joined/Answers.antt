@@ -1,0 +1,37 @@
+use Rattle.std.proofs.Common.{◌≡◌, ◌+◌, List, length, sym, subst}
+use Rattle.sx_rules.specs.Sets.{shapes_in, forms_in, bare_rules_in}
+use Rattle.sx_rules.specs.Views.{subjects_in}
+use Rattle.sx_plain.specs.Views.{table_of}
+use Rattle.sx_rewrite.specs.declared.flat.Flat.{Flat}
+use Rattle.sx_rewrite.specs.Extensions.{HasGrownSoundly}
+use Rattle.sx_rewrite.specs.Stored.{accepted_from, IsHeld}
+use Rattle.sx_rewrite.proofs.accepted.Accepted.joined.Goals as goal
+
+pub invariant_of-result : goal.invariant_of-result
+invariant_of-result c =
+    let a = c.args.self in
+    let new = c.args.grown.rules in
+    let same = sym c.in-Ok.ensures.items in
+    let set : List Flat → _ = (λ fs. accepted_from (bare_rules_in a.base) (bare_rules_in new) (table_of c.args.plain) fs) in
+    record {
+      held = subst (λ (fs : List Flat). ∥ IsHeld (shapes_in a.base) (shapes_in new) (forms_in a.base) (forms_in new) (bare_rules_in new) (set fs) ∥₁) same c.requires.held;
+      sound = subst (λ (fs : List Flat). HasGrownSoundly (subjects_in (forms_in a.base)) (length (shapes_in a.base)) (set fs)) same c.requires.sound;
+      plain_are = c.requires.plain_are;
+      labels = c.requires.labels;
+      counted = a.counted;
+      many = subst (λ (fs : List Flat). length (bare_rules_in new) ≡ a.first + length fs) same c.requires.many;
+    }
+
+pub invariant_of-result-in-Err : goal.invariant_of-result-in-Err
+invariant_of-result-in-Err c =
+    let a = c.args.self in
+    let same = sym c.in-Err.ensures.items in
+    let set : List Flat → _ = (λ fs. accepted_from (bare_rules_in a.base) (bare_rules_in a.rules) (table_of a.plain) fs) in
+    record {
+      held = subst (λ (fs : List Flat). ∥ IsHeld (shapes_in a.base) (shapes_in a.rules) (forms_in a.base) (forms_in a.rules) (bare_rules_in a.rules) (set fs) ∥₁) same a.held;
+      sound = subst (λ (fs : List Flat). HasGrownSoundly (subjects_in (forms_in a.base)) (length (shapes_in a.base)) (set fs)) same a.sound;
+      plain_are = a.plain_are;
+      labels = a.labels;
+      counted = a.counted;
+      many = subst (λ (fs : List Flat). length (bare_rules_in a.rules) ≡ a.first + length fs) same a.many;
+    }

@@ -1,0 +1,78 @@
+//! Accepted sets with other rules.
+
+ghost use Rattle.std.specs.Prelude.{◌≡◌, ◌+◌, ◌++◌, length};
+ghost use Rattle.sx_rules.specs.Sets.{shapes_in, forms_in, rules_in, bare_rules_in};
+ghost use Rattle.sx_plain.specs.Views.{table_of};
+ghost use Rattle.sx_rewrite.specs.Extensions.{HasGrownSoundly};
+ghost use Rattle.sx_rewrite.specs.Stored.{accepted_from, IsHeld, ArePlain};
+ghost use Rattle.sx_rewrite.specs.AcceptedView.{signature};
+ghost use Rattle.sx_rewrite.specs.Adds.{IsJoined};
+
+use crate::accepted::Accepted;
+use crate::flat::Flat;
+use crate::grown::Grown;
+use sx_plain::PlainTable;
+
+impl Accepted {
+    /// The set with these rules and this table, and with what is stored of the new rules after what is stored so far. The one refusal
+    /// is want of memory, and hands the set back as it was.
+    pub(crate) fn joined(
+        self,
+        grown: Grown,
+        plain: PlainTable,
+        flats: Vec<Flat>,
+    ) -> Result<Accepted, Accepted>
+        requires held { ∥ IsHeld (shapes_in self.base) (shapes_in grown.rules) (forms_in self.base) (forms_in grown.rules) (bare_rules_in grown.rules)
+            (accepted_from (bare_rules_in self.base) (bare_rules_in grown.rules) (table_of plain) (self.flats.items ++ flats.items)) ∥₁ }
+        requires sound { HasGrownSoundly (signature self).subjects (length (shapes_in self.base))
+            (accepted_from (bare_rules_in self.base) (bare_rules_in grown.rules) (table_of plain) (self.flats.items ++ flats.items)) }
+        requires plain_are { ∥ ArePlain (shapes_in grown.rules) (shapes_in grown.plain_rules) (forms_in self.base) (forms_in grown.plain_rules) (table_of plain)
+            (rules_in grown.rules) (rules_in grown.plain_rules) ∥₁ }
+        requires labels { plain.base ≡ length (shapes_in self.base) }
+        requires many { length (bare_rules_in grown.rules) ≡ self.first + length (self.flats.items ++ flats.items) }
+        ensures { IsJoined self grown plain flats.items result }
+    {
+        let Accepted {
+            alloc,
+            base,
+            rules,
+            plain_rules,
+            first,
+            plain: table,
+            flats: stored,
+        } = self;
+        let mut stored = stored;
+        let mut flats = flats;
+        match stored.append(&mut flats) {
+            Ok(()) => {
+                drop(rules);
+                drop(plain_rules);
+                drop(table);
+                drop(flats);
+                Ok(Accepted {
+                    alloc,
+                    base,
+                    rules: grown.rules,
+                    plain_rules: grown.plain_rules,
+                    first,
+                    plain,
+                    flats: stored,
+                })
+            }
+            Err(_) => {
+                drop(grown);
+                drop(plain);
+                drop(flats);
+                Err(Accepted {
+                    alloc,
+                    base,
+                    rules,
+                    plain_rules,
+                    first,
+                    plain: table,
+                    flats: stored,
+                })
+            }
+        }
+    }
+}
