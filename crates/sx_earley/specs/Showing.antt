@@ -10,11 +10,11 @@ use Rattle.sx_term.specs.declared.mark.Mark.TheVariants as marks
 use Rattle.sx_grammar.specs.Grammar.{Text}
 use Rattle.sx_earley.specs.declared.shown.Shown.{Shown}
 use Rattle.sx_earley.specs.declared.shown.Shown.TheVariants.{Lit, Lex, Kind, Sort as OfSort}
-use Rattle.sx_earley.specs.declared.stems.Stems.{Stems as Table}
+use Rattle.sx_earley.specs.declared.stem_table.StemTable.{StemTable}
 use Rattle.sx_earley.specs.Tokens.{Stems, sort_of, stem_of}
 
 -- the look-up finds the sort of each stem
-abbrev pub IsStems : Stems → Table → Type 0
+abbrev pub IsStems : Stems → StemTable → Type 0
 IsStems stems table = (text : Text) → get_by (λ k. bytes_eq text k.now) table.sorts ≡ sort_of stems text
 
 -- what a metavariable shows whose stem has this sort

@@ -2,7 +2,6 @@
 #![tactic(auto)]
 
 mod all_items;
-mod all_known;
 mod ask;
 mod chart_error;
 mod charting;
@@ -17,16 +16,16 @@ mod shown;
 mod slot;
 mod span;
 mod spanned;
+mod stem_table;
 mod stems;
 mod symbols;
 mod table;
 
-pub use all_known::first_unknown;
 pub use chart_error::ChartError;
 pub use charting::{chart, chart_of, number_of};
 pub use completed::Chart;
 pub use metas::Metas;
 pub use shown::{Shown, reads};
 pub use span::{Span, SpanOf};
-pub use stems::show_all;
+pub use stems::{Stems, first_unknown, show_all};
 pub use symbols::{makes, production_at, sort_of, symbol_of};

@@ -1,105 +1,94 @@
-//! What the tokens of a text show.
+//! What the tokens of texts show.
 
-ghost use Rattle.std.specs.Prelude.{◌≡◌, ℕ, List, IfOk, IsTrue, false, map};
-ghost use Rattle.std.specs.HashMap.{get_by};
-ghost use Rattle.std.specs.Str.{bytes_eq};
+ghost use Rattle.std.specs.Prelude.{◌≡◌, ℕ, List, IfOk, map};
 ghost use Rattle.sx_term.specs.declared.sort.Sort.{Sort};
-ghost use Rattle.sx_earley.specs.Tokens.{without_digits, stem_of, sort_of};
-ghost use Rattle.sx_earley.specs.Showing.{IsStems, show, shown_stem};
-ghost use Rattle.sx_earley.specs.Unknown.{HasStem, IsUnknown};
+ghost use Rattle.sx_earley.specs.Tokens.{without_digits, sort_of};
+ghost use Rattle.sx_earley.specs.Showing.{IsStems, show};
+ghost use Rattle.sx_earley.specs.Unknown.{IsFirstUnknown};
 
 use crate::metas::Metas;
 use crate::shown::Shown;
+use crate::stem_table::{StemTable, stem_table};
 use std::alloc::{AllocError, Global};
-use std::collections::HashMap;
-use sx_term::{LexKind, Mark, Sort};
+use std::marker::Model;
+use sx_term::Sort;
 use sx_token::Token;
 
-/// The sort of each stem.
+/// Stems of metavariables with their sorts, in a table that shows the tokens of any number of texts.
 #[derive(Drop)]
-pub(crate) struct Stems<'a> {
-    sorts: HashMap<&'a [u8], Sort>,
+pub struct Stems<'a> {
+    table: StemTable<'a>,
 }
 
-/// The stems by their bytes, from the last to the first, so that of equal stems the first counts.
-pub(crate) fn stem_table<'a>(alloc: Global, metas: &'a Metas) -> Result<Stems<'a>, AllocError>
-    ensures { IfOk result (λ s. IsStems metas.entry.now.stems.items s) }
-{
-    let mut sorts = HashMap::new(alloc);
-    let mut left = metas.stems.len();
-    while left > 0 {
-        left -= 1;
-        let stem = &metas.stems[left];
-        sorts.insert(stem.0.bytes(), stem.1)?;
-    }
-    Ok(Stems { sorts })
+impl<'a> Model for Stems<'a> {
+    ghost use Rattle.std.specs.Prelude.{ℕ, List};
+    ghost use Rattle.sx_term.specs.declared.sort.Sort.{Sort};
+    ghost use Rattle.sx_earley.specs.Showing.{IsStems};
+
+    ghost Value = { List (List ℕ × Sort) };
+
+    ghost view = { λ s. s.table.metas.now.stems.items };
+
+    ghost invariant = { λ s. IsStems s.table.metas.now.stems.items s.table };
 }
 
-/// The bytes without the ASCII digits at their end.
-fn without_digits(bytes: &[u8]) -> &[u8]
-    ensures { result.now ≡ without_digits bytes.now }
+/// The place of the first unknown token.
+fn first_unknown_of(table: &StemTable, tokens: &[Token]) -> Option<usize>
+    ensures { (stems : List (List ℕ × Sort)) → IsStems stems table.now → IsFirstUnknown stems tokens.now result }
 {
-    let mut rest = bytes;
-    while let Some((last, front)) = rest.split_last() {
-        if last.is_ascii_digit() {
-            rest = front;
-        } else {
-            return rest;
+    for i in 0..tokens.len() {
+        let token = &tokens[i];
+        if !table.knows(token) {
+            return Some(i);
         }
     }
-    rest
+    None
 }
 
-/// The stem of the metavariable.
-fn stem_of(text: &[u8]) -> &[u8]
-    ensures { result.now ≡ stem_of text.now }
+/// What each of the tokens shows.
+fn show_each(alloc: Global, table: &StemTable, tokens: &[Token]) -> Result<Vec<Shown>, AllocError>
+    ensures { IfOk result (λ v. (stems : List (List ℕ × Sort)) → IsStems stems table.now → v.items ≡ map (λ t. show stems t.mark t.text) tokens.now) }
 {
-    match text.split_first() {
-        None => text,
-        Some((_, word)) => without_digits(word),
+    let mut shown = Vec::with_capacity(alloc, tokens.len())?;
+    for i in 0..tokens.len() {
+        let token = &tokens[i];
+        shown.push(table.show(token))?;
     }
-}
-
-/// What a metavariable shows whose stem has this sort.
-fn shown_stem(sort: Option<Sort>) -> Shown
-    ensures { result ≡ shown_stem sort }
-{
-    match sort {
-        None => Shown::Kind(LexKind::Id),
-        Some(Sort::Lex(kind)) => Shown::Kind(kind),
-        Some(Sort::Plain(number)) => Shown::Sort(number),
-        Some(Sort::Typed(number)) => Shown::Sort(number),
-    }
+    Ok(shown)
 }
 
 impl<'a> Stems<'a> {
-    /// The sort of the stem.
-    fn sort_of(&self, stem: &[u8]) -> Option<Sort>
-        ensures { (stems : List (List ℕ × Sort)) → IsStems stems self.now → result ≡ sort_of stems stem.now }
+    /// The table of the stems.
+    pub fn new(alloc: Global, metas: &'a Metas) -> Result<Stems<'a>, AllocError>
+        ensures { IfOk result (λ s. s ≡ metas.now.stems.items) }
     {
-        self.sorts.get(stem).copied()
+        Ok(Stems {
+            table: stem_table(alloc, metas)?,
+        })
     }
 
-    /// Whether the token is no metavariable, or its stem has a sort.
-    pub(crate) fn knows(&self, token: &Token) -> bool
-        ensures yes { (stems : List (List ℕ × Sort)) → IsStems stems self.now → IsTrue result → HasStem stems token.now }
-        ensures not { (stems : List (List ℕ × Sort)) → IsStems stems self.now → result ≡ false → IsUnknown stems token.now }
+    /// The sort of the word's stem, or None where the stem is none of these.
+    pub fn sort_of(&self, word: &[u8]) -> Option<Sort>
+        ensures { result ≡ sort_of self.now (without_digits word.now) }
     {
-        match token.mark {
-            Mark::Meta => self.sort_of(stem_of(token.text.bytes())).is_some(),
-            _ => true,
-        }
+        let table = &self.table;
+        table.sort_of_word(word)
     }
 
-    /// What the token shows.
-    fn show(&self, token: &Token) -> Shown
-        ensures { (stems : List (List ℕ × Sort)) → IsStems stems self.now → result ≡ show stems token.now.mark token.now.text }
+    /// The place of the first metavariable whose stem is none of the stems, or None where each has one.
+    pub fn first_unknown(&self, tokens: &[Token]) -> Option<usize>
+        ensures { IsFirstUnknown self.now tokens.now result }
     {
-        match token.mark {
-            Mark::Lit(number) => Shown::Lit(number),
-            Mark::Lex(kind) => Shown::Lex(kind),
-            Mark::Meta => shown_stem(self.sort_of(stem_of(token.text.bytes()))),
-        }
+        let table = &self.table;
+        first_unknown_of(table, tokens)
+    }
+
+    /// What the tokens show.
+    pub fn show_all(&self, alloc: Global, tokens: &[Token]) -> Result<Vec<Shown>, AllocError>
+        ensures { IfOk result (λ v. v.items ≡ map (λ t. show self.now t.mark t.text) tokens.now) }
+    {
+        let table = &self.table;
+        show_each(alloc, table, tokens)
     }
 }
 
@@ -107,11 +96,18 @@ impl<'a> Stems<'a> {
 pub fn show_all(alloc: Global, metas: &Metas, tokens: &[Token]) -> Result<Vec<Shown>, AllocError>
     ensures { IfOk result (λ v. v.items ≡ map (λ t. show metas.now.stems.items t.mark t.text) tokens.now) }
 {
-    let stems = stem_table(alloc, metas)?;
-    let mut shown = Vec::new(alloc);
-    for i in 0..tokens.len() {
-        let token = &tokens[i];
-        shown.push(stems.show(token))?;
-    }
-    Ok(shown)
+    let stems = Stems::new(alloc, metas)?;
+    stems.show_all(alloc, tokens)
+}
+
+/// The place of the first metavariable whose stem is none of the stems, or None where each has one.
+pub fn first_unknown(
+    alloc: Global,
+    metas: &Metas,
+    tokens: &[Token],
+) -> Result<Option<usize>, AllocError>
+    ensures { IfOk result (IsFirstUnknown metas.now.stems.items tokens.now) }
+{
+    let stems = Stems::new(alloc, metas)?;
+    Ok(stems.first_unknown(tokens))
 }

@@ -3,7 +3,7 @@ use Rattle.std.specs.HashMap.{get_by}
 use Rattle.std.specs.Str.{bytes_eq}
 use Rattle.sx_grammar.specs.Grammar.{Text}
 use Rattle.sx_earley.specs.Tokens.{sort_of}
-use Rattle.sx_earley.proofs.stems.stem_table.Given as goal
+use Rattle.sx_earley.proofs.stem_table.stem_table.Given as goal
 
 abbrev pub invariant-loop-left : goal.invariant-loop-left
 invariant-loop-left l = record {

@@ -4,7 +4,7 @@ use Rattle.std.specs.HashMap.{get_by}
 use Rattle.std.proofs.lemmas.Map.Text.{hash_map_updates_str}
 use Rattle.sx_earley.specs.Tokens.{sort_of}
 use Rattle.sx_earley.proofs.StemLaws.{stem_first}
-use Rattle.sx_earley.proofs.stems.stem_table.Goals as goal
+use Rattle.sx_earley.proofs.stem_table.stem_table.Goals as goal
 
 pub loop-left-preserved : goal.loop-left-preserved
 loop-left-preserved c =

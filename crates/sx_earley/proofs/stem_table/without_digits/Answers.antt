@@ -1,7 +1,7 @@
 use Rattle.std.proofs.Common.{◌≡◌, ◌∙◌, sym, true, false}
 use Rattle.std.specs.Char.{is_ascii_digit}
 use Rattle.sx_earley.proofs.StemLaws.{digit_out, no_digit}
-use Rattle.sx_earley.proofs.stems.without_digits.Goals as goal
+use Rattle.sx_earley.proofs.stem_table.without_digits.Goals as goal
 
 pub loop-last-preserved : goal.loop-last-preserved
 loop-last-preserved c =

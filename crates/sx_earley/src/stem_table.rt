@@ -1,0 +1,116 @@
+//! The sorts of stems.
+
+ghost use Rattle.std.specs.Prelude.{◌≡◌, ℕ, List, IfOk, IsTrue, false};
+ghost use Rattle.std.specs.HashMap.{get_by};
+ghost use Rattle.std.specs.Str.{bytes_eq};
+ghost use Rattle.sx_term.specs.declared.sort.Sort.{Sort};
+ghost use Rattle.sx_earley.specs.Tokens.{without_digits, stem_of, sort_of};
+ghost use Rattle.sx_earley.specs.Showing.{IsStems, show, shown_stem};
+ghost use Rattle.sx_earley.specs.Unknown.{HasStem, IsUnknown};
+
+use crate::metas::Metas;
+use crate::shown::Shown;
+use std::alloc::{AllocError, Global};
+use std::collections::HashMap;
+use sx_term::{LexKind, Mark, Sort};
+use sx_token::Token;
+
+/// The sort of each of the stems, found by the stem's hash.
+#[derive(Drop)]
+pub(crate) struct StemTable<'a> {
+    pub(crate) metas: &'a Metas,
+    pub(crate) sorts: HashMap<&'a [u8], Sort>,
+}
+
+/// The stems by their bytes, from the last to the first, so that of equal stems the first counts.
+pub(crate) fn stem_table<'a>(
+    alloc: Global,
+    metas: &'a Metas,
+) -> Result<StemTable<'a>, AllocError>
+    ensures stems { IfOk result (λ s. IsStems metas.entry.now.stems.items s) }
+    ensures metas { IfOk result (λ s. s.metas.now ≡ metas.entry.now) }
+{
+    let mut sorts = HashMap::new(alloc);
+    let mut left = metas.stems.len();
+    while left > 0 {
+        left -= 1;
+        let stem = &metas.stems[left];
+        sorts.insert(stem.0.bytes(), stem.1)?;
+    }
+    Ok(StemTable { metas, sorts })
+}
+
+/// The bytes without the ASCII digits at their end.
+fn without_digits(bytes: &[u8]) -> &[u8]
+    ensures { result.now ≡ without_digits bytes.now }
+{
+    let mut rest = bytes;
+    while let Some((last, front)) = rest.split_last() {
+        if last.is_ascii_digit() {
+            rest = front;
+        } else {
+            return rest;
+        }
+    }
+    rest
+}
+
+/// The stem of the metavariable.
+fn stem_of(text: &[u8]) -> &[u8]
+    ensures { result.now ≡ stem_of text.now }
+{
+    match text.split_first() {
+        None => text,
+        Some((_, word)) => without_digits(word),
+    }
+}
+
+/// What a metavariable shows whose stem has this sort.
+fn shown_stem(sort: Option<Sort>) -> Shown
+    ensures { result ≡ shown_stem sort }
+{
+    match sort {
+        None => Shown::Kind(LexKind::Id),
+        Some(Sort::Lex(kind)) => Shown::Kind(kind),
+        Some(Sort::Plain(number)) => Shown::Sort(number),
+        Some(Sort::Typed(number)) => Shown::Sort(number),
+    }
+}
+
+impl<'a> StemTable<'a> {
+    /// The sort of the stem.
+    fn sort_of(&self, stem: &[u8]) -> Option<Sort>
+        ensures { (stems : List (List ℕ × Sort)) → IsStems stems self.now → result ≡ sort_of stems stem.now }
+    {
+        self.sorts.get(stem).copied()
+    }
+
+    /// The sort of the word's stem.
+    pub(crate) fn sort_of_word(&self, word: &[u8]) -> Option<Sort>
+        ensures { (stems : List (List ℕ × Sort)) → IsStems stems self.now → result ≡ sort_of stems (without_digits word.now) }
+    {
+        self.sort_of(without_digits(word))
+    }
+
+    /// Whether the token is no metavariable, or its stem has a sort.
+    pub(crate) fn knows(&self, token: &Token) -> bool
+        ensures yes { (stems : List (List ℕ × Sort)) → IsStems stems self.now → IsTrue result → HasStem stems token.now }
+        ensures not { (stems : List (List ℕ × Sort)) → IsStems stems self.now → result ≡ false → IsUnknown stems token.now }
+    {
+        match token.mark {
+            Mark::Meta => self.sort_of(stem_of(token.text.bytes())).is_some(),
+            _ => true,
+        }
+    }
+
+    /// What the token shows.
+    pub(crate) fn show(&self, token: &Token) -> Shown
+        ensures { (stems : List (List ℕ × Sort)) → IsStems stems self.now → result ≡ show stems token.now.mark token.now.text }
+    {
+        match token.mark {
+            Mark::Lit(number) => Shown::Lit(number),
+            Mark::Lex(kind) => Shown::Lex(kind),
+            Mark::Meta => shown_stem(self.sort_of(stem_of(token.text.bytes()))),
+        }
+    }
+}
