@@ -23,10 +23,7 @@ pub(crate) struct StemTable<'a> {
 }
 
 /// The stems by their bytes, from the last to the first, so that of equal stems the first counts.
-pub(crate) fn stem_table<'a>(
-    alloc: Global,
-    metas: &'a Metas,
-) -> Result<StemTable<'a>, AllocError>
+pub(crate) fn stem_table<'a>(alloc: Global, metas: &'a Metas) -> Result<StemTable<'a>, AllocError>
     ensures stems { IfOk result (λ s. IsStems metas.entry.now.stems.items s) }
     ensures metas { IfOk result (λ s. s.metas.now ≡ metas.entry.now) }
 {

@@ -15,6 +15,7 @@ pub mod Filling
 pub mod Apart
 pub mod Sorting
 pub mod Tabling
+pub mod WholeSpans
 pub mod Whole
 pub mod Retelling
 pub mod Afterness

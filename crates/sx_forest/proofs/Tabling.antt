@@ -152,7 +152,7 @@ pub chart_forward : (g : Grammar) (tokens : List Token) (start : ℕ) (spans : L
 chart_forward g tokens start spans chart s there = span_forward g tokens start (head_of s.of) s.from s.to ((chart s).0 there)
 
 -- a head is the head of its span
-head_back : (head : Head) → head_of (of_head head) ≡ head
+pub head_back : (head : Head) → head_of (of_head head) ≡ head
 head_back (Labelled label) = refl
 head_back (Bracketed sort) = refl
 

@@ -2,9 +2,12 @@
 use Rattle.std.specs.Prelude.{◌≡◌, List, ℕ, true}
 use Rattle.std.specs.Cmp.Lexicographic.{slice_cmp}
 use Rattle.std.specs.Ordering.{is_le, nat_cmp}
-use Rattle.sx_grammar.specs.Grammar.{Text, Grammar, Token}
-use Rattle.sx_grammar.specs.Reading.{Reading}
+use Rattle.sx_grammar.specs.Grammar.{Text, Grammar, Token, production_of}
+use Rattle.sx_grammar.specs.Reading.{Reading, ReadsWhole}
 use Rattle.sx_grammar.specs.ReadOne.{IsAnswer, only, too_hard, no_reading, too_deep, ambiguous}
+use Rattle.sx_earley.specs.declared.span.Span.{Span}
+use Rattle.sx_earley.specs.Chart.{IsOfSort}
+use Rattle.sx_earley.specs.Completed.{head_of}
 use Rattle.sx_earley.specs.declared.chart_error.ChartError.{ChartError}
 use Rattle.sx_earley.specs.declared.chart_error.ChartError.TheVariants as chart
 use Rattle.sx_forest.specs.declared.judged.Judged.{Judged}
@@ -16,9 +19,13 @@ use Rattle.sx_forest.specs.declared.read_error.ReadError.TheVariants.{Memory, To
 use Rattle.sx_forest.specs.Readings.{plain_reading}
 use Rattle.sx_forest.specs.Text.{tree_text}
 
+-- the span is of all of n tokens, by a head that makes the sort
+abbrev pub IsWholeSpan : Grammar → (start n : ℕ) → Span → Type 0
+IsWholeSpan g start n s = (s.from ≡ 0) × (s.to ≡ n) × IsOfSort (production_of g (head_of s.of)) start 0
+
 -- there is no reading, one is too deep, there is one, or there are two
 abbrev pub IsVerdict : Grammar → List Token → ℕ → Judged → Type 0
-IsVerdict g tokens start (judged.Nothing end) = IsAnswer g tokens start (no_reading end)
+IsVerdict g tokens start judged.Nothing = (r : Reading) → ReadsWhole g tokens start r → ⊥
 IsVerdict g tokens start (judged.TooDeep depth) = IsAnswer g tokens start (too_deep depth)
 IsVerdict g tokens start judged.One = (r : Reading) × IsAnswer g tokens start (only r)
 IsVerdict g tokens start judged.More = (one : Reading) × (other : Reading) × IsAnswer g tokens start (ambiguous one other)

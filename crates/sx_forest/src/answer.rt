@@ -15,7 +15,7 @@ use crate::ranked::read_ranked;
 use crate::read_error::ReadError;
 use crate::reading::Reading;
 use std::alloc::Global;
-use sx_earley::Metas;
+use sx_earley::{Metas, Stems};
 use sx_grammar::Grammar;
 use sx_term::Sort;
 use sx_token::Token;
@@ -36,5 +36,23 @@ pub fn read_one(
     ensures only { IfOk result (λ r. IsAnswer (plain grammar.now) (plain_tokens metas.now.stems.items tokens.now) (number_of start) (only (plain_reading r))) }
     ensures refused { IfErr result (IsRefusal (labels grammar.now.parts) (texts tokens.now) (plain grammar.now) (plain_tokens metas.now.stems.items tokens.now) (number_of start)) }
 {
-    read_ranked(alloc, grammar, grammar.ranks(), start, metas, tokens)
+    let stems = Stems::new(alloc, metas)?;
+    read_one_by(alloc, grammar, start, &stems, tokens)
+}
+
+/// The same by a table of the stems, which serves for any number of token lists.
+pub fn read_one_by(
+    alloc: Global,
+    grammar: &Grammar,
+    start: Sort,
+    stems: &Stems,
+    tokens: &[Token],
+) -> Result<Reading, ReadError>
+    requires short { length tokens.now ≤ 10000 }
+    requires start { IsSort grammar.now.parts start }
+    requires known { AreKnown (grammars.texts grammar.now) stems.now tokens.now }
+    ensures only { IfOk result (λ r. IsAnswer (plain grammar.now) (plain_tokens stems.now tokens.now) (number_of start) (only (plain_reading r))) }
+    ensures refused { IfErr result (IsRefusal (labels grammar.now.parts) (texts tokens.now) (plain grammar.now) (plain_tokens stems.now tokens.now) (number_of start)) }
+{
+    read_ranked(alloc, grammar, grammar.ranks(), start, stems, tokens)
 }

@@ -15,7 +15,7 @@ use sx_earley::Shown;
 use sx_term::NoMemory;
 
 /// The sort of the metavariable at the place, if it stands for a term.
-fn variable_at(shown: &[Shown], place: usize) -> Option<u32>
+pub(crate) fn variable_at(shown: &[Shown], place: usize) -> Option<u32>
     ensures { (d : GrammarData) (sort : ℕ) → (result ≡ Some sort) ↔ Marked (tokens_of d shown.now) place (is_variable (of_sort sort)) }
 {
     match shown.get(place) {

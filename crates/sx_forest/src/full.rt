@@ -1,9 +1,8 @@
 //! The table of all complete spans.
 
-ghost use Rattle.std.specs.Prelude.{◌≡◌, ◌≤◌, ◌<◌, OnOk, IfOk, Err, length};
+ghost use Rattle.std.specs.Prelude.{◌≤◌, ◌<◌, OnOk, IfOk, length};
 ghost use Rattle.sx_grammar.specs.Order.{IsRanking, rank_at};
 ghost use Rattle.sx_grammar.specs.Tally.{EachOnce};
-ghost use Rattle.sx_grammar.specs.ReadOne.{MoreHold, IsGreatestEnd};
 ghost use Rattle.sx_earley.specs.Shown.{plain, texts, tokens_of, AreBelow};
 ghost use Rattle.sx_earley.specs.Completed.{IsChart};
 ghost use Rattle.sx_forest.specs.Rows.{AllLater, AllSorted};
@@ -15,7 +14,7 @@ use crate::first_entries::first_entries;
 use crate::in_order::{head_of, in_order};
 use crate::span_rows::span_ways;
 use std::alloc::Global;
-use sx_earley::{Chart, ChartError, Shown, Span, chart_of};
+use sx_earley::{Shown, Span};
 use sx_grammar::Grammar;
 use sx_term::NoMemory;
 
@@ -47,8 +46,8 @@ fn add_span(
     )
 }
 
-/// The entries of the spans, and those of metavariables.
-fn fill(
+/// The table of all complete spans: the entries of the spans, and those of metavariables.
+pub(crate) fn fill(
     alloc: Global,
     grammar: &Grammar,
     ranks: &[u32],
@@ -70,35 +69,4 @@ fn fill(
         add_span(alloc, grammar, shown, &mut table, item.span)?;
     }
     Ok(table)
-}
-
-/// The table of the complete spans of what is shown, and the greatest end of any item.
-#[derive(Drop)]
-pub(crate) struct Tabled {
-    pub(crate) table: Entries,
-    pub(crate) reach: u32,
-}
-
-/// The table of the complete spans of what is shown.
-pub(crate) fn make_table(
-    alloc: Global,
-    grammar: &Grammar,
-    ranks: &[u32],
-    start: u32,
-    shown: &[Shown],
-) -> Result<Tabled, ChartError>
-    requires short { length shown.now ≤ 10000 }
-    requires below { AreBelow (length (texts grammar.now)) shown.now }
-    requires ranking { IsRanking (plain grammar.now) (rank_at ranks.now) }
-    ensures full { IfOk result (λ t. IsFull (plain grammar.now) (tokens_of grammar.now shown.now) start t.table.lists.items) }
-    ensures reach { IfOk result (λ t. IsGreatestEnd (plain grammar.now) (tokens_of grammar.now shown.now) start t.reach) }
-    ensures few { IfOk result (λ _. MoreHold (plain grammar.now) (tokens_of grammar.now shown.now) start 2000000 → ⊥) }
-    ensures hard { result ≡ Err ChartError.TooHard → MoreHold (plain grammar.now) (tokens_of grammar.now shown.now) start 2000000 }
-{
-    let chart: Chart = chart_of(alloc, grammar, start, shown)?;
-    let table = fill(alloc, grammar, ranks, start, shown, chart.spans())?;
-    Ok(Tabled {
-        table,
-        reach: chart.reach(),
-    })
 }

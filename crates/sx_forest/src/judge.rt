@@ -4,7 +4,7 @@ ghost use Rattle.std.specs.Prelude.{◌≡◌, ◌≤◌, ℕ, List, IfOk, lengt
 ghost use Rattle.sx_grammar.specs.Grammar as plain;
 ghost use Rattle.sx_grammar.specs.Reading.{ReadsWhole, reading_depth};
 ghost use Rattle.sx_grammar.specs.Tally.{IsTally};
-ghost use Rattle.sx_grammar.specs.ReadOne.{MoreHold, IsGreatestEnd};
+ghost use Rattle.sx_grammar.specs.ReadOne.{MoreHold};
 ghost use Rattle.sx_earley.specs.Shown.{plain, tokens_of};
 ghost use Rattle.sx_forest.specs.Tallies.{tally_of};
 ghost use Rattle.sx_forest.specs.Rows.{AllSorted, IsWholeWays};
@@ -40,11 +40,11 @@ pub(crate) fn whole_ways(
 const MOST_DEPTH: u64 = 1000;
 
 /// What the ways to read all tokens come to.
-pub(crate) fn judge(ways: Ways, reach: u32) -> Judged
-    ensures { (g : plain.Grammar) (ts : List plain.Token) (start : ℕ) → (MoreHold g ts start 2000000 → ⊥) → IsGreatestEnd g ts start reach → IsTally (ReadsWhole g ts start) reading_depth (tally_of ways) → IsVerdict g ts start result }
+pub(crate) fn judge(ways: Ways) -> Judged
+    ensures { (g : plain.Grammar) (ts : List plain.Token) (start : ℕ) → (MoreHold g ts start 2000000 → ⊥) → IsTally (ReadsWhole g ts start) reading_depth (tally_of ways) → IsVerdict g ts start result }
 {
     match ways {
-        Ways::Nothing => Judged::Nothing(reach),
+        Ways::Nothing => Judged::Nothing,
         Ways::One(depth) => {
             if depth > MOST_DEPTH {
                 Judged::TooDeep(depth)

@@ -3,8 +3,8 @@
 /// How many readings there are, and whether one of them is too deep.
 #[derive(Clone, Copy)]
 pub(crate) enum Judged {
-    /// None; the greatest end of any item.
-    Nothing(u32),
+    /// None.
+    Nothing,
     /// One of them is deeper than 1,000; the greatest depth.
     TooDeep(u64),
     /// One.

@@ -1,6 +1,7 @@
 //! The only reading of tokens by a grammar.
 //!
 //! - `read_one`: the only reading of tokens as a sort, or why there is none: too hard, no reading, too deep, or two of more.
+//!   `read_one_by`: the same by a table of stems that serves for many texts.
 //! - `Reading`: a node, a bracket pair, a lexeme or a metavariable; contracts see it as the plain reading of sx_grammar.
 //! - `write_tree`: its tree text. `strip`: its term, without brackets. `place_of`: where a part of the term begins.
 //! - `readings_fit`: what reads tokens by a grammar meets the conditions of these calls. `paths_leave_together`: `place_of` has no
@@ -12,6 +13,7 @@ mod all_tokens;
 mod answer;
 mod building;
 mod choosing;
+mod completing;
 mod entries;
 mod entry;
 mod first_entries;
@@ -44,7 +46,7 @@ mod text_order;
 mod ways;
 mod writing;
 
-pub use answer::read_one;
+pub use answer::{read_one, read_one_by};
 pub use laws::{paths_leave_together, readings_fit};
 pub use place::place_of;
 pub use read_error::ReadError;

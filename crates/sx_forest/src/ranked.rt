@@ -18,7 +18,7 @@ use crate::read_shown::read_shown;
 use crate::reading::Reading;
 use crate::text_order::in_text_order;
 use std::alloc::Global;
-use sx_earley::{Metas, number_of, show_all};
+use sx_earley::{Stems, number_of};
 use sx_grammar::Grammar;
 use sx_term::Sort;
 use sx_token::Token;
@@ -29,17 +29,17 @@ pub(crate) fn read_ranked(
     grammar: &Grammar,
     ranks: &[u32],
     start: Sort,
-    metas: &Metas,
+    stems: &Stems,
     tokens: &[Token],
 ) -> Result<Reading, ReadError>
     requires short { length tokens.now ≤ 10000 }
     requires start { IsSort grammar.now.parts start }
-    requires known { AreKnown (grammars.texts grammar.now) metas.now.stems.items tokens.now }
+    requires known { AreKnown (grammars.texts grammar.now) stems.now tokens.now }
     requires ranking { IsRanking (plain grammar.now) (rank_at ranks.now) }
-    ensures only { IfOk result (λ r. IsAnswer (plain grammar.now) (plain_tokens metas.now.stems.items tokens.now) (number_of start) (only (plain_reading r))) }
-    ensures refused { IfErr result (IsRefusal (labels grammar.now.parts) (texts tokens.now) (plain grammar.now) (plain_tokens metas.now.stems.items tokens.now) (number_of start)) }
+    ensures only { IfOk result (λ r. IsAnswer (plain grammar.now) (plain_tokens stems.now tokens.now) (number_of start) (only (plain_reading r))) }
+    ensures refused { IfErr result (IsRefusal (labels grammar.now.parts) (texts tokens.now) (plain grammar.now) (plain_tokens stems.now tokens.now) (number_of start)) }
 {
-    let shown = show_all(alloc, metas, tokens)?;
+    let shown = stems.show_all(alloc, tokens)?;
     match read_shown(alloc, grammar, ranks, number_of(start), &shown)? {
         Found::Only(reading) => Ok(reading),
         Found::Two(one, other) => {

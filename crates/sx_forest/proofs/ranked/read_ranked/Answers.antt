@@ -20,14 +20,14 @@ use Rattle.sx_forest.proofs.ranked.read_ranked.Goals as goal
 pub read_shown-requires-clause-below : goal.read_shown-requires-clause-below
 read_shown-requires-clause-below c =
     subst (AreBelow (length (grammars.texts c.args.grammar.now))) (sym (c.deref.ensures.value ∙ c.in_ok-shown.ensures))
-    (shown_below (grammars.texts c.args.grammar.now) c.args.metas.now.stems.items c.args.tokens.now c.requires.known)
+    (shown_below (grammars.texts c.args.grammar.now) c.args.stems.now c.args.tokens.now c.requires.known)
 
 pub returns-in-Only-clause-only : goal.returns-in-Only-clause-only
 returns-in-Only-clause-only c =
     let g = plain c.args.grammar.now in let us = tokens_of c.args.grammar.now c.deref.result.now in
-    let ts = plain_tokens c.args.metas.now.stems.items c.args.tokens.now in
+    let ts = plain_tokens c.args.stems.now c.args.tokens.now in
     let same : AllSame us ts = subst (λ l. AllSame (map (token_of (grammars.texts c.args.grammar.now)) l) ts) (sym (c.deref.ensures.value ∙ c.in_ok-shown.ensures))
-    (shown_same (grammars.texts c.args.grammar.now) c.args.metas.now.stems.items c.args.tokens.now c.requires.known) in
+    (shown_same (grammars.texts c.args.grammar.now) c.args.stems.now c.args.tokens.now c.requires.known) in
     let n = number_of c.args.start in
     let found : IsFound g us n c.in_ok-reading.field-0 = subst (λ m. IsFound g us m c.in_ok-reading.field-0) c.number_of.ensures c.in_ok-reading.ensures.found in
     let here : IsAnswer g us n (only (plain_reading c.in-Only.reading)) = subst (IsFound g us n) c.in-Only.is found in
@@ -37,28 +37,28 @@ returns-in-Only-clause-only c =
 pub in_text_order-requires-clause-one_within : goal.in_text_order-requires-clause-one_within
 in_text_order-requires-clause-one_within c =
     let g = plain c.args.grammar.now in let us = tokens_of c.args.grammar.now c.deref.result.now in
-    let ts = plain_tokens c.args.metas.now.stems.items c.args.tokens.now in
+    let ts = plain_tokens c.args.stems.now c.args.tokens.now in
     let same : AllSame us ts = subst (λ l. AllSame (map (token_of (grammars.texts c.args.grammar.now)) l) ts) (sym (c.deref.ensures.value ∙ c.in_ok-shown.ensures))
-    (shown_same (grammars.texts c.args.grammar.now) c.args.metas.now.stems.items c.args.tokens.now c.requires.known) in
+    (shown_same (grammars.texts c.args.grammar.now) c.args.stems.now c.args.tokens.now c.requires.known) in
     let n = number_of c.args.start in
     let found : IsFound g us n c.in_ok-reading.field-0 = subst (λ m. IsFound g us m c.in_ok-reading.field-0) c.number_of.ensures c.in_ok-reading.ensures.found in
     let here : IsAnswer g us n (ambiguous (plain_reading c.in-Two.one) (plain_reading c.in-Two.other)) = subst (IsFound g us n) c.in-Two.is found in
     let answer = answer_same us ts same g n (ambiguous (plain_reading c.in-Two.one) (plain_reading c.in-Two.other)) here in
-    let long : length ts ≡ length c.args.tokens.now = length-map c.args.tokens.now (λ t. shown c.args.metas.now.stems.items t.mark t.text) in
+    let long : length ts ≡ length c.args.tokens.now = length-map c.args.tokens.now (λ t. shown c.args.stems.now t.mark t.text) in
     subst (λ k. IsWithin (length c.args.grammar.now.parts.productions) k (plain_reading c.in-Two.one)) long
     (readings_within c.args.grammar.now.parts ts n 0 0 (length ts) (plain_reading c.in-Two.one) answer.2)
 
 pub in_text_order-requires-clause-other_within : goal.in_text_order-requires-clause-other_within
 in_text_order-requires-clause-other_within c =
     let g = plain c.args.grammar.now in let us = tokens_of c.args.grammar.now c.deref.result.now in
-    let ts = plain_tokens c.args.metas.now.stems.items c.args.tokens.now in
+    let ts = plain_tokens c.args.stems.now c.args.tokens.now in
     let same : AllSame us ts = subst (λ l. AllSame (map (token_of (grammars.texts c.args.grammar.now)) l) ts) (sym (c.deref.ensures.value ∙ c.in_ok-shown.ensures))
-    (shown_same (grammars.texts c.args.grammar.now) c.args.metas.now.stems.items c.args.tokens.now c.requires.known) in
+    (shown_same (grammars.texts c.args.grammar.now) c.args.stems.now c.args.tokens.now c.requires.known) in
     let n = number_of c.args.start in
     let found : IsFound g us n c.in_ok-reading.field-0 = subst (λ m. IsFound g us m c.in_ok-reading.field-0) c.number_of.ensures c.in_ok-reading.ensures.found in
     let here : IsAnswer g us n (ambiguous (plain_reading c.in-Two.one) (plain_reading c.in-Two.other)) = subst (IsFound g us n) c.in-Two.is found in
     let answer = answer_same us ts same g n (ambiguous (plain_reading c.in-Two.one) (plain_reading c.in-Two.other)) here in
-    let long : length ts ≡ length c.args.tokens.now = length-map c.args.tokens.now (λ t. shown c.args.metas.now.stems.items t.mark t.text) in
+    let long : length ts ≡ length c.args.tokens.now = length-map c.args.tokens.now (λ t. shown c.args.stems.now t.mark t.text) in
     subst (λ k. IsWithin (length c.args.grammar.now.parts.productions) k (plain_reading c.in-Two.other)) long
     (readings_within c.args.grammar.now.parts ts n 0 0 (length ts) (plain_reading c.in-Two.other) answer.3)
 
@@ -69,9 +69,9 @@ err_if (Err e) P Q h f = f e h
 pub returns-in_err-reading-clause-refused : goal.returns-in_err-reading-clause-refused
 returns-in_err-reading-clause-refused c =
     let g = plain c.args.grammar.now in let us = tokens_of c.args.grammar.now c.deref.result.now in
-    let ts = plain_tokens c.args.metas.now.stems.items c.args.tokens.now in
+    let ts = plain_tokens c.args.stems.now c.args.tokens.now in
     let same : AllSame us ts = subst (λ l. AllSame (map (token_of (grammars.texts c.args.grammar.now)) l) ts) (sym (c.deref.ensures.value ∙ c.in_ok-shown.ensures))
-    (shown_same (grammars.texts c.args.grammar.now) c.args.metas.now.stems.items c.args.tokens.now c.requires.known) in
+    (shown_same (grammars.texts c.args.grammar.now) c.args.stems.now c.args.tokens.now c.requires.known) in
     let n = number_of c.args.start in
     let l = labels c.args.grammar.now.parts in let m = texts c.args.tokens.now in let x = c.in_err-reading.field-0.0 in
     let there : IsRefusal l m g us n x = subst (λ k. IsRefusal l m g us k x) c.number_of.ensures (c.in_err-reading.ensures.refused l m) in
@@ -81,9 +81,9 @@ returns-in_err-reading-clause-refused c =
 pub returns-clause-refused : goal.returns-clause-refused
 returns-clause-refused c =
     let g = plain c.args.grammar.now in let us = tokens_of c.args.grammar.now c.deref.result.now in
-    let ts = plain_tokens c.args.metas.now.stems.items c.args.tokens.now in
+    let ts = plain_tokens c.args.stems.now c.args.tokens.now in
     let same : AllSame us ts = subst (λ l. AllSame (map (token_of (grammars.texts c.args.grammar.now)) l) ts) (sym (c.deref.ensures.value ∙ c.in_ok-shown.ensures))
-    (shown_same (grammars.texts c.args.grammar.now) c.args.metas.now.stems.items c.args.tokens.now c.requires.known) in
+    (shown_same (grammars.texts c.args.grammar.now) c.args.stems.now c.args.tokens.now c.requires.known) in
     let n = number_of c.args.start in
     let found : IsFound g us n c.in_ok-reading.field-0 = subst (λ m. IsFound g us m c.in_ok-reading.field-0) c.number_of.ensures c.in_ok-reading.ensures.found in
     let here : IsAnswer g us n (ambiguous (plain_reading c.in-Two.one) (plain_reading c.in-Two.other)) = subst (IsFound g us n) c.in-Two.is found in

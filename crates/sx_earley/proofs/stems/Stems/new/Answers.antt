@@ -1,4 +1,4 @@
-use Rattle.std.proofs.Common.{sym, subst, ap}
+use Rattle.std.proofs.Common.{sym, subst}
 use Rattle.sx_earley.specs.Showing.{IsStems}
 use Rattle.sx_earley.proofs.stems.Stems.new.Goals as goal
 

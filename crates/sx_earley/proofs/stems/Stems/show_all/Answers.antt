@@ -1,4 +1,4 @@
-use Rattle.std.proofs.Common.{sym, subst}
+use Rattle.std.proofs.Common.{subst}
 use Rattle.std.specs.Prelude.{IfOk, Result, Ok, Err}
 use Rattle.sx_earley.specs.Showing.{IsStems}
 use Rattle.sx_earley.proofs.stems.Stems.show_all.Goals as goal
