@@ -22,6 +22,11 @@ use Rattle.sx_notation.specs.WhyUnread.{IsUnreadAs}
 use Rattle.sx_notation.specs.declared.notation_error.NotationError.{NotationError}
 use Rattle.sx_notation.specs.declared.notation_error.NotationError.TheVariants.{Memory, Notation, Token as BadTokens, Read}
 
+-- what lines are read by: the parts of a grammar, and stems
+pub record ReaderData : Type 0 where
+  pub parts : Parts
+  pub stems : Stems
+
 -- the line is cut into the tokens, by the literals of the grammar; metavariables may stand in it
 abbrev pub IsCut : Parts → (line : Text) → List Token → Type 0
 IsCut p line ts = IsOutcome (literals_of p) true line (tokens (pieces ts))

@@ -7,7 +7,7 @@
 //! - `rule_grammars_go_on`: productions keep their labels in the grammar of rules, and the forms follow them in order. `sorted_goals_fit`:
 //!   a goal that is well sorted by the language's grammar meets the conditions of `print_goal`.
 //! - `read_text`: the term of a line's only reading by a grammar, or why the line is refused. `read_into`: the same without a copy of the
-//!   names. `why_unread`: why tokens have not one reading, with places and texts in place of tokens and readings.
+//!   names. `LineReader`: the same for many lines, by tables that are made once. `why_unread`: why tokens have not one reading, with places and texts in place of tokens and readings.
 //!   `read_terms_are_usable`: lexemes and depth of what is read.
 //! - `read_directive`: the production or the stem that a line states, by which it extends a language.
 #![tactic(auto)]
@@ -17,6 +17,7 @@ mod directive_reading;
 mod goal_printing;
 mod language;
 mod laws;
+mod line_reader;
 mod names;
 mod notation_error;
 mod resolving;
@@ -30,6 +31,7 @@ pub use directive_reading::read_directive;
 pub use goal_printing::print_goal;
 pub use language::Language;
 pub use laws::{read_terms_are_usable, rule_grammars_go_on, sorted_goals_fit};
+pub use line_reader::LineReader;
 pub use notation_error::NotationError;
 pub use resolving::{forms_of, sort_with};
 pub use rule_productions::{rule_grammar, rule_parts};

@@ -3,17 +3,17 @@ use Rattle.sx_term.specs.Term.{tree}
 use Rattle.sx_forest.specs.Readings.{plain_reading}
 use Rattle.sx_notation.specs.ReadText.{IsRefused}
 use Rattle.sx_notation.proofs.TextReading.{err_if, known_at, answer_at, is_marked, has_room, grown, grown_front, is_read}
-use Rattle.sx_notation.proofs.text_reading.read_into.Goals as goal
+use Rattle.sx_notation.proofs.line_reader.LineReader.read_line.Goals as goal
 
 pub returns-in_err-tokens-clause-refused : goal.returns-in_err-tokens-clause-refused
 returns-in_err-tokens-clause-refused c =
-    let P = IsRefused c.args.grammar.now.parts c.args.metas.now.stems.items c.args.sort c.args.line.now c.args.number in
+    let P = IsRefused c.args.self.now.parts c.args.self.now.stems c.args.sort c.args.line.now c.args.number in
     err_if c.from_residual.result _ P c.from_residual.ensures.1 (λ e is. subst P (sym is) (c.in_err-tokens.ensures.refused c.args.sort))
 
 pub strip-requires-clause-marked : goal.strip-requires-clause-marked
 strip-requires-clause-marked c =
-    let p = c.args.grammar.now.parts in
-    let stems = c.args.metas.now.stems.items in
+    let p = c.args.self.now.parts in
+    let stems = c.args.self.now.stems in
     let line = c.args.line.now in
     let ts = c.deref-2.result.now in
     let r = plain_reading c.in_ok-reading.reading in
@@ -23,8 +23,8 @@ strip-requires-clause-marked c =
 
 pub strip-requires-clause-room : goal.strip-requires-clause-room
 strip-requires-clause-room c =
-    let p = c.args.grammar.now.parts in
-    let stems = c.args.metas.now.stems.items in
+    let p = c.args.self.now.parts in
+    let stems = c.args.self.now.stems in
     let line = c.args.line.now in
     let ts = c.deref-2.result.now in
     let r = plain_reading c.in_ok-reading.reading in
@@ -34,8 +34,8 @@ strip-requires-clause-room c =
 
 pub returns-in_err-term-clause-grows : goal.returns-in_err-term-clause-grows
 returns-in_err-term-clause-grows c =
-    let p = c.args.grammar.now.parts in
-    let stems = c.args.metas.now.stems.items in
+    let p = c.args.self.now.parts in
+    let stems = c.args.self.now.stems in
     let line = c.args.line.now in
     let ts = c.deref-2.result.now in
     let r = plain_reading c.in_ok-reading.reading in
@@ -45,8 +45,8 @@ returns-in_err-term-clause-grows c =
 
 pub returns-clause-read : goal.returns-clause-read
 returns-clause-read c =
-    let p = c.args.grammar.now.parts in
-    let stems = c.args.metas.now.stems.items in
+    let p = c.args.self.now.parts in
+    let stems = c.args.self.now.stems in
     let line = c.args.line.now in
     let ts = c.deref-2.result.now in
     let r = plain_reading c.in_ok-reading.reading in
@@ -57,8 +57,8 @@ returns-clause-read c =
 
 pub returns-clause-grows : goal.returns-clause-grows
 returns-clause-grows c =
-    let p = c.args.grammar.now.parts in
-    let stems = c.args.metas.now.stems.items in
+    let p = c.args.self.now.parts in
+    let stems = c.args.self.now.stems in
     let line = c.args.line.now in
     let ts = c.deref-2.result.now in
     let r = plain_reading c.in_ok-reading.reading in

@@ -1,0 +1,24 @@
+use Rattle.std.proofs.Common.{sym, subst}
+use Rattle.sx_grammar.specs.Parts.{numbered}
+use Rattle.sx_grammar.specs.Tables.{literals_of}
+use Rattle.sx_grammar.specs.ReadOne.{IsAnswer, only}
+use Rattle.sx_earley.specs.Tokens.{plain_tokens, AreKnown}
+use Rattle.sx_earley.specs.Completed.{number_of}
+use Rattle.sx_forest.specs.Readings.{plain_reading}
+use Rattle.sx_notation.specs.ReadText.{ReaderData, IsUnreadLine}
+use Rattle.sx_notation.proofs.TextReading.{known_tokens}
+use Rattle.sx_notation.proofs.line_reader.reading_of.Goals as goal
+
+pub read_one_by-requires-clause-known : goal.read_one_by-requires-clause-known
+read_one_by-requires-clause-known c =
+    subst (λ (d : ReaderData). AreKnown (literals_of d.parts) d.stems c.args.tokens.now) (sym c.by.view_is)
+    (known_tokens c.args.by.now.parts c.args.by.now.stems c.requires.known.0 c.args.tokens.now c.requires.known.1)
+
+pub returns-in-Ok-clause-only : goal.returns-in-Ok-clause-only
+returns-in-Ok-clause-only c =
+    subst (λ (d : ReaderData). IsAnswer (numbered d.parts) (plain_tokens d.stems c.args.tokens.now) (number_of c.args.sort) (only (plain_reading c.in-Ok.reading))) c.by.view_is c.in-Ok.ensures.only
+
+pub returns-in-Err-clause-refused : goal.returns-in-Err-clause-refused
+returns-in-Err-clause-refused c =
+    subst (λ (d : ReaderData). IsUnreadLine d.parts d.stems c.args.sort c.args.tokens.now c.args.size c.args.number c.read_error.result) c.by.view_is
+    (c.read_error.ensures c.by.inside.stems c.args.sort c.in-Err.ensures.refused)

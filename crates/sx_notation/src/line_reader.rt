@@ -1,0 +1,184 @@
+//! Reading lines of text.
+
+ghost use Rattle.std.specs.Prelude.{◌≡◌, ◌≢◌, ◌+◌, ◌<◌, ◌≤◌, ◌^◌, ℕ, List, None, length, IfOk, IfErr};
+ghost use Rattle.sx_term.specs.declared.sort.Sort.{Sort};
+ghost use Rattle.sx_term.specs.Term.{tree};
+ghost use Rattle.sx_grammar.specs.Parts.{numbered};
+ghost use Rattle.sx_grammar.specs.ReadOne.{IsAnswer, only};
+ghost use Rattle.sx_earley.specs.Tokens.{Stems, plain_tokens};
+ghost use Rattle.sx_earley.specs.Unknown.{IsFirstUnknown};
+ghost use Rattle.sx_earley.specs.Completed.{IsSort, number_of};
+ghost use Rattle.sx_forest.specs.Readings.{plain_reading};
+ghost use Rattle.sx_notation.specs.WhyUnread.{IsReadError};
+ghost use Rattle.sx_notation.specs.declared.notation_error.NotationError.TheVariants.{Memory};
+ghost use Rattle.sx_notation.specs.ReadText.{IsCut, IsKnownCut, IsRead, IsRefused, IsUnreadLine, of_token_error};
+
+use crate::notation_error::NotationError;
+use crate::telling::why_unread;
+use std::alloc::Global;
+use std::marker::Model;
+use sx_core::Kind;
+use sx_earley::{Metas, Stems};
+use sx_forest::{ReadError, Reading, read_one_by, strip};
+use sx_grammar::Grammar;
+use sx_term::{NoMemory, Sort, Term, Vars};
+use sx_token::{Literals, Token, TokenError};
+
+/// What any number of lines are read by: a grammar, with tables of its literals and of the stems of metavariables.
+#[derive(Drop)]
+pub struct LineReader<'a> {
+    grammar: &'a Grammar,
+    literals: Literals<'a>,
+    stems: Stems<'a>,
+}
+
+impl<'a> Model for LineReader<'a> {
+    ghost use Rattle.std.specs.Prelude.{◌≡◌};
+    ghost use Rattle.sx_grammar.specs.Tables.{literals_of};
+    ghost use Rattle.sx_notation.specs.ReadText.{ReaderData};
+
+    ghost Value = { ReaderData };
+
+    ghost view = { λ r. record { parts = r.grammar.now.parts; stems = r.stems } };
+
+    ghost invariant = { λ r. r.literals ≡ literals_of r.grammar.now.parts };
+}
+
+/// The refusal of the line that has this defect.
+fn token_error(line: u32, error: TokenError) -> NotationError
+    ensures { result ≡ of_token_error line error }
+{
+    match error {
+        TokenError::Memory => NotationError::Memory,
+        error => NotationError::Token { line, error },
+    }
+}
+
+/// The refusal of the line of so many bytes whose tokens have not one reading.
+fn read_error(
+    alloc: Global,
+    grammar: &Grammar,
+    tokens: &[Token],
+    size: usize,
+    line: u32,
+    error: ReadError,
+) -> NotationError
+    requires { (stems : Stems) × (sort : Sort) × IsReadError grammar.now.parts stems sort tokens.now error }
+    ensures { (stems : Stems) (sort : Sort) → IsReadError grammar.now.parts stems sort tokens.now error →
+        IsUnreadLine grammar.now.parts stems sort tokens.now size line result }
+{
+    match why_unread(alloc, grammar, tokens, size, error) {
+        Ok(error) => NotationError::Read { line, error },
+        Err(NoMemory::Memory) => NotationError::Memory,
+    }
+}
+
+/// The tokens of the line with this number.
+fn cut_line(
+    alloc: Global,
+    by: &LineReader,
+    line: &[u8],
+    number: u32,
+) -> Result<Vec<Token>, NotationError>
+    requires { length line.now ≤ 262144 }
+    ensures cut { IfOk result (λ ts. IsCut by.now.parts line.now ts.items) }
+    ensures refused { IfErr result (λ e. (stems : Stems) (sort : Sort) → IsRefused by.now.parts stems sort line.now number e) }
+{
+    let literals = &by.literals;
+    match literals.tokens(alloc, line, true) {
+        Ok(tokens) => Ok(tokens),
+        Err(error) => Err(token_error(number, error)),
+    }
+}
+
+/// The same, where the stem of each metavariable is known.
+fn known_tokens(
+    alloc: Global,
+    by: &LineReader,
+    line: &[u8],
+    number: u32,
+) -> Result<Vec<Token>, NotationError>
+    requires { length line.now ≤ 262144 }
+    ensures known { IfOk result (λ ts. IsKnownCut by.now.parts by.now.stems line.now ts.items) }
+    ensures refused { IfErr result (λ e. (sort : Sort) → IsRefused by.now.parts by.now.stems sort line.now number e) }
+{
+    let tokens = cut_line(alloc, by, line, number)?;
+    let stems = &by.stems;
+    match stems.first_unknown(&tokens) {
+        None => Ok(tokens),
+        Some(_) => Err(NotationError::Notation {
+            line: number,
+            kind: Kind::Variable,
+        }),
+    }
+}
+
+/// The only reading of the tokens of a line with this number and so many bytes.
+fn reading_of(
+    alloc: Global,
+    by: &LineReader,
+    sort: Sort,
+    tokens: &[Token],
+    size: usize,
+    number: u32,
+) -> Result<Reading, NotationError>
+    requires sort { IsSort by.now.parts sort }
+    requires known { (line : List ℕ) × IsKnownCut by.now.parts by.now.stems line tokens.now }
+    ensures only { IfOk result (λ r. IsAnswer (numbered by.now.parts) (plain_tokens by.now.stems tokens.now) (number_of sort) (only (plain_reading r))) }
+    ensures refused { IfErr result (IsUnreadLine by.now.parts by.now.stems sort tokens.now size number) }
+{
+    let grammar = by.grammar;
+    let stems = &by.stems;
+    match read_one_by(alloc, grammar, sort, stems, tokens) {
+        Ok(reading) => Ok(reading),
+        Err(error) => Err(read_error(alloc, grammar, tokens, size, number, error)),
+    }
+}
+
+impl<'a> LineReader<'a> {
+    /// The tables of the grammar and the stems.
+    pub fn new(
+        alloc: Global,
+        grammar: &'a Grammar,
+        metas: &'a Metas,
+    ) -> Result<LineReader<'a>, NoMemory>
+        ensures { IfOk result (λ r. r ≡ record { parts = grammar.now.parts; stems = metas.now.stems.items }) }
+    {
+        grammar.facts();
+        Ok(LineReader {
+            grammar,
+            literals: Literals::new(alloc, grammar.literals())?,
+            stems: Stems::new(alloc, metas)?,
+        })
+    }
+
+    /// The stems.
+    pub fn stems(&self) -> &Stems<'a>
+        ensures { result.now ≡ self.now.stems }
+    {
+        &self.stems
+    }
+
+    /// The term of the line's only reading as the sort, as `read_into` has it.
+    pub fn read_line(
+        &self,
+        alloc: Global,
+        sort: Sort,
+        line: &[u8],
+        number: u32,
+        vars: &mut Vars,
+    ) -> Result<Term, NotationError>
+        requires sort { IsSort self.now.parts sort }
+        requires short { length line.now ≤ 262144 }
+        requires room { length vars.now + 10000 < 2 ^ 32 }
+        ensures read { IfOk result (λ t. IsRead self.now.parts self.now.stems sort line.now vars.old vars.new (tree t)) }
+        ensures refused { IfErr result (IsRefused self.now.parts self.now.stems sort line.now number) }
+        ensures kept { IfErr result (λ e. e ≢ Memory → vars.new ≡ vars.old) }
+        ensures grows { length vars.new ≤ length vars.old + 10000 }
+    {
+        let tokens = known_tokens(alloc, self, line, number)?;
+        let reading = reading_of(alloc, self, sort, &tokens, line.len(), number)?;
+        let term = strip(alloc, &reading, &tokens, vars)?;
+        Ok(term)
+    }
+}
