@@ -2,7 +2,6 @@ pub mod RuleLine
 pub mod RuleTexts
 pub mod States
 pub mod Readers
-pub mod StemTables
 pub mod Prepared
 pub mod Alike
 pub mod Laws

@@ -15,7 +15,7 @@ mod rule_naming;
 mod rule_reader;
 mod rule_reading;
 mod rules_reading;
-mod stem_table;
+mod stem_sorts;
 mod stems;
 
 pub use language_reading::read_language;

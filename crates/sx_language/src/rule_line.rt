@@ -1,19 +1,21 @@
 //! Reading a line of a rule.
 
 ghost use Rattle.std.specs.Prelude.{◌≡◌, ◌+◌, ◌<◌, ◌≤◌, ◌^◌, length, IfOk, IfErr};
+ghost use Rattle.sx_term.specs.Term.{tree};
 ghost use Rattle.sx_rules.specs.Views as view;
 ghost use Rattle.sx_outline.specs.Stages.{numbered};
+ghost use Rattle.sx_notation.specs.ReadText.{IsRead};
 ghost use Rattle.sx_language.specs.RuleLine.{judgements, CanRead, IsLine, IsBadLine};
-ghost use Rattle.sx_language.specs.Readers.{reader};
+ghost use Rattle.sx_language.specs.Readers.{reader, AreTables};
 
 use crate::premise::premise_of;
 use crate::rule_reader::RuleReader;
 use std::alloc::Global;
 use sx_grammar::Grammar;
-use sx_notation::{NotationError, read_into};
+use sx_notation::{LineReader, NotationError};
 use sx_outline::RuleLine;
 use sx_rules::Premise;
-use sx_term::{Sort, Vars};
+use sx_term::{Sort, Term, Vars};
 
 /// The sort of judgements.
 fn judgements(grammar: &Grammar) -> Sort
@@ -24,30 +26,43 @@ fn judgements(grammar: &Grammar) -> Sort
     Sort::Typed((grammar.parts().sorts.len() - 1) as u32)
 }
 
+/// The term that the line spells as a judgement. Names of variables that `vars` lacks are added.
+fn line_term(
+    alloc: Global,
+    by: &RuleReader,
+    tables: &LineReader,
+    line: &RuleLine,
+    vars: &mut Vars,
+) -> Result<Term, NotationError>
+    requires can { CanRead (reader by.now) }
+    requires tables { AreTables (reader by.now) tables.now }
+    requires short { length line.now.text ≤ 262144 }
+    requires room { length vars.now + 10000 < 2 ^ 32 }
+    ensures read { IfOk result (λ t. IsRead by.now.grammar.parts by.now.metas.stems.items (judgements by.now.grammar.parts) line.now.text vars.old vars.new (tree t)) }
+    ensures refused { IfErr result (IsBadLine (reader by.now) (numbered line.now)) }
+    ensures grows { length vars.new ≤ length vars.old + 10000 }
+{
+    let sort = judgements(&by.grammar);
+    tables.read_line(alloc, sort, line.text.bytes(), line.number, vars)
+}
+
 /// The premise that the line states. Names of variables that `vars` lacks are added.
 pub(crate) fn read_line(
     alloc: Global,
     by: &RuleReader,
+    tables: &LineReader,
     line: &RuleLine,
     vars: &mut Vars,
 ) -> Result<Premise, NotationError>
     requires can { CanRead (reader by.now) }
+    requires tables { AreTables (reader by.now) tables.now }
     requires short { length line.now.text ≤ 262144 }
     requires room { length vars.now + 10000 < 2 ^ 32 }
     ensures read { IfOk result (λ q. IsLine (reader by.now) line.now.text vars.old vars.new (view.premise q)) }
     ensures refused { IfErr result (IsBadLine (reader by.now) (numbered line.now)) }
     ensures grows { length vars.new ≤ length vars.old + 10000 }
 {
-    let sort = judgements(&by.grammar);
-    match read_into(
-        alloc,
-        &by.grammar,
-        sort,
-        &by.metas,
-        line.text.bytes(),
-        line.number,
-        vars,
-    ) {
+    match line_term(alloc, by, tables, line, vars) {
         Ok(term) => Ok(premise_of(by, term)),
         Err(error) => Err(error),
     }

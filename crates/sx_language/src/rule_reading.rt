@@ -8,15 +8,14 @@ ghost use Rattle.sx_outline.specs.Stages.{numbered, rule_data};
 ghost use Rattle.sx_outline.specs.Sized.{HasShortLines};
 ghost use Rattle.sx_language.specs.RuleLine.{CanRead, IsLine};
 ghost use Rattle.sx_language.specs.RuleTexts.{ArePremises, IsRule, IsBadPremise, IsBadConclusion, IsBadRule, OrMemory};
-ghost use Rattle.sx_language.specs.Readers.{reader};
-ghost use Rattle.sx_language.specs.StemTables.{IsTable};
+ghost use Rattle.sx_language.specs.Readers.{reader, AreTables};
 
 use crate::rule_line::read_line;
 use crate::rule_reader::RuleReader;
-use crate::stem_table::StemTable;
+use crate::stem_sorts::sorts_of;
 use std::alloc::Global;
 use sx_core::Kind;
-use sx_notation::NotationError;
+use sx_notation::{LineReader, NotationError};
 use sx_outline::{RuleLine, RuleLines};
 use sx_rules::{Judgement, Premise, Rule};
 use sx_term::Vars;
@@ -32,10 +31,12 @@ pub(crate) struct ReadRule {
 fn read_premises(
     alloc: Global,
     by: &RuleReader,
+    tables: &LineReader,
     lines: &[RuleLine],
     vars: &mut Vars,
 ) -> Result<Vec<Premise>, NotationError>
     requires can { CanRead (reader by.now) }
+    requires tables { AreTables (reader by.now) tables.now }
     requires short { AllByRecursion (λ l. length l.text ≤ 262144) lines.now }
     requires few { length lines.now ≤ 262144 }
     requires none { vars.now ≡ [] }
@@ -46,7 +47,7 @@ fn read_premises(
     let mut premises = Vec::with_capacity(alloc, lines.len())?;
     for i in 0..lines.len() {
         let line = &lines[i];
-        match read_line(alloc, by, line, vars) {
+        match read_line(alloc, by, tables, line, vars) {
             Ok(premise) => premises.push(premise)?,
             Err(error) => {
                 drop(premises);
@@ -61,17 +62,19 @@ fn read_premises(
 fn read_conclusion(
     alloc: Global,
     by: &RuleReader,
+    tables: &LineReader,
     line: &RuleLine,
     vars: &mut Vars,
 ) -> Result<Judgement, NotationError>
     requires can { CanRead (reader by.now) }
+    requires tables { AreTables (reader by.now) tables.now }
     requires short { length line.now.text ≤ 262144 }
     requires room { length vars.now + 10000 < 2 ^ 32 }
     ensures read { IfOk result (λ j. IsLine (reader by.now) line.now.text vars.old vars.new (holds (view.judgement j))) }
     ensures refused { IfErr result (IsBadConclusion (reader by.now) (numbered line.now) vars.old) }
     ensures grows { length vars.new ≤ length vars.old + 10000 }
 {
-    match read_line(alloc, by, line, vars) {
+    match read_line(alloc, by, tables, line, vars) {
         Ok(Premise::Holds(judgement)) => Ok(judgement),
         Ok(Premise::Apart(_, _)) => Err(NotationError::Notation {
             line: line.number,
@@ -85,24 +88,24 @@ fn read_conclusion(
 pub(crate) fn read_rule(
     alloc: Global,
     by: &RuleReader,
-    table: &StemTable,
+    tables: &LineReader,
     lines: &RuleLines,
 ) -> Result<ReadRule, NotationError>
     requires can { CanRead (reader by.now) }
-    requires table { IsTable by.now.metas.stems.items table.now }
+    requires tables { AreTables (reader by.now) tables.now }
     requires short { HasShortLines 262144 (rule_data lines.now) }
     ensures read { IfOk result (λ x. IsRule (reader by.now) (rule_data lines.now) x.names (view.named x.rule)) }
     ensures refused { IfErr result (OrMemory (IsBadRule (reader by.now) (rule_data lines.now))) }
 {
     let mut names = Vars::new(alloc);
-    let premises = match read_premises(alloc, by, &lines.premises, &mut names) {
+    let premises = match read_premises(alloc, by, tables, &lines.premises, &mut names) {
         Ok(premises) => premises,
         Err(error) => {
             drop(names);
             return Err(error);
         }
     };
-    let conclusion = match read_conclusion(alloc, by, &lines.conclusion, &mut names) {
+    let conclusion = match read_conclusion(alloc, by, tables, &lines.conclusion, &mut names) {
         Ok(conclusion) => conclusion,
         Err(error) => {
             drop(premises);
@@ -110,7 +113,7 @@ pub(crate) fn read_rule(
             return Err(error);
         }
     };
-    let vars = match table.sorts_of(alloc, &names) {
+    let vars = match sorts_of(alloc, tables.stems(), &names) {
         Ok(vars) => vars,
         Err(_) => {
             drop(conclusion);

@@ -1,4 +1,4 @@
-use Rattle.std.proofs.Common.{◌≤◌, [], length, map, ap, sym, subst, arith}
+use Rattle.std.proofs.Common.{◌≤◌, ◌∙◌, [], length, map, ap, sym, subst, arith}
 use Rattle.std.proofs.lemmas.List.{length-map}
 use Rattle.std.specs.List.{AllByRecursion}
 use Rattle.sx_rules.specs.Rules.{holds}
@@ -16,11 +16,10 @@ read_premises-requires-clause-short c = subst (AllByRecursion (λ l. length l.te
 pub sorts_of-requires-clause-known : goal.sorts_of-requires-clause-known
 sorts_of-requires-clause-known c =
     let r = reader c.args.by.now in
-    let before : HaveStems r.stems c.read_premises.new.vars = premise_stems r (map numbered c.deref.result.now) [] c.read_premises.new.vars (map view.premise c.in-Ok.premises.items) c.in-Ok.ensures.read tt in (
-      r.stems,
-      c.requires.table,
-      line_stems r c.args.lines.now.conclusion.text c.read_premises.new.vars c.read_conclusion.new.vars (holds (view.judgement c.in-Ok-read_conclusion.conclusion)) c.in-Ok-read_conclusion.ensures.read before,
-    )
+    let before : HaveStems r.stems c.read_premises.new.vars = premise_stems r (map numbered c.deref.result.now) [] c.read_premises.new.vars (map view.premise c.in-Ok.premises.items) c.in-Ok.ensures.read tt in
+    let after : HaveStems r.stems c.read_conclusion.new.vars =
+    line_stems r c.args.lines.now.conclusion.text c.read_premises.new.vars c.read_conclusion.new.vars (holds (view.judgement c.in-Ok-read_conclusion.conclusion)) c.in-Ok-read_conclusion.ensures.read before in
+    subst (λ stems. HaveStems stems c.read_conclusion.new.vars) (sym (c.stems.ensures ∙ c.requires.tables.1)) after
 
 pub sorts_of-requires-clause-few : goal.sorts_of-requires-clause-few
 sorts_of-requires-clause-few c =

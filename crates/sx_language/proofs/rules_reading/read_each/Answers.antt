@@ -3,7 +3,7 @@ use Rattle.std.proofs.lemmas.List.{map-append}
 use Rattle.sx_rules.specs.Views as view
 use Rattle.sx_language.specs.Readers.{reader}
 use Rattle.sx_language.proofs.Ruling.{one_more, one_bad, at_end}
-use Rattle.sx_language.proofs.rules_reading.read_rules.Goals as goal
+use Rattle.sx_language.proofs.rules_reading.read_each.Goals as goal
 
 pub loop-i-preserved : goal.loop-i-preserved
 loop-i-preserved c =

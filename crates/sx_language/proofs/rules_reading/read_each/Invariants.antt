@@ -2,7 +2,7 @@ use Rattle.std.proofs.Common.{map}
 use Rattle.sx_rules.specs.Views as view
 use Rattle.sx_language.specs.Readers.{reader}
 use Rattle.sx_language.proofs.Ruling.{Before}
-use Rattle.sx_language.proofs.rules_reading.read_rules.Given as goal
+use Rattle.sx_language.proofs.rules_reading.read_each.Given as goal
 
 abbrev pub invariant-loop-i : goal.invariant-loop-i
 invariant-loop-i l = Before (reader l.by) l.lines l.i l.names.items (map view.named l.rules.items)
