@@ -3,13 +3,14 @@
 use crate::print_limit::{Limit, Part};
 use crate::stuck_text::StuckText;
 use std::alloc::AllocError;
+use std::fmt;
 use sx_notation::Unread;
 use sx_term::{NoMemory, Text};
 use sx_token::TokenError;
 use thiserror::Error;
 
 /// Why a module is not compiled. Lines and columns are those of the module's file, from 1; a column counts bytes.
-#[derive(Debug, Drop, Error)]
+#[derive(Drop, Error)]
 pub enum ModuleError {
     /// Memory is lacking.
     #[error("out of memory")]
@@ -36,16 +37,16 @@ pub enum ModuleError {
         stuck: StuckText,
     },
     /// The walk needs more tries than it may take, so many.
-    #[error("more than {0} tries")]
+    #[error("the tries are spent")]
     BudgetSpent(u64),
     /// The walk comes to a goal deeper than 3,000.
     #[error("a derivation deeper than 3000")]
     DepthSpent,
     /// A term of the walk has this depth, over 1,000.
-    #[error("depth {0} is over 1000")]
+    #[error("a term is too deep")]
     TooDeep(u64),
     /// A term of the walk has so many nodes, over 1,000,000.
-    #[error("a term has {0} nodes")]
+    #[error("a term has too many nodes")]
     TooBig(u64),
     /// A printed text passes a limit.
     #[error("a printed text passes a limit")]
@@ -60,6 +61,12 @@ pub enum ModuleError {
         one: Text,
         other: Text,
     },
+}
+
+impl fmt::Debug for ModuleError {
+    fn fmt<W: fmt::Write>(&self, f: &mut fmt::Formatter<W>) -> fmt::Result {
+        fmt::Display::fmt(self, f)
+    }
 }
 
 impl From<NoMemory> for ModuleError {

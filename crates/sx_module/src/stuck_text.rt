@@ -3,7 +3,7 @@
 use sx_term::Text;
 
 /// A stuck goal's text and the reason. Premises count from 1, over all premises of the rule.
-#[derive(Debug, Drop)]
+#[derive(Drop)]
 pub enum StuckText {
     /// No rule concludes the goal.
     NoRule {
