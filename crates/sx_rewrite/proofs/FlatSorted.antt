@@ -17,7 +17,7 @@ use Rattle.sx_rewrite.specs.Accepted.{Signature}
 use Rattle.sx_rewrite.specs.Sound.{HasBaseSyntax}
 use Rattle.sx_rewrite.specs.Extensions.{BodyFits}
 use Rattle.sx_rewrite.specs.AcceptLaws.{FlatFormsAreSorted}
-use Rattle.sx_rewrite.proofs.Lowered.{outputs-flat}
+use Rattle.sx_rewrite.proofs.Lowerings.{outputs-flat}
 use Rattle.sx_rewrite.proofs.PlainRules.{image-keeps}
 
 -- flat places by other shapes, where the images of terms of plain and lexical sorts are well sorted by them

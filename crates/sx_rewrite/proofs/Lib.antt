@@ -1,6 +1,6 @@
 pub mod Images
 pub mod Known
-pub mod Lowered
+pub mod Lowerings
 pub mod LoweredOnce
 pub mod LoweredAlways
 pub mod LoweredSorted

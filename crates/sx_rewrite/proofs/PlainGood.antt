@@ -23,7 +23,7 @@ use Rattle.sx_plain.proofs.Tables.{base-stays, sorted-below}
 use Rattle.sx_rewrite.specs.Accepted.{Checked, basic, checked, rule_in, AreTypedSorts}
 use Rattle.sx_rewrite.specs.PlainRules.{image_judgement, image_premise, plain_rule, plain_named, plain_checked, HasImage, PremiseHasImage, RuleHasImage}
 use Rattle.sx_rewrite.specs.Stored.{signature_of}
-use Rattle.sx_rewrite.proofs.Lowered.{map-stays, have_sorts-below}
+use Rattle.sx_rewrite.proofs.Lowerings.{map-stays, have_sorts-below}
 use Rattle.sx_rewrite.proofs.PlainRules.{image-keeps, list-keeps}
 use Rattle.sx_rewrite.proofs.PlainSets.{plain-moded, plain-disciplined}
 use Rattle.sx_rewrite.proofs.Growing.{same-images, same-image}

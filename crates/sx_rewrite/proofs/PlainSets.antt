@@ -22,7 +22,7 @@ use Rattle.sx_rewrite.specs.Accepted.{Checked, flat_conclusion, Known, basic, ch
 use Rattle.sx_rewrite.specs.Lowers.{SubjectsAreLowered, AreLoweredBinds, LowersTo, Lowers, LowersEach}
 use Rattle.sx_rewrite.specs.PlainRules.{image_judgement, image_premise, plain_rule, plain_checked, plain_of}
 use Rattle.sx_rewrite.specs.PlainLaws.{PlainRulesAreAccepted, PlainRulesLowerAlike}
-use Rattle.sx_rewrite.proofs.Lowered.{outputs-flat}
+use Rattle.sx_rewrite.proofs.Lowerings.{outputs-flat}
 use Rattle.sx_rewrite.proofs.LoweredAlways.{one_typed}
 use Rattle.sx_rewrite.proofs.Known.{accepted-sorted, accepted-disciplined, certified-at}
 use Rattle.sx_rewrite.proofs.PlainRules.{image-keeps, list-keeps, image-twice, among-image, inputs-image, outputs-image, judgements-image, times-list}

@@ -13,7 +13,7 @@ use Rattle.sx_rewrite.specs.Measured.{Measures, node_terms, AllPass, ProofPasses
 use Rattle.sx_rewrite.specs.Rewriting.{Refusal, spent, deep, too_deep, too_big, first_over, Rewritten, FirstOver, IsRewritten}
 use Rattle.sx_rewrite.specs.Copied.{copied}
 use Rattle.sx_rewrite.specs.RewritingLaws.{RewritingAnswers, RewritingIsUnique, RewritingIsGood}
-use Rattle.sx_rewrite.proofs.Lowered.{lowered_are_derivations}
+use Rattle.sx_rewrite.proofs.Lowerings.{lowered_are_derivations}
 use Rattle.sx_rewrite.proofs.LoweredOnce.{lowering_is_unique}
 use Rattle.sx_rewrite.proofs.LoweredAlways.{lowering_exists}
 use Rattle.sx_rewrite.proofs.LoweredSorted.{lowered_are_sorted}

@@ -25,7 +25,7 @@ use Rattle.sx_rewrite.specs.Sound.{flat_given, flat_goal, IsLoweredBody, IsFlatB
 use Rattle.sx_rewrite.specs.Extensions.{BodyFits}
 use Rattle.sx_rewrite.specs.Accepting.{IsFirstBy, IsStoredLowered, IsStored, ChecksBy}
 use Rattle.sx_rewrite.specs.AcceptLaws.{CertificatesHold, StoredIsSound, RejectedIsUnsound, SoundRulesAreSorted}
-use Rattle.sx_rewrite.proofs.Lowered.{inputs-flat, have_sorts-below, lowered_are_derivations}
+use Rattle.sx_rewrite.proofs.Lowerings.{inputs-flat, have_sorts-below, lowered_are_derivations}
 use Rattle.sx_rewrite.proofs.LoweredSorted.{lowered_are_sorted}
 use Rattle.sx_rewrite.proofs.PlainRules.{image-twice}
 use Rattle.sx_rewrite.proofs.PlainSets.{plain_rules_are_accepted}

@@ -24,7 +24,7 @@ use Rattle.sx_rewrite.specs.Lowers.{SubjectsAreLowered, AreLoweredBinds, LowersT
 use Rattle.sx_rewrite.specs.Used.{IsUsed, IsUsedAmong, StandsInProof, StandsInProofs, LowersWhereUsed, SubjectsWhereUsed, AreUsedBinds}
 use Rattle.sx_rewrite.specs.UsedLaws.{TypedVariablesAreUsed, UnusedKidsAreFree}
 use Rattle.sx_rewrite.proofs.Known.{certified-at, accepted-sorted, accepted-disciplined, accepted-typed}
-use Rattle.sx_rewrite.proofs.Lowered.{outputs-flat}
+use Rattle.sx_rewrite.proofs.Lowerings.{outputs-flat}
 use Rattle.sx_rewrite.proofs.LoweredOnce.{lowering_is_unique}
 use Rattle.sx_rewrite.proofs.LoweredAlways.{lowering_exists}
 use Rattle.sx_rewrite.proofs.LoweredSorted.{moded-base}

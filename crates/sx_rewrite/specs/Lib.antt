@@ -15,6 +15,7 @@ pub mod PlainRules
 pub mod PlainLaws
 pub mod Copied
 pub mod Rewriting
+pub mod RewrittenView
 pub mod RewritingLaws
 pub mod RuleSetLaws
 pub mod Kinds

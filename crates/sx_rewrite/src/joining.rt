@@ -1,6 +1,6 @@
 //! Accepted sets with other rules.
 
-ghost use Rattle.std.specs.Prelude.{◌≡◌, ◌+◌, ◌++◌, length};
+ghost use Rattle.std.specs.Prelude.{◌≡◌, ◌+◌, ◌++◌, length, MatchResult};
 ghost use Rattle.sx_rules.specs.Sets.{shapes_in, forms_in, rules_in, bare_rules_in};
 ghost use Rattle.sx_plain.specs.Views.{table_of};
 ghost use Rattle.sx_rewrite.specs.Extensions.{HasGrownSoundly};
@@ -41,14 +41,11 @@ impl Accepted {
             plain: table,
             flats: stored,
         } = self;
-        let mut stored = stored;
-        let mut flats = flats;
-        match stored.append(&mut flats) {
-            Ok(()) => {
+        match appended(stored, flats) {
+            Ok(flats) => {
                 drop(rules);
                 drop(plain_rules);
                 drop(table);
-                drop(flats);
                 Ok(Accepted {
                     alloc,
                     base,
@@ -56,13 +53,12 @@ impl Accepted {
                     plain_rules: grown.plain_rules,
                     first,
                     plain,
-                    flats: stored,
+                    flats,
                 })
             }
-            Err(_) => {
+            Err(flats) => {
                 drop(grown);
                 drop(plain);
-                drop(flats);
                 Err(Accepted {
                     alloc,
                     base,
@@ -70,9 +66,27 @@ impl Accepted {
                     plain_rules,
                     first,
                     plain: table,
-                    flats: stored,
+                    flats,
                 })
             }
+        }
+    }
+}
+
+/// What is stored, and then more. The one refusal is want of memory, and hands back what is stored.
+fn appended(stored: Vec<Flat>, more: Vec<Flat>) -> Result<Vec<Flat>, Vec<Flat>>
+    ensures { MatchResult result (λ x. x.items ≡ stored.items ++ more.items) (λ x. x.items ≡ stored.items) }
+{
+    let mut stored = stored;
+    let mut more = more;
+    match stored.append(&mut more) {
+        Ok(()) => {
+            drop(more);
+            Ok(stored)
+        }
+        Err(_) => {
+            drop(more);
+            Err(stored)
         }
     }
 }

@@ -11,7 +11,7 @@ pub invariant_of-result : goal.invariant_of-result
 invariant_of-result c =
     let a = c.args.self in
     let new = c.args.grown.rules in
-    let same = sym c.in-Ok.ensures.items in
+    let same = sym c.in-Ok.ensures in
     let set : List Flat → _ = (λ fs. accepted_from (bare_rules_in a.base) (bare_rules_in new) (table_of c.args.plain) fs) in
     record {
       held = subst (λ (fs : List Flat). ∥ IsHeld (shapes_in a.base) (shapes_in new) (forms_in a.base) (forms_in new) (bare_rules_in new) (set fs) ∥₁) same c.requires.held;
@@ -25,7 +25,7 @@ invariant_of-result c =
 pub invariant_of-result-in-Err : goal.invariant_of-result-in-Err
 invariant_of-result-in-Err c =
     let a = c.args.self in
-    let same = sym c.in-Err.ensures.items in
+    let same = sym c.in-Err.ensures in
     let set : List Flat → _ = (λ fs. accepted_from (bare_rules_in a.base) (bare_rules_in a.rules) (table_of a.plain) fs) in
     record {
       held = subst (λ (fs : List Flat). ∥ IsHeld (shapes_in a.base) (shapes_in a.rules) (forms_in a.base) (forms_in a.rules) (bare_rules_in a.rules) (set fs) ∥₁) same a.held;
