@@ -28,3 +28,4 @@ pub mod ExtRules
 pub mod PlainGood
 pub mod PlainAdded
 pub mod Joined
+pub mod Grafted

@@ -13,6 +13,7 @@ pub mod Measured
 pub mod MeasuredLaws
 pub mod PlainRules
 pub mod PlainLaws
+pub mod Givens
 pub mod Copied
 pub mod Rewriting
 pub mod RewrittenView

@@ -3,6 +3,7 @@
 //! - `Accepted` has base rules, extension rules after them, and the plain table. Each extension rule has a flat body, where its
 //!   conclusion has a subject, and a certificate: a derivation of its flat conclusion from its flat premises by the base rules. The
 //!   rules of each extension are sound after the extensions before it.
+//! - `graft` puts derivations in the place of the givens of another, and only moves them.
 //! - Laws: a derivation by the extended rules is lowered to one by the base rules, in one way alone; a rule is sound by what is
 //!   stored of it where a search finds a derivation, and is not where none exists; a set stays accepted as it grows.
 //!
@@ -16,6 +17,7 @@ mod beginning;
 mod ext_rule;
 mod extension_data;
 mod flat;
+mod grafting;
 mod grown;
 mod joining;
 mod laws;
@@ -39,6 +41,7 @@ pub use accepted::Accepted;
 pub use ext_rule::ExtRule;
 pub use extension_data::ExtensionData;
 pub use flat::Flat;
+pub use grafting::graft;
 pub use laws::{lowered_are_derivations, lowered_are_sorted, lowering_exists, lowering_is_unique};
 pub use lowered::Lowered;
 pub use measured_laws::{measured_are_all, measuring_is_unique, terms_are_measured};
