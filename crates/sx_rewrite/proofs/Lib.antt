@@ -27,5 +27,6 @@ pub mod Added
 pub mod ExtRules
 pub mod PlainGood
 pub mod PlainAdded
+pub mod ShallowFlats
 pub mod Joined
 pub mod Grafted

@@ -20,6 +20,7 @@ pub mod RewrittenView
 pub mod RewritingLaws
 pub mod RuleSetLaws
 pub mod Kinds
+pub mod Shallow
 pub mod Stored
 pub mod AcceptedView
 pub mod ExtensionView

@@ -11,6 +11,7 @@ ghost use Rattle.sx_rewrite.specs.Extensions.{Fits, with_table};
 ghost use Rattle.sx_rewrite.specs.Sound.{AreSoundBy};
 ghost use Rattle.sx_rewrite.specs.AcceptedView.{accepted, signature};
 ghost use Rattle.sx_rewrite.specs.ExtensionView.{ext_rule, named_rules, extension_with};
+ghost use Rattle.sx_rewrite.specs.Shallow.{IsShallow};
 ghost use Rattle.sx_rewrite.specs.Adds.{IsAdded};
 ghost use Rattle.std.specs.List.{AllByRecursion};
 ghost use Rattle.sx_rewrite.specs.PlainRules.{plain_named, RuleHasImage};
@@ -29,6 +30,7 @@ use sx_term::{NoMemory, Shapes};
 
 impl Accepted {
     /// The set with the extension after it: its rules, each with the flat body and the certificate at its place, and its plain table.
+    /// Bodies and the terms of certificates are no deeper than 1,000, and certificates no deeper than 3,000.
     /// The one refusal is want of memory, and hands the set back as it was.
     pub fn add(
         self,
@@ -38,6 +40,7 @@ impl Accepted {
     ) -> Result<Accepted, Accepted>
         requires good { IsRuleSet (shapes all.now) (forms_in self.rules) (rules_in self.rules ++ named_rules ext) }
         requires shallow { RulesAreShallow (map (λ e. rule e.rule) ext.rules.items) }
+        requires stored { AllByRecursion IsShallow flats.items }
         requires images { AllByRecursion (λ e. RuleHasImage (table_of ext.plain) (rule e.rule)) ext.rules.items }
         requires labels { ext.plain.base ≡ self.plain.base }
         requires fits { Fits (signature self) (shapes_in self.base) (shapes_in self.rules) (shapes all.now) (table_of self.plain) (table_of ext.plain)

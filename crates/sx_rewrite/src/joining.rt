@@ -1,8 +1,10 @@
 //! Accepted sets with other rules.
 
 ghost use Rattle.std.specs.Prelude.{◌≡◌, ◌+◌, ◌++◌, length, MatchResult};
+ghost use Rattle.std.specs.List.{AllByRecursion};
 ghost use Rattle.sx_rules.specs.Sets.{shapes_in, forms_in, rules_in, bare_rules_in};
 ghost use Rattle.sx_plain.specs.Views.{table_of};
+ghost use Rattle.sx_rewrite.specs.Shallow.{IsShallow};
 ghost use Rattle.sx_rewrite.specs.Extensions.{HasGrownSoundly};
 ghost use Rattle.sx_rewrite.specs.Stored.{accepted_from, IsHeld, ArePlain};
 ghost use Rattle.sx_rewrite.specs.AcceptedView.{signature};
@@ -28,6 +30,7 @@ impl Accepted {
             (accepted_from (bare_rules_in self.base) (bare_rules_in grown.rules) (table_of plain) (self.flats.items ++ flats.items)) }
         requires plain_are { ∥ ArePlain (shapes_in grown.rules) (shapes_in grown.plain_rules) (forms_in self.base) (forms_in grown.plain_rules) (table_of plain)
             (rules_in grown.rules) (rules_in grown.plain_rules) ∥₁ }
+        requires shallow { ∥ AllByRecursion IsShallow (self.flats.items ++ flats.items) ∥₁ }
         requires labels { plain.base ≡ length (shapes_in self.base) }
         requires many { length (bare_rules_in grown.rules) ≡ self.first + length (self.flats.items ++ flats.items) }
         ensures { IsJoined self grown plain flats.items result }

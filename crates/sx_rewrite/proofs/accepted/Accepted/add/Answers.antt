@@ -6,6 +6,8 @@ use Rattle.sx_plain.specs.Views.{table_of}
 use Rattle.sx_rewrite.specs.Stored.{IsHeld}
 use Rattle.sx_rewrite.specs.AcceptedView.{accepted}
 use Rattle.sx_rewrite.specs.ExtensionView.{ext_rule}
+use Rattle.std.proofs.Math.Logic.{∥∥₁_map}
+use Rattle.sx_rewrite.proofs.ShallowFlats.{shallow-both}
 use Rattle.sx_rewrite.proofs.Joined.{added-by}
 use Rattle.sx_rewrite.proofs.Added.{added-as, added-many, added-held, added-sound}
 use Rattle.sx_rules.specs.Sets.{rules_in}
@@ -50,6 +52,7 @@ joined-requires c =
             a.rules.rules.items ext.rules.items (rules_in a.plain_rules) c.facts.ensures.accepted c.requires.fits c.facts.ensures.rules c.facts.ensures.plain.rules_are
             ∙ ap (λ (x : List NamedRule). map (plain_named (table_of ext.plain)) x) (sym c.in-Ok.ensures.rules.2);
       } ∣₁;
+      shallow = ∥∥₁_map a.shallow (λ h. shallow-both a.flats.items more h c.requires.stored);
       labels = c.requires.labels ∙ a.labels;
       many = added-many base old new (table_of a.plain) a.flats.items a.first a.counted a.many exts rules (table_of ext.plain) more all grown refl lengths;
     }

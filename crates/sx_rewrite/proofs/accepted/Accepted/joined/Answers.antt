@@ -3,6 +3,8 @@ use Rattle.sx_rules.specs.Sets.{shapes_in, forms_in, bare_rules_in}
 use Rattle.sx_rules.specs.Views.{subjects_in}
 use Rattle.sx_plain.specs.Views.{table_of}
 use Rattle.sx_rewrite.specs.declared.flat.Flat.{Flat}
+use Rattle.std.specs.List.{AllByRecursion}
+use Rattle.sx_rewrite.specs.Shallow.{IsShallow}
 use Rattle.sx_rewrite.specs.Extensions.{HasGrownSoundly}
 use Rattle.sx_rewrite.specs.Stored.{accepted_from, IsHeld}
 use Rattle.sx_rewrite.proofs.accepted.Accepted.joined.Goals as goal
@@ -17,6 +19,7 @@ invariant_of-result c =
       held = subst (λ (fs : List Flat). ∥ IsHeld (shapes_in a.base) (shapes_in new) (forms_in a.base) (forms_in new) (bare_rules_in new) (set fs) ∥₁) same c.requires.held;
       sound = subst (λ (fs : List Flat). HasGrownSoundly (subjects_in (forms_in a.base)) (length (shapes_in a.base)) (set fs)) same c.requires.sound;
       plain_are = c.requires.plain_are;
+      shallow = subst (λ (fs : List Flat). ∥ AllByRecursion IsShallow fs ∥₁) same c.requires.shallow;
       labels = c.requires.labels;
       counted = a.counted;
       many = subst (λ (fs : List Flat). length (bare_rules_in new) ≡ a.first + length fs) same c.requires.many;
@@ -31,6 +34,7 @@ invariant_of-result-in-Err c =
       held = subst (λ (fs : List Flat). ∥ IsHeld (shapes_in a.base) (shapes_in a.rules) (forms_in a.base) (forms_in a.rules) (bare_rules_in a.rules) (set fs) ∥₁) same a.held;
       sound = subst (λ (fs : List Flat). HasGrownSoundly (subjects_in (forms_in a.base)) (length (shapes_in a.base)) (set fs)) same a.sound;
       plain_are = a.plain_are;
+      shallow = subst (λ (fs : List Flat). ∥ AllByRecursion IsShallow fs ∥₁) same a.shallow;
       labels = a.labels;
       counted = a.counted;
       many = subst (λ (fs : List Flat). length (bare_rules_in a.rules) ≡ a.first + length fs) same a.many;

@@ -1,0 +1,11 @@
+-- What is stored of an extension rule is not too deep.
+use Rattle.std.specs.Prelude.{◌≤◌, IfSome}
+use Rattle.sx_term.specs.Tree.{depth_of}
+use Rattle.sx_term.specs.Term.{tree}
+use Rattle.sx_rules.specs.Derivations.{height_of, HasShallowBinds}
+use Rattle.sx_rules.specs.ProofView.{proof}
+use Rattle.sx_rewrite.specs.declared.flat.Flat.{Flat}
+
+-- the flat body and the terms of the certificate are no deeper than 1,000, and the certificate is no deeper than 3,000
+abbrev pub IsShallow : Flat → Type 0
+IsShallow f = IfSome f.subject (λ t. depth_of (tree t) ≤ 1000) × (height_of (proof f.proof.value) ≤ 3000) × HasShallowBinds (proof f.proof.value)
