@@ -30,3 +30,4 @@ pub mod PlainAdded
 pub mod ShallowFlats
 pub mod Joined
 pub mod Grafted
+pub mod Summed

@@ -15,6 +15,8 @@ pub mod PlainRules
 pub mod PlainLaws
 pub mod Givens
 pub mod Copied
+pub mod Counts
+pub mod CountLaws
 pub mod Rewriting
 pub mod RewrittenView
 pub mod RewritingLaws

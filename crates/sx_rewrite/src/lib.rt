@@ -14,6 +14,7 @@ mod accept_laws;
 mod accepted;
 mod adding;
 mod beginning;
+mod count_laws;
 mod ext_rule;
 mod extension_data;
 mod flat;
@@ -38,6 +39,7 @@ pub use accept_laws::{
     growth_goes_on, rejected_is_unsound, sound_rules_are_sorted, stored_is_sound,
 };
 pub use accepted::Accepted;
+pub use count_laws::{certificates_use_premises, height_is_greatest, nodes_are_summed};
 pub use ext_rule::ExtRule;
 pub use extension_data::ExtensionData;
 pub use flat::Flat;
