@@ -1,3 +1,4 @@
+-- Equality of terms by numbers, assignments of variables, and matching as a function of the assignment so far.
 use Rattle.std.specs.Prelude.{◌≡◌, ℕ, ◌&&◌, Bool, true, false, List, [], ◌∷◌, ◌⊎◌, Option, Some, None, nat_eq}
 use Rattle.std.specs.Cmp.Lexicographic.{pointwise}
 use Rattle.sx_term.specs.declared.lex_kind.LexKind.{LexKind}

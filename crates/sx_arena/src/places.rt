@@ -15,8 +15,8 @@ use crate::arena::{Arena, Shape};
 use crate::binds::Binds;
 use crate::pattern::{fit, made};
 use std::alloc::Global;
-use sx_rules::{Place, Role};
-use sx_term::{NoMemory, Term};
+use sx_rules::Place;
+use sx_term::{NoMemory, Role, Term};
 
 /// The limit that a term passes, with its depth or its size.
 #[derive(Clone, Copy, PartialEq, Eq, Debug)]

@@ -10,7 +10,7 @@ use Rattle.sx_term.proofs.Kids.{trees, tree-at_node}
 use Rattle.sx_notation.specs.declared.language.Language.{Language}
 use Rattle.sx_notation.specs.Language.{IsLanguage, language_data, sorts_with}
 use Rattle.sx_rules.specs.Views.{FormData, places_at}
-use Rattle.sx_rules.specs.declared.rule.Role.TheVariants.{In}
+use Rattle.sx_term.specs.declared.role.Role.TheVariants.{In}
 use Rattle.sx_module.specs.Source.{IsEnvironment, main_sort, only_sort}
 use Rattle.sx_build.specs.CompileModule.{empty_environment}
 

@@ -12,7 +12,7 @@ use Rattle.sx_grammar.specs.Parts.{Parts, numbered}
 use Rattle.sx_grammar.specs.Reading.{ReadsWhole}
 use Rattle.sx_earley.specs.Tokens.{plain_tokens}
 use Rattle.sx_earley.specs.Completed.{number_of}
-use Rattle.sx_rules.specs.declared.rule.Role.TheVariants.{Sub, Out}
+use Rattle.sx_term.specs.declared.role.Role.TheVariants.{Sub, Out}
 use Rattle.sx_rules.specs.Orders.{Entry, order_of}
 use Rattle.sx_notation.specs.Language.{language_data}
 use Rattle.sx_module.specs.Body.{ReadsOnly}

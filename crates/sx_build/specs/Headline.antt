@@ -13,7 +13,7 @@ use Rattle.sx_grammar.specs.Print.{term_of}
 use Rattle.sx_grammar.specs.Reading.{Reading, ReadsWhole}
 use Rattle.sx_earley.specs.Tokens.{plain_tokens}
 use Rattle.sx_earley.specs.Completed.{number_of}
-use Rattle.sx_rules.specs.declared.rule.Role.TheVariants.{Sub, Out}
+use Rattle.sx_term.specs.declared.role.Role.TheVariants.{Sub, Out}
 use Rattle.sx_rules.specs.Derivations.{Proof}
 use Rattle.sx_rules.specs.First.{DerivesGoal}
 use Rattle.sx_rules.specs.Orders.{order_of}

@@ -20,8 +20,8 @@ use Rattle.sx_core.specs.Order.{IsFront, Phase, at_start, at_declarations, at_ru
 use Rattle.sx_core.specs.CoreRead.{IsBadLine, IsTooDeep, IsOpen, IsMissing, IsBadAt, IsDeepAt}
 use Rattle.sx_core.specs.declared.keyword.Keyword.{Keyword}
 use Rattle.sx_core.specs.declared.keyword.Keyword.TheVariants.{Head, Sort, Con, Form, Rule, If, Not, Then, End, Goal}
-use Rattle.sx_core.specs.declared.kind.Kind.{Kind}
-use Rattle.sx_core.specs.declared.kind.Kind.TheVariants.{Head as BadHead, Directive, Shape, Order, Unfinished, Main, Variable}
+use Rattle.sx_lines.specs.declared.kind.Kind.{Kind}
+use Rattle.sx_lines.specs.declared.kind.Kind.TheVariants.{Head as BadHead, Directive, Shape, Order, Unfinished, Main, Variable}
 use Rattle.sx_core.proofs.TermsLaws.{tail_is, digits_after, one_only, stands_one}
 use Rattle.sx_core.proofs.Wording.{name_space, one_word}
 use Rattle.sx_core.proofs.TableLaws.{row_keyword, one_keyword}

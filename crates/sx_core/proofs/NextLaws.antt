@@ -23,8 +23,8 @@ use Rattle.sx_core.specs.Order.{IsFront, phase_of, step, at_start, at_declaratio
 use Rattle.sx_core.specs.Machine.{Steps, IsFresh, IsBadNext, MayBegin, IsEnded, keyword_of}
 use Rattle.sx_core.specs.CoreRead.{ReadTo, IsUsual, IsBadLine, IsOpen, IsMissing}
 use Rattle.sx_core.specs.declared.found.Found.{Found}
-use Rattle.sx_core.specs.declared.kind.Kind.{Kind}
-use Rattle.sx_core.specs.declared.kind.Kind.TheVariants.{Head as BadHead, Directive, Shape as BadShape, Order as BadOrder, Unfinished, Main, Variable}
+use Rattle.sx_lines.specs.declared.kind.Kind.{Kind}
+use Rattle.sx_lines.specs.declared.kind.Kind.TheVariants.{Head as BadHead, Directive, Shape as BadShape, Order as BadOrder, Unfinished, Main, Variable}
 use Rattle.sx_core.specs.declared.reader.Reader.{Reader}
 use Rattle.sx_core.specs.declared.stage.Stage.{Stage}
 use Rattle.sx_core.specs.declared.stage.Stage.TheVariants.{Start, Declaring, Between, Premising, Concluded, Over}

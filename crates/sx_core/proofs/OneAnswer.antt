@@ -18,7 +18,7 @@ use Rattle.sx_core.specs.Fitting.{Context, Fits, Declare, AllFit}
 use Rattle.sx_core.specs.Order.{IsFront}
 use Rattle.sx_core.specs.CoreRead.{ReadTo, IsBadAt, IsDeepAt, AreLinesOf, AreRulesRefused, AreLinesAnswered, IsCoreAnswer}
 use Rattle.sx_core.specs.Laws.{OneCoreAnswer}
-use Rattle.sx_core.specs.declared.kind.Kind.{Kind}
+use Rattle.sx_lines.specs.declared.kind.Kind.{Kind}
 use Rattle.sx_core.specs.declared.error.CoreFileError.{CoreFileError}
 use Rattle.sx_core.specs.declared.error.CoreFileError.TheVariants.{Memory, NotUtf8, Notation, TooDeep, Rules}
 use Rattle.sx_core.proofs.FindLaws.{lexical_distinct}

@@ -9,8 +9,8 @@ use Rattle.sx_term.specs.Core.{core}
 use Rattle.sx_rules.specs.Modes.{Goal as GoalOf, inputs}
 use Rattle.sx_rules.specs.Rules.{Judgement}
 use Rattle.sx_rules.specs.Views.{FormData, modes_of, sorts_of}
-use Rattle.sx_rules.specs.declared.rule.Role.{Role}
-use Rattle.sx_rules.specs.declared.rule.Role.TheVariants.{In, Sub, Out}
+use Rattle.sx_term.specs.declared.role.Role.{Role}
+use Rattle.sx_term.specs.declared.role.Role.TheVariants.{In, Sub, Out}
 use Rattle.sx_core.specs.File.{SortRow, ConRow, PlaceRow, FormRow, JudgementRow, sort_line, con_line, form_line, words_text, kind_text, role_text, place_text, judgement_text}
 use Rattle.sx_core.specs.Stated.{IsName, AreNames, NameSorts, IsGoal, AreReadable}
 use Rattle.sx_core.specs.Rows.{AreNamed, IsLineOf, NoRow}

@@ -2,8 +2,8 @@
 use Rattle.std.proofs.Common.{◌≡◌, ℕ, List, [], ◌∷◌, ◌++◌, get_or, map, refl, sym, ap, ◌∙◌, subst, arith, append-nil}
 use Rattle.std.specs.Prelude.{codes}
 use Rattle.sx_lines.specs.Blanks.{NoSpace}
-use Rattle.sx_rules.specs.declared.rule.Role.{Role}
-use Rattle.sx_rules.specs.declared.rule.Role.TheVariants.{In, Sub, Out}
+use Rattle.sx_term.specs.declared.role.Role.{Role}
+use Rattle.sx_term.specs.declared.role.Role.TheVariants.{In, Sub, Out}
 use Rattle.sx_core.specs.File.{PlaceRow, sort_line, con_line, form_line, role_text, place_text, kind_text, words_text}
 use Rattle.sx_core.specs.Stated.{IsName}
 use Rattle.sx_core.specs.Words.{IsWordRead, NoWord, IsNameRead, NameRefused, NamesRefused}

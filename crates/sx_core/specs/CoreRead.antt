@@ -15,8 +15,8 @@ use Rattle.sx_core.specs.Table.{Row, row_text, rows_of, Has, NoKeyword}
 use Rattle.sx_core.specs.Fitting.{Context, IsFitting, IsDeepLine, Declare, AllFit, AreSorts}
 use Rattle.sx_core.specs.Order.{IsFront}
 use Rattle.sx_core.specs.declared.keyword.Keyword.TheVariants.{Rule, End, Goal}
-use Rattle.sx_core.specs.declared.kind.Kind.{Kind}
-use Rattle.sx_core.specs.declared.kind.Kind.TheVariants.{Head as BadHead, Directive, Shape, Order, Unfinished, Main, Variable}
+use Rattle.sx_lines.specs.declared.kind.Kind.{Kind}
+use Rattle.sx_lines.specs.declared.kind.Kind.TheVariants.{Head as BadHead, Directive, Shape, Order, Unfinished, Main, Variable}
 use Rattle.sx_core.specs.declared.problem.CoreProblem.{CoreProblem}
 use Rattle.sx_core.specs.declared.error.CoreFileError.{CoreFileError}
 use Rattle.sx_core.specs.declared.error.CoreFileError.TheVariants.{Memory, NotUtf8, Notation, TooDeep, Rules}

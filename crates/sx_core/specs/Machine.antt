@@ -36,8 +36,8 @@ use Rattle.sx_core.specs.declared.line_read.LineRead.{LineRead}
 use Rattle.sx_core.specs.declared.line_read.LineRead.TheVariants.{Head as HeadRead, Sort as SortRead, Con as ConRead, Form as FormRead, Rule as RuleRead, If as IfRead, Not as NotRead, Then as ThenRead, End as EndRead, Goal as GoalRead}
 use Rattle.sx_core.specs.declared.keyword.Keyword.{Keyword}
 use Rattle.sx_core.specs.declared.keyword.Keyword.TheVariants.{Head, Sort, Con, Form, Rule, If, Not, Then, End, Goal}
-use Rattle.sx_core.specs.declared.kind.Kind.{Kind}
-use Rattle.sx_core.specs.declared.kind.Kind.TheVariants.{Head as BadHead, Directive, Shape as BadShape, Order as BadOrder, Unfinished, Main, Variable}
+use Rattle.sx_lines.specs.declared.kind.Kind.{Kind}
+use Rattle.sx_lines.specs.declared.kind.Kind.TheVariants.{Head as BadHead, Directive, Shape as BadShape, Order as BadOrder, Unfinished, Main, Variable}
 use Rattle.sx_core.specs.declared.error.CoreFileError.{CoreFileError}
 use Rattle.sx_core.specs.declared.error.CoreFileError.TheVariants.{Memory, NotUtf8, Notation, TooDeep, Rules}
 use Rattle.sx_core.specs.declared.terms_row.RowError.TheVariants.{Memory as NoRoomForRow, Shape as NoRow, TooDeep as DeepRow}

@@ -7,8 +7,8 @@ use Rattle.sx_term.specs.Tree.{Tree, depth_of}
 use Rattle.sx_term.specs.Core.{HasCore}
 use Rattle.sx_term.specs.Sorts.{Shape, HaveSorts}
 use Rattle.sx_lines.specs.Words.{is_name}
-use Rattle.sx_rules.specs.declared.rule.Role.{Role}
-use Rattle.sx_rules.specs.declared.rule.Role.TheVariants.{In, Sub, Out}
+use Rattle.sx_term.specs.declared.role.Role.{Role}
+use Rattle.sx_term.specs.declared.role.Role.TheVariants.{In, Sub, Out}
 use Rattle.sx_rules.specs.declared.rule.Place.{Place}
 use Rattle.sx_rules.specs.Rules.{Judgement, Premise, holds, apart}
 use Rattle.sx_rules.specs.Modes.{Goal, inputs}

@@ -1,8 +1,8 @@
 //! Why a core file is refused.
 
-use crate::kind::Kind;
 use std::alloc::AllocError;
 use std::fmt;
+use sx_lines::Kind;
 use sx_rules::RuleError;
 use sx_term::NoMemory;
 use thiserror::Error;

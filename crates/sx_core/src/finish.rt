@@ -10,13 +10,13 @@ ghost use Rattle.sx_core.specs.Machine.{IsMadeOf, IsEnded};
 use crate::error::CoreFileError;
 use crate::form_table::FormTable;
 use crate::found::Found;
-use crate::kind::Kind;
 use crate::problem::CoreProblem;
 use crate::reader::Reader;
 use crate::rows::SortRow;
 use crate::sort_table::SortTable;
 use crate::stage::Stage;
 use std::alloc::Global;
+use sx_lines::Kind;
 use sx_rules::{Goal, Rule, RuleError, RuleSet};
 use sx_term::{NoMemory, Text};
 

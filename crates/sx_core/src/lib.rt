@@ -7,7 +7,6 @@ mod finish;
 mod form_table;
 mod found;
 mod keyword;
-mod kind;
 mod laws;
 mod line_read;
 mod line_reading;
@@ -28,7 +27,6 @@ mod terms_row;
 mod words;
 
 pub use error::CoreFileError;
-pub use kind::Kind;
 pub use laws::{one_core_answer, one_problem_is_stated};
 pub use problem::CoreProblem;
 pub use read::read_core_file;

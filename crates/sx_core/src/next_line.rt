@@ -9,7 +9,6 @@ ghost use Rattle.sx_core.specs.Reading.{context, IsFound, IsRead};
 
 use crate::error::CoreFileError;
 use crate::keyword::split_keyword;
-use crate::kind::Kind;
 use crate::line_read::LineRead;
 use crate::line_reading::read_line;
 use crate::reader::Reader;
@@ -17,6 +16,7 @@ use crate::stage::Stage;
 use crate::step_error::StepError;
 use crate::terms_row::RowError;
 use std::alloc::Global;
+use sx_lines::Kind;
 
 /// Whether nothing has been read.
 fn is_start(stage: &Stage) -> bool

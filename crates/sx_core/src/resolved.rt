@@ -13,8 +13,8 @@ use crate::rows::{ConRow, FormRow, PlaceRow};
 use crate::sort_table::SortTable;
 use crate::terms_row::RowError;
 use std::alloc::Global;
-use sx_rules::{Form, Place, Role};
-use sx_term::{Con, Sort};
+use sx_rules::{Form, Place};
+use sx_term::{Con, Role, Sort};
 
 /// Whether the sort is lexical or plain.
 fn is_untyped(sort: Sort) -> bool

@@ -8,7 +8,7 @@ use crate::rows::{ConRow, FormRow, PlaceRow, SortRow};
 use crate::terms_row::RowError;
 use crate::words::{after_front, name_of, next_word, read_name, read_names};
 use std::alloc::Global;
-use sx_rules::Role;
+use sx_term::Role;
 
 /// The role at the front of a place's text, and what follows it.
 fn split_role<'a>(word: &'a [u8]) -> Option<(Role, &'a [u8])>

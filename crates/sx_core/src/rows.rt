@@ -1,7 +1,6 @@
 //! The lines of a core file before its rules.
 
-use sx_rules::Role;
-use sx_term::Text;
+use sx_term::{Role, Text};
 
 /// A sort's name, and whether it is typed.
 #[derive(Drop)]

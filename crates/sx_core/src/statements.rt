@@ -15,8 +15,8 @@ use crate::resolved::subject_count;
 use crate::terms_row::{RowError, read_terms};
 use crate::words::read_name;
 use std::alloc::Global;
-use sx_rules::{Form, Goal, Judgement, Place, Role};
-use sx_term::{NoMemory, Shapes, Sort, Term};
+use sx_rules::{Form, Goal, Judgement, Place};
+use sx_term::{NoMemory, Role, Shapes, Sort, Term};
 
 /// The form that is named after one blank, and what is left.
 fn read_form<'a>(

@@ -9,8 +9,8 @@ ghost use Rattle.sx_arena.specs.Views.{judgement_of, rule_of};
 ghost use Rattle.sx_derive.specs.Stuck.{place_in, path_of};
 ghost use Rattle.sx_derive.specs.Ways.{subject_mask, subjects_of, IsWay};
 
-use sx_rules::{Judgement, Place, Role, Rule, RuleSet};
-use sx_term::{NoMemory, Term};
+use sx_rules::{Judgement, Place, Rule, RuleSet};
+use sx_term::{NoMemory, Role, Term};
 
 /// Appends the way to the variable, where the variable stands in the term, and says whether it does.
 fn put_way(term: &Term, variable: u32, path: &mut Vec<usize>) -> Result<bool, NoMemory>

@@ -1,7 +1,6 @@
 //! Sorts and symbols as they are spelled in a line.
 
-use sx_rules::Role;
-use sx_term::{LexKind, Text};
+use sx_term::{LexKind, Role, Text};
 
 /// A sort as it is spelled in a symbol: a lexical one, or a name with a least level from 0 to 99.
 /// `id@5` names a sort `id`, which no sort line may name.

@@ -1,7 +1,7 @@
 //! Reading symbols of productions and forms.
 
 ghost use Rattle.std.specs.Prelude.{◌≡◌, List, ℕ, ◌++◌, MatchOption, MatchResult};
-ghost use Rattle.sx_rules.specs.declared.rule.Role.{Role as RoleOf};
+ghost use Rattle.sx_term.specs.declared.role.Role.{Role as RoleOf};
 ghost use Rattle.sx_directives.specs.Parts.{texts};
 ghost use Rattle.sx_directives.specs.Spelling.{role_text, Spells, SpellsForm, EachSpelled, NoneIs};
 
@@ -12,7 +12,7 @@ use crate::spelled::{FormSymbol, SpelledSort};
 use std::alloc::Global;
 use sx_grammar::Symbol;
 use sx_lines::after;
-use sx_rules::Role;
+use sx_term::Role;
 
 /// The symbol of a production that a part spells.
 fn symbol_of(alloc: Global, part: &[u8]) -> Result<Symbol, RowError>

@@ -1,3 +1,4 @@
+-- Grammars as plain data: symbols, productions, bracket pairs.
 use Rattle.std.specs.Prelude.{◌≡◌, ◌≤◌, ℕ, List, [], ◌∷◌, Bool, Option, Some, None}
 use Rattle.std.specs.List.{slice_get}
 use Rattle.sx_term.specs.declared.lex_kind.LexKind.{LexKind}

@@ -1,3 +1,4 @@
+-- Earley's items as the least set that is closed under prediction, scanning and completion.
 use Rattle.std.specs.Prelude.{suc, ◌≡◌, ℕ, ◌≤◌, ◌⊎◌, List, Some, length}
 use Rattle.std.specs.List.{slice_get}
 use Rattle.sx_grammar.specs.Grammar.{Symbol, literal, lexical, part, Production, Grammar, production_of, of_kind, of_sort, is_lexeme, is_variable, Token}

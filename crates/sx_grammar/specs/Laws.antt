@@ -1,3 +1,4 @@
+-- What is proved of items, readings and printing.
 use Rattle.std.specs.Prelude.{◌≡◌, ℕ, ◌+◌, ◌*◌, ◌≤◌, List, [], Some, take, length}
 use Rattle.sx_term.specs.Tree.{Tree}
 use Rattle.sx_grammar.specs.Grammar.{Production, Grammar, production_of, HasLevels, Token, Text, of_sort}

@@ -1,3 +1,4 @@
+-- The printed tokens of a term.
 use Rattle.std.specs.Prelude.{◌≡◌, ℕ, ◌<◌, List, [], ◌∷◌, ◌++◌, cond, nat_lt, Option, Some, None, slice_index_or, drop, position, unwrap_or}
 use Rattle.std.specs.Str.{bytes_eq}
 use Rattle.std.specs.List.{slice_get}

@@ -1,3 +1,4 @@
+-- What reading all tokens may answer.
 use Rattle.std.specs.Prelude.{◌≡◌, ◌≢◌, ◌⊎◌, ℕ, ◌≤◌, ◌<◌, List, Contains, length}
 use Rattle.sx_grammar.specs.Grammar.{Grammar, Token}
 use Rattle.sx_grammar.specs.Reading.{Reading, ReadsWhole, Only, reading_depth}

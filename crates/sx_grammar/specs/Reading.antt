@@ -1,3 +1,4 @@
+-- Readings: parse trees over tokens, and when one reads tokens as a sort.
 use Rattle.std.specs.Prelude.{suc, ◌≡◌, ℕ, ◌+◌, ◌≤◌, List, [], ◌∷◌, Some, length, max}
 use Rattle.std.specs.List.{slice_get}
 use Rattle.sx_term.specs.declared.lex_kind.LexKind.{LexKind}

@@ -1,3 +1,4 @@
+-- How many readings there are, and how deep the deepest is.
 use Rattle.std.specs.Prelude.{◌≡◌, ◌≢◌, suc, ℕ, ◌+◌, ◌≤◌, ◌⊎◌, max, List, [], ◌∷◌}
 use Rattle.sx_term.specs.declared.lex_kind.LexKind.{LexKind}
 use Rattle.sx_grammar.specs.Grammar.{Symbol, Grammar, of_kind, of_sort, is_lexeme, is_variable, Token}

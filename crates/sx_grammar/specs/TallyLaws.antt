@@ -1,3 +1,4 @@
+-- How the readings of a span are counted from those of its parts.
 use Rattle.std.specs.Prelude.{◌≡◌, ℕ, suc, ◌≤◌, List, [], ◌∷◌, Some}
 use Rattle.std.specs.List.{slice_get}
 use Rattle.sx_term.specs.declared.lex_kind.LexKind.{LexKind}

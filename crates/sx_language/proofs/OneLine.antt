@@ -13,7 +13,7 @@ use Rattle.sx_grammar.specs.ReadOne.{IsAnswer, only}
 use Rattle.sx_earley.specs.Tokens.{Stems, plain_tokens}
 use Rattle.sx_earley.specs.Completed.{number_of}
 use Rattle.sx_forest.specs.Names.{names_in, AddsEach}
-use Rattle.sx_core.specs.declared.kind.Kind.TheVariants.{Variable}
+use Rattle.sx_lines.specs.declared.kind.Kind.TheVariants.{Variable}
 use Rattle.sx_rules.specs.Rules.{Premise, holds, apart}
 use Rattle.sx_outline.specs.Stages.{Numbered}
 use Rattle.sx_notation.specs.declared.notation_error.NotationError.{NotationError}

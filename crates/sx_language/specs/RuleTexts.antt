@@ -7,7 +7,7 @@ use Rattle.sx_grammar.specs.Grammar.{Text}
 use Rattle.sx_earley.specs.Tokens.{Stems, sort_of, without_digits}
 use Rattle.sx_rules.specs.Rules.{Premise, holds, apart}
 use Rattle.sx_rules.specs.Views.{NamedRule}
-use Rattle.sx_core.specs.declared.kind.Kind.TheVariants.{Shape}
+use Rattle.sx_lines.specs.declared.kind.Kind.TheVariants.{Shape}
 use Rattle.sx_outline.specs.Stages.{Numbered, RuleData}
 use Rattle.sx_notation.specs.declared.notation_error.NotationError.{NotationError}
 use Rattle.sx_notation.specs.declared.notation_error.NotationError.TheVariants.{Memory, Notation}

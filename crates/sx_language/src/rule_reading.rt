@@ -14,7 +14,7 @@ use crate::rule_line::read_line;
 use crate::rule_reader::RuleReader;
 use crate::stem_sorts::sorts_of;
 use std::alloc::Global;
-use sx_core::Kind;
+use sx_lines::Kind;
 use sx_notation::{LineReader, NotationError};
 use sx_outline::{RuleLine, RuleLines};
 use sx_rules::{Judgement, Premise, Rule};

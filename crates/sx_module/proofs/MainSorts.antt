@@ -12,8 +12,8 @@ use Rattle.sx_grammar.specs.Told.{is_typed, sort_with}
 use Rattle.sx_grammar.proofs.Finding.{named_at}
 use Rattle.sx_earley.specs.Completed.{IsSort, number_of}
 use Rattle.sx_print.specs.Sorted.{place_of}
-use Rattle.sx_rules.specs.declared.rule.Role.{Role}
-use Rattle.sx_rules.specs.declared.rule.Role.TheVariants.{In, Sub, Out}
+use Rattle.sx_term.specs.declared.role.Role.{Role}
+use Rattle.sx_term.specs.declared.role.Role.TheVariants.{In, Sub, Out}
 use Rattle.sx_rules.specs.declared.rule.Place.{Place as PlaceOf}
 use Rattle.sx_rules.specs.Views.{FormData, places_at, places_or_none}
 use Rattle.sx_directives.specs.declared.spelled.SpelledSort.TheVariants.{Lex as Lexical, Named}

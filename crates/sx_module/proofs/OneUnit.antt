@@ -6,7 +6,7 @@ use Rattle.sx_token.specs.declared.token.Token.{Token}
 use Rattle.sx_token.specs.declared.token_error.TokenError.{TokenError}
 use Rattle.sx_grammar.specs.Grammar.{Text}
 use Rattle.sx_grammar.specs.Reading.{Reading}
-use Rattle.sx_rules.specs.declared.rule.Role.TheVariants.{Sub, Out}
+use Rattle.sx_term.specs.declared.role.Role.TheVariants.{Sub, Out}
 use Rattle.sx_rules.specs.First.{Answer}
 use Rattle.sx_rules.specs.Modes.{AllModed}
 use Rattle.sx_rules.specs.Views.{modes_of, subjects_in}

@@ -14,7 +14,7 @@ use Rattle.sx_term.specs.Sorts.{Shape, HasSort}
 use Rattle.sx_grammar.specs.Parts.{Parts}
 use Rattle.sx_grammar.specs.Tables.{literals_of}
 use Rattle.sx_grammar.specs.Told.{shapes_of}
-use Rattle.sx_rules.specs.declared.rule.Role.TheVariants.{In, Sub, Out}
+use Rattle.sx_term.specs.declared.role.Role.TheVariants.{In, Sub, Out}
 use Rattle.sx_rules.specs.Good.{IsRuleSet}
 use Rattle.sx_rules.specs.Modes.{outputs}
 use Rattle.sx_rules.specs.Sets.{shapes_in, forms_in, rules_in}

@@ -8,7 +8,7 @@ use Rattle.sx_grammar.specs.Parts.{Parts}
 use Rattle.sx_grammar.specs.Tables.{literals_of}
 use Rattle.sx_grammar.specs.Told.{shapes_of}
 use Rattle.sx_print.specs.Cut.{HasLexemes}
-use Rattle.sx_rules.specs.declared.rule.Role.TheVariants.{Out}
+use Rattle.sx_term.specs.declared.role.Role.TheVariants.{Out}
 use Rattle.sx_rules.specs.EntryView.{entries}
 use Rattle.sx_rules.specs.First.{Answer}
 use Rattle.sx_rules.specs.Orders.{order_of}

@@ -9,8 +9,8 @@ use Rattle.sx_grammar.specs.Print.{term_of}
 use Rattle.sx_grammar.specs.Reading.{Reading}
 use Rattle.sx_print.specs.Cut.{HasLexemes}
 use Rattle.sx_forest.specs.Places.{place_at}
-use Rattle.sx_rules.specs.declared.rule.Role.{Role}
-use Rattle.sx_rules.specs.declared.rule.Role.TheVariants.{In, Sub, Out}
+use Rattle.sx_term.specs.declared.role.Role.{Role}
+use Rattle.sx_term.specs.declared.role.Role.TheVariants.{In, Sub, Out}
 use Rattle.sx_rules.specs.declared.rule.Place.{Place}
 use Rattle.sx_rules.specs.Deep.{AreShallow}
 use Rattle.sx_rules.specs.Modes.{outputs, Goal}

@@ -12,7 +12,7 @@ use Rattle.sx_grammar.specs.ReadOne.{IsAnswer, too_hard, too_deep}
 use Rattle.sx_earley.specs.Tokens.{plain_tokens}
 use Rattle.sx_earley.specs.Completed.{number_of}
 use Rattle.sx_forest.specs.Places.{place_at}
-use Rattle.sx_rules.specs.declared.rule.Role.TheVariants.{Sub, Out}
+use Rattle.sx_term.specs.declared.role.Role.TheVariants.{Sub, Out}
 use Rattle.sx_rules.specs.First.{Answer, IsUnderivable}
 use Rattle.sx_rules.specs.Modes.{AllModed, Goal}
 use Rattle.sx_rules.specs.Views.{modes_of, subjects_in}

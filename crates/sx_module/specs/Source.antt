@@ -13,8 +13,8 @@ use Rattle.sx_lines.specs.Reading.{kept}
 use Rattle.sx_grammar.specs.Tables.{literals_of}
 use Rattle.sx_grammar.specs.Told.{shapes_of}
 use Rattle.sx_print.specs.Cut.{HasLexemes}
-use Rattle.sx_rules.specs.declared.rule.Role.{Role}
-use Rattle.sx_rules.specs.declared.rule.Role.TheVariants.{In}
+use Rattle.sx_term.specs.declared.role.Role.{Role}
+use Rattle.sx_term.specs.declared.role.Role.TheVariants.{In}
 use Rattle.sx_rules.specs.Views.{places_at}
 use Rattle.sx_interface.specs.declared.headers.Header as headers
 use Rattle.sx_interface.specs.declared.marks.Digest.{Digest}

@@ -3,7 +3,7 @@ use Rattle.std.specs.Prelude.{◌≡◌, ℕ, ◌≤◌, List, [], ◌∷◌, No
 use Rattle.sx_term.specs.Tree.{Tree}
 use Rattle.sx_token.specs.declared.token.Token.{Token}
 use Rattle.sx_grammar.specs.Reading.{Reading}
-use Rattle.sx_rules.specs.declared.rule.Role.TheVariants.{Sub, Out}
+use Rattle.sx_term.specs.declared.role.Role.TheVariants.{Sub, Out}
 use Rattle.sx_rules.specs.Derivations.{nodes_of}
 use Rattle.sx_rules.specs.EntryView.{entries}
 use Rattle.sx_rules.specs.First.{Answer, IsFirst}

@@ -2,7 +2,7 @@
 
 ghost use Rattle.std.specs.Prelude.{◌≡◌, ◌+◌, ◌≤◌, ℕ, length, map, IfOk, IfErr};
 ghost use Rattle.sx_term.specs.Term.{tree};
-ghost use Rattle.sx_rules.specs.declared.rule.Role.TheVariants.{Sub};
+ghost use Rattle.sx_term.specs.declared.role.Role.TheVariants.{Sub};
 ghost use Rattle.sx_forest.specs.Readings.{plain_reading};
 ghost use Rattle.sx_interface.specs.HeaderView.{header_view};
 ghost use Rattle.sx_notation.specs.Language.{IsLanguage, language_data};

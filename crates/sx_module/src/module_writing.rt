@@ -27,8 +27,7 @@ use crate::showing::show;
 use crate::texts::{base_text, derivation_text, interface_text};
 use crate::typed::Typed;
 use std::alloc::Global;
-use sx_rules::Role;
-use sx_term::{NoMemory, Sort, Term};
+use sx_term::{NoMemory, Role, Sort, Term};
 
 /// The base file, and how many tokens its printed body has.
 #[derive(Drop)]

@@ -2,7 +2,7 @@
 
 ghost use Rattle.std.specs.Prelude.{◌≡◌, ◌⊎◌, ◌<◌, ◌≤◌, ℕ, drop, length, IfOk, IfErr};
 ghost use Rattle.sx_term.specs.Term.{tree};
-ghost use Rattle.sx_rules.specs.declared.rule.Role.TheVariants.{Sub};
+ghost use Rattle.sx_term.specs.declared.role.Role.TheVariants.{Sub};
 ghost use Rattle.sx_rules.specs.Sets.{forms_in};
 ghost use Rattle.sx_forest.specs.Readings.{plain_reading};
 ghost use Rattle.sx_notation.specs.Language.{language_data, sorts_with};
@@ -20,8 +20,8 @@ use crate::spots::{Spot, spot_of};
 use std::alloc::Global;
 use sx_interface::Header;
 use sx_notation::{Language, Unread};
-use sx_rules::{Place, Role};
-use sx_term::{LexKind, Sort};
+use sx_rules::Place;
+use sx_term::{LexKind, Role, Sort};
 use sx_token::TokenError;
 
 /// The bytes of the body.

@@ -17,8 +17,8 @@ use std::alloc::Global;
 use std::sync::ledger::Ledger;
 use sx_derive::{DeriveError, Listed, derive_list};
 use sx_notation::Language;
-use sx_rules::{Goal, Hyps, Place, Role, RuleSet};
-use sx_term::{NoMemory, Steps, Term};
+use sx_rules::{Goal, Hyps, Place, RuleSet};
+use sx_term::{NoMemory, Role, Steps, Term};
 
 /// Adds what stands at a place with this role: the environment, the subject, or nothing.
 fn add_term(

@@ -4,7 +4,7 @@ ghost use Rattle.std.specs.Prelude.{◌≡◌, ℕ, [], ◌∷◌, length, None,
 ghost use Rattle.sx_derive.specs.declared.derive_error.DeriveError.TheVariants.{Underivable, Memory as NoRoom};
 ghost use Rattle.sx_module.specs.declared.module_error.ModuleError.TheVariants.{Memory};
 ghost use Rattle.sx_term.specs.Term.{tree};
-ghost use Rattle.sx_rules.specs.declared.rule.Role.TheVariants.{Sub};
+ghost use Rattle.sx_term.specs.declared.role.Role.TheVariants.{Sub};
 ghost use Rattle.sx_derive.specs.Search.{tries_of};
 ghost use Rattle.sx_forest.specs.Readings.{plain_reading};
 ghost use Rattle.sx_module.specs.Source.{main_sort};

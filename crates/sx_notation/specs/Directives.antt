@@ -1,6 +1,6 @@
 -- Lines that extend a language.
 use Rattle.std.specs.Prelude.{◌≡◌, ℕ, List}
-use Rattle.sx_core.specs.declared.kind.Kind.TheVariants.{Shape}
+use Rattle.sx_lines.specs.declared.kind.Kind.TheVariants.{Shape}
 use Rattle.sx_directives.specs.declared.directive.Directive.{Directive}
 use Rattle.sx_directives.specs.Rows.{IsDirective}
 use Rattle.sx_notation.specs.declared.notation_error.NotationError.{NotationError}

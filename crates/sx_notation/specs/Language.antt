@@ -9,8 +9,8 @@ use Rattle.sx_grammar.specs.Parts.{Parts}
 use Rattle.sx_grammar.specs.Tables.{literals_of}
 use Rattle.sx_grammar.specs.Told.{shapes_of}
 use Rattle.sx_print.specs.Cut.{HasLexemes}
-use Rattle.sx_rules.specs.declared.rule.Role.{Role}
-use Rattle.sx_rules.specs.declared.rule.Role.TheVariants.{In, Sub, Out}
+use Rattle.sx_term.specs.declared.role.Role.{Role}
+use Rattle.sx_term.specs.declared.role.Role.TheVariants.{In, Sub, Out}
 use Rattle.sx_rules.specs.declared.rule.Place.{Place}
 use Rattle.sx_rules.specs.Rules.{Premise, holds, apart}
 use Rattle.sx_rules.specs.Views.{FormData, NamedRule}

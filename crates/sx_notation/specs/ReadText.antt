@@ -17,7 +17,7 @@ use Rattle.sx_earley.specs.Tokens.{Stems, plain_tokens}
 use Rattle.sx_earley.specs.Unknown.{IsFirstUnknown}
 use Rattle.sx_earley.specs.Completed.{number_of}
 use Rattle.sx_forest.specs.Names.{names_in, AddsEach}
-use Rattle.sx_core.specs.declared.kind.Kind.TheVariants.{Variable}
+use Rattle.sx_lines.specs.declared.kind.Kind.TheVariants.{Variable}
 use Rattle.sx_notation.specs.WhyUnread.{IsUnreadAs}
 use Rattle.sx_notation.specs.declared.notation_error.NotationError.{NotationError}
 use Rattle.sx_notation.specs.declared.notation_error.NotationError.TheVariants.{Memory, Notation, Token as BadTokens, Read}

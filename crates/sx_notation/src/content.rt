@@ -7,8 +7,8 @@ ghost use Rattle.sx_notation.specs.GoalText.{contents};
 ghost use Rattle.sx_notation.specs.Placed.{shown};
 
 use std::alloc::Global;
-use sx_rules::{Place, Role};
-use sx_term::{NoMemory, Term};
+use sx_rules::Place;
+use sx_term::{NoMemory, Role, Term};
 
 /// The term with this number, or None where there is none.
 fn term_in(terms: &[Term], number: usize) -> Option<&Term>

@@ -6,8 +6,8 @@ ghost use Rattle.sx_notation.specs.Directives.{IsNoDirective};
 
 use crate::notation_error::NotationError;
 use std::alloc::Global;
-use sx_core::Kind;
 use sx_directives::{Directive, RowError};
+use sx_lines::Kind;
 
 /// What the line with this number states. It is refused, with its number and `Shape`, exactly where it is no `prod` and no `var` line:
 /// where its first part is another word, or the parts after it are not as stated.

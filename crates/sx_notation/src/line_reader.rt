@@ -17,10 +17,10 @@ use crate::notation_error::NotationError;
 use crate::telling::why_unread;
 use std::alloc::Global;
 use std::marker::Model;
-use sx_core::Kind;
 use sx_earley::{Metas, Stems};
 use sx_forest::{ReadError, Reading, read_one_by, strip};
 use sx_grammar::Grammar;
+use sx_lines::Kind;
 use sx_term::{NoMemory, Sort, Term, Vars};
 use sx_token::{Literals, Token, TokenError};
 

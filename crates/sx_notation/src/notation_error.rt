@@ -3,8 +3,8 @@
 use crate::unread::Unread;
 use std::alloc::{AllocError, AllocFailed};
 use std::fmt;
-use sx_core::Kind;
 use sx_grammar::GrammarError;
+use sx_lines::Kind;
 use sx_rules::RuleError;
 use sx_term::{NoMemory, Text};
 use sx_token::TokenError;

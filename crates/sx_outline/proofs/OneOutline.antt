@@ -7,8 +7,8 @@ use Rattle.sx_directives.specs.Rows.{IsRow, HasWord}
 use Rattle.sx_directives.specs.declared.rows.MainLine.{MainLine}
 use Rattle.sx_directives.specs.declared.row.Row.{Row}
 use Rattle.sx_directives.specs.declared.row.Row.TheVariants.{Language, Sort, Prod, Var, Form, Main, Rule, Bar, End}
-use Rattle.sx_core.specs.declared.kind.Kind.{Kind}
-use Rattle.sx_core.specs.declared.kind.Kind.TheVariants.{Head, Directive, Shape, Order, Unfinished, Main as NoMain, Variable}
+use Rattle.sx_lines.specs.declared.kind.Kind.{Kind}
+use Rattle.sx_lines.specs.declared.kind.Kind.TheVariants.{Head, Directive, Shape, Order, Unfinished, Main as NoMain, Variable}
 use Rattle.sx_outline.specs.declared.main_form.MainForm.{MainForm}
 use Rattle.sx_outline.specs.declared.outline_error.OutlineError.{OutlineError}
 use Rattle.sx_outline.specs.declared.outline_error.OutlineError.TheVariants.{Memory, NotUtf8, Notation}

@@ -7,7 +7,7 @@ use Rattle.sx_lines.specs.Lines as lines
 use Rattle.sx_directives.specs.Parts.{parts_of, begun, with_byte}
 use Rattle.sx_directives.specs.declared.row.Row.{Row}
 use Rattle.sx_directives.specs.declared.row.Row.TheVariants.{Language, Sort, Prod, Var, Form, Main, Rule, Bar, End}
-use Rattle.sx_core.specs.declared.kind.Kind.{Kind}
+use Rattle.sx_lines.specs.declared.kind.Kind.{Kind}
 use Rattle.sx_outline.specs.declared.outline_error.OutlineError.{OutlineError}
 use Rattle.sx_outline.specs.declared.outline_error.OutlineError.TheVariants.{Notation}
 use Rattle.sx_outline.specs.Declarations.{Declared, declare}

@@ -1,7 +1,7 @@
 -- The places of a form by what they are for.
 use Rattle.std.proofs.Common.{◌≡◌, ℕ, ◌+◌, ◌<◌, List, [], ◌∷◌, ◌++◌, length, get_or, drop, sym, ap, ◌∙◌}
 use Rattle.std.proofs.lemmas.List.{drop_more}
-use Rattle.sx_rules.specs.declared.rule.Role.{Role}
+use Rattle.sx_term.specs.declared.role.Role.{Role}
 use Rattle.sx_directives.specs.declared.spelled.SpelledSort.{SpelledSort}
 use Rattle.sx_directives.specs.declared.spelled.FormSymbol.{FormSymbol}
 use Rattle.sx_outline.specs.Fitting.{sort_at, sorts_at}

@@ -4,9 +4,9 @@ use Rattle.std.specs.List.{find, AllByRecursion}
 use Rattle.std.specs.Str.{bytes_eq}
 use Rattle.sx_term.specs.declared.lex_kind.LexKind.{LexKind}
 use Rattle.sx_term.specs.declared.lex_kind.LexKind.TheVariants.{Id}
-use Rattle.sx_rules.specs.declared.rule.Role.{Role}
-use Rattle.sx_rules.specs.declared.rule.Role.TheVariants.{In, Sub, Out}
-use Rattle.sx_rules.specs.Views.{is_sub}
+use Rattle.sx_term.specs.declared.role.Role.{Role}
+use Rattle.sx_term.specs.declared.role.Role.TheVariants.{In, Sub, Out}
+use Rattle.sx_term.specs.Roles.{is_sub}
 use Rattle.sx_grammar.specs.Parts.{Line, number_of, labels}
 use Rattle.sx_grammar.specs.declared.symbol.Symbol.{Symbol}
 use Rattle.sx_grammar.specs.declared.symbol.Symbol.TheVariants.{Lit, Lex, Part}

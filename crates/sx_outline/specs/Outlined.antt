@@ -6,8 +6,8 @@ use Rattle.sx_lines.specs.Lines.{Lines, over, line, lines_from}
 use Rattle.sx_grammar.specs.Parts.{Parts, parts}
 use Rattle.sx_directives.specs.declared.rows.VarLine.{VarLine}
 use Rattle.sx_directives.specs.declared.rows.MainLine.{MainLine}
-use Rattle.sx_core.specs.declared.kind.Kind.{Kind}
-use Rattle.sx_core.specs.declared.kind.Kind.TheVariants.{Head, Directive, Shape, Order, Unfinished, Main, Variable}
+use Rattle.sx_lines.specs.declared.kind.Kind.{Kind}
+use Rattle.sx_lines.specs.declared.kind.Kind.TheVariants.{Head, Directive, Shape, Order, Unfinished, Main, Variable}
 use Rattle.sx_outline.specs.declared.main_form.MainForm.{MainForm}
 use Rattle.sx_outline.specs.declared.outline.Outline.{Outline}
 use Rattle.sx_outline.specs.declared.outline_error.OutlineError.{OutlineError}

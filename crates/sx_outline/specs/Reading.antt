@@ -6,7 +6,7 @@ use Rattle.sx_directives.specs.Rows.{IsRow}
 use Rattle.sx_directives.specs.declared.rows.MainLine.{MainLine}
 use Rattle.sx_directives.specs.declared.row.Row.{Row}
 use Rattle.sx_directives.specs.declared.row.Row.TheVariants.{Language, Sort, Prod, Var, Form, Main}
-use Rattle.sx_core.specs.declared.kind.Kind.TheVariants.{Head, Order, Main as NoMain}
+use Rattle.sx_lines.specs.declared.kind.Kind.TheVariants.{Head, Order, Main as NoMain}
 use Rattle.sx_outline.specs.declared.main_form.MainForm.{MainForm}
 use Rattle.sx_outline.specs.declared.outline.Outline.{Outline}
 use Rattle.sx_outline.specs.declared.outline_error.OutlineError.{OutlineError}

@@ -3,7 +3,7 @@ use Rattle.std.specs.Prelude.{ℕ, ◌+◌, ◌≤◌, List, [], ◌∷◌, leng
 use Rattle.std.specs.List.{AllByRecursion}
 use Rattle.sx_grammar.specs.Parts.{literals}
 use Rattle.sx_grammar.specs.Tables.{HasGoodLevels}
-use Rattle.sx_rules.specs.declared.rule.Role.{Role}
+use Rattle.sx_term.specs.declared.role.Role.{Role}
 use Rattle.sx_directives.specs.Spelling.{IsName, NotLexical}
 use Rattle.sx_directives.specs.declared.spelled.SpelledSort.TheVariants.{Lex, Named}
 use Rattle.sx_directives.specs.declared.spelled.FormSymbol.{FormSymbol}

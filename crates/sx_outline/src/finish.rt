@@ -13,7 +13,7 @@ use crate::outline_error::{OutlineError, bad_line};
 use crate::reader::Reader;
 use crate::rule_lines::RuleLines;
 use crate::stage::Stage;
-use sx_core::Kind;
+use sx_lines::Kind;
 
 /// The outline of what is known, if a main line was read. A further line would have this number.
 fn finish_whole(

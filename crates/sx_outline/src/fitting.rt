@@ -2,7 +2,7 @@
 
 ghost use Rattle.std.specs.Prelude.{◌≡◌, ◌↔◌, IsTrue, take, Contains, option_map};
 ghost use Rattle.std.specs.List.{AllByRecursion};
-ghost use Rattle.sx_rules.specs.Views as view;
+ghost use Rattle.sx_term.specs.Roles as roles;
 ghost use Rattle.sx_outline.specs.Declarations.{Declared};
 ghost use Rattle.sx_outline.specs.Fitting.{Fits, HasOneSubject, IsKnownSort, PlaceFits, SymbolFits, form_names, sort_named, stems};
 ghost use Rattle.sx_outline.specs.View.{known};
@@ -10,12 +10,11 @@ ghost use Rattle.sx_outline.specs.View.{known};
 use crate::known::Known;
 use crate::role_places::count_at;
 use sx_directives::{FormLine, FormSymbol, Row, SpelledSort, VarLine, lexical_kind};
-use sx_rules::Role;
-use sx_term::Text;
+use sx_term::{Role, Text};
 
 /// Whether the place is for a subject.
 fn is_sub(role: Role) -> bool
-    ensures { result ≡ view.is_sub role }
+    ensures { result ≡ roles.is_sub role }
 {
     match role {
         Role::In => false,

@@ -12,8 +12,7 @@ use crate::known::Known;
 use crate::main_form::MainForm;
 use crate::role_places::{count_at, one_at};
 use sx_directives::{FormSymbol, MainLine, SpelledSort};
-use sx_rules::Role;
-use sx_term::Text;
+use sx_term::{Role, Text};
 
 /// The name of the sort of the one place with this role, where there is just one, and it is of no lexical sort.
 fn one_name(symbols: &[FormSymbol], role: Role) -> Option<&Text>

@@ -16,8 +16,8 @@ use crate::reader::Reader;
 use crate::rule_lines::{RuleLine, RuleLines};
 use crate::stage::{Begun, Stage};
 use std::alloc::Global;
-use sx_core::Kind;
 use sx_directives::{Row, RowError, read_row};
+use sx_lines::Kind;
 use sx_term::{NoMemory, Text, TextError};
 
 /// Whether a row is due.

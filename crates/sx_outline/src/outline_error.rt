@@ -4,7 +4,7 @@ ghost use Rattle.std.specs.Prelude.{◌≡◌};
 ghost use Rattle.sx_outline.specs.declared.outline_error.OutlineError.TheVariants as errors;
 
 use std::alloc::{AllocError, AllocFailed};
-use sx_core::Kind;
+use sx_lines::Kind;
 use sx_term::NoMemory;
 use thiserror::Error;
 

@@ -5,7 +5,7 @@ ghost use Rattle.sx_directives.specs.declared.spelled.SpelledSort.{SpelledSort a
 ghost use Rattle.sx_outline.specs.Fitting.{sort_at, sorts_at};
 
 use sx_directives::{FormSymbol, SpelledSort};
-use sx_rules::Role;
+use sx_term::Role;
 
 /// The sort of the symbol, where it is a place with this role.
 fn sort_of(symbol: &FormSymbol, role: Role) -> Option<&SpelledSort>

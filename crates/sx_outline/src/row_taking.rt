@@ -3,7 +3,7 @@
 ghost use Rattle.std.specs.Prelude.{◌≡◌, ◌≤◌, IfOk};
 ghost use Rattle.sx_directives.specs.declared.row.Row.{Row as RowOf};
 ghost use Rattle.sx_directives.specs.declared.row.Row.TheVariants as rows;
-ghost use Rattle.sx_core.specs.declared.kind.Kind.TheVariants as kinds;
+ghost use Rattle.sx_lines.specs.declared.kind.Kind.TheVariants as kinds;
 ghost use Rattle.sx_outline.specs.declared.outline_error.OutlineError.TheVariants as errors;
 ghost use Rattle.sx_outline.specs.Declarations.{Declared};
 ghost use Rattle.sx_outline.specs.Reading.{IsCounted, GrowsByOne, IsDeclaration, IsRowTaken};
@@ -14,8 +14,8 @@ use crate::outline_error::{OutlineError, bad_line};
 use crate::reader::Reader;
 use crate::stage::{Begun, Stage};
 use std::alloc::Global;
-use sx_core::Kind;
 use sx_directives::{MainLine, Row};
+use sx_lines::Kind;
 use sx_term::Text;
 
 /// The refusal of a line that may not stand there.

@@ -1,8 +1,8 @@
 -- Forms whose places have sorts for their roles.
 use Rattle.std.proofs.Common.{ℕ, zero, suc, List, [], ◌∷◌, map}
 use Rattle.std.specs.List.{AllByRecursion}
-use Rattle.sx_rules.specs.declared.rule.Role.{Role}
-use Rattle.sx_rules.specs.declared.rule.Role.TheVariants.{In, Sub, Out}
+use Rattle.sx_term.specs.declared.role.Role.{Role}
+use Rattle.sx_term.specs.declared.role.Role.TheVariants.{In, Sub, Out}
 use Rattle.sx_rules.specs.declared.rule.Place.{Place}
 use Rattle.sx_rules.specs.Modes.{inputs, outputs}
 use Rattle.sx_rules.specs.Discipline.{AreUntypedSorts, FormsFit}

@@ -4,8 +4,8 @@ use Rattle.std.specs.List.{AllByRecursion}
 use Rattle.sx_term.specs.declared.sort.Sort.{Sort}
 use Rattle.sx_term.specs.declared.sort.Sort.TheVariants.{Typed}
 use Rattle.sx_term.specs.Untyped.{IsUntypedSort}
-use Rattle.sx_rules.specs.declared.rule.Role.{Role}
-use Rattle.sx_rules.specs.declared.rule.Role.TheVariants.{In, Sub, Out}
+use Rattle.sx_term.specs.declared.role.Role.{Role}
+use Rattle.sx_term.specs.declared.role.Role.TheVariants.{In, Sub, Out}
 use Rattle.sx_rules.specs.Views.{FormData}
 
 -- a subject's sort is typed, and that of another place is not

@@ -1,10 +1,9 @@
 -- Rules and what belongs to them as plain data.
-use Rattle.std.specs.Prelude.{ℕ, Bool, true, false, List, [], map, slice_get, Option, Some, None}
+use Rattle.std.specs.Prelude.{ℕ, List, [], map, slice_get, Option, Some, None}
 use Rattle.sx_term.specs.Tree.{Tree}
 use Rattle.sx_term.specs.declared.term.Term.{Term}
 use Rattle.sx_term.specs.Term.{tree}
-use Rattle.sx_rules.specs.declared.rule.Role.{Role}
-use Rattle.sx_rules.specs.declared.rule.Role.TheVariants.{In, Sub, Out}
+pub use Rattle.sx_term.specs.Roles.{is_out, is_sub}
 use Rattle.sx_rules.specs.declared.rule.Place.{Place}
 use Rattle.sx_rules.specs.declared.rule.Form.{Form}
 use Rattle.sx_rules.specs.declared.rule.Judgement.{Judgement as JudgementOf}
@@ -67,17 +66,6 @@ places_or_none (Some f) = f.places
 -- the places of the form with a number; none where there is no such form
 abbrev pub places_at : List FormData → ℕ → List Place
 places_at fs n = places_or_none (slice_get fs n)
-
--- whether the role is that of an output, or of a subject
-abbrev pub is_out : Role → Bool
-is_out In = false
-is_out Sub = false
-is_out Out = true
-
-abbrev pub is_sub : Role → Bool
-is_sub In = false
-is_sub Sub = true
-is_sub Out = false
 
 -- which places are outputs, which are subjects, and the sorts of the places
 abbrev pub modes_of : List FormData → Modes

@@ -39,5 +39,5 @@ pub use list_reading::{read_list, written_list_is_read};
 pub use list_writing::write_list;
 pub use order::preorder;
 pub use proof::Proof;
-pub use rule::{Form, Goal, Hyps, Judgement, Place, Premise, Role, Rule};
+pub use rule::{Form, Goal, Hyps, Judgement, Place, Premise, Rule};
 pub use rule_set::RuleSet;

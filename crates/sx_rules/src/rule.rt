@@ -1,14 +1,6 @@
 //! Forms, judgements, goals and rules.
 
-use sx_term::{Sort, Term, Text};
-
-/// What a place of a form is for.
-#[derive(Clone, Copy, PartialEq, Eq, Debug)]
-pub enum Role {
-    In,
-    Sub,
-    Out,
-}
+use sx_term::{Role, Sort, Term, Text};
 
 /// A place of a form.
 #[derive(Clone, Copy, PartialEq, Eq, Debug)]

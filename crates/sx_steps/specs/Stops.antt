@@ -2,8 +2,8 @@
 use Rattle.std.specs.Prelude.{ℕ, List, codes, Option, Some, None}
 use Rattle.sx_rules.specs.declared.error.RuleError.{RuleError}
 use Rattle.sx_rules.specs.declared.error.RuleError.TheVariants as rule_error
-use Rattle.sx_core.specs.declared.kind.Kind.{Kind}
-use Rattle.sx_core.specs.declared.kind.Kind.TheVariants as kind
+use Rattle.sx_lines.specs.declared.kind.Kind.{Kind}
+use Rattle.sx_lines.specs.declared.kind.Kind.TheVariants as kind
 use Rattle.sx_words.specs.declared.place.Place.{Place}
 use Rattle.sx_words.specs.declared.place.Place.TheVariants.{Line, Rule}
 use Rattle.sx_words.specs.declared.file_defect.FileDefect.TheVariants as file_defect

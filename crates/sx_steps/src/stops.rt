@@ -7,7 +7,7 @@ ghost use Rattle.sx_steps.specs.Stops as stops;
 use crate::names::text_of;
 use crate::stop::{Stop, about};
 use std::alloc::Global;
-use sx_core::Kind;
+use sx_lines::Kind;
 use sx_rules::RuleError;
 use sx_term::{NoMemory, Text};
 use sx_words::{Defect, FileDefect, Place, Refusal, RuleDefect};

@@ -15,6 +15,7 @@ pub mod Spaced
 pub mod Run
 pub mod Vars
 pub mod Sorts
+pub mod Roles
 pub mod Shapes
 pub mod Untyped
 pub mod Instances

@@ -1,7 +1,7 @@
 //! Terms: what every other crate of soundx speaks of.
 //!
 //! - Terms and what they are made of: `Term`, `LexKind`, `Text`, `Path`; the names of variables: `Vars`.
-//! - Sorts of terms: `Sort`, `Con`, `Shapes`.
+//! - Sorts of terms: `Sort`, `Con`, `Shapes`. What the places of judgements are for: `Role`.
 //! - Instances and matching: `Bindings`, `subst`, `match_term`, `Fit`.
 //! - Core notation, in which a term is one line of text: `write_core`, `read_core`, and the laws that join them.
 //! - Tokens: `Mark`, `literal_shape`, the runs of characters in `runs`, and the laws of cutting a text into tokens.
@@ -29,6 +29,7 @@ mod matching;
 mod no_memory;
 mod path;
 mod read;
+mod role;
 pub mod runs;
 mod scan;
 mod shapes;
@@ -55,6 +56,7 @@ pub use matching::match_term;
 pub use no_memory::NoMemory;
 pub use path::Path;
 pub use read::read_core;
+pub use role::Role;
 pub use shapes::Shapes;
 pub use sort::Sort;
 pub use steps::Steps;

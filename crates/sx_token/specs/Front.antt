@@ -1,3 +1,4 @@
+-- What stands at the front of a text: blanks or a comment, a token, a string without end, or none of these.
 use Rattle.std.specs.Prelude.{◌≡◌, ℕ, ◌<◌, ◌==◌, Bool, IsFalse, List, ◌++◌, take, drop}
 use Rattle.std.specs.Char.{encode_utf8, is_ascii_digit}
 use Rattle.std.specs.Str.{IsCharBoundary}

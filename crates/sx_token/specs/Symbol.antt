@@ -1,3 +1,4 @@
+-- The longest literal of symbol characters at the front of a text.
 use Rattle.std.specs.Prelude.{◌≡◌, ℕ, ◌≤◌, List, ◌++◌, length, Contains}
 use Rattle.sx_term.specs.Cutting.{AreSymbols}
 

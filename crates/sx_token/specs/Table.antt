@@ -1,3 +1,4 @@
+-- A table of literals, by which those at the front of a text are found.
 use Rattle.std.specs.Prelude.{◌≡◌, ℕ, ◌<◌, ◌≤◌, List, ◌∷◌, length, Some, None, slice_get, slice_index, Contains, ◌==◌, IsTrue}
 use Rattle.std.specs.Str.{bytes_eq}
 use Rattle.std.specs.HashMap.{get_by}

@@ -6,8 +6,8 @@ use Rattle.std.proofs.lemmas.List.{length-append}
 use Rattle.sx_term.specs.Tree.{Tree}
 use Rattle.sx_term.specs.Core.{core}
 use Rattle.sx_lines.specs.Lines.{lines_from}
-use Rattle.sx_rules.specs.declared.rule.Role.{Role}
-use Rattle.sx_rules.specs.declared.rule.Role.TheVariants.{In, Sub, Out}
+use Rattle.sx_term.specs.declared.role.Role.{Role}
+use Rattle.sx_term.specs.declared.role.Role.TheVariants.{In, Sub, Out}
 use Rattle.sx_core.specs.Problem.{Problem}
 use Rattle.sx_core.specs.CoreRead.{IsCoreAnswer}
 use Rattle.sx_core.specs.File.{CoreFile, words_text, judgement_text}

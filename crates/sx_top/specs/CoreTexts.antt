@@ -2,8 +2,8 @@
 use Rattle.std.specs.Prelude.{ℕ, ◌+◌, List, [], ◌∷◌, ◌++◌, map, Option, Some, None, slice_get, codes, decimal}
 use Rattle.sx_term.specs.Tree.{Tree}
 use Rattle.sx_term.specs.Core.{core}
-use Rattle.sx_rules.specs.declared.rule.Role.{Role}
-use Rattle.sx_rules.specs.declared.rule.Role.TheVariants.{In, Sub, Out}
+use Rattle.sx_term.specs.declared.role.Role.{Role}
+use Rattle.sx_term.specs.declared.role.Role.TheVariants.{In, Sub, Out}
 use Rattle.sx_rules.specs.Views.{FormData, NamedRule, places_at}
 use Rattle.sx_rules.specs.Modes.{Goal}
 use Rattle.sx_rules.specs.Orders.{Entry, of_given, of_rule}

@@ -12,8 +12,8 @@ ghost use Rattle.sx_top.specs.Terms.{AreTerms};
 
 use crate::forms::places_of;
 use std::alloc::Global;
-use sx_rules::{Entry, Form, Goal, Place, Role, RuleSet, write_list};
-use sx_term::{NoMemory, Term, Text, write_core};
+use sx_rules::{Entry, Form, Goal, Place, RuleSet, write_list};
+use sx_term::{NoMemory, Role, Term, Text, write_core};
 
 pub fn is_out(role: Role) -> bool
     ensures { result ≡ role_is_out role }

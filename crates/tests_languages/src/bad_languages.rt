@@ -4,8 +4,8 @@ use crate::refusals::{Told, has_readings, read, refusal};
 use crate::samples::{AMB, LOOP, joined};
 use std::alloc::Global;
 use std::test::*;
-use sx_core::Kind;
 use sx_grammar::GrammarError;
+use sx_lines::Kind;
 use sx_notation::{Language, NotationError};
 use sx_rules::RuleError;
 

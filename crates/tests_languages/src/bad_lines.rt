@@ -3,7 +3,7 @@
 use crate::samples::joined;
 use std::alloc::Global;
 use std::test::*;
-use sx_core::Kind;
+use sx_lines::Kind;
 use sx_outline::{Outline, OutlineError, read_outline};
 use sx_term::Text;
 

@@ -16,8 +16,8 @@ use crate::samples::SUMS;
 use std::alloc::Global;
 use std::test::*;
 use sx_notation::{Language, print_goal};
-use sx_rules::{Form, Goal, Place, Role};
-use sx_term::{NoMemory, Shapes, Sort, Term, Text, Vars, read_core};
+use sx_rules::{Form, Goal, Place};
+use sx_term::{NoMemory, Role, Shapes, Sort, Term, Text, Vars, read_core};
 
 /// The term with this core text.
 fn term_of(alloc: Global, core: &str) -> Result<Term, NoMemory>

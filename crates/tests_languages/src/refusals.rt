@@ -4,8 +4,8 @@ ghost use Rattle.std.specs.Prelude.{IfOk};
 ghost use Rattle.sx_notation.specs.Language.{IsLanguage};
 
 use std::alloc::Global;
-use sx_core::Kind;
 use sx_language::read_language;
+use sx_lines::Kind;
 use sx_notation::{Language, NotationError, Unread};
 use sx_term::Text;
 use sx_token::TokenError;

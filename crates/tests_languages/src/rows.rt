@@ -7,8 +7,7 @@ use sx_directives::{
     read_row,
 };
 use sx_grammar::{Production, SortLine, Symbol};
-use sx_rules::Role;
-use sx_term::LexKind;
+use sx_term::{LexKind, Role};
 
 /// What comes of a line.
 #[derive(Clone, Copy, PartialEq)]

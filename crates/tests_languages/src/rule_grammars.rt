@@ -7,8 +7,8 @@ use std::test::*;
 use sx_directives::{FormLine, Row, read_row};
 use sx_grammar::{Grammar, GrammarParts};
 use sx_notation::{forms_of, rule_parts};
-use sx_rules::{Form, Place, Role};
-use sx_term::{NoMemory, Sort};
+use sx_rules::{Form, Place};
+use sx_term::{NoMemory, Role, Sort};
 
 /// The form of the row, alone.
 fn form_alone(alloc: Global, row: Row) -> Result<Vec<FormLine>, NoMemory> {

@@ -2,7 +2,8 @@
 
 use std::alloc::Global;
 use std::test::Fail;
-use sx_core::{CoreFileError, Kind, read_core_file};
+use sx_core::{CoreFileError, read_core_file};
+use sx_lines::Kind;
 use sx_term::NoMemory;
 
 /// The number of the first bad line and what is bad about it.

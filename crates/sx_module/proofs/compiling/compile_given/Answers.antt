@@ -2,7 +2,7 @@ use Rattle.std.proofs.Common.{sym, subst}
 use Rattle.std.specs.Prelude.{Result, Err}
 use Rattle.sx_term.specs.Term.{tree}
 use Rattle.sx_forest.specs.Readings.{plain_reading}
-use Rattle.sx_rules.specs.declared.rule.Role.TheVariants.{Sub}
+use Rattle.sx_term.specs.declared.role.Role.TheVariants.{Sub}
 use Rattle.sx_notation.specs.Language.{language_data}
 use Rattle.sx_module.specs.declared.compiled.Compiled.{Compiled}
 use Rattle.sx_module.specs.declared.module_error.ModuleError.{ModuleError}

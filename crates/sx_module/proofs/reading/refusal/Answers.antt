@@ -4,7 +4,7 @@ use Rattle.sx_grammar.specs.Parts.{numbered}
 use Rattle.sx_grammar.specs.ReadOne.{IsAnswer, only}
 use Rattle.sx_earley.specs.Tokens.{plain_tokens}
 use Rattle.sx_earley.specs.Completed.{number_of}
-use Rattle.sx_rules.specs.declared.rule.Role.TheVariants.{Sub}
+use Rattle.sx_term.specs.declared.role.Role.TheVariants.{Sub}
 use Rattle.sx_module.specs.Source.{main_sort}
 use Rattle.sx_module.specs.Unread.{IsUnreadBody}
 use Rattle.sx_module.specs.Given.{source_of}
