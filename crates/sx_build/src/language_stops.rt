@@ -7,7 +7,7 @@ use std::alloc::Global;
 use sx_grammar::GrammarError;
 use sx_notation::{NotationError, Unread};
 use sx_rules::RuleError;
-use sx_steps::{Stop, bad_line, bad_rules, joined, refused, refused_at, text_of};
+use sx_steps::{Stop, bad_line, bad_rules, joined, refused, refused_at};
 use sx_term::{NoMemory, Text};
 use sx_token::TokenError;
 use sx_words::{Defect, FileDefect, GrammarDefect, Place, TextDefect};
@@ -125,9 +125,9 @@ fn metavariable(alloc: Global, variable: &Option<Text>) -> Result<Text, NoMemory
     ensures { IfOk result (λ name. name ≡ stops.metavariable variable.now) }
 {
     match variable {
-        None => text_of(alloc, ""),
+        None => Text::of_str(alloc, ""),
         Some(name) => {
-            let mark = text_of(alloc, "~")?;
+            let mark = Text::of_str(alloc, "~")?;
             joined(alloc, &mark, name)
         }
     }

@@ -14,7 +14,7 @@ ghost use Rattle.sx_forest.specs.Names.{IsMarked, names_in, AddsEach, AddsFront}
 
 use crate::reading::Reading;
 use std::alloc::Global;
-use sx_term::{Mark, NoMemory, Term, Text, TextError, Vars};
+use sx_term::{Mark, NoMemory, Term, Text, Vars};
 use sx_token::Token;
 
 /// The term of the reading, without brackets. Names of metavariables that `vars` lacks are added in order of standing; names that are
@@ -92,18 +92,7 @@ fn name_of(alloc: Global, token: &Token) -> Result<Text, NoMemory>
     ensures { IfOk result (λ t. t ≡ drop 1 token.now.text) }
 {
     match token.text.as_str().strip_prefix('~') {
-        Some(name) => text_of(alloc, name),
+        Some(name) => Text::of_str(alloc, name),
         None => unreachable!(),
-    }
-}
-
-/// The same text, owned.
-fn text_of(alloc: Global, text: &str) -> Result<Text, NoMemory>
-    ensures { IfOk result (λ t. t ≡ text.now) }
-{
-    match Text::make(alloc, text.as_bytes()) {
-        Ok(text) => Ok(text),
-        Err(TextError::Memory) => Err(NoMemory::Memory),
-        Err(TextError::NotUtf8(_)) => unreachable!(),
     }
 }

@@ -23,7 +23,7 @@ use crate::interfaces::{ImportMark, Interface};
 use crate::marks::{Digest, read_digest};
 use crate::names::Names;
 use crate::rows::is_row;
-use crate::texts::{name_text, utf8_text};
+use crate::texts::name_text;
 use std::alloc::Global;
 use sx_lines::{Rest, after, is_name, number_within, split_word};
 use sx_term::{NoMemory, Text};
@@ -226,7 +226,7 @@ fn two_texts(alloc: Global, name: &[u8], bytes: &[u8]) -> Result<(Text, Text), N
     ensures { IfOk result (λ x. x ≡ (name.now, bytes.now)) }
 {
     let name = name_text(alloc, name)?;
-    match utf8_text(alloc, bytes) {
+    match Text::of_utf8(alloc, bytes) {
         Ok(text) => Ok((name, text)),
         Err(e) => {
             drop(name);

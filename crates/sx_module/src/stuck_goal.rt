@@ -12,7 +12,6 @@ ghost use Rattle.sx_module.specs.Refused as refused;
 ghost use Rattle.sx_module.specs.TypeErrors.{shown_got, CanShow};
 
 use crate::stuck_text::StuckText;
-use crate::texts::text_of;
 use std::alloc::Global;
 use sx_derive::{Blame, Cause};
 use sx_notation::{Language, print_goal};
@@ -25,7 +24,7 @@ fn rule_name(alloc: Global, rules: &RuleSet, number: u32) -> Result<Text, NoMemo
 {
     match rules.rule(number) {
         Some(rule) => rule.name.copy(alloc),
-        None => text_of(alloc, "".as_bytes()),
+        None => Text::of_utf8(alloc, "".as_bytes()),
     }
 }
 
@@ -62,7 +61,7 @@ fn shown_goal(
     );
     drop(vars);
     match printed {
-        Ok(()) => text_of(alloc, &bytes),
+        Ok(()) => Text::of_utf8(alloc, &bytes),
         Err(e) => Err(e),
     }
 }

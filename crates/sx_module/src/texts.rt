@@ -19,7 +19,7 @@ use crate::import::Import;
 use std::alloc::Global;
 use sx_interface::{Digest, Header, ImportMark, Interface, digest, write_interface};
 use sx_rules::{Entry, RuleSet, write_list};
-use sx_term::{NoMemory, Text, TextError};
+use sx_term::{NoMemory, Text};
 
 /// Appends a line: a front, a name and a line feed.
 fn put_row(front: &[u8], name: &[u8], into: &mut Vec<u8>) -> Result<(), NoMemory>
@@ -70,18 +70,6 @@ fn import_marks(alloc: Global, imports: &[Import]) -> Result<Vec<ImportMark>, No
     Ok(marks)
 }
 
-/// The text with these bytes.
-pub(crate) fn text_of(alloc: Global, bytes: &[u8]) -> Result<Text, NoMemory>
-    requires { IsUtf8 bytes.now }
-    ensures { IfOk result (λ t. t ≡ bytes.now) }
-{
-    match Text::make(alloc, bytes) {
-        Ok(text) => Ok(text),
-        Err(TextError::Memory) => Err(NoMemory::Memory),
-        Err(TextError::NotUtf8(_)) => unreachable!(),
-    }
-}
-
 /// What importers read of the module.
 fn interface(
     alloc: Global,
@@ -100,7 +88,7 @@ fn interface(
         language_digest: *language,
         base_digest: digest(base),
         imports: import_marks(alloc, imports)?,
-        signature: text_of(alloc, signature)?,
+        signature: Text::of_utf8(alloc, signature)?,
     })
 }
 

@@ -10,19 +10,7 @@ ghost use Rattle.sx_notation.specs.RuleParts.{symbol_for, judgement_sort, form_l
 use std::alloc::Global;
 use sx_directives::{FormLine, FormSymbol, SpelledSort};
 use sx_grammar::{Grammar, GrammarError, GrammarParts, Production, SortLine, Symbol};
-use sx_term::{LexKind, NoMemory, Text, TextError};
-
-/// The text with these bytes.
-pub(crate) fn text_of(alloc: Global, bytes: &[u8]) -> Result<Text, NoMemory>
-    requires { IsUtf8 bytes.now }
-    ensures { IfOk result (λ t. t ≡ bytes.now) }
-{
-    match Text::make(alloc, bytes) {
-        Ok(text) => Ok(text),
-        Err(TextError::Memory) => Err(NoMemory::Memory),
-        Err(TextError::NotUtf8(_)) => unreachable!(),
-    }
-}
+use sx_term::{LexKind, NoMemory, Text};
 
 /// The text `form ` with the name behind it.
 fn form_label(alloc: Global, name: &Text) -> Result<Text, NoMemory>
@@ -30,7 +18,7 @@ fn form_label(alloc: Global, name: &Text) -> Result<Text, NoMemory>
 {
     let mut label = Vec::from_slice(alloc, b"form ")?;
     label.extend_from_slice(name.bytes())?;
-    text_of(alloc, &label)
+    Text::of_utf8(alloc, &label)
 }
 
 /// The symbol of a production that the symbol of a form is.
@@ -60,7 +48,7 @@ fn form_production(alloc: Global, form: &FormLine) -> Result<Production, NoMemor
     }
     Ok(Production {
         label: form_label(alloc, &form.name)?,
-        sort: text_of(alloc, b"a judgement")?,
+        sort: Text::of_utf8(alloc, b"a judgement")?,
         level: 0,
         symbols,
     })
@@ -84,11 +72,11 @@ fn apart_production(alloc: Global, kind: LexKind) -> Result<Production, NoMemory
 {
     let mut symbols = Vec::with_capacity(alloc, 3)?;
     symbols.push(Symbol::Lex(kind))?;
-    symbols.push(Symbol::Lit(text_of(alloc, b"!=")?))?;
+    symbols.push(Symbol::Lit(Text::of_utf8(alloc, b"!=")?))?;
     symbols.push(Symbol::Lex(kind))?;
     Ok(Production {
-        label: text_of(alloc, apart_label(kind))?,
-        sort: text_of(alloc, b"a judgement")?,
+        label: Text::of_utf8(alloc, apart_label(kind))?,
+        sort: Text::of_utf8(alloc, b"a judgement")?,
         level: 0,
         symbols,
     })
@@ -120,7 +108,7 @@ fn judgement_sort(alloc: Global) -> Result<SortLine, NoMemory>
     ensures { IfOk result (λ s. s ≡ judgement_sort) }
 {
     Ok(SortLine {
-        name: text_of(alloc, b"a judgement")?,
+        name: Text::of_utf8(alloc, b"a judgement")?,
         typed: true,
         brackets: None,
     })

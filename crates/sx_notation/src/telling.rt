@@ -11,7 +11,6 @@ ghost use Rattle.sx_forest.specs.Readings.{plain_reading};
 ghost use Rattle.sx_forest.specs.Text.{texts, tree_text, IsWithin};
 ghost use Rattle.sx_notation.specs.WhyUnread.{place_in, IsUnreadAs, IsReadError};
 
-use crate::rule_productions::text_of;
 use crate::unread::Unread;
 use std::alloc::Global;
 use sx_forest::{ReadError, Reading, write_tree};
@@ -64,7 +63,7 @@ fn tree_text(
     write_tree(alloc, grammar, reading, tokens, &mut bytes)?;
     labels_are_texts(&grammar.parts().productions);
     tokens_are_texts(tokens);
-    text_of(alloc, &bytes)
+    Text::of_utf8(alloc, &bytes)
 }
 
 /// Why tokens of a text of so many bytes have not one reading, where `read_one` answers this error for them.

@@ -1,4 +1,3 @@
-pub mod Texts
 pub mod StepsOn
 pub mod Ones
 pub mod Units

@@ -17,7 +17,7 @@ mod unit;
 mod work;
 
 pub use held::{MOST_BYTES, MOST_LIST_BYTES, read_file};
-pub use names::{joined, text_of, with_suffix};
+pub use names::{joined, with_suffix};
 pub use status::Status;
 pub use step_error::StepError;
 pub use stop::{Stop, about, refusal_line};

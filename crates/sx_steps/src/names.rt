@@ -3,7 +3,7 @@
 ghost use Rattle.std.specs.Prelude.{◌≡◌, ◌++◌, IfOk};
 
 use std::alloc::Global;
-use sx_term::{NoMemory, Text, TextError};
+use sx_term::{NoMemory, Text};
 
 /// The text with the suffix.
 pub fn with_suffix(alloc: Global, text: &Text, suffix: &str) -> Result<Text, NoMemory>
@@ -11,11 +11,7 @@ pub fn with_suffix(alloc: Global, text: &Text, suffix: &str) -> Result<Text, NoM
 {
     let mut bytes = Vec::from_slice(alloc, text.bytes())?;
     bytes.extend_from_slice(suffix.as_bytes())?;
-    match Text::make(alloc, &bytes) {
-        Ok(text) => Ok(text),
-        Err(TextError::Memory) => Err(NoMemory::Memory),
-        Err(TextError::NotUtf8(_)) => unreachable!(),
-    }
+    Text::of_utf8(alloc, &bytes)
 }
 
 /// The two texts, one after the other.
@@ -24,20 +20,5 @@ pub fn joined(alloc: Global, text: &Text, other: &Text) -> Result<Text, NoMemory
 {
     let mut bytes = Vec::from_slice(alloc, text.bytes())?;
     bytes.extend_from_slice(other.bytes())?;
-    match Text::make(alloc, &bytes) {
-        Ok(text) => Ok(text),
-        Err(TextError::Memory) => Err(NoMemory::Memory),
-        Err(TextError::NotUtf8(_)) => unreachable!(),
-    }
-}
-
-/// The text of these characters.
-pub fn text_of(alloc: Global, characters: &str) -> Result<Text, NoMemory>
-    ensures { IfOk result (λ t. t ≡ characters.now) }
-{
-    match Text::make(alloc, characters.as_bytes()) {
-        Ok(text) => Ok(text),
-        Err(TextError::Memory) => Err(NoMemory::Memory),
-        Err(TextError::NotUtf8(_)) => unreachable!(),
-    }
+    Text::of_utf8(alloc, &bytes)
 }

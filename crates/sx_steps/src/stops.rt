@@ -4,7 +4,6 @@ ghost use Rattle.std.specs.Prelude.{◌≡◌, IfOk, Some};
 ghost use Rattle.sx_steps.specs.Refusal.{about as stop_about};
 ghost use Rattle.sx_steps.specs.Stops as stops;
 
-use crate::names::text_of;
 use crate::stop::{Stop, about};
 use std::alloc::Global;
 use sx_lines::Kind;
@@ -66,7 +65,7 @@ fn kind_name(kind: Kind) -> &'static str
 pub fn bad_line(alloc: Global, file: &Text, line: u32, kind: Kind) -> Result<Stop, NoMemory>
     ensures { IfOk result (λ stop. stop ≡ stops.bad_line file.now line (stops.kind_text kind)) }
 {
-    let kind = text_of(alloc, kind_name(kind))?;
+    let kind = Text::of_str(alloc, kind_name(kind))?;
     let defect = Defect::File(FileDefect::Notation(kind));
     refused_at(alloc, file, Place::Line(line), defect)
 }

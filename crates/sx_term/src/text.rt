@@ -71,6 +71,27 @@ impl Text {
         }
     }
 
+    /// The text with these bytes, which are UTF-8.
+    pub fn of_utf8(alloc: Global, bytes: &[u8]) -> Result<Text, NoMemory>
+        requires { IsUtf8 bytes.now }
+        ensures { IfOk result (λ t. t ≡ bytes.now) }
+    {
+        match Text::make(alloc, bytes) {
+            Ok(text) => Ok(text),
+            Err(TextError::Memory) => Err(NoMemory::Memory),
+            Err(TextError::NotUtf8(_)) => unreachable!(),
+        }
+    }
+
+    /// The text of these characters.
+    pub fn of_str(alloc: Global, characters: &str) -> Result<Text, NoMemory>
+        ensures { IfOk result (λ t. t ≡ characters.now) }
+    {
+        Ok(Text {
+            string: String::from_str(alloc, characters)?,
+        })
+    }
+
     /// The bytes of the text, which are UTF-8.
     pub fn bytes(&self) -> &[u8]
         ensures value { result.now ≡ self.now }

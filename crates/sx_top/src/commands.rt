@@ -7,7 +7,7 @@ ghost use Rattle.sx_steps.specs.Refusal as refusals;
 ghost use Rattle.sx_steps.specs.Stop.{Gives, IsNoFault};
 
 use std::alloc::Global;
-use sx_steps::{StepError, Stop, about, text_of};
+use sx_steps::{StepError, Stop, about};
 use sx_term::{NoMemory, Text};
 use sx_words::{Command, Defect, FileDefect, Stage, WordsError, read_words_at};
 
@@ -22,7 +22,7 @@ fn by_now() -> Stage
 fn bad_word(alloc: Global, place: u64) -> Result<Stop, NoMemory>
     ensures { IfOk result (λ stop. stop ≡ refusals.bad_word place) }
 {
-    let file = text_of(alloc, "words")?;
+    let file = Text::of_str(alloc, "words")?;
     Ok(about(file, Defect::File(FileDefect::Word(place))))
 }
 

@@ -8,7 +8,7 @@ ghost use Rattle.sx_steps.specs.Stops as shared;
 use std::alloc::Global;
 use sx_core::CoreFileError;
 use sx_rules::RuleError;
-use sx_steps::{Stop, bad_line, bad_rules, refused, text_of};
+use sx_steps::{Stop, bad_line, bad_rules, refused};
 use sx_term::{NoMemory, Text};
 use sx_words::{Defect, FileDefect, TextDefect};
 
@@ -17,7 +17,7 @@ fn variable_name(alloc: Global, variable: u32) -> Result<Text, NoMemory>
     ensures { IfOk result (λ name. name ≡ stops.variable_name variable) }
 {
     let name = format!(in alloc; "?{variable}")?;
-    text_of(alloc, &name)
+    Text::of_str(alloc, &name)
 }
 
 /// The name of the variable that the error names; empty where it names none.
@@ -26,7 +26,7 @@ fn named_variable(alloc: Global, error: &RuleError) -> Result<Text, NoMemory>
 {
     match error {
         RuleError::NotModed(_, variable) => variable_name(alloc, *variable),
-        _ => text_of(alloc, ""),
+        _ => Text::of_str(alloc, ""),
     }
 }
 

@@ -15,7 +15,7 @@ use crate::goal_texts::{open_goal, whole_goal};
 use std::alloc::Global;
 use sx_derive::{Blame, Cause};
 use sx_rules::{Goal, RuleSet};
-use sx_steps::{Stop, about, text_of};
+use sx_steps::{Stop, about};
 use sx_term::{NoMemory, Term, Text};
 use sx_words::{Defect, GoalDefect};
 
@@ -25,7 +25,7 @@ fn rule_name(alloc: Global, rules: &RuleSet, number: u32) -> Result<Text, NoMemo
 {
     match rules.rule(number) {
         Some(rule) => rule.name.copy(alloc),
-        None => text_of(alloc, ""),
+        None => Text::of_str(alloc, ""),
     }
 }
 

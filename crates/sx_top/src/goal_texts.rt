@@ -1,7 +1,6 @@
 //! A goal of a core file in a printed line.
 
 ghost use Rattle.std.specs.Prelude.{◌≡◌, ◌++◌, ◌∷◌, [], OnOk, IfOk, None, Some, map};
-ghost use Rattle.std.specs.Str.{IsUtf8};
 ghost use Rattle.sx_term.specs.Core.{core};
 ghost use Rattle.sx_term.specs.Term.{tree};
 ghost use Rattle.sx_rules.specs.Views.{is_out as role_is_out, forms, goal as goal_data};
@@ -12,7 +11,7 @@ use crate::forms::{name_of, places_of};
 use crate::texts::is_out;
 use std::alloc::Global;
 use sx_rules::{Form, Goal, Place};
-use sx_term::{NoMemory, Term, Text, TextError, write_core};
+use sx_term::{NoMemory, Term, Text, write_core};
 
 /// Appends the term after a blank.
 fn write_term(alloc: Global, term: &Term, into: &mut Vec<u8>) -> Result<(), NoMemory>
@@ -87,18 +86,6 @@ fn write_whole(
     Ok(())
 }
 
-/// The text of UTF-8 bytes.
-fn utf8_text(alloc: Global, bytes: &[u8]) -> Result<Text, NoMemory>
-    requires { IsUtf8 bytes.now }
-    ensures { IfOk result (λ text. text ≡ bytes.now) }
-{
-    match Text::make(alloc, bytes) {
-        Ok(text) => Ok(text),
-        Err(TextError::Memory) => Err(NoMemory::Memory),
-        Err(TextError::NotUtf8(_)) => unreachable!(),
-    }
-}
-
 /// A goal as it is printed, with `_` for its outputs.
 pub fn open_goal(alloc: Global, all: &[Form], goal: &Goal) -> Result<Text, NoMemory>
     requires { AreTerms (map tree goal.now.inputs.items) }
@@ -106,7 +93,7 @@ pub fn open_goal(alloc: Global, all: &[Form], goal: &Goal) -> Result<Text, NoMem
 {
     let mut bytes = Vec::from_slice(alloc, name_of(all, goal.form))?;
     write_open(alloc, places_of(all, goal.form), &goal.inputs, &mut bytes)?;
-    utf8_text(alloc, &bytes)
+    Text::of_utf8(alloc, &bytes)
 }
 
 /// A goal as it is printed, with the outputs got.
@@ -123,5 +110,5 @@ pub fn whole_goal(alloc: Global, all: &[Form], goal: &Goal, got: &[Term]) -> Res
         got,
         &mut bytes,
     )?;
-    utf8_text(alloc, &bytes)
+    Text::of_utf8(alloc, &bytes)
 }

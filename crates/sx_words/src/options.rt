@@ -15,7 +15,7 @@ use crate::stage::Stage;
 use crate::verb::Verb;
 use indexmap::IndexSet;
 use std::alloc::Global;
-use sx_term::{NoMemory, Text, TextError};
+use sx_term::{NoMemory, Text};
 
 /// The most tries and nodes, and what stands where nothing is said.
 const MOST: u64 = 1_000_000;
@@ -106,18 +106,6 @@ pub(crate) fn option_after<'a>(
     }
 }
 
-/// The text of UTF-8 bytes.
-fn utf8_text(alloc: Global, bytes: &[u8]) -> Result<Text, NoMemory>
-    requires { IsUtf8 bytes.now }
-    ensures { IfOk result (λ t. t ≡ bytes.now) }
-{
-    match Text::make(alloc, bytes) {
-        Ok(text) => Ok(text),
-        Err(TextError::Memory) => Err(NoMemory::Memory),
-        Err(TextError::NotUtf8(_)) => unreachable!(),
-    }
-}
-
 /// The place, where it is below 2^32. Words that many do not stand in memory.
 fn small_place(place: u64) -> Result<u32, NoMemory>
     ensures { MatchResult result (λ small. small ≡ place) (λ _. 2 ^ 32 ≤ place) }
@@ -148,8 +136,8 @@ pub(crate) fn say(
         Given::Audit(kind, setting) => {
             let word = small_place(place)?;
             said.kinds.insert(Vec::from_slice(alloc, kind)?)?;
-            let kind = utf8_text(alloc, kind)?;
-            let setting = utf8_text(alloc, setting)?;
+            let kind = Text::of_utf8(alloc, kind)?;
+            let setting = Text::of_utf8(alloc, setting)?;
             said.audits.push(Audit {
                 kind,
                 setting,

@@ -7,4 +7,4 @@ use Rattle.sx_module.proofs.stuck_goal.rule_name.Goals as goal
 pub returns-in-None : goal.returns-in-None
 returns-in-None c =
     let none = no_rule_name (rules_in c.args.rules.now) c.args.number c.in-None.ensures in
-    subst (λ (bytes : List ℕ). IfOk c.text_of.result (λ name. name ≡ bytes)) (c.as_bytes.ensures.value ∙ sym none) c.text_of.ensures
+    subst (λ (bytes : List ℕ). IfOk c.of_utf8.result (λ name. name ≡ bytes)) (c.as_bytes.ensures.value ∙ sym none) c.of_utf8.ensures

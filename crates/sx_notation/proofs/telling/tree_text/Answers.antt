@@ -6,8 +6,8 @@ use Rattle.sx_forest.specs.Text.{texts, tree_text}
 use Rattle.sx_notation.proofs.TreeTexts.{tree_utf8, labels_utf8}
 use Rattle.sx_notation.proofs.telling.tree_text.Goals as goal
 
-pub text_of-requires : goal.text_of-requires
-text_of-requires c =
+pub of_utf8-requires : goal.of_utf8-requires
+of_utf8-requires c =
     let p = c.args.grammar.now.parts in
     let written = tree_text (labels p) (texts c.args.tokens.now) (plain_reading c.args.reading.now) in
     subst IsUtf8 (sym (c.deref-2.ensures.value ∙ c.in_ok-write_tree.ensures.ok ∙ ap (λ x. x ++ written) c.new-bytes.ensures.items))

@@ -10,8 +10,8 @@ use Rattle.sx_top.specs.Terms.{AreTerms}
 use Rattle.sx_top.proofs.Utf8.{whole_utf8}
 use Rattle.sx_top.proofs.goal_texts.whole_goal.Goals as goal
 
-pub utf8_text-requires : goal.utf8_text-requires
-utf8_text-requires c =
+pub of_utf8-requires : goal.of_utf8-requires
+of_utf8-requires c =
     let modes = map (λ place. is_out place.role) c.places_of.result.now in
     let inputs = map tree c.deref.result.now in
     let all : c.deref-2.result.now ≡ c.name_of.result.now ++ places_text modes inputs (Some (map tree c.args.got.now)) = c.deref-2.ensures.value ∙ c.in_ok-write_whole.ensures ∙ ap (λ (l : List ℕ). l ++ places_text modes inputs (Some (map tree c.args.got.now))) c.in_ok-bytes.ensures.items in
