@@ -23,10 +23,6 @@ pub sum_on : (g : Grammar) (sort least : ℕ) (next : List Ways) (from : ℕ) (e
 sum_on g sort least next from entries n t u v low sum one e =
     rw (e, add-one) (sum_more (get_or entries n no_entry) sum (slice_get-get_or entries n no_entry low) one)
 
-pub sum_all : (g : Grammar) (sort least : ℕ) (next : List Ways) (from : ℕ) (entries : List Entry) (n : ℕ) (t : Tally) → n ≡ length entries →
-    SumTo g sort least next from entries n t → SumTo g sort least next from entries (length entries) t
-sum_all g sort least next from entries n t e sum = subst (λ m. SumTo g sort least next from entries m t) e sum
-
 same_or_not : (a b : ℕ) → (a ≡ b) ⊎ (a ≡ b → ⊥)
 same_or_not a b = by_order (cases_lt a b) (cases_lt b a)
   where

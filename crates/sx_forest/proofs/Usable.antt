@@ -23,9 +23,6 @@ none_or no_way = inl refl
 none_or (one_way d) = inr (λ e. subst IsSome e tt)
 none_or (more_ways d) = inr (λ e. subst IsSome e tt)
 
-pub more_is_some : (t : Tally) → IsMore t → t ≡ no_way → ⊥
-more_is_some t more e = subst IsMore e more
-
 -- where there are some, one of them has the greatest depth
 pub deepest_of : {A : Type 0} (P : A → Type 0) (depth : A → ℕ) (t : Tally) → IsTally P depth t → (t ≡ no_way → ⊥) → (a : A) × P a × (depth a ≡ depth_in t)
 deepest_of P depth no_way h some = absurd (some refl)

@@ -2,12 +2,13 @@
 
 use crate::reading::Reading;
 use std::alloc::{AllocError, AllocFailed};
+use std::fmt;
 use sx_earley::ChartError;
 use sx_term::NoMemory;
 use thiserror::Error;
 
 /// Why tokens have not one reading, or that memory is lacking.
-#[derive(Debug, Drop, Error)]
+#[derive(Drop, Error)]
 pub enum ReadError {
     #[error("out of memory")]
     Memory,
@@ -15,14 +16,20 @@ pub enum ReadError {
     #[error("more than 2000000 items")]
     TooHard,
     /// There is no reading; the greatest end of any item.
-    #[error("no reading beyond token {0}")]
+    #[error("no reading")]
     NoReading(u32),
     /// A reading is deeper than 1,000; the greatest depth of them.
-    #[error("a reading of depth {0}")]
+    #[error("a reading is too deep")]
     TooDeep(u64),
     /// Two readings; the tree text of the first is not after that of the second by bytes.
     #[error("more than one reading")]
     Ambiguous(Reading, Reading),
+}
+
+impl fmt::Debug for ReadError {
+    fn fmt<W: fmt::Write>(&self, f: &mut fmt::Formatter<W>) -> fmt::Result {
+        fmt::Display::fmt(self, f)
+    }
 }
 
 impl From<ChartError> for ReadError {
