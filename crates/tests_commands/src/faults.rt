@@ -59,10 +59,13 @@ fn is_fault(alloc: Global, call: u64, code: u8, told: &[u8]) -> bool {
 #[test]
 fn faults_of_a_module(rt: HostRuntime) {
     let alloc = rt.alloc();
-    assert!(rt; is_fault(alloc, 1, 3, b"soundx: Main.mod: read fault\n"));
-    assert!(rt; is_fault(alloc, 2, 3, b"soundx: Lam.lang: read fault\n"));
-    assert!(rt; is_fault(alloc, 3, 4, b"soundx: Main.base: write fault\n"));
-    assert!(rt; is_fault(alloc, 4, 4, b"soundx: Main.der: write fault\n"));
+    let hold = [
+        is_fault(alloc, 1, 3, b"soundx: Main.mod: read fault\n"),
+        is_fault(alloc, 2, 3, b"soundx: Lam.lang: read fault\n"),
+        is_fault(alloc, 3, 4, b"soundx: Main.base: write fault\n"),
+        is_fault(alloc, 4, 4, b"soundx: Main.der: write fault\n"),
+    ];
+    assert_eq!(rt; hold, [true; 4]);
 }
 
 #[test]

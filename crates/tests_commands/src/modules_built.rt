@@ -67,8 +67,11 @@ fn sums_that_group_to_the_left(rt: HostRuntime) {
     let alloc = rt.alloc();
     let list = b"sxder 1\nT-Plus\nT-Plus\nT-Num\nT-Num\nT-Num\n";
     let told = b"built Main: 5 nodes\n";
-    assert!(rt; LEFT.builds(alloc, b"( 1 + 2 ) + 3", list, b"1 + 2 + 3", told));
-    assert!(rt; LEFT.builds(alloc, b"1 + 2 + 3", list, b"1 + 2 + 3", told));
+    let hold = [
+        LEFT.builds(alloc, b"( 1 + 2 ) + 3", list, b"1 + 2 + 3", told),
+        LEFT.builds(alloc, b"1 + 2 + 3", list, b"1 + 2 + 3", told),
+    ];
+    assert_eq!(rt; hold, [true; 2]);
 }
 
 #[test]

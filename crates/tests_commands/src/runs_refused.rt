@@ -40,14 +40,15 @@ fn files_that_are_refused(rt: HostRuntime) {
     let alloc = rt.alloc();
     assert!(rt; is_refused(alloc, &[b"sxcore 2\n"], b"soundx: C.core: line 1: head\n"));
     let short = b"con c\n".as_slice();
-    assert!(rt;
+    let hold = [
         is_refused(
             alloc,
             &[SIGNATURE, short],
-            b"soundx: C.core: line 9: shape\n"
-        )
-    );
-    assert!(rt; is_refused(alloc, &[SIGNATURE], b"soundx: C.core: line 9: main\n"));
+            b"soundx: C.core: line 9: shape\n",
+        ),
+        is_refused(alloc, &[SIGNATURE], b"soundx: C.core: line 9: main\n"),
+    ];
+    assert_eq!(rt; hold, [true; 2]);
     let goal = b"goal f (0)\n".as_slice();
     let loose = b"rule R Exp\nthen f (0) (2)\nend\n".as_slice();
     let not_bound = b"soundx: C.core: rule R: ?0 is not bound\n";
@@ -69,8 +70,11 @@ fn are_lines_refused(alloc: Global, lines: usize, told: &[u8]) -> bool {
 #[test]
 fn a_file_that_is_too_long(rt: HostRuntime) {
     let alloc = rt.alloc();
-    assert!(rt; are_lines_refused(alloc, 262_145, b"soundx: C.core: too long\n"));
-    assert!(rt; are_lines_refused(alloc, 262_144, b"soundx: C.core: line 262145: head\n"));
+    let hold = [
+        are_lines_refused(alloc, 262_145, b"soundx: C.core: too long\n"),
+        are_lines_refused(alloc, 262_144, b"soundx: C.core: line 262145: head\n"),
+    ];
+    assert_eq!(rt; hold, [true; 2]);
 }
 
 /// Whether the words are no command, with this line.
@@ -86,23 +90,27 @@ fn are_refused(alloc: Global, line: &str, told: &[u8]) -> bool {
 #[test]
 fn words_that_are_no_command(rt: HostRuntime) {
     let alloc = rt.alloc();
-    assert!(rt; are_refused(alloc, "", b"soundx: words: word 1\n"));
-    assert!(rt; are_refused(alloc, "build", b"soundx: words: word 2\n"));
-    assert!(rt; are_refused(alloc, "build --core 1x", b"soundx: words: word 3\n"));
-    assert!(rt; are_refused(alloc, "build --core One extra", b"soundx: words: word 4\n"));
+    let hold = [
+        are_refused(alloc, "", b"soundx: words: word 1\n"),
+        are_refused(alloc, "build", b"soundx: words: word 2\n"),
+        are_refused(alloc, "build --core 1x", b"soundx: words: word 3\n"),
+        are_refused(alloc, "build --core One extra", b"soundx: words: word 4\n"),
+    ];
+    assert_eq!(rt; hold, [true; 4]);
 }
 
 #[test]
 fn commands_that_there_are_none_of(rt: HostRuntime) {
     let alloc = rt.alloc();
-    assert!(rt; are_refused(alloc, "check One", b"soundx: words: word 1\n"));
-    assert!(rt; are_refused(alloc, "verify One", b"soundx: words: word 2\n"));
-    assert!(rt; are_refused(alloc, "build --nodes=5 One", b"soundx: words: word 2\n"));
-    assert!(rt;
+    let hold = [
+        are_refused(alloc, "check One", b"soundx: words: word 1\n"),
+        are_refused(alloc, "verify One", b"soundx: words: word 2\n"),
+        are_refused(alloc, "build --nodes=5 One", b"soundx: words: word 2\n"),
         are_refused(
             alloc,
             "build --core --nodes=5 One",
-            b"soundx: words: word 3\n"
-        )
-    );
+            b"soundx: words: word 3\n",
+        ),
+    ];
+    assert_eq!(rt; hold, [true; 4]);
 }

@@ -83,8 +83,8 @@ fn a_shelf_fails(rt: HostRuntime) {
     let wrong = first_wrong(alloc, &mut shelf, &mut into);
     drop(into);
     drop(shelf);
-    assert!(rt; is_filled);
-    assert_eq!(rt; wrong, 0);
+    let hold = [is_filled, wrong == 0];
+    assert_eq!(rt; hold, [true; 2]);
 }
 
 /// Puts the older bytes; whether memory was there for that.
@@ -148,6 +148,6 @@ fn a_clean_shelf(rt: HostRuntime) {
     let wrong = first_wrong_of_clean(alloc, &mut shelf, &mut into);
     drop(into);
     drop(shelf);
-    assert!(rt; is_filled);
-    assert_eq!(rt; wrong, 0);
+    let hold = [is_filled, wrong == 0];
+    assert_eq!(rt; hold, [true; 2]);
 }

@@ -21,8 +21,11 @@ fn a_sink_fails(rt: HostRuntime) {
     let answers = writes(&mut sink);
     let is_written = sink.written() == b"onesix".as_slice();
     drop(sink);
-    assert!(rt; answers == [WriteAnswer::Done, WriteAnswer::Failed, WriteAnswer::Done]);
-    assert!(rt; is_written);
+    let hold = [
+        answers == [WriteAnswer::Done, WriteAnswer::Failed, WriteAnswer::Done],
+        is_written,
+    ];
+    assert_eq!(rt; hold, [true; 2]);
 }
 
 #[test]
@@ -31,6 +34,9 @@ fn a_clean_sink(rt: HostRuntime) {
     let answers = writes(&mut sink);
     let is_written = sink.written() == b"onetwosix".as_slice();
     drop(sink);
-    assert!(rt; answers == [WriteAnswer::Done, WriteAnswer::Done, WriteAnswer::Done]);
-    assert!(rt; is_written);
+    let hold = [
+        answers == [WriteAnswer::Done, WriteAnswer::Done, WriteAnswer::Done],
+        is_written,
+    ];
+    assert_eq!(rt; hold, [true; 2]);
 }

@@ -63,8 +63,8 @@ fn files_are_read(rt: HostRuntime) {
     let is_put = put(alloc, "One.mod", &[b"one\n"], &mut shelf);
     let wrong = first_wrong(alloc, &mut shelf);
     drop(shelf);
-    assert!(rt; is_put);
-    assert_eq!(rt; wrong, 0);
+    let hold = [is_put, wrong == 0];
+    assert_eq!(rt; hold, [true; 2]);
 }
 
 /// The bytes, unless memory is lacking.

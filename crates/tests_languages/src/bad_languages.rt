@@ -74,16 +74,15 @@ end
 #[test]
 fn bad_lines_of_rules(rt: HostRuntime) {
     let alloc = rt.alloc();
-    assert!(rt;
-        told_after(alloc, b"rule A\n---\n~n1 != ~n2\nend\n") == Told::BadLine(17, Kind::Shape)
-    );
-    assert!(rt;
+    let hold = [
+        told_after(alloc, b"rule A\n---\n~n1 != ~n2\nend\n") == Told::BadLine(17, Kind::Shape),
         told_after(alloc, b"rule A\n~C |- ~x : ~T\n---\n~C |- ~e : ~T\nend\n")
-            == Told::BadLine(16, Kind::Variable)
-    );
-    assert!(rt; told_after(alloc, b"rule A\n---\n~C |- ; : ~T\nend\n") == Told::BadToken(17, 6));
-    assert!(rt; told_after(alloc, b"rule A\n---\n~C |- ~T : ~T\nend\n") == Told::NoReading(17, 6));
-    assert!(rt; told_after(alloc, SAME_RULE_WITH_A_BAD_LINE) == Told::BadLine(21, Kind::Shape));
+            == Told::BadLine(16, Kind::Variable),
+        told_after(alloc, b"rule A\n---\n~C |- ; : ~T\nend\n") == Told::BadToken(17, 6),
+        told_after(alloc, b"rule A\n---\n~C |- ~T : ~T\nend\n") == Told::NoReading(17, 6),
+        told_after(alloc, SAME_RULE_WITH_A_BAD_LINE) == Told::BadLine(21, Kind::Shape),
+    ];
+    assert_eq!(rt; hold, [true; 5]);
 }
 
 /// Whether the line 28 of the language `Amb` with one more rule has two readings.

@@ -39,42 +39,47 @@ fn is_bad(rt: &HostRuntime, bytes: &[u8], at: u32, what: Kind) -> bool {
 
 #[test]
 fn first_lines(rt: HostRuntime) {
-    assert!(rt; is_bad(&rt, b"", 1, Kind::Head));
-    assert!(rt; is_bad(&rt, b"// Lam\n\nlanguage Loop\n", 3, Kind::Head));
-    assert!(rt; is_bad(&rt, b"sort Exp typed\nlanguage Lam\n", 1, Kind::Head));
-    assert!(rt; is_bad(&rt, b"language Lam\nlanguage Lam\n", 2, Kind::Order));
+    let hold = [
+        is_bad(&rt, b"", 1, Kind::Head),
+        is_bad(&rt, b"// Lam\n\nlanguage Loop\n", 3, Kind::Head),
+        is_bad(&rt, b"sort Exp typed\nlanguage Lam\n", 1, Kind::Head),
+        is_bad(&rt, b"language Lam\nlanguage Lam\n", 2, Kind::Order),
+    ];
+    assert_eq!(rt; hold, [true; 4]);
 }
 
 #[test]
 fn declarations(rt: HostRuntime) {
-    assert!(rt; is_bad(&rt, b"language Lam\nsorts Exp typed\n", 2, Kind::Directive));
-    assert!(rt; is_bad(&rt, b"language Lam\nsort Exp\n", 2, Kind::Shape));
-    assert!(rt; is_bad(&rt, b"language Lam\nsort num plain\n", 2, Kind::Shape));
-    assert!(rt; is_bad(&rt, b"language Lam\nvar e : Exp\n", 2, Kind::Shape));
-    assert!(rt;
+    let hold = [
+        is_bad(&rt, b"language Lam\nsorts Exp typed\n", 2, Kind::Directive),
+        is_bad(&rt, b"language Lam\nsort Exp\n", 2, Kind::Shape),
+        is_bad(&rt, b"language Lam\nsort num plain\n", 2, Kind::Shape),
+        is_bad(&rt, b"language Lam\nvar e : Exp\n", 2, Kind::Shape),
         is_bad(
             &rt,
             b"language Lam\nvar e : id\nvar e : id\n",
             3,
-            Kind::Shape
-        )
-    );
-    assert!(rt; is_bad(&rt, b"language Lam\n---\n", 2, Kind::Order));
-    assert!(rt; is_bad(&rt, b"language Lam\nmain f a b\n", 2, Kind::Main));
-    assert!(rt; is_bad(&rt, b"language Lam\nsort Exp typed", 3, Kind::Main));
+            Kind::Shape,
+        ),
+        is_bad(&rt, b"language Lam\n---\n", 2, Kind::Order),
+        is_bad(&rt, b"language Lam\nmain f a b\n", 2, Kind::Main),
+        is_bad(&rt, b"language Lam\nsort Exp typed", 3, Kind::Main),
+    ];
+    assert_eq!(rt; hold, [true; 8]);
 }
 
 #[test]
 fn sorts_with_lexical_names(rt: HostRuntime) {
-    assert!(rt; is_bad(&rt, b"language Lam\nsort id plain\n", 2, Kind::Shape));
-    assert!(rt;
+    let hold = [
+        is_bad(&rt, b"language Lam\nsort id plain\n", 2, Kind::Shape),
         is_bad(
             &rt,
             b"language Lam\nform f : in:id@5\nsort id typed\n",
             3,
-            Kind::Shape
-        )
-    );
+            Kind::Shape,
+        ),
+    ];
+    assert_eq!(rt; hold, [true; 2]);
 }
 
 /// A file whose signatures have a sort that the file does not declare, since its last line spells
@@ -116,18 +121,24 @@ fn is_bad_after(rt: &HostRuntime, lines: &[u8], at: u32, what: Kind) -> bool {
 
 #[test]
 fn lines_out_of_order(rt: HostRuntime) {
-    assert!(rt; is_bad_after(&rt, b"main f none more\n", 9, Kind::Order));
-    assert!(rt; is_bad_after(&rt, b"end\n", 9, Kind::Order));
-    assert!(rt; is_bad_after(&rt, b"rule R\n---\na\nend\nvar e : Exp\n", 13, Kind::Order));
-    assert!(rt; is_bad_after(&rt, b"rule R\n---\na\nrule S\n", 12, Kind::Order));
-    assert!(rt; is_bad_after(&rt, b"rule R\n---\na\nb\n", 12, Kind::Directive));
+    let hold = [
+        is_bad_after(&rt, b"main f none more\n", 9, Kind::Order),
+        is_bad_after(&rt, b"end\n", 9, Kind::Order),
+        is_bad_after(&rt, b"rule R\n---\na\nend\nvar e : Exp\n", 13, Kind::Order),
+        is_bad_after(&rt, b"rule R\n---\na\nrule S\n", 12, Kind::Order),
+        is_bad_after(&rt, b"rule R\n---\na\nb\n", 12, Kind::Directive),
+    ];
+    assert_eq!(rt; hold, [true; 5]);
 }
 
 #[test]
 fn rules_without_an_end(rt: HostRuntime) {
-    assert!(rt; is_bad_after(&rt, b"\nrule R\n", 10, Kind::Unfinished));
-    assert!(rt; is_bad_after(&rt, b"rule R\na\n---\n", 9, Kind::Unfinished));
-    assert!(rt; is_bad_after(&rt, b"rule R\n---\na\n\n", 9, Kind::Unfinished));
+    let hold = [
+        is_bad_after(&rt, b"\nrule R\n", 10, Kind::Unfinished),
+        is_bad_after(&rt, b"rule R\na\n---\n", 9, Kind::Unfinished),
+        is_bad_after(&rt, b"rule R\n---\na\n\n", 9, Kind::Unfinished),
+    ];
+    assert_eq!(rt; hold, [true; 3]);
 }
 
 #[test]

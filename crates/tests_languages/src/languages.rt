@@ -103,8 +103,8 @@ fn a_language_is_read(rt: HostRuntime) {
         Err(_) => (false, false),
     };
     drop(read);
-    assert!(rt; is_lam);
-    assert!(rt; says_there);
+    let hold = [is_lam, says_there];
+    assert_eq!(rt; hold, [true; 2]);
 }
 
 /// Whether the text is that of a language with two rules, of which the first has three variables

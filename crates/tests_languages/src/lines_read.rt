@@ -218,31 +218,33 @@ fn is_ambiguous(came: Result<(), NotationError>, one: &str, other: &str) -> bool
 #[test]
 fn lines_are_refused(rt: HostRuntime) {
     let alloc = rt.alloc();
-    assert!(rt; told(come_of_line(alloc, b"~C |- ~e ? : ~T")) == Told::BadToken(7, 9));
-    assert!(rt; told(come_of_line(alloc, b"~C |- ~x : ~T")) == Told::BadLine(7, Kind::Variable));
-    assert!(rt; told(come_of_line(alloc, b"~C |- ~e + 1 : ~T")) == Told::NoReading(7, 9));
-    assert!(rt; told(come_of_line(alloc, b"~C |- ~e :")) == Told::NoReading(7, 10));
-    assert!(rt;
+    let hold = [
+        told(come_of_line(alloc, b"~C |- ~e ? : ~T")) == Told::BadToken(7, 9),
+        told(come_of_line(alloc, b"~C |- ~x : ~T")) == Told::BadLine(7, Kind::Variable),
+        told(come_of_line(alloc, b"~C |- ~e + 1 : ~T")) == Told::NoReading(7, 9),
+        told(come_of_line(alloc, b"~C |- ~e :")) == Told::NoReading(7, 10),
         is_ambiguous(
             come_of_amb(alloc, b"~C |- (1 + 2 + 3) : ~T"),
             "form typing(~C,[plus(num(1),plus(num(2),num(3)))],~T)",
-            "form typing(~C,[plus(plus(num(1),num(2)),num(3))],~T)"
-        )
-    );
+            "form typing(~C,[plus(plus(num(1),num(2)),num(3))],~T)",
+        ),
+    ];
+    assert_eq!(rt; hold, [true; 5]);
 }
 
 #[test]
 fn sums_are_refused(rt: HostRuntime) {
     let alloc = rt.alloc();
-    assert!(rt; told(come_of_sum(alloc, b"1 + 2")) == Told::Read);
-    assert!(rt; told(come_of_sum(alloc, b"1 +  + 2")) == Told::NoReading(7, 5));
-    assert!(rt;
+    let hold = [
+        told(come_of_sum(alloc, b"1 + 2")) == Told::Read,
+        told(come_of_sum(alloc, b"1 +  + 2")) == Told::NoReading(7, 5),
         is_ambiguous(
             come_of_sum(alloc, b"1 + 2 + ~e"),
             "plus(num(1),plus(num(2),~e))",
-            "plus(plus(num(1),num(2)),~e)"
-        )
-    );
+            "plus(plus(num(1),num(2)),~e)",
+        ),
+    ];
+    assert_eq!(rt; hold, [true; 3]);
 }
 
 /// Whether the line with the number 7 states this stem of this sort.
@@ -274,6 +276,9 @@ fn told_directive(alloc: Global, line: &[u8]) -> Told {
 
 #[test]
 fn lines_that_extend_a_language(rt: HostRuntime) {
-    assert!(rt; states_stem(rt.alloc(), b"var x : id", "x", "id"));
-    assert!(rt; told_directive(rt.alloc(), b"form f :") == Told::BadLine(7, Kind::Shape));
+    let hold = [
+        states_stem(rt.alloc(), b"var x : id", "x", "id"),
+        told_directive(rt.alloc(), b"form f :") == Told::BadLine(7, Kind::Shape),
+    ];
+    assert_eq!(rt; hold, [true; 2]);
 }

@@ -125,27 +125,24 @@ fn prints(alloc: Global, body: &[u8], base: &[u8]) -> bool {
 #[test]
 fn prints_have_the_brackets_that_are_due(rt: HostRuntime) {
     let alloc = rt.alloc();
-    assert!(rt;
+    let hold = [
         prints(
             alloc,
             b"( ( 1 ) )+2 // a comment",
-            b"module Main\nlanguage Sums\n---\n1 + 2\n"
-        )
-    );
-    assert!(rt;
+            b"module Main\nlanguage Sums\n---\n1 + 2\n",
+        ),
         prints(
             alloc,
             b"( 1 + 2 ) + 3",
-            b"module Main\nlanguage Sums\n---\n1 + 2 + 3\n"
-        )
-    );
-    assert!(rt;
+            b"module Main\nlanguage Sums\n---\n1 + 2 + 3\n",
+        ),
         prints(
             alloc,
             b"1+(2+3)",
-            b"module Main\nlanguage Sums\n---\n1 + ( 2 + 3 )\n"
-        )
-    );
+            b"module Main\nlanguage Sums\n---\n1 + ( 2 + 3 )\n",
+        ),
+    ];
+    assert_eq!(rt; hold, [true; 3]);
 }
 
 /// Whether the body of a module of the language `Sums` is refused by this line.
@@ -159,67 +156,57 @@ fn refuses(alloc: Global, body: &[u8], line: &[u8]) -> bool {
 #[test]
 fn bodies_that_are_not_read(rt: HostRuntime) {
     let alloc = rt.alloc();
-    assert!(rt;
+    let hold = [
         refuses(
             alloc,
             b"1 +  + 2",
-            b"soundx: Main.mod: line 4 column 6: no reading\n"
-        )
-    );
-    assert!(rt;
+            b"soundx: Main.mod: line 4 column 6: no reading\n",
+        ),
         refuses(
             alloc,
             b"1 + ",
-            b"soundx: Main.mod: line 4 column 5: no reading\n"
-        )
-    );
-    assert!(rt;
+            b"soundx: Main.mod: line 4 column 5: no reading\n",
+        ),
         refuses(
             alloc,
             b"1 ?",
-            b"soundx: Main.mod: line 4 column 3: bad token\n"
-        )
-    );
-    assert!(rt;
+            b"soundx: Main.mod: line 4 column 3: bad token\n",
+        ),
         refuses(
             alloc,
             b"~n",
-            b"soundx: Main.mod: line 4 column 1: bad token\n"
-        )
-    );
+            b"soundx: Main.mod: line 4 column 1: bad token\n",
+        ),
+    ];
+    assert_eq!(rt; hold, [true; 4]);
 }
 
 #[test]
 fn lines_and_columns(rt: HostRuntime) {
     let alloc = rt.alloc();
-    assert!(rt;
+    let hold = [
         refuses(
             alloc,
             b"",
-            b"soundx: Main.mod: line 4 column 1: no reading\n"
-        )
-    );
-    assert!(rt;
+            b"soundx: Main.mod: line 4 column 1: no reading\n",
+        ),
         refuses(
             alloc,
             b"1\n\n?",
-            b"soundx: Main.mod: line 6 column 1: bad token\n"
-        )
-    );
-    assert!(rt;
+            b"soundx: Main.mod: line 6 column 1: bad token\n",
+        ),
         refuses(
             alloc,
             b"1\n\n+ ?",
-            b"soundx: Main.mod: line 6 column 3: bad token\n"
-        )
-    );
-    assert!(rt;
+            b"soundx: Main.mod: line 6 column 3: bad token\n",
+        ),
         refuses(
             alloc,
             b"1+\n",
-            b"soundx: Main.mod: line 5 column 1: no reading\n"
-        )
-    );
+            b"soundx: Main.mod: line 5 column 1: no reading\n",
+        ),
+    ];
+    assert_eq!(rt; hold, [true; 4]);
 }
 
 /// Whether the body of a module of the language `Amb` is refused by this line.
@@ -233,22 +220,21 @@ fn refuses_amb(alloc: Global, body: &[u8], line: &[u8]) -> bool {
 #[test]
 fn bodies_and_prints_with_two_readings(rt: HostRuntime) {
     let alloc = rt.alloc();
-    assert!(rt;
+    let hold = [
         refuses_amb(
             alloc,
             b"1 + 2 + 3",
             b"soundx: Main.mod: two readings: \
-plus(num(1),plus(num(2),num(3))) and plus(plus(num(1),num(2)),num(3))\n"
-        )
-    );
-    assert!(rt;
+plus(num(1),plus(num(2),num(3))) and plus(plus(num(1),num(2)),num(3))\n",
+        ),
         refuses_amb(
             alloc,
             b"( 1 + 2 ) + 3",
             b"soundx: Main.mod: printed text has two readings: \
-plus(num(1),plus(num(2),num(3))) and plus(plus(num(1),num(2)),num(3))\n"
-        )
-    );
+plus(num(1),plus(num(2),num(3))) and plus(plus(num(1),num(2)),num(3))\n",
+        ),
+    ];
+    assert_eq!(rt; hold, [true; 2]);
 }
 
 /// A module whose body is the sum of a number with so many digits and 1.
@@ -294,12 +280,13 @@ fn has_length(alloc: Global, digits: usize, length: usize) -> bool {
 #[test]
 fn files_that_are_too_long(rt: HostRuntime) {
     let alloc = rt.alloc();
-    assert!(rt; has_length(alloc, 262_109, 262_144));
-    assert!(rt;
+    let hold = [
+        has_length(alloc, 262_109, 262_144),
         is_too_long(
             alloc,
             262_110,
-            b"soundx: Main.mod: printed text has 262145 bytes, over 262144\n"
-        )
-    );
+            b"soundx: Main.mod: printed text has 262145 bytes, over 262144\n",
+        ),
+    ];
+    assert_eq!(rt; hold, [true; 2]);
 }

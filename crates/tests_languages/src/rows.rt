@@ -150,44 +150,56 @@ fn a_form(rt: HostRuntime) {
 
 #[test]
 fn other_rows(rt: HostRuntime) {
-    assert!(rt; is_row(&rt, b"language Lam"));
-    assert!(rt; is_row(&rt, b"main typing nilenv bind"));
-    assert!(rt; is_row(&rt, b"rule T-Var\r"));
-    assert!(rt; is_row(&rt, b" --- "));
-    assert!(rt; is_row(&rt, b"end"));
-    assert!(rt; is_no_row(&rt, b""));
-    assert!(rt; is_no_row(&rt, b"sorts Exp typed"));
-    assert!(rt; is_no_row(&rt, b"use Let"));
+    let hold = [
+        is_row(&rt, b"language Lam"),
+        is_row(&rt, b"main typing nilenv bind"),
+        is_row(&rt, b"rule T-Var\r"),
+        is_row(&rt, b" --- "),
+        is_row(&rt, b"end"),
+        is_no_row(&rt, b""),
+        is_no_row(&rt, b"sorts Exp typed"),
+        is_no_row(&rt, b"use Let"),
+    ];
+    assert_eq!(rt; hold, [true; 8]);
 }
 
 #[test]
 fn bad_rows(rt: HostRuntime) {
-    assert!(rt; is_bad(&rt, b"language"));
-    assert!(rt; is_bad(&rt, b"sort Exp typed \"(\""));
-    assert!(rt; is_bad(&rt, b"sort 1Exp typed"));
-    assert!(rt; is_bad(&rt, b"prod a Exp 100 :"));
-    assert!(rt; is_bad(&rt, b"prod a Exp 05 :"));
-    assert!(rt; is_bad(&rt, b"prod a Exp 5 : Exp@100"));
-    assert!(rt; is_bad(&rt, b"prod a Exp 5 \"a\""));
-    assert!(rt; is_bad(&rt, b"prod a Exp 5 : \"a\"b\""));
-    assert!(rt; is_bad(&rt, b"var x1 : Exp"));
-    assert!(rt; is_bad(&rt, b"var x : Exp@5"));
-    assert!(rt; is_bad(&rt, b"form f : Exp"));
-    assert!(rt; is_bad(&rt, b"--- end"));
+    let hold = [
+        is_bad(&rt, b"language"),
+        is_bad(&rt, b"sort Exp typed \"(\""),
+        is_bad(&rt, b"sort 1Exp typed"),
+        is_bad(&rt, b"prod a Exp 100 :"),
+        is_bad(&rt, b"prod a Exp 05 :"),
+        is_bad(&rt, b"prod a Exp 5 : Exp@100"),
+        is_bad(&rt, b"prod a Exp 5 \"a\""),
+        is_bad(&rt, b"prod a Exp 5 : \"a\"b\""),
+        is_bad(&rt, b"var x1 : Exp"),
+        is_bad(&rt, b"var x : Exp@5"),
+        is_bad(&rt, b"form f : Exp"),
+        is_bad(&rt, b"--- end"),
+    ];
+    assert_eq!(rt; hold, [true; 12]);
 }
 
 #[test]
 fn lexical_sorts(rt: HostRuntime) {
-    assert!(rt; is_bad(&rt, b"sort id plain"));
-    assert!(rt; is_bad(&rt, b"sort num typed"));
-    assert!(rt; is_bad(&rt, b"sort str plain \"(\" \")\""));
-    assert!(rt; is_row(&rt, b"sort ids plain"));
+    let hold = [
+        is_bad(&rt, b"sort id plain"),
+        is_bad(&rt, b"sort num typed"),
+        is_bad(&rt, b"sort str plain \"(\" \")\""),
+        is_row(&rt, b"sort ids plain"),
+    ];
+    assert_eq!(rt; hold, [true; 4]);
 }
 
 #[test]
 fn lexical_kinds(rt: HostRuntime) {
-    assert!(rt; matches!(lexical_kind(b"num"), Some(LexKind::Num)));
-    assert!(rt; lexical_kind(b"nu").is_none());
+    let hold = [
+        matches!(lexical_kind(b"num"), Some(LexKind::Num)),
+        lexical_kind(b"nu").is_none(),
+    ];
+    assert_eq!(rt; hold, [true; 2]);
 }
 
 /// Whether the line is a `prod` line.
@@ -214,9 +226,12 @@ fn is_no_directive(rt: &HostRuntime, line: &[u8]) -> bool {
 
 #[test]
 fn other_directives(rt: HostRuntime) {
-    assert!(rt; is_prod(&rt, b"prod a Exp 5 :"));
-    assert!(rt; is_no_directive(&rt, b"form f :"));
-    assert!(rt; is_no_directive(&rt, b"sorts Exp typed"));
+    let hold = [
+        is_prod(&rt, b"prod a Exp 5 :"),
+        is_no_directive(&rt, b"form f :"),
+        is_no_directive(&rt, b"sorts Exp typed"),
+    ];
+    assert_eq!(rt; hold, [true; 3]);
 }
 
 #[test]

@@ -160,11 +160,12 @@ fn known_in_sums(alloc: Global, line: &[u8]) -> Known {
 #[test]
 fn forms_with_their_sorts(rt: HostRuntime) {
     let alloc = rt.alloc();
-    assert!(rt; known_in_sums(alloc, TYPING) == Known::Typing);
-    assert!(rt;
+    let hold = [
+        known_in_sums(alloc, TYPING) == Known::Typing,
         known_in_sums(
             alloc,
-            b"form typing : in:Env \"|-\" sub:Exp@51 \":\" out:Type"
-        ) == Known::NoSort
-    );
+            b"form typing : in:Env \"|-\" sub:Exp@51 \":\" out:Type",
+        ) == Known::NoSort,
+    ];
+    assert_eq!(rt; hold, [true; 2]);
 }

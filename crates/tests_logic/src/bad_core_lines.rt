@@ -27,185 +27,167 @@ fn is_bad(rt: &HostRuntime, bytes: &[u8], line: u32, kind: Kind) -> bool {
 
 #[test]
 fn first_lines(rt: HostRuntime) {
-    assert!(rt; is_bad(&rt, b"", 1, Kind::Head));
-    assert!(rt; is_bad(&rt, b"// two\n\nsxcore 2\n", 3, Kind::Head));
-    assert!(rt; is_bad(&rt, b"sxcore 1\nsrot Exp typed\n", 2, Kind::Directive));
-    assert!(rt; is_bad(&rt, b"sxcore 1\nsxcore 1\n", 2, Kind::Order));
+    let hold = [
+        is_bad(&rt, b"", 1, Kind::Head),
+        is_bad(&rt, b"// two\n\nsxcore 2\n", 3, Kind::Head),
+        is_bad(&rt, b"sxcore 1\nsrot Exp typed\n", 2, Kind::Directive),
+        is_bad(&rt, b"sxcore 1\nsxcore 1\n", 2, Kind::Order),
+    ];
+    assert_eq!(rt; hold, [true; 4]);
 }
 
 #[test]
 fn declarations(rt: HostRuntime) {
-    assert!(rt; is_bad(&rt, b"sxcore 1\nsort  Exp typed\n", 2, Kind::Shape));
-    assert!(rt;
+    let hold = [
+        is_bad(&rt, b"sxcore 1\nsort  Exp typed\n", 2, Kind::Shape),
         is_bad(
             &rt,
             b"sxcore 1\nsort E plain\nsort E plain\n",
             3,
-            Kind::Shape
-        )
-    );
-    assert!(rt; is_bad(&rt, b"sxcore 1\nsort num plain\n", 2, Kind::Shape));
-    assert!(rt; is_bad(&rt, b"sxcore 1\ncon one Exp\n", 2, Kind::Shape));
-    assert!(rt; is_bad(&rt, b"sxcore 1\ncon one E\nsort E plain\n", 4, Kind::Main));
+            Kind::Shape,
+        ),
+        is_bad(&rt, b"sxcore 1\nsort num plain\n", 2, Kind::Shape),
+        is_bad(&rt, b"sxcore 1\ncon one Exp\n", 2, Kind::Shape),
+        is_bad(&rt, b"sxcore 1\ncon one E\nsort E plain\n", 4, Kind::Main),
+    ];
+    assert_eq!(rt; hold, [true; 5]);
 }
 
 #[test]
 fn rules(rt: HostRuntime) {
-    assert!(rt; is_bad(&rt, b"sxcore 1\nend\n", 2, Kind::Order));
-    assert!(rt; is_bad(&rt, b"sxcore 1\nrule R\nthen f (0)\n", 3, Kind::Shape));
-    assert!(rt; is_bad(&rt, b"sxcore 1\n\nrule R\n", 3, Kind::Unfinished));
-    assert!(rt;
+    let hold = [
+        is_bad(&rt, b"sxcore 1\nend\n", 2, Kind::Order),
+        is_bad(&rt, b"sxcore 1\nrule R\nthen f (0)\n", 3, Kind::Shape),
+        is_bad(&rt, b"sxcore 1\n\nrule R\n", 3, Kind::Unfinished),
         is_bad(
             &rt,
             b"sxcore 1\nsort E typed\ncon a E\nform f sub:E\ngoal f (0)\nfoo",
             6,
-            Kind::Order
-        )
-    );
+            Kind::Order,
+        ),
+    ];
+    assert_eq!(rt; hold, [true; 4]);
 }
 
 #[test]
 fn bad_rows(rt: HostRuntime) {
-    assert!(rt; is_bad(&rt, b"sxcore 1\nsort E typed \n", 2, Kind::Shape));
-    assert!(rt; is_bad(&rt, b"sxcore 1\ncon a id\n", 2, Kind::Shape));
-    assert!(rt;
+    let hold = [
+        is_bad(&rt, b"sxcore 1\nsort E typed \n", 2, Kind::Shape),
+        is_bad(&rt, b"sxcore 1\ncon a id\n", 2, Kind::Shape),
         is_bad(
             &rt,
             b"sxcore 1\nsort T plain\nsort E typed\ncon a T E\n",
             4,
-            Kind::Shape
-        )
-    );
-    assert!(rt;
+            Kind::Shape,
+        ),
         is_bad(
             &rt,
             b"sxcore 1\nsort T plain\nform f sub:T\n",
             3,
-            Kind::Shape
-        )
-    );
-    assert!(rt;
+            Kind::Shape,
+        ),
         is_bad(
             &rt,
             b"sxcore 1\nsort E typed\nform f in:E\n",
             3,
-            Kind::Shape
-        )
-    );
-    assert!(rt;
+            Kind::Shape,
+        ),
         is_bad(
             &rt,
             b"sxcore 1\nsort E typed\nform f sub:E sub:E\n",
             3,
-            Kind::Shape
-        )
-    );
-    assert!(rt;
+            Kind::Shape,
+        ),
         is_bad(
             &rt,
             b"sxcore 1\nsort E typed\nform f sub:E\nform f sub:E\n",
             4,
-            Kind::Shape
-        )
-    );
+            Kind::Shape,
+        ),
+    ];
+    assert_eq!(rt; hold, [true; 7]);
 }
 
 #[test]
 fn bad_judgements(rt: HostRuntime) {
-    assert!(rt;
+    let hold = [
         is_bad(
             &rt,
             b"sxcore 1\nform f in:id\nrule R\nthen f\n",
             4,
-            Kind::Shape
-        )
-    );
-    assert!(rt;
+            Kind::Shape,
+        ),
         is_bad(
             &rt,
             b"sxcore 1\nform f in:id\nrule R\nthen f i1:x i1:y\n",
             4,
-            Kind::Shape
-        )
-    );
-    assert!(rt;
+            Kind::Shape,
+        ),
         is_bad(
             &rt,
             b"sxcore 1\nform f in:id\nrule R\nif f i2:x\n",
             4,
-            Kind::Shape
-        )
-    );
-    assert!(rt;
+            Kind::Shape,
+        ),
         is_bad(
             &rt,
             b"sxcore 1\nform f in:id\nrule R\nnot ?0 ?64\n",
             4,
-            Kind::Shape
-        )
-    );
-    assert!(rt;
+            Kind::Shape,
+        ),
         is_bad(
             &rt,
             b"sxcore 1\nform f in:id\ngoal f i1:x\n",
             3,
-            Kind::Shape
-        )
-    );
-    assert!(rt;
+            Kind::Shape,
+        ),
         is_bad(
             &rt,
             b"sxcore 1\nsort E typed\nform f sub:E\ngoal f ?0\n",
             4,
-            Kind::Shape
-        )
-    );
-    assert!(rt;
+            Kind::Shape,
+        ),
         is_bad(
             &rt,
             b"sxcore 1\nsort E typed\nform f sub:E\ngoal f i1:x\n",
             4,
-            Kind::Shape
-        )
-    );
+            Kind::Shape,
+        ),
+    ];
+    assert_eq!(rt; hold, [true; 7]);
 }
 
 #[test]
 fn lines_out_of_order(rt: HostRuntime) {
-    assert!(rt; is_bad(&rt, b"sxcore 1\nrule R\nsort E typed\n", 3, Kind::Order));
-    assert!(rt;
+    let hold = [
+        is_bad(&rt, b"sxcore 1\nrule R\nsort E typed\n", 3, Kind::Order),
         is_bad(
             &rt,
             b"sxcore 1\nform f\nrule R\nthen f\nend\nsort E typed\n",
             6,
-            Kind::Order
-        )
-    );
-    assert!(rt;
+            Kind::Order,
+        ),
         is_bad(
             &rt,
             b"sxcore 1\nform f\nrule R\nthen f\nif f\n",
             5,
-            Kind::Order
-        )
-    );
-    assert!(rt; is_bad(&rt, b"sxcore 1\nform f\nrule R\nend\n", 4, Kind::Order));
-    assert!(rt;
+            Kind::Order,
+        ),
+        is_bad(&rt, b"sxcore 1\nform f\nrule R\nend\n", 4, Kind::Order),
         is_bad(
             &rt,
             b"sxcore 1\nsort E typed\ncon a E\nform f sub:E\ngoal f (0)\nrule R\n",
             6,
-            Kind::Order
-        )
-    );
-    assert!(rt;
+            Kind::Order,
+        ),
         is_bad(
             &rt,
             b"sxcore 1\nform f\nrule R\nthen f\n",
             3,
-            Kind::Unfinished
-        )
-    );
+            Kind::Unfinished,
+        ),
+    ];
+    assert_eq!(rt; hold, [true; 6]);
 }
 
 /// A file whose goal nests so many nodes round a leaf.

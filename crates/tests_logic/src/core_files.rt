@@ -113,8 +113,11 @@ fn number_in(alloc: Global, text: &[u8], name: &[u8]) -> Option<u32> {
 
 #[test]
 fn pairs(rt: HostRuntime) {
-    assert!(rt; stated(rt.alloc(), PAIRS, 3) == Some((2, 4, 1, 0, 1)));
-    assert!(rt; number_in(rt.alloc(), PAIRS, b"P") == Some(2));
+    let hold = [
+        stated(rt.alloc(), PAIRS, 3) == Some((2, 4, 1, 0, 1)),
+        number_in(rt.alloc(), PAIRS, b"P") == Some(2),
+    ];
+    assert_eq!(rt; hold, [true; 2]);
 }
 
 #[test]

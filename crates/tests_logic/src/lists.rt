@@ -36,10 +36,13 @@ fn bad_line(alloc: Global, text: &[u8]) -> Option<u32> {
 #[test]
 fn bad_lists(rt: HostRuntime) {
     let alloc = rt.alloc();
-    assert!(rt; bad_line(alloc, b"") == Some(1));
-    assert!(rt; bad_line(alloc, b"sxder 1\n\n") == Some(2));
-    assert!(rt; bad_line(alloc, b"sxder 1\nT-Pair\ngiven 0\n") == Some(3));
-    assert!(rt; bad_line(alloc, b"sxder 1\nT-Pair\xff\n") == Some(2));
+    let hold = [
+        bad_line(alloc, b"") == Some(1),
+        bad_line(alloc, b"sxder 1\n\n") == Some(2),
+        bad_line(alloc, b"sxder 1\nT-Pair\ngiven 0\n") == Some(3),
+        bad_line(alloc, b"sxder 1\nT-Pair\xff\n") == Some(2),
+    ];
+    assert_eq!(rt; hold, [true; 4]);
 }
 
 /// The line at which the text is refused, by the rules for abstractions.
@@ -55,10 +58,13 @@ fn bad_entries(rt: HostRuntime) {
     let alloc = rt.alloc();
     assert!(rt; bad_entry(alloc, b"sxder 1\nT-Lam\nT-Lam\nT-Var\nT-Nosuch\n") == Some(5));
     let blank = b"sxder 1\nT-Lam\nT-Lam\nT-Var\nL-There\nL-Here \n";
-    assert!(rt; bad_entry(alloc, blank) == Some(6));
-    assert!(rt; bad_entry(alloc, b"sxder 1\nT-Lam\ngiven 0\n") == Some(3));
-    assert!(rt; bad_entry(alloc, b"sxder 1\nT-Lam\ngiven 4294967297\n") == Some(3));
-    assert!(rt; bad_entry(alloc, b"sxder 2\nT-Lam\n") == Some(1));
+    let hold = [
+        bad_entry(alloc, blank) == Some(6),
+        bad_entry(alloc, b"sxder 1\nT-Lam\ngiven 0\n") == Some(3),
+        bad_entry(alloc, b"sxder 1\nT-Lam\ngiven 4294967297\n") == Some(3),
+        bad_entry(alloc, b"sxder 2\nT-Lam\n") == Some(1),
+    ];
+    assert_eq!(rt; hold, [true; 4]);
 }
 
 /// Whether the list that the text states is this one, by the rules for abstractions.

@@ -67,10 +67,13 @@ fn ending(alloc: Global, list: &[Entry]) -> Option<(u32, u64)> {
 fn lists_of_a_pair(rt: HostRuntime) {
     let alloc = rt.alloc();
     let (pair, leaf) = (Entry::Rule(1), Entry::Rule(0));
-    assert!(rt; ending(alloc, &[pair, leaf, leaf]) == Some((0, 1)));
-    assert!(rt; ending(alloc, &[pair, leaf]) == Some((2, 0)));
-    assert!(rt; ending(alloc, &[pair, leaf, pair]) == Some((1, 3)));
-    assert!(rt; ending(alloc, &[pair, leaf, leaf, leaf]) == Some((3, 4)));
-    assert!(rt; ending(alloc, &[Entry::Given(0)]) == Some((1, 1)));
-    assert!(rt; ending(alloc, &[Entry::Rule(2)]) == Some((1, 1)));
+    let hold = [
+        ending(alloc, &[pair, leaf, leaf]) == Some((0, 1)),
+        ending(alloc, &[pair, leaf]) == Some((2, 0)),
+        ending(alloc, &[pair, leaf, pair]) == Some((1, 3)),
+        ending(alloc, &[pair, leaf, leaf, leaf]) == Some((3, 4)),
+        ending(alloc, &[Entry::Given(0)]) == Some((1, 1)),
+        ending(alloc, &[Entry::Rule(2)]) == Some((1, 1)),
+    ];
+    assert_eq!(rt; hold, [true; 6]);
 }

@@ -82,12 +82,15 @@ const FIVE: &[u8] = b"Exp Exp Exp Ty Ty";
 #[test]
 fn refused_rules(rt: HostRuntime) {
     let alloc = rt.alloc();
-    assert!(rt; refusal(alloc, FIVE, b"?0", b"?1", b"(2 ?0 ?1)") == (6, 2, 0));
-    assert!(rt; refusal(alloc, FIVE, b"?0", b"(1)", b"(2 ?0 ?1)") == (4, 0, 0));
-    assert!(rt; refusal(alloc, FIVE, b"?0", b"(0)", b"(2 ?0 ?1)") == (5, 1, 2));
-    assert!(rt; refusal(alloc, FIVE, b"?0", b"?1", b"(2 ?0 ?0)") == (5, 2, 1));
-    assert!(rt; refusal(alloc, FIVE, b"?0", b"?0", b"?0") == (5, 3, 2));
-    assert!(rt; refusal(alloc, FIVE, b"?0", b"?1", b"(2 ?0 (2 ?1 ?2))") == (5, 4, 0));
+    let hold = [
+        refusal(alloc, FIVE, b"?0", b"?1", b"(2 ?0 ?1)") == (6, 2, 0),
+        refusal(alloc, FIVE, b"?0", b"(1)", b"(2 ?0 ?1)") == (4, 0, 0),
+        refusal(alloc, FIVE, b"?0", b"(0)", b"(2 ?0 ?1)") == (5, 1, 2),
+        refusal(alloc, FIVE, b"?0", b"?1", b"(2 ?0 ?0)") == (5, 2, 1),
+        refusal(alloc, FIVE, b"?0", b"?0", b"?0") == (5, 3, 2),
+        refusal(alloc, FIVE, b"?0", b"?1", b"(2 ?0 (2 ?1 ?2))") == (5, 4, 0),
+    ];
+    assert_eq!(rt; hold, [true; 6]);
 }
 
 /// Why the rule with 65 variables is refused.

@@ -79,8 +79,11 @@ fn wanting(alloc: Global, output: &str) -> Option<Told> {
 #[test]
 fn finds_the_wanted_output(rt: HostRuntime) {
     let alloc = rt.alloc();
-    assert!(rt; wanting(alloc, "(4)") == Some(Told::By(0)));
-    assert!(rt; wanting(alloc, "(5)") == Some(Told::By(1)));
+    let hold = [
+        wanting(alloc, "(4)") == Some(Told::By(0)),
+        wanting(alloc, "(5)") == Some(Told::By(1)),
+    ];
+    assert_eq!(rt; hold, [true; 2]);
     let unwanted = Stuck {
         subject: Some(0),
         steps: 0,

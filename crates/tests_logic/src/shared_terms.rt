@@ -58,8 +58,11 @@ fn equal_terms_have_one_number(rt: HostRuntime) {
     let alloc = rt.alloc();
     let one = "(2 (0 i1:f) (0 i1:g))";
     let turned = "(2 (0 i1:g) (0 i1:f))";
-    assert!(rt; shared(alloc, [one, turned, one]) == (Some((true, false)), 6));
-    assert!(rt; measures(alloc, one) == (3, 5));
+    let hold = [
+        shared(alloc, [one, turned, one]) == (Some((true, false)), 6),
+        measures(alloc, one) == (3, 5),
+    ];
+    assert_eq!(rt; hold, [true; 2]);
 }
 
 /// What a pattern makes of a term: 0 where it has the term not as an instance; or else 1 where the
@@ -153,7 +156,10 @@ fn are_apart(alloc: Global, one: &str, other: &str) -> Option<bool> {
 #[test]
 fn lexemes_are_apart(rt: HostRuntime) {
     let alloc = rt.alloc();
-    assert!(rt; are_apart(alloc, "i1:f", "i1:g") == Some(true));
-    assert!(rt; are_apart(alloc, "i1:f", "i1:f") == Some(false));
-    assert!(rt; are_apart(alloc, "(0 i1:f)", "(0 i1:g)") == Some(false));
+    let hold = [
+        are_apart(alloc, "i1:f", "i1:g") == Some(true),
+        are_apart(alloc, "i1:f", "i1:f") == Some(false),
+        are_apart(alloc, "(0 i1:f)", "(0 i1:g)") == Some(false),
+    ];
+    assert_eq!(rt; hold, [true; 3]);
 }

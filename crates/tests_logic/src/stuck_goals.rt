@@ -32,8 +32,11 @@ fn no_rule(steps: usize, first: usize) -> Option<Told> {
 #[test]
 fn places_of_stuck_goals(rt: HostRuntime) {
     let alloc = rt.alloc();
-    assert!(rt; by_pairs(alloc, "(3 (0) (2))", 9) == no_rule(1, 1));
-    assert!(rt; by_pairs(alloc, "(3 (0) (3 (0) (2)))", 30) == no_rule(2, 1));
+    let hold = [
+        by_pairs(alloc, "(3 (0) (2))", 9) == no_rule(1, 1),
+        by_pairs(alloc, "(3 (0) (3 (0) (2)))", 30) == no_rule(2, 1),
+    ];
+    assert_eq!(rt; hold, [true; 2]);
     let first = Stuck {
         subject: Some(1),
         steps: 1,

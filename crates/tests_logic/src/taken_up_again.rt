@@ -97,8 +97,11 @@ fn pair_calls(alloc: Global, budgets: (u64, u64, u64)) -> Option<[Call; 3]> {
 #[test]
 fn goes_on_after_a_pause(rt: HostRuntime) {
     let alloc = rt.alloc();
-    assert!(rt; pair_calls(alloc, (6, 9, 9)) == Some([Call::Found(6), Call::Over, Call::Over]));
-    assert!(rt; pair_calls(alloc, (5, 1, 9)) == Some([Call::Paused, Call::Found(1), Call::Over]));
+    let hold = [
+        pair_calls(alloc, (6, 9, 9)) == Some([Call::Found(6), Call::Over, Call::Over]),
+        pair_calls(alloc, (5, 1, 9)) == Some([Call::Paused, Call::Found(1), Call::Over]),
+    ];
+    assert_eq!(rt; hold, [true; 2]);
 }
 
 /// The text of a pair of this text with itself.
@@ -134,10 +137,9 @@ fn tree_calls(alloc: Global, budgets: (u64, u64, u64)) -> Option<[Call; 3]> {
 #[test]
 fn the_first_of_very_many(rt: HostRuntime) {
     let alloc = rt.alloc();
-    assert!(rt;
-        tree_calls(alloc, (253, 1, 3)) == Some([Call::Found(253), Call::Found(1), Call::Found(3)])
-    );
-    assert!(rt;
-        tree_calls(alloc, (252, 1, 1)) == Some([Call::Paused, Call::Found(1), Call::Found(1)])
-    );
+    let hold = [
+        tree_calls(alloc, (253, 1, 3)) == Some([Call::Found(253), Call::Found(1), Call::Found(3)]),
+        tree_calls(alloc, (252, 1, 1)) == Some([Call::Paused, Call::Found(1), Call::Found(1)]),
+    ];
+    assert_eq!(rt; hold, [true; 2]);
 }

@@ -61,8 +61,8 @@ fn core_text_is_read_and_written(rt: HostRuntime) -> Result<(), Fail> {
     let is_pair = is_node(&term, 0, 2);
     let is_written = is_written(alloc, &term, b">(0 i1:x ?3)");
     drop(term);
-    assert!(rt; is_pair);
-    assert!(rt; is_written?);
+    let hold = [is_pair, is_written?];
+    assert_eq!(rt; hold, [true; 2]);
     Ok(())
 }
 

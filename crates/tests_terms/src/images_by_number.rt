@@ -77,9 +77,12 @@ fn terms_are_lowered_by_number(rt: HostRuntime) {
         "(0 (0 (1 (1 ?5)) (1 (1 ?5))) (1 (0 (1 (1 ?5)) (1 (1 ?5)))))",
     );
     let other = lowered(alloc, b"(2 i1:x)", "(0 i1:x i1:y)");
-    assert!(rt; both == Lowered::Is(true));
-    assert!(rt; shared == Lowered::Is(true));
-    assert!(rt; other == Lowered::Is(false));
+    let hold = [
+        both == Lowered::Is(true),
+        shared == Lowered::Is(true),
+        other == Lowered::Is(false),
+    ];
+    assert_eq!(rt; hold, [true; 3]);
 }
 
 #[test]
@@ -88,8 +91,11 @@ fn images_by_number_have_limits(rt: HostRuntime) -> Result<(), Fail> {
     let deep = lowered(alloc, &nested(alloc, b"(4 ", 500, b"?7")?, "?7");
     let big = lowered(alloc, &nested(alloc, b"(2 ", 40, b"i1:x")?, "?7");
     let unfit = lowered(alloc, b"(3 ?0)", "?7");
-    assert!(rt; deep == Lowered::TooDeep(1001));
-    assert!(rt; big == Lowered::TooBig(2_199_023_255_551));
-    assert!(rt; unfit == Lowered::Unfit);
+    let hold = [
+        deep == Lowered::TooDeep(1001),
+        big == Lowered::TooBig(2_199_023_255_551),
+        unfit == Lowered::Unfit,
+    ];
+    assert_eq!(rt; hold, [true; 3]);
     Ok(())
 }

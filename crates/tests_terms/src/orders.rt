@@ -81,16 +81,16 @@ fn told_of_modules(alloc: Global, root: &str, again: &str) -> Option<(bool, Stri
 #[test]
 fn imports_come_first(rt: HostRuntime) -> Result<(), Fail> {
     let (added, words) = told_of_modules(rt.alloc(), "Main", "Last").ok_or("an answer")?;
-    assert!(rt; added);
-    assert_eq!(rt; words.as_str(), "order B A Main");
+    let hold = [added, words.as_str() == "order B A Main"];
+    assert_eq!(rt; hold, [true; 2]);
     Ok(())
 }
 
 #[test]
 fn a_module_that_is_added_again(rt: HostRuntime) -> Result<(), Fail> {
     let (added, words) = told_of_modules(rt.alloc(), "A", "B").ok_or("an answer")?;
-    assert!(rt; !added);
-    assert_eq!(rt; words.as_str(), "order B A");
+    let hold = [!added, words.as_str() == "order B A"];
+    assert_eq!(rt; hold, [true; 2]);
     Ok(())
 }
 
@@ -122,7 +122,7 @@ fn told_of_cycle(alloc: Global) -> Option<(bool, String)> {
 #[test]
 fn a_cycle_from_where_it_begins(rt: HostRuntime) -> Result<(), Fail> {
     let (added, words) = told_of_cycle(rt.alloc()).ok_or("an answer")?;
-    assert!(rt; added);
-    assert_eq!(rt; words.as_str(), "cycle B D B");
+    let hold = [added, words.as_str() == "cycle B D B"];
+    assert_eq!(rt; hold, [true; 2]);
     Ok(())
 }

@@ -25,8 +25,11 @@ fn lowered(alloc: Global, core: &[u8], wanted: &str) -> Lowered {
 #[test]
 fn pairs_use_both_parts(rt: HostRuntime) {
     let alloc = rt.alloc();
-    assert!(rt; added(alloc, b"(5 (5 ?0 (5 ?1 (3))) (3))") == Added::Done);
-    assert!(rt; added(alloc, b"(5 ?0 (3))") == Added::Drops(1));
+    let hold = [
+        added(alloc, b"(5 (5 ?0 (5 ?1 (3))) (3))") == Added::Done,
+        added(alloc, b"(5 ?0 (3))") == Added::Drops(1),
+    ];
+    assert_eq!(rt; hold, [true; 2]);
 }
 
 #[test]
@@ -42,6 +45,6 @@ fn pairs_are_lowered(rt: HostRuntime) {
         b"(5 (16 (2) (3)) (16 (2) (3)))",
         "(5 (5 (5 (2) (5 (3) (3))) (3)) (5 (5 (2) (5 (3) (3))) (3)))",
     );
-    assert!(rt; body == Lowered::Is(true));
-    assert!(rt; signature == Lowered::Is(true));
+    let hold = [body == Lowered::Is(true), signature == Lowered::Is(true)];
+    assert_eq!(rt; hold, [true; 2]);
 }

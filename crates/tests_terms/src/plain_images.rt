@@ -106,22 +106,28 @@ fn entries_are_flat(rt: HostRuntime) {
     let is_base_there = table.flat(1).is_some();
     let is_later_there = table.flat(5).is_some();
     drop(table);
-    assert!(rt; twice == Some(true));
-    assert!(rt; swap == Some(true));
-    assert!(rt; !is_base_there);
-    assert!(rt; !is_later_there);
+    let hold = [
+        twice == Some(true),
+        swap == Some(true),
+        !is_base_there,
+        !is_later_there,
+    ];
+    assert_eq!(rt; hold, [true; 4]);
 }
 
 #[test]
 fn entries_are_refused(rt: HostRuntime) {
     let alloc = rt.alloc();
-    assert!(rt; tried(alloc, 5, 1, b"(3 ?0 ?0)") == (Added::Done, true));
-    assert!(rt; tried(alloc, 2, 2, b"(7 ?0)") == (Added::Twice(2), true));
-    assert!(rt; tried(alloc, 5, 1, b"(0 (1 ?0) (1 (8 (7))))") == (Added::UsesLater(8), false));
-    assert!(rt; tried(alloc, 5, 2, b"(5 ?0)") == (Added::UsesLater(5), false));
-    assert!(rt; tried(alloc, 5, 3, b"(0 ?0 ?2)") == (Added::Drops(1), false));
-    assert!(rt; tried(alloc, 5, 1, b"(0 ?0 ?1)") == (Added::Unfit, false));
-    assert!(rt; tried(alloc, 5, 1, b"(3 ?0)") == (Added::Unfit, false));
+    let hold = [
+        tried(alloc, 5, 1, b"(3 ?0 ?0)") == (Added::Done, true),
+        tried(alloc, 2, 2, b"(7 ?0)") == (Added::Twice(2), true),
+        tried(alloc, 5, 1, b"(0 (1 ?0) (1 (8 (7))))") == (Added::UsesLater(8), false),
+        tried(alloc, 5, 2, b"(5 ?0)") == (Added::UsesLater(5), false),
+        tried(alloc, 5, 3, b"(0 ?0 ?2)") == (Added::Drops(1), false),
+        tried(alloc, 5, 1, b"(0 ?0 ?1)") == (Added::Unfit, false),
+        tried(alloc, 5, 1, b"(3 ?0)") == (Added::Unfit, false),
+    ];
+    assert_eq!(rt; hold, [true; 7]);
 }
 
 #[test]
@@ -131,10 +137,13 @@ fn flat_bodies_have_limits(rt: HostRuntime) -> Result<(), Fail> {
     let shallow = tried(alloc, 5, 1, &nested(alloc, b"(4 ", 499, b"(1 ?0)")?);
     let big = tried(alloc, 5, 1, &nested(alloc, b"(2 ", 40, b"?0")?);
     let small = tried(alloc, 5, 1, &nested(alloc, b"(2 ", 18, b"?0")?);
-    assert!(rt; deep == (Added::TooDeep(1001), false));
-    assert!(rt; shallow == (Added::Done, true));
-    assert!(rt; big == (Added::TooBig(2_199_023_255_551), false));
-    assert!(rt; small == (Added::Done, true));
+    let hold = [
+        deep == (Added::TooDeep(1001), false),
+        shallow == (Added::Done, true),
+        big == (Added::TooBig(2_199_023_255_551), false),
+        small == (Added::Done, true),
+    ];
+    assert_eq!(rt; hold, [true; 4]);
     Ok(())
 }
 
@@ -188,8 +197,8 @@ fn terms_are_lowered(rt: HostRuntime) {
         Err(_) => Lowered::Memory,
     };
     drop(copied);
-    assert!(rt; both == Lowered::Is(true));
-    assert!(rt; inner == Lowered::Is(true));
+    let hold = [both == Lowered::Is(true), inner == Lowered::Is(true)];
+    assert_eq!(rt; hold, [true; 2]);
 }
 
 #[test]
@@ -201,8 +210,11 @@ fn images_have_limits(rt: HostRuntime) -> Result<(), Fail> {
     let too_deep = lower_as(alloc, &table, &deep, "?7");
     let too_big = lower_as(alloc, &table, &big, "?7");
     drop(table);
-    assert!(rt; too_deep == Lowered::TooDeep(1001));
-    assert!(rt; too_big == Lowered::TooBig(2_199_023_255_551));
+    let hold = [
+        too_deep == Lowered::TooDeep(1001),
+        too_big == Lowered::TooBig(2_199_023_255_551),
+    ];
+    assert_eq!(rt; hold, [true; 2]);
     Ok(())
 }
 
@@ -220,6 +232,6 @@ fn bare_nodes_give_way(rt: HostRuntime) {
     let alloc = rt.alloc();
     let inner = lower_bare(alloc, b"(5 (5 (2 (5 (5 i1:x)))))", "(0 i1:x i1:x)");
     let alone = lower_bare(alloc, b"(5 (5 ?3))", "?3");
-    assert!(rt; inner == Lowered::Is(true));
-    assert!(rt; alone == Lowered::Is(true));
+    let hold = [inner == Lowered::Is(true), alone == Lowered::Is(true)];
+    assert_eq!(rt; hold, [true; 2]);
 }
