@@ -29,9 +29,16 @@ use sx_term::{NoMemory, Shapes};
 fn begin(alloc: Global, sorts: SortTable) -> Result<Reader, NoMemory>
     ensures { IfOk result (λ r. IsBegun sorts r) }
 {
+    let taken = match lexical_names(alloc) {
+        Ok(names) => names,
+        Err(e) => {
+            drop(sorts);
+            return Err(e);
+        }
+    };
     let found = Found {
         sorts,
-        taken: lexical_names(alloc)?,
+        taken,
         con_names: Names::new(alloc),
         cons: Vec::new(alloc),
         shapes: Shapes {

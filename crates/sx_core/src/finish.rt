@@ -77,15 +77,34 @@ fn make_problem(
     drop(con_names);
     drop(names);
     drop(sort_names);
-    let sorts = names_of_sorts(alloc, &rows)?;
-    match RuleSet::make(alloc, &shapes, forms, rules) {
+    let named = names_of_sorts(alloc, &rows);
+    drop(rows);
+    let sorts = match named {
+        Ok(names) => names,
+        Err(_) => {
+            drop(cons);
+            drop(shapes);
+            drop(forms);
+            drop(rules);
+            drop(goal);
+            return Err(CoreFileError::Memory);
+        }
+    };
+    let made = RuleSet::make(alloc, &shapes, forms, rules);
+    drop(shapes);
+    match made {
         Ok(rules) => Ok(CoreProblem {
             sorts,
             cons,
             rules,
             goal,
         }),
-        Err(e) => Err(rule_error(e)),
+        Err(e) => {
+            drop(sorts);
+            drop(cons);
+            drop(goal);
+            Err(rule_error(e))
+        }
     }
 }
 
@@ -131,16 +150,21 @@ pub(crate) fn finish(
         Stage::Premising(open) => {
             drop(found);
             drop(rules);
+            let line = open.line;
+            drop(open);
             Err(CoreFileError::Notation {
-                line: open.line,
+                line,
                 kind: Kind::Unfinished,
             })
         }
-        Stage::Concluded(open, _) => {
+        Stage::Concluded(open, conclusion) => {
             drop(found);
             drop(rules);
+            drop(conclusion);
+            let line = open.line;
+            drop(open);
             Err(CoreFileError::Notation {
-                line: open.line,
+                line,
                 kind: Kind::Unfinished,
             })
         }

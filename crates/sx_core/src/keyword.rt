@@ -7,7 +7,7 @@ ghost use Rattle.sx_core.specs.declared.keyword.Keyword.{Keyword as KeywordOf};
 use crate::words::word_len;
 
 /// A word that begins a line of a core file.
-#[derive(Clone, Copy, PartialEq, Eq, Debug)]
+#[derive(Clone, Copy)]
 pub(crate) enum Keyword {
     Head,
     Sort,

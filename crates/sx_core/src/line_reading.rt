@@ -54,11 +54,15 @@ fn con_line(alloc: Global, found: &Found, text: &[u8], rest: &[u8]) -> Result<Li
     match read_con(alloc, rest) {
         Ok(row) => {
             if found.con_names.has(&row.name) {
+                drop(row);
                 return Err(RowError::Shape);
             }
             match make_con(alloc, &found.sorts, &row) {
                 Ok(con) => Ok(LineRead::Con(row, con)),
-                Err(e) => Err(e),
+                Err(e) => {
+                    drop(row);
+                    Err(e)
+                }
             }
         }
         Err(e) => Err(e),
@@ -74,9 +78,12 @@ fn form_line(alloc: Global, found: &Found, text: &[u8], rest: &[u8]) -> Result<L
     match read_form(alloc, rest) {
         Ok(row) => {
             if found.forms.names.has(&row.name) {
+                drop(row);
                 return Err(RowError::Shape);
             }
-            match make_form(alloc, &found.sorts, &row) {
+            let made = make_form(alloc, &found.sorts, &row);
+            drop(row);
+            match made {
                 Ok(form) => Ok(LineRead::Form(form)),
                 Err(e) => Err(e),
             }

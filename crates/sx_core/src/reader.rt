@@ -65,7 +65,9 @@ impl Reader {
         } = self;
         match stage {
             Stage::Declaring => {
-                match add_sort(alloc, &mut found, &row) {
+                let added = add_sort(alloc, &mut found, &row);
+                drop(row);
+                match added {
                     Ok(_) => Ok(Reader {
                         found,
                         rules,
@@ -78,7 +80,10 @@ impl Reader {
                     }
                 }
             }
-            _ => Err(out_of_order(found, rules, stage)),
+            _ => {
+                drop(row);
+                Err(out_of_order(found, rules, stage))
+            }
         }
     }
 
@@ -94,7 +99,9 @@ impl Reader {
         } = self;
         match stage {
             Stage::Declaring => {
-                match add_con(alloc, &mut found, &row, con) {
+                let added = add_con(alloc, &mut found, &row, con);
+                drop(row);
+                match added {
                     Ok(_) => Ok(Reader {
                         found,
                         rules,
@@ -107,7 +114,11 @@ impl Reader {
                     }
                 }
             }
-            _ => Err(out_of_order(found, rules, stage)),
+            _ => {
+                drop(row);
+                drop(con);
+                Err(out_of_order(found, rules, stage))
+            }
         }
     }
 
@@ -136,7 +147,10 @@ impl Reader {
                     }
                 }
             }
-            _ => Err(out_of_order(found, rules, stage)),
+            _ => {
+                drop(one);
+                Err(out_of_order(found, rules, stage))
+            }
         }
     }
 
@@ -172,7 +186,10 @@ impl Reader {
                 rules,
                 stage: Stage::Premising(open),
             }),
-            _ => Err(out_of_order(found, rules, stage)),
+            _ => {
+                drop(open);
+                Err(out_of_order(found, rules, stage))
+            }
         }
     }
 
@@ -202,7 +219,10 @@ impl Reader {
                     stage: Stage::Premising(open),
                 })
             }
-            _ => Err(out_of_order(found, rules, stage)),
+            _ => {
+                drop(one);
+                Err(out_of_order(found, rules, stage))
+            }
         }
     }
 
@@ -232,7 +252,11 @@ impl Reader {
                     stage: Stage::Premising(open),
                 })
             }
-            _ => Err(out_of_order(found, rules, stage)),
+            _ => {
+                drop(left);
+                drop(right);
+                Err(out_of_order(found, rules, stage))
+            }
         }
     }
 
@@ -251,7 +275,10 @@ impl Reader {
                 rules,
                 stage: Stage::Concluded(open, one),
             }),
-            _ => Err(out_of_order(found, rules, stage)),
+            _ => {
+                drop(one);
+                Err(out_of_order(found, rules, stage))
+            }
         }
     }
 
@@ -316,7 +343,10 @@ impl Reader {
                 rules,
                 stage: Stage::Over(goal),
             }),
-            _ => Err(out_of_order(found, rules, stage)),
+            _ => {
+                drop(goal);
+                Err(out_of_order(found, rules, stage))
+            }
         }
     }
 

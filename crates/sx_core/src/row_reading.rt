@@ -104,9 +104,16 @@ pub(crate) fn read_con(alloc: Global, text: &[u8]) -> Result<ConRow, RowError>
         Ok((name, rest)) => match read_name(alloc, rest) {
             Ok((sort, rest)) => match read_names(alloc, rest) {
                 Ok(kids) => Ok(ConRow { name, sort, kids }),
-                Err(e) => Err(e),
+                Err(e) => {
+                    drop(sort);
+                    drop(name);
+                    Err(e)
+                }
             },
-            Err(e) => Err(e),
+            Err(e) => {
+                drop(name);
+                Err(e)
+            }
         },
         Err(e) => Err(e),
     }

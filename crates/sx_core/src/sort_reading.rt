@@ -49,17 +49,13 @@ fn line_sort(alloc: Global, text: &[u8]) -> Result<Option<SortRow>, NoMemory>
     ensures { IfOk result (λ found. MatchOption found ((r : SortOf) → IsSortLine text.now r → ⊥) (λ r. IsSortLine text.now (sort_row r))) }
 {
     match split_keyword(text) {
-        Some((keyword, rest)) => {
-            if keyword != Keyword::Sort {
-                return Ok(None);
-            }
-            match read_sort(alloc, rest) {
-                Ok(row) => Ok(Some(row)),
-                Err(RowError::Memory) => Err(NoMemory::Memory),
-                Err(RowError::Shape) => Ok(None),
-                Err(RowError::TooDeep(_)) => unreachable!(),
-            }
-        }
+        Some((Keyword::Sort, rest)) => match read_sort(alloc, rest) {
+            Ok(row) => Ok(Some(row)),
+            Err(RowError::Memory) => Err(NoMemory::Memory),
+            Err(RowError::Shape) => Ok(None),
+            Err(RowError::TooDeep(_)) => unreachable!(),
+        },
+        Some(_) => Ok(None),
         None => Ok(None),
     }
 }

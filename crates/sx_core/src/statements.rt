@@ -123,6 +123,7 @@ fn read_inputs(
     match read_terms(alloc, text, sorts.len()) {
         Ok(terms) => {
             if !terms_fit(all, &terms, sorts) {
+                drop(terms);
                 return Err(RowError::Shape);
             }
             Ok(terms)

@@ -81,12 +81,16 @@ pub fn read_terms(alloc: Global, rest: &[u8], count: usize) -> Result<Vec<Term>,
                 found.push(term)?;
                 left = after;
             }
-            Err(e) => return Err(e),
+            Err(e) => {
+                drop(found);
+                return Err(e);
+            }
         }
     }
     if left.is_empty() {
         return Ok(found);
     }
+    drop(found);
     Err(RowError::Shape)
 }
 
@@ -97,7 +101,10 @@ pub(crate) fn read_pair(alloc: Global, rest: &[u8]) -> Result<(Term, Term), RowE
     match read_terms(alloc, rest, 2) {
         Ok(mut terms) => match terms.pop() {
             Some(right) => match terms.pop() {
-                Some(left) => Ok((left, right)),
+                Some(left) => {
+                    drop(terms);
+                    Ok((left, right))
+                }
                 None => unreachable!(),
             },
             None => unreachable!(),

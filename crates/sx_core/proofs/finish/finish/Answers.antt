@@ -17,5 +17,5 @@ returns-in-Premising c = (c.in-Premising.open, inl c.in-Premising.is, refl)
 pub returns-in-Concluded : goal.returns-in-Concluded
 returns-in-Concluded c = (c.in-Concluded.open, inr (_, c.in-Concluded.is), refl)
 
-pub returns : goal.returns
-returns c = made_ended c.args.reader c.args.reader.stage c.args.number c.in-Over.goal c.make_problem.result c.in-Over.is c.make_problem.ensures
+pub returns-in-Over : goal.returns-in-Over
+returns-in-Over c = made_ended c.args.reader c.args.reader.stage c.args.number c.in-Over.goal c.make_problem.result c.in-Over.is c.make_problem.ensures

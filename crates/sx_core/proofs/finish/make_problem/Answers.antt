@@ -5,6 +5,6 @@ use Rattle.sx_core.specs.Machine.{IsMadeOf}
 use Rattle.sx_core.proofs.FinishLaws.{made_refused}
 use Rattle.sx_core.proofs.finish.make_problem.Goals as goal
 
-pub returns-in-Err : goal.returns-in-Err
-returns-in-Err c =
-    subst (λ e. IsMadeOf c.args.found (map named c.args.rules.items) (goal_of c.args.goal) (Err e)) (sym c.rule_error.ensures) (made_refused c.args.found (map named c.args.rules.items) (goal_of c.args.goal) c.in-Err.e c.in-Err.ensures)
+pub returns-in-Err-made : goal.returns-in-Err-made
+returns-in-Err-made c =
+    subst (λ e. IsMadeOf c.args.found (map named c.args.rules.items) (goal_of c.args.goal) (Err e)) (sym c.rule_error.ensures) (made_refused c.args.found (map named c.args.rules.items) (goal_of c.args.goal) c.in-Err-made.e c.in-Err-made.ensures)

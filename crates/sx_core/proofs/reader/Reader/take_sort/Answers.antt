@@ -4,5 +4,5 @@ use Rattle.sx_core.specs.declared.keyword.Keyword.TheVariants as keyword
 use Rattle.sx_core.proofs.StageLaws.{no_sort}
 use Rattle.sx_core.proofs.reader.Reader.take_sort.Goals as goal
 
-pub returns : goal.returns
-returns c = λ n. subst (StepRefused c.args.self keyword.Sort) (sym c.out_of_order.ensures) (no_sort c.args.self.stage c.in_default.not-Declaring)
+pub returns-in_default : goal.returns-in_default
+returns-in_default c = λ n. subst (StepRefused c.args.self keyword.Sort) (sym c.out_of_order.ensures) (no_sort c.args.self.stage c.in_default.not-Declaring)
