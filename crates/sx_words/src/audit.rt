@@ -3,7 +3,7 @@
 use sx_term::Text;
 
 /// An option that names an auditor.
-#[derive(Debug, Drop)]
+#[derive(Drop)]
 pub struct Audit {
     /// The auditor's kind: what stands before the first `:`.
     pub kind: Text,

@@ -3,12 +3,12 @@
 ghost use Rattle.std.specs.Prelude.{◌≡◌, ◌++◌, OnOk};
 ghost use Rattle.sx_words.specs.RefusalText.{budget_text};
 
-use crate::parts::{put, put_number};
+use crate::parts::{put_number, put_words};
 use std::alloc::Global;
 use sx_term::NoMemory;
 
 /// Which budget or limit a derivation passes. At `Place::Rule` in accepting a rule.
-#[derive(Debug, Drop)]
+#[derive(Drop)]
 pub enum BudgetDefect {
     /// The tries that the walk may take.
     Tries(u64),
@@ -30,7 +30,7 @@ pub(crate) fn put_budget(
 {
     match defect {
         BudgetDefect::Tries(n) => put_number(alloc, b"more than ", *n, b" tries", into),
-        BudgetDefect::Depth => put(&[b"derivation deeper than 3000"], into),
+        BudgetDefect::Depth => put_words(b"derivation deeper than 3000", into),
         BudgetDefect::Nodes(n) => put_number(
             alloc,
             b"rewriting needs more than ",
@@ -38,6 +38,6 @@ pub(crate) fn put_budget(
             b" nodes",
             into,
         ),
-        BudgetDefect::RewriteDepth => put(&[b"rewritten derivation deeper than 3000"], into),
+        BudgetDefect::RewriteDepth => put_words(b"rewritten derivation deeper than 3000", into),
     }
 }

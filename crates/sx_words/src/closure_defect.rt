@@ -3,11 +3,11 @@
 ghost use Rattle.std.specs.Prelude.{◌≡◌, ◌++◌, OnOk};
 ghost use Rattle.sx_words.specs.RefusalText.{closure_text, kept_text, names_text};
 
-use crate::parts::put;
+use crate::parts::{put, put_named, put_words};
 use sx_term::{NoMemory, Text};
 
 /// A value that a file keeps of another one.
-#[derive(Debug, Drop)]
+#[derive(Drop)]
 pub enum Kept {
     /// The digest of the language file.
     LanguageDigest,
@@ -20,7 +20,7 @@ pub enum Kept {
 }
 
 /// Why files do not go together.
-#[derive(Debug, Drop)]
+#[derive(Drop)]
 pub enum ClosureDefect {
     /// The names of a cycle, from one of them to it again.
     Cycle(Vec<Text>),
@@ -50,10 +50,10 @@ fn put_kept(what: &Kept, into: &mut Vec<u8>) -> Result<(), NoMemory>
     ensures { OnOk result (into.new.items ≡ into.old.items ++ kept_text what.now) }
 {
     match what {
-        Kept::LanguageDigest => put(&[b"language digest"], into),
-        Kept::BaseDigest => put(&[b"base digest"], into),
-        Kept::ImportDigest(name) => put(&[b"import ", name.bytes(), b" digest"], into),
-        Kept::Signature => put(&[b"signature"], into),
+        Kept::LanguageDigest => put_words(b"language digest", into),
+        Kept::BaseDigest => put_words(b"base digest", into),
+        Kept::ImportDigest(name) => put_named(b"import ", name, b" digest", into),
+        Kept::Signature => put_words(b"signature", into),
     }
 }
 
@@ -63,18 +63,20 @@ pub(crate) fn put_closure(defect: &ClosureDefect, into: &mut Vec<u8>) -> Result<
 {
     match defect {
         ClosureDefect::Cycle(names) => {
-            put(&[b"cycle"], into)?;
+            put_words(b"cycle", into)?;
             put_names(names.as_slice(), into)
         }
-        ClosureDefect::TooManyModules => put(&[b"more than 256 files"], into),
-        ClosureDefect::LanguageDiffers(language) => put(
-            &[b"language ", language.bytes(), b" differs"],
+        ClosureDefect::TooManyModules => put_words(b"more than 256 files", into),
+        ClosureDefect::LanguageDiffers(language) => put_named(
+            b"language ",
+            language,
+            b" differs",
             into,
         ),
         ClosureDefect::Differs { what, kept, found } => {
             put_kept(what, into)?;
             put(&[b" kept ", kept.bytes(), b", found ", found.bytes()], into)
         }
-        ClosureDefect::CoreDiffers => put(&[b"differs"], into),
+        ClosureDefect::CoreDiffers => put_words(b"differs", into),
     }
 }

@@ -4,7 +4,7 @@ use crate::audit::Audit;
 use sx_term::Text;
 
 /// A command, as the words spell it. What is not said of tries and nodes is 1,000,000.
-#[derive(Debug, Drop)]
+#[derive(Drop)]
 pub enum Command {
     /// Builds the closure of a module, or with `core` the goal of a core file.
     Build {

@@ -3,11 +3,11 @@
 ghost use Rattle.std.specs.Prelude.{◌≡◌, ◌++◌, OnOk};
 ghost use Rattle.sx_words.specs.RefusalText.{extension_text};
 
-use crate::parts::put;
+use crate::parts::{put_named, put_words};
 use sx_term::{NoMemory, Text};
 
 /// What is wrong with an extension.
-#[derive(Debug, Drop)]
+#[derive(Drop)]
 pub enum ExtensionDefect {
     /// The language that the extension is written for.
     WrongLanguage(Text),
@@ -32,16 +32,18 @@ pub(crate) fn put_extension(defect: &ExtensionDefect, into: &mut Vec<u8>) -> Res
     ensures { OnOk result (into.new.items ≡ into.old.items ++ extension_text defect.now) }
 {
     match defect {
-        ExtensionDefect::WrongLanguage(text) => put(
-            &[b"written for language ", text.bytes()],
+        ExtensionDefect::WrongLanguage(text) => put_named(
+            b"written for language ",
+            text,
+            b"",
             into,
         ),
-        ExtensionDefect::NoBody => put(&[b"no body"], into),
-        ExtensionDefect::BodySort => put(&[b"body without a subject"], into),
-        ExtensionDefect::BodyExtended => put(&[b"body uses extended syntax"], into),
-        ExtensionDefect::Twice(text) => put(&[b"plain ", text.bytes(), b" stands twice"], into),
-        ExtensionDefect::UsesLater(text) => put(&[b"uses ", text.bytes()], into),
-        ExtensionDefect::Drops(text) => put(&[text.bytes(), b" is not used"], into),
-        ExtensionDefect::NoPlain => put(&[b"no plain body"], into),
+        ExtensionDefect::NoBody => put_words(b"no body", into),
+        ExtensionDefect::BodySort => put_words(b"body without a subject", into),
+        ExtensionDefect::BodyExtended => put_words(b"body uses extended syntax", into),
+        ExtensionDefect::Twice(text) => put_named(b"plain ", text, b" stands twice", into),
+        ExtensionDefect::UsesLater(text) => put_named(b"uses ", text, b"", into),
+        ExtensionDefect::Drops(text) => put_named(b"", text, b" is not used", into),
+        ExtensionDefect::NoPlain => put_words(b"no plain body", into),
     }
 }

@@ -3,12 +3,12 @@
 ghost use Rattle.std.specs.Prelude.{◌≡◌, ◌++◌, OnOk};
 ghost use Rattle.sx_words.specs.RefusalText.{file_text};
 
-use crate::parts::{put, put_number};
+use crate::parts::{put_named, put_number, put_words};
 use std::alloc::Global;
 use sx_term::{NoMemory, Text};
 
 /// What is wrong with the words or with a file as a whole.
-#[derive(Debug, Drop)]
+#[derive(Drop)]
 pub enum FileDefect {
     /// Words that are no command: the first word that does not fit, from 1.
     Word(u64),
@@ -44,15 +44,15 @@ pub(crate) fn put_file(
 {
     match defect {
         FileDefect::Word(n) => put_number(alloc, b"word ", *n, b"", into),
-        FileDefect::Absent => put(&[b"absent"], into),
-        FileDefect::TooLong => put(&[b"too long"], into),
-        FileDefect::ReadFault => put(&[b"read fault"], into),
-        FileDefect::WriteFault => put(&[b"write fault"], into),
+        FileDefect::Absent => put_words(b"absent", into),
+        FileDefect::TooLong => put_words(b"too long", into),
+        FileDefect::ReadFault => put_words(b"read fault", into),
+        FileDefect::WriteFault => put_words(b"write fault", into),
         FileDefect::NotUtf8(n) => put_number(alloc, b"not UTF-8 at byte ", *n, b"", into),
-        FileDefect::Notation(text) => put(&[text.bytes()], into),
-        FileDefect::Header => put(&[b"bad header"], into),
+        FileDefect::Notation(text) => put_named(b"", text, b"", into),
+        FileDefect::Header => put_words(b"bad header", into),
         FileDefect::Version(n) => put_number(alloc, b"version ", *n, b"", into),
-        FileDefect::BadList => put(&[b"bad entry"], into),
-        FileDefect::NotYet => put(&[b"not read yet"], into),
+        FileDefect::BadList => put_words(b"bad entry", into),
+        FileDefect::NotYet => put_words(b"not read yet", into),
     }
 }

@@ -3,13 +3,13 @@
 ghost use Rattle.std.specs.Prelude.{◌≡◌, ◌++◌, OnOk};
 ghost use Rattle.sx_words.specs.RefusalText.{goal_text};
 
-use crate::parts::{number, put};
+use crate::parts::{number, put, put_named};
 use std::alloc::Global;
 use sx_term::{NoMemory, Text};
 
 /// Why a goal has no derivation: the goal where the walk is stuck, as it is printed. At `Place::Spot` in a module file, at
 /// `Place::Rule` in accepting a rule, and at `Place::Nowhere` in a core file.
-#[derive(Debug, Drop)]
+#[derive(Drop)]
 pub enum GoalDefect {
     /// No rule concludes the goal.
     NoRule {
@@ -42,7 +42,7 @@ pub(crate) fn put_goal(
     ensures { OnOk result (into.new.items ≡ into.old.items ++ goal_text defect.now) }
 {
     match defect {
-        GoalDefect::NoRule { goal } => put(&[b"no rule concludes ", goal.bytes()], into),
+        GoalDefect::NoRule { goal } => put_named(b"no rule concludes ", goal, b"", into),
         GoalDefect::Equal {
             goal,
             premise,
@@ -79,8 +79,10 @@ pub(crate) fn put_goal(
                 into,
             )
         }
-        GoalDefect::NotStated { goal } => put(
-            &[goal.bytes(), b" is not the stated conclusion"],
+        GoalDefect::NotStated { goal } => put_named(
+            b"",
+            goal,
+            b" is not the stated conclusion",
             into,
         ),
     }

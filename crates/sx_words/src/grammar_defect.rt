@@ -3,11 +3,11 @@
 ghost use Rattle.std.specs.Prelude.{◌≡◌, ◌++◌, OnOk};
 ghost use Rattle.sx_words.specs.RefusalText.{grammar_text};
 
-use crate::parts::put;
+use crate::parts::put_named;
 use sx_term::{NoMemory, Text};
 
 /// What is wrong with a grammar.
-#[derive(Debug, Drop)]
+#[derive(Drop)]
 pub enum GrammarDefect {
     /// A literal or bracket that is no literal.
     BadLiteral(Text),
@@ -30,15 +30,17 @@ pub(crate) fn put_grammar(defect: &GrammarDefect, into: &mut Vec<u8>) -> Result<
     ensures { OnOk result (into.new.items ≡ into.old.items ++ grammar_text defect.now) }
 {
     match defect {
-        GrammarDefect::BadLiteral(text) => put(&[b"bad literal ", text.bytes()], into),
-        GrammarDefect::SameSort(name) => put(&[b"sort ", name.bytes(), b" stands twice"], into),
-        GrammarDefect::UnknownSort(name) => put(&[b"unknown sort ", name.bytes()], into),
-        GrammarDefect::SameLabel(label) => put(&[b"label ", label.bytes(), b" stands twice"], into),
-        GrammarDefect::PlainHasTyped(label) => put(
-            &[b"production ", label.bytes(), b" has a typed part"],
+        GrammarDefect::BadLiteral(text) => put_named(b"bad literal ", text, b"", into),
+        GrammarDefect::SameSort(name) => put_named(b"sort ", name, b" stands twice", into),
+        GrammarDefect::UnknownSort(name) => put_named(b"unknown sort ", name, b"", into),
+        GrammarDefect::SameLabel(label) => put_named(b"label ", label, b" stands twice", into),
+        GrammarDefect::PlainHasTyped(label) => put_named(
+            b"production ",
+            label,
+            b" has a typed part",
             into,
         ),
-        GrammarDefect::NoBrackets(sort) => put(&[b"sort ", sort.bytes(), b" needs brackets"], into),
-        GrammarDefect::Cyclic(sort) => put(&[b"sort ", sort.bytes(), b" is cyclic"], into),
+        GrammarDefect::NoBrackets(sort) => put_named(b"sort ", sort, b" needs brackets", into),
+        GrammarDefect::Cyclic(sort) => put_named(b"sort ", sort, b" is cyclic", into),
     }
 }

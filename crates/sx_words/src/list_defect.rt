@@ -3,12 +3,12 @@
 ghost use Rattle.std.specs.Prelude.{◌≡◌, ◌++◌, OnOk};
 ghost use Rattle.sx_words.specs.RefusalText.{list_text};
 
-use crate::parts::{put, put_number};
+use crate::parts::{put_number, put_words};
 use std::alloc::Global;
 use sx_term::NoMemory;
 
 /// Why a derivation list fits no derivation. Entries are counted from 1.
-#[derive(Debug, Drop)]
+#[derive(Drop)]
 pub enum ListDefect {
     /// The first entry that fits no derivation.
     WrongAt(u64),
@@ -30,7 +30,7 @@ pub(crate) fn put_list(
 {
     match defect {
         ListDefect::WrongAt(n) => put_number(alloc, b"entry ", *n, b" fits no derivation", into),
-        ListDefect::EndsEarly => put(&[b"list ends early"], into),
+        ListDefect::EndsEarly => put_words(b"list ends early", into),
         ListDefect::LongList(n) => put_number(alloc, b"entry ", *n, b" is left over", into),
         ListDefect::DeepList(n) => put_number(alloc, b"entry ", *n, b" is deeper than 3000", into),
     }

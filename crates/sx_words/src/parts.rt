@@ -5,7 +5,7 @@ ghost use Rattle.std.specs.List.{flat_map};
 ghost use Rattle.sx_words.specs.RefusalText.{joined};
 
 use std::alloc::Global;
-use sx_term::NoMemory;
+use sx_term::{NoMemory, Text};
 
 /// Appends the parts one after the other.
 pub(crate) fn put(parts: &[&[u8]], into: &mut Vec<u8>) -> Result<(), NoMemory>
@@ -15,6 +15,25 @@ pub(crate) fn put(parts: &[&[u8]], into: &mut Vec<u8>) -> Result<(), NoMemory>
         into.extend_from_slice(part)?;
     }
     Ok(())
+}
+
+/// Appends the words.
+pub(crate) fn put_words(words: &[u8], into: &mut Vec<u8>) -> Result<(), NoMemory>
+    ensures { OnOk result (into.new.items ≡ into.old.items ++ joined (words.now ∷ [])) }
+{
+    put(&[words], into)
+}
+
+/// Appends a text, the name and another text.
+pub(crate) fn put_named(
+    front: &[u8],
+    name: &Text,
+    back: &[u8],
+    into: &mut Vec<u8>,
+) -> Result<(), NoMemory>
+    ensures { OnOk result (into.new.items ≡ into.old.items ++ joined (front.now ∷ name.now ∷ back.now ∷ [])) }
+{
+    put(&[front, name.bytes(), back], into)
 }
 
 /// Appends a text, the number in decimal and another text.

@@ -3,13 +3,13 @@
 ghost use Rattle.std.specs.Prelude.{◌≡◌, ◌++◌, OnOk};
 ghost use Rattle.sx_words.specs.RefusalText.{place_text};
 
-use crate::parts::{number, put, put_number};
+use crate::parts::{number, put, put_named, put_number};
 use std::alloc::Global;
 use sx_term::{NoMemory, Text};
 
 /// Where in its file the thing stands that a refusal names: what its text says first. The defects say which of these they
 /// take; where they say nothing it is `Nowhere`.
-#[derive(Debug, Drop)]
+#[derive(Drop)]
 pub enum Place {
     /// The text says no place.
     Nowhere,
@@ -46,8 +46,8 @@ pub(crate) fn put_place(alloc: Global, place: &Place, into: &mut Vec<u8>) -> Res
                 into,
             )
         }
-        Place::Rule(rule) => put(&[b"rule ", rule.bytes(), b": "], into),
-        Place::Plain(label) => put(&[b"plain ", label.bytes(), b": "], into),
-        Place::Production(label) => put(&[b"production ", label.bytes(), b": "], into),
+        Place::Rule(rule) => put_named(b"rule ", rule, b": ", into),
+        Place::Plain(label) => put_named(b"plain ", label, b": ", into),
+        Place::Production(label) => put_named(b"production ", label, b": ", into),
     }
 }

@@ -3,12 +3,12 @@
 ghost use Rattle.std.specs.Prelude.{◌≡◌, ◌++◌, OnOk};
 ghost use Rattle.sx_words.specs.RefusalText.{part_text, print_text};
 
-use crate::parts::{put, put_number};
+use crate::parts::{put, put_number, put_words};
 use std::alloc::Global;
 use sx_term::{NoMemory, Text};
 
 /// Which printed text it is.
-#[derive(Clone, Copy, Debug)]
+#[derive(Clone, Copy)]
 pub enum PrintedPart {
     /// The body of a module.
     Body,
@@ -17,7 +17,7 @@ pub enum PrintedPart {
 }
 
 /// Why a printed text cannot be written.
-#[derive(Debug, Drop)]
+#[derive(Drop)]
 pub enum PrintDefect {
     /// The bytes of the file.
     Bytes(u64),
@@ -36,8 +36,8 @@ pub(crate) fn put_part(part: PrintedPart, into: &mut Vec<u8>) -> Result<(), NoMe
     ensures { OnOk result (into.new.items ≡ into.old.items ++ part_text part) }
 {
     match part {
-        PrintedPart::Body => put(&[b"printed text "], into),
-        PrintedPart::Signature => put(&[b"printed signature "], into),
+        PrintedPart::Body => put_words(b"printed text ", into),
+        PrintedPart::Signature => put_words(b"printed signature ", into),
     }
 }
 
@@ -52,7 +52,7 @@ pub(crate) fn put_print(
     match defect {
         PrintDefect::Bytes(n) => put_number(alloc, b"has ", *n, b" bytes, over 262144", into),
         PrintDefect::Tokens(n) => put_number(alloc, b"has ", *n, b" tokens, over 10000", into),
-        PrintDefect::Items => put(&[b"needs more than 2000000 items"], into),
+        PrintDefect::Items => put_words(b"needs more than 2000000 items", into),
         PrintDefect::Depth(n) => put_number(alloc, b"has depth ", *n, b", over 1000", into),
         PrintDefect::Ambiguous { one, other } => put(
             &[b"has two readings: ", one.bytes(), b" and ", other.bytes()],

@@ -43,11 +43,15 @@ fn last_word(
         (spec.last_word stage verb place (settings_view said) name.now rest.now) }
 {
     if !(may_end(stage, verb, &said) && is_name(false, name.bytes())) {
+        drop(said);
         return Err(WordsError::Words(place));
     }
     match rest {
         [] => Ok(command(alloc, verb, said, name)?),
-        [_, ..] => Err(WordsError::Words(place + 1)),
+        [_, ..] => {
+            drop(said);
+            Err(WordsError::Words(place + 1))
+        }
     }
 }
 
@@ -70,7 +74,13 @@ fn after_verb(
             return last_word(alloc, stage, verb, said, word, place, rest);
         }
         match option_after(stage, verb, &said, word.bytes()) {
-            Some(option) => say(alloc, &mut said, option, place)?,
+            Some(option) => match say(alloc, &mut said, option, place) {
+                Ok(()) => {}
+                Err(e) => {
+                    drop(said);
+                    return Err(e.into());
+                }
+            },
             None => {
                 drop(said);
                 return Err(WordsError::Words(place));

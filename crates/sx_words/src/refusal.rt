@@ -18,10 +18,11 @@ use crate::print_defect::{PrintDefect, PrintedPart, put_part, put_print};
 use crate::rule_defect::{RuleDefect, put_rule};
 use crate::text_defect::{TextDefect, put_text};
 use std::alloc::Global;
+use std::fmt;
 use sx_term::{NoMemory, Text};
 
 /// What is wrong.
-#[derive(Debug, Drop)]
+#[derive(Drop)]
 pub enum Defect {
     /// With the words or a file as a whole.
     File(FileDefect),
@@ -55,12 +56,19 @@ pub enum Defect {
 }
 
 /// A refusal, as its line names it.
-#[derive(Debug, Drop)]
+#[derive(Drop)]
 pub struct Refusal {
     /// Where the thing stands.
     pub place: Place,
     /// What is wrong with it.
     pub defect: Defect,
+}
+
+/// Says no more than that it is a refusal: `write_refusal` says which.
+impl fmt::Debug for Refusal {
+    fn fmt<W: fmt::Write>(&self, f: &mut fmt::Formatter<W>) -> fmt::Result {
+        f.write_str("a refusal")
+    }
 }
 
 /// Appends the defect's text.

@@ -3,12 +3,12 @@
 ghost use Rattle.std.specs.Prelude.{◌≡◌, ◌++◌, OnOk};
 ghost use Rattle.sx_words.specs.RefusalText.{rule_text};
 
-use crate::parts::{number, put};
+use crate::parts::{number, put, put_named, put_words};
 use std::alloc::Global;
 use sx_term::{NoMemory, Text};
 
 /// What is wrong with a set of rules.
-#[derive(Debug, Drop)]
+#[derive(Drop)]
 pub enum RuleDefect {
     /// More rules than a set may have.
     TooManyRules,
@@ -33,10 +33,10 @@ pub(crate) fn put_rule(
     ensures { OnOk result (into.new.items ≡ into.old.items ++ rule_text defect.now) }
 {
     match defect {
-        RuleDefect::TooManyRules => put(&[b"more than 4096 rules"], into),
-        RuleDefect::TooManyVars => put(&[b"more than 64 variables"], into),
-        RuleDefect::SameRule(text) => put(&[b"rule ", text.bytes(), b" stands twice"], into),
-        RuleDefect::SortDiffers => put(&[b"sorts differ"], into),
+        RuleDefect::TooManyRules => put_words(b"more than 4096 rules", into),
+        RuleDefect::TooManyVars => put_words(b"more than 64 variables", into),
+        RuleDefect::SameRule(text) => put_named(b"rule ", text, b" stands twice", into),
+        RuleDefect::SortDiffers => put_words(b"sorts differ", into),
         RuleDefect::Discipline { part, premise } => {
             let part = number(alloc, u64::from(*part))?;
             let premise = number(alloc, *premise)?;
@@ -50,6 +50,6 @@ pub(crate) fn put_rule(
                 into,
             )
         }
-        RuleDefect::NotModed(text) => put(&[text.bytes(), b" is not bound"], into),
+        RuleDefect::NotModed(text) => put_named(b"", text, b" is not bound", into),
     }
 }

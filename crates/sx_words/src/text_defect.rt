@@ -3,12 +3,12 @@
 ghost use Rattle.std.specs.Prelude.{◌≡◌, ◌++◌, OnOk};
 ghost use Rattle.sx_words.specs.RefusalText.{text_text};
 
-use crate::parts::{put, put_number};
+use crate::parts::{put, put_number, put_words};
 use std::alloc::Global;
 use sx_term::{NoMemory, Text};
 
 /// What is wrong with a text that is cut into tokens and read.
-#[derive(Debug, Drop)]
+#[derive(Drop)]
 pub enum TextDefect {
     /// No token begins there. At `Place::Spot`.
     BadToken,
@@ -38,11 +38,11 @@ pub(crate) fn put_text(
     ensures { OnOk result (into.new.items ≡ into.old.items ++ text_text defect.now) }
 {
     match defect {
-        TextDefect::BadToken => put(&[b"bad token"], into),
-        TextDefect::OpenString => put(&[b"string without end"], into),
-        TextDefect::NoReading => put(&[b"no reading"], into),
-        TextDefect::TooManyTokens => put(&[b"more than 10000 tokens"], into),
-        TextDefect::TooHard => put(&[b"parsing needs more than 2000000 items"], into),
+        TextDefect::BadToken => put_words(b"bad token", into),
+        TextDefect::OpenString => put_words(b"string without end", into),
+        TextDefect::NoReading => put_words(b"no reading", into),
+        TextDefect::TooManyTokens => put_words(b"more than 10000 tokens", into),
+        TextDefect::TooHard => put_words(b"parsing needs more than 2000000 items", into),
         TextDefect::TooDeep(n) => put_number(alloc, b"depth ", *n, b" is over 1000", into),
         TextDefect::TooBig(n) => put_number(
             alloc,

@@ -23,7 +23,7 @@ loop-at-preserved c =
     let some = rw c.bytes-in-loop-at.ensures.value at c.in-Some.ensures.value in
     let more = is_one_more c.args.stage c.args.verb (c.loop-at.at + 2) (settings_view c.loop-at.said) c.args.words.now c.loop-at.at _ c.loop-at.invariant.1 c.index-words-at.result (omega arith) c.index-words-at.is (given_view c.in-Some.option) (sym test) (sym some) in
     let place : c.loop-at.at + 1 + 2 ≡ c.loop-at.at + 2 + 1 = omega arith in
-    (omega arith, rw (place, c.in_ok-say-in-Some.ensures.said) more, c.in_ok-say-in-Some.ensures.kinds)
+    (omega arith, rw (place, c.in-Ok.ensures.said) more, c.in-Ok.ensures.kinds)
 
 pub returns : goal.returns
 returns c = is_missing c.args.stage c.args.verb (c.loop-at.at + 2) (settings_view c.loop-at.said) c.args.words.now c.loop-at.at _ c.loop-at.invariant.1 (omega arith)
