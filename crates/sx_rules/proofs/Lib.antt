@@ -2,6 +2,7 @@ pub mod Holes
 pub mod RowLaws
 pub mod LoopLaws
 pub mod ModeLaws
+pub mod PassLaws
 pub mod SubjectLaws
 pub mod SetLaws
 pub mod Decided
