@@ -1,9 +1,9 @@
-use Rattle.std.proofs.Common.{rules, ◌≡◌, sym, subst, ap, length, arith, add-one}
+use Rattle.std.proofs.Common.{rules, ◌≡◌, IfOk, sym, subst, ap, length, arith, add-one}
 use Rattle.std.proofs.lemmas.Option.{slice_get_within}
 use Rattle.sx_grammar.specs.Grammar.{production_of, part}
 use Rattle.sx_forest.specs.Readings.{plain_reading, plain_readings}
 use Rattle.sx_forest.specs.Tallies.{tally_of}
-use Rattle.sx_forest.specs.Forests.{grammar_in, tokens_in, symbols_of, depth_in, one_of, other_of, IsMore, IsApart, IsShallow, IsParting, IsReadTo, HasKids, IsMadeOf}
+use Rattle.sx_forest.specs.Forests.{grammar_in, tokens_in, symbols_of, depth_in, one_of, other_of, IsBy, IsMore, IsApart, IsShallow, IsParting, IsReadTo, HasKids, IsMadeOf}
 use Rattle.sx_forest.proofs.Stepwise.{count_long}
 use Rattle.sx_forest.proofs.Making.{made_same}
 use Rattle.sx_forest.proofs.Growing.{place_low, begun, kids_are, made_as}
@@ -152,3 +152,58 @@ pair_at-returns-in_ok-second-in-Apart-clause-apart t c =
     let F = c.args.forest in
     pair_apart (grammar_in F) (tokens_in F) F.start c.args.place c.in-Apart.one c.in-Apart.other (plain_reading c.in_ok-first-in-Apart.first) (plain_reading c.in_ok-second-in-Apart.second)
     (subst (λ k. IsParting (grammar_in F) (tokens_in F) F.start c.args.place k) c.in-Apart.is c.requires.parting) c.in_ok-first-in-Apart.ensures c.in_ok-second-in-Apart.ensures
+
+pub build_two-open-requires : goal.build_two-open-requires
+build_two-open-requires t c = record { forest = c.requires.forest; entry = c.requires.entry; by = c.in-By.is }
+
+pub kids_apart-step_at-step-requires-clause-at : goal.kids_apart-step_at-step-requires-clause-at
+kids_apart-step_at-step-requires-clause-at t c = c.loop-dot.invariant.one.at
+
+pub kids_apart-step_at-step-requires-clause-within : goal.kids_apart-step_at-step-requires-clause-within
+kids_apart-step_at-step-requires-clause-within t c =
+    let count = count_long (production_of (grammar_in c.args.forest) c.args.opened.now.head) in
+    let h = c.symbol_count-dot-end.ensures in
+    omega (arith, c.loop-dot-test.true, h, count)
+
+pub kids_apart-fork_at-requires-clause-step : goal.kids_apart-fork_at-requires-clause-step
+kids_apart-fork_at-requires-clause-step t c = c.step_at-step.ensures
+
+pub kids_apart-go_over-requires : goal.kids_apart-go_over-requires
+kids_apart-go_over-requires t c = record { forest = c.requires.forest; opened = c.requires.opened; read = c.loop-dot.invariant.one; step = c.step_at-step.ensures }
+
+pub kids_apart-go_over-requires-in-loop-dot : goal.kids_apart-go_over-requires-in-loop-dot
+kids_apart-go_over-requires-in-loop-dot t c = record { forest = c.requires.forest; opened = c.requires.opened; read = c.loop-dot.invariant.other; step = c.step_at-step.ensures }
+
+pub pair_at-build-requires : goal.pair_at-build-requires
+pair_at-build-requires t c =
+    let F = c.args.forest in record {
+      forest = c.requires.forest;
+      entry = subst (λ k. IsShallow (grammar_in F) (tokens_in F) F.start c.args.place (one_of k)) c.in-Apart.is c.requires.parting.one;
+    }
+
+pub pair_at-build-requires-in-Apart : goal.pair_at-build-requires-in-Apart
+pair_at-build-requires-in-Apart t c =
+    let F = c.args.forest in record {
+      forest = c.requires.forest;
+      entry = subst (λ k. IsShallow (grammar_in F) (tokens_in F) F.start c.args.place (other_of k)) c.in-Apart.is c.requires.parting.other;
+    }
+
+pub pair_at-returns-in_ok-second-in-Apart-clause-one : goal.pair_at-returns-in_ok-second-in-Apart-clause-one
+pair_at-returns-in_ok-second-in-Apart-clause-one t c =
+    let F = c.args.forest in
+    subst (λ k. IsBy (grammar_in F) (tokens_in F) (one_of k).maker c.args.place (one_of k).to (plain_reading c.in_ok-first-in-Apart.first)) (sym c.in-Apart.is) c.in_ok-first-in-Apart.ensures
+
+pub pair_at-returns-in_ok-second-in-Apart-clause-other : goal.pair_at-returns-in_ok-second-in-Apart-clause-other
+pair_at-returns-in_ok-second-in-Apart-clause-other t c =
+    let F = c.args.forest in
+    subst (λ k. IsBy (grammar_in F) (tokens_in F) (other_of k).maker c.args.place (other_of k).to (plain_reading c.in_ok-second-in-Apart.second)) (sym c.in-Apart.is) c.in_ok-second-in-Apart.ensures
+
+pub pair_at-returns-in-Inside-clause-one : goal.pair_at-returns-in-Inside-clause-one
+pair_at-returns-in-Inside-clause-one t c =
+    let F = c.args.forest in
+    subst (λ k. IfOk c.build_two.result (λ r. IsBy (grammar_in F) (tokens_in F) (one_of k).maker c.args.place (one_of k).to (plain_reading r.0))) (sym c.in-Inside.is) c.build_two.ensures.one
+
+pub pair_at-returns-in-Inside-clause-other : goal.pair_at-returns-in-Inside-clause-other
+pair_at-returns-in-Inside-clause-other t c =
+    let F = c.args.forest in
+    subst (λ k. IfOk c.build_two.result (λ r. IsBy (grammar_in F) (tokens_in F) (other_of k).maker c.args.place (other_of k).to (plain_reading r.1))) (sym c.in-Inside.is) c.build_two.ensures.other

@@ -1,4 +1,4 @@
-use Rattle.std.proofs.Common.{◌≡◌, ◌-◌, Some, sym, subst, ap, ◌∙◌}
+use Rattle.std.proofs.Common.{◌≡◌, ◌-◌, Some, sym, subst, ap, ◌∙◌, length, arith}
 use Rattle.std.specs.List.{slice_get}
 use Rattle.std.specs.Option.{option_map}
 use Rattle.sx_grammar.specs.Grammar.{production_of}
@@ -40,3 +40,10 @@ returns-in-Some-Part-clause-on c =
     let is = sym (symbol_there (production_of g o.head) c.args.dot) ∙ (sym c.symbol_of.ensures.is ∙ ap (λ x. option_map (symbol (texts F.grammar.now)) x) (c.in-Some-Part.is ∙ ap Some c.in-Some-Part.field-0-is)) in
     goes_over F c.requires.forest o c.requires.opened c.args.dot c.args.place _ c.in-Some-Part.sort c.in-Some-Part.least _ c.args.step (ways_of c.row_of-next.result.now) c.from-entries.result.now c.fork_of.result
     is c.in-Part.is c.requires.at c.requires.step row c.from-entries.ensures c.fork_of.ensures
+
+pub row_of-next-requires : goal.row_of-next-requires
+row_of-next-requires c =
+    let long = c.requires.opened.rows.are.long in
+    let count = c.symbol_count-count.ensures in
+    let rows = ap length c.deref.ensures.value in
+    omega arith

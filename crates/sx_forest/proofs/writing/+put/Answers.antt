@@ -1,5 +1,6 @@
 use Rattle.std.proofs.Common.{rules, arith, length, ◌∙◌}
 use Rattle.std.proofs.lemmas.Result.{on_ok_weaker}
+use Rattle.sx_term.proofs.Cores.{Grows-trans, Grows-same}
 use Rattle.sx_grammar.specs.Parts.{labels}
 use Rattle.sx_forest.specs.declared.reading.Reading.TheViews.{the_lemmas}
 use Rattle.sx_forest.specs.Text.{texts}
@@ -31,3 +32,27 @@ put_reading-returns-in_ok-put_label-in-Node-clause-ok t c =
     on_ok_weaker c.put_kids.result
     (λ e. node_text (labels c.args.grammar.now.parts) (texts c.args.tokens.now) _ _ _ _ _ _ _ _ _ c.in-Node.is c.deref.ensures.value c.in_ok-put_label-in-Node.ensures.ok e)
     c.put_kids.ensures.ok
+
+pub put_reading-returns-in_err-put_label-in-Node-clause-appends : goal.put_reading-returns-in_err-put_label-in-Node-clause-appends
+put_reading-returns-in_err-put_label-in-Node-clause-appends t c = Grows-same _ _ c.in_err-put_label-in-Node.ensures.err
+
+pub put_reading-returns-in_ok-put_label-in-Node-clause-appends : goal.put_reading-returns-in_ok-put_label-in-Node-clause-appends
+put_reading-returns-in_ok-put_label-in-Node-clause-appends t c = Grows-trans _ _ _ (_, c.in_ok-put_label-in-Node.ensures.ok) c.put_kids.ensures.appends
+
+pub put_reading-returns-in_err-put_reading-in-Bracket-clause-appends : goal.put_reading-returns-in_err-put_reading-in-Bracket-clause-appends
+put_reading-returns-in_err-put_reading-in-Bracket-clause-appends t c = Grows-trans _ _ _ (_, c.in_ok-push-in-Bracket.ensures.items) c.put_reading.ensures.appends
+
+pub put_reading-returns-in_err-push-in-Bracket-2-clause-appends : goal.put_reading-returns-in_err-push-in-Bracket-2-clause-appends
+put_reading-returns-in_err-push-in-Bracket-2-clause-appends t c =
+    Grows-trans _ _ _ (Grows-trans _ _ _ (_, c.in_ok-push-in-Bracket.ensures.items) c.put_reading.ensures.appends) (Grows-same _ _ c.in_err-push-in-Bracket-2.ensures.items)
+
+pub put_reading-returns-in_ok-push-in-Bracket-2-clause-appends : goal.put_reading-returns-in_ok-push-in-Bracket-2-clause-appends
+put_reading-returns-in_ok-push-in-Bracket-2-clause-appends t c =
+    Grows-trans _ _ _ (Grows-trans _ _ _ (_, c.in_ok-push-in-Bracket.ensures.items) c.put_reading.ensures.appends) (_, c.in_ok-push-in-Bracket-2.ensures.items)
+
+pub put_kids-returns-in_err-put_reading-in-Some-clause-appends : goal.put_kids-returns-in_err-put_reading-in-Some-clause-appends
+put_kids-returns-in_err-put_reading-in-Some-clause-appends t c = Grows-trans _ _ _ (_, c.in_ok-push-in-Some.ensures.items) c.put_reading.ensures.appends
+
+pub put_kids-returns-in_err-put_reading-in-Some-2-clause-appends : goal.put_kids-returns-in_err-put_reading-in-Some-2-clause-appends
+put_kids-returns-in_err-put_reading-in-Some-2-clause-appends t c =
+    Grows-trans _ _ _ (Grows-trans _ _ _ c.loop-kid.invariant.appends (_, c.in_ok-push-in-Some-2.ensures.items)) c.put_reading-in-loop-kid.ensures.appends
