@@ -16,7 +16,7 @@ use sx_rules::{Goal, Hyps, Proof, RuleSet};
 use sx_term::{Steps, Term};
 
 /// An answer in short.
-#[derive(Clone, Copy, PartialEq, Eq, Debug)]
+#[derive(Clone, Copy, PartialEq)]
 pub(crate) enum Told {
     /// A derivation that ends with this rule.
     By(u32),
@@ -34,7 +34,7 @@ pub(crate) enum Told {
 
 /// The label of a stuck goal's subject, how many steps lead to the goal, the first of them, and why
 /// it is stuck.
-#[derive(Clone, Copy, PartialEq, Eq, Debug)]
+#[derive(Clone, Copy, PartialEq)]
 pub(crate) struct Stuck {
     pub subject: Option<u32>,
     pub steps: usize,
@@ -43,7 +43,7 @@ pub(crate) struct Stuck {
 }
 
 /// Why a goal is stuck.
-#[derive(Clone, Copy, PartialEq, Eq, Debug)]
+#[derive(Clone, Copy, PartialEq)]
 pub(crate) enum Why {
     NoRule,
     /// The rule's premise, by their numbers, asks that equal lexemes are apart.

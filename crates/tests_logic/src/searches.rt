@@ -56,9 +56,12 @@ fn spends_the_tries(rt: HostRuntime) {
 fn spends_the_depth(rt: HostRuntime) {
     let alloc = rt.alloc();
     let deep = by_rules(alloc, (LOOP, Z, PAIR), "(0)", 3000);
-    assert!(rt; deep == Some(Told::DepthSpent(3000)));
     let spent = by_rules(alloc, (LOOP, Z, PAIR), "(0)", 2999);
-    assert!(rt; spent == Some(Told::TriesSpent(2999)));
+    let hold = [
+        deep == Some(Told::DepthSpent(3000)),
+        spent == Some(Told::TriesSpent(2999)),
+    ];
+    assert_eq!(rt; hold, [true; 2]);
 }
 
 /// What is answered where the term 0 is to have this type, by the rules that give it two types.
@@ -79,27 +82,30 @@ fn wanting(alloc: Global, output: &str) -> Option<Told> {
 #[test]
 fn finds_the_wanted_output(rt: HostRuntime) {
     let alloc = rt.alloc();
-    let hold = [
-        wanting(alloc, "(4)") == Some(Told::By(0)),
-        wanting(alloc, "(5)") == Some(Told::By(1)),
-    ];
-    assert_eq!(rt; hold, [true; 2]);
     let unwanted = Stuck {
         subject: Some(0),
         steps: 0,
         first: None,
         why: Why::Unwanted(Some(4)),
     };
-    assert!(rt; wanting(alloc, "(0)") == Some(Told::Stuck(unwanted)));
+    let hold = [
+        wanting(alloc, "(4)") == Some(Told::By(0)),
+        wanting(alloc, "(5)") == Some(Told::By(1)),
+        wanting(alloc, "(0)") == Some(Told::Stuck(unwanted)),
+    ];
+    assert_eq!(rt; hold, [true; 3]);
 }
 
 #[test]
 fn goes_back_to_another_output(rt: HostRuntime) {
     let alloc = rt.alloc();
     let found = by_rules(alloc, (OTHER_Z, Z, PAIR), "(3 (0) (0))", 6);
-    assert!(rt; found == Some(Told::By(2)));
     let spent = by_rules(alloc, (OTHER_Z, Z, PAIR), "(3 (0) (0))", 5);
-    assert!(rt; spent == Some(Told::TriesSpent(5)));
+    let hold = [
+        found == Some(Told::By(2)),
+        spent == Some(Told::TriesSpent(5)),
+    ];
+    assert_eq!(rt; hold, [true; 2]);
 }
 
 #[test]

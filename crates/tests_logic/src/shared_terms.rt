@@ -132,13 +132,16 @@ fn patterns(rt: HostRuntime) {
         "(3 ?1 ?0 ?1)",
         "(3 n1:1 i1:f n1:1)",
     );
-    assert!(rt; turned == Some(1));
     let different = makes(alloc, "(2 ?0 ?0)", "(2 i1:f i1:g)", "?0", "i1:f");
-    assert!(rt; different == Some(0));
     let same = makes(alloc, "(2 ?0 ?0)", "(2 i1:f i1:f)", "?0", "i1:f");
-    assert!(rt; same == Some(1));
     let label = makes(alloc, "(3 ?0)", "(2 i1:f)", "?0", "i1:f");
-    assert!(rt; label == Some(0));
+    let hold = [
+        turned == Some(1),
+        different == Some(0),
+        same == Some(1),
+        label == Some(0),
+    ];
+    assert_eq!(rt; hold, [true; 4]);
 }
 
 /// Whether the terms are apart without hypotheses.

@@ -32,18 +32,18 @@ fn no_rule(steps: usize, first: usize) -> Option<Told> {
 #[test]
 fn places_of_stuck_goals(rt: HostRuntime) {
     let alloc = rt.alloc();
-    let hold = [
-        by_pairs(alloc, "(3 (0) (2))", 9) == no_rule(1, 1),
-        by_pairs(alloc, "(3 (0) (3 (0) (2)))", 30) == no_rule(2, 1),
-    ];
-    assert_eq!(rt; hold, [true; 2]);
     let first = Stuck {
         subject: Some(1),
         steps: 1,
         first: Some(0),
         why: Why::Mismatch(2, 0, Some(5)),
     };
-    assert!(rt; by_pairs(alloc, "(3 (1) (0))", 6) == Some(Told::Stuck(first)));
+    let hold = [
+        by_pairs(alloc, "(3 (0) (2))", 9) == no_rule(1, 1),
+        by_pairs(alloc, "(3 (0) (3 (0) (2)))", 30) == no_rule(2, 1),
+        by_pairs(alloc, "(3 (1) (0))", 6) == Some(Told::Stuck(first)),
+    ];
+    assert_eq!(rt; hold, [true; 3]);
 }
 
 /// What is answered for the term 1, where x and x would have to be apart.

@@ -23,7 +23,7 @@ end
 ";
 
 /// What a call of a search comes to.
-#[derive(Clone, Copy, PartialEq, Eq, Debug)]
+#[derive(Clone, Copy, PartialEq)]
 enum Call {
     /// A derivation, after so many tries.
     Found(u64),
