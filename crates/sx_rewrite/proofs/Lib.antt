@@ -31,3 +31,8 @@ pub mod ShallowFlats
 pub mod Joined
 pub mod Grafted
 pub mod Summed
+pub mod SizeLaws
+pub mod Noted
+pub mod SizedSets
+pub mod Tallied
+pub mod PlainSizes

@@ -56,7 +56,7 @@ module _ (sig : Signature) (base shapes : List Shape) (a : Accepted) (ok : IsAcc
           (answer : Answer) × IsRewritten a sig.subjects hyps p budget answer
       by_terms n h ts m None e =
           let l = lowering_exists sig base shapes a ok hyps p j d in
-          (Ok (record { proof = l.0; judgement = l.1; copied = copied a p }), (l.2, refl, (n, h, (ts, m, e))))
+          (Ok (record { proof = l.0; judgement = l.1; copied = min (copied a p) (2 ^ 64 - 1) }), (l.2, refl, (n, h, (ts, m, e))))
       by_terms n h ts m (Some r) e = (Err r, refused r (over-term ts r e) (n, h, (ts, m, e)))
 
       by_nodes : (budget < lowered_nodes a p) ⊎ (lowered_nodes a p ≤ budget) → (3000 < lowered_height a p) ⊎ (lowered_height a p ≤ 3000) → (answer : Answer) × IsRewritten a sig.subjects hyps p budget answer

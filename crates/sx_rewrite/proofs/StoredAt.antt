@@ -15,13 +15,13 @@ use Rattle.sx_rewrite.specs.Accepted.{Known, basic, checked, Checked}
 use Rattle.sx_rewrite.specs.Stored.{checked_with, checked_of, accepted_from, stored_in, stored_at, certificate_at, body_in, flat_body_at, flat_at}
 
 -- of a base rule nothing is stored
-base-none : (base : List Rule) (more : List Known) (r : ℕ) → r < length base → stored_in (slice_get (map basic base ++ more) r) ≡ None
+pub base-none : (base : List Rule) (more : List Known) (r : ℕ) → r < length base → stored_in (slice_get (map basic base ++ more) r) ≡ None
 base-none [] more r l = absurd (omega (arith, l))
 base-none (b ∷ bs) more zero l = refl
 base-none (b ∷ bs) more (suc r) l = base-none bs more r (omega (arith, l))
 
 -- the others follow
-after-base : (base : List Rule) (more : List Known) (r : ℕ) → length base ≤ r → slice_get (map basic base ++ more) r ≡ slice_get more (r - length base)
+pub after-base : (base : List Rule) (more : List Known) (r : ℕ) → length base ≤ r → slice_get (map basic base ++ more) r ≡ slice_get more (r - length base)
 after-base [] more r l = let e : r ≡ r - 0 = omega arith in ap (slice_get more) e
 after-base (b ∷ bs) more zero l = absurd (omega (arith, l))
 after-base (b ∷ bs) more (suc r) l =

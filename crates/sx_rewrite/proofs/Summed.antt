@@ -92,7 +92,7 @@ or-right : (b c : Bool) → b || c ≡ false → c ≡ false
 or-right true c e = absurd (let q : true ≡ false = e in cc)
 or-right false c e = e
 
-nothing-above : (i : ℕ) (ps : Proofs) → is_used_among i ps ≡ false → nodes_above_in i ps ≡ 0
+pub nothing-above : (i : ℕ) (ps : Proofs) → is_used_among i ps ≡ false → nodes_above_in i ps ≡ 0
 nothing-above i no_more e = refl
 nothing-above i (p ⊳ ps) e =
     let a = ap (λ (b : Bool). if b then nodes_above i p else 0) (or-left (is_used i p) (is_used_among i ps) e) in

@@ -27,3 +27,6 @@ pub mod Stored
 pub mod AcceptedView
 pub mod ExtensionView
 pub mod Adds
+pub mod Sizes
+pub mod LoweredSizes
+pub mod SizeLaws

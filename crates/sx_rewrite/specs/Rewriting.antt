@@ -24,7 +24,7 @@ first_over (t ∷ ts) =
     if nat_lt 1000 (depth_of t) then Some (too_deep (depth_of t)) else
     if nat_lt 1000000 (size_of t) then Some (too_big (min (size_of t) (2 ^ 64 - 1))) else first_over ts
 
--- a lowered derivation, its judgement, and how many nodes were copied for it
+-- a lowered derivation, its judgement, and how many nodes were copied for it, or the greatest u64 where they are more
 pub record Rewritten : Type 0 where
   pub proof : Proof
   pub judgement : Judgement
@@ -39,7 +39,7 @@ FirstOver a subjects hyps p budget over =
 -- the lowered derivation of p from the hypotheses, or the first limit that it passes
 abbrev pub IsRewritten : Accepted → Modes → Hypotheses → Proof → ℕ → Result Rewritten Refusal → Type 0
 IsRewritten a subjects hyps p budget (Ok x) =
-    Lowers a subjects hyps p x.proof x.judgement × (x.copied ≡ copied a p) × FirstOver a subjects hyps p budget None
+    Lowers a subjects hyps p x.proof x.judgement × (x.copied ≡ min (copied a p) (2 ^ 64 - 1)) × FirstOver a subjects hyps p budget None
 IsRewritten a subjects hyps p budget (Err spent) = budget < lowered_nodes a p
 IsRewritten a subjects hyps p budget (Err deep) = (lowered_nodes a p ≤ budget) × (3000 < lowered_height a p)
 IsRewritten a subjects hyps p budget (Err over) = FirstOver a subjects hyps p budget (Some over)

@@ -17,12 +17,14 @@ ghost use Rattle.std.specs.List.{AllByRecursion};
 ghost use Rattle.sx_rewrite.specs.PlainRules.{plain_named, RuleHasImage};
 
 use crate::accepted::Accepted;
+use crate::certificates::Certificates;
 use crate::ext_rule::ExtRule;
 use crate::extension_data::ExtensionData;
 use crate::flat::Flat;
 use crate::grown::Grown;
 use crate::plain_rule::plain_rules;
 use crate::rule_sets::with_more;
+use crate::sizing::certificate_sizes;
 use std::alloc::Global;
 use sx_plain::PlainTable;
 use sx_rules::{Rule, RuleSet};
@@ -54,9 +56,18 @@ impl Accepted {
         let ExtensionData { name, rules, plain } = ext;
         drop(name);
         let alloc = self.alloc;
-        match grown(alloc, &self, all, &plain, rules) {
-            Ok(grown) => self.joined(grown, plain, flats),
+        match certificate_sizes(alloc, &rules, &flats) {
+            Ok(sizes) => match grown(alloc, &self, all, &plain, rules) {
+                Ok(grown) => self.joined(grown, plain, Certificates { flats, sizes }),
+                Err(_) => {
+                    drop(plain);
+                    drop(flats);
+                    drop(sizes);
+                    Err(self)
+                }
+            },
             Err(_) => {
+                drop(rules);
                 drop(plain);
                 drop(flats);
                 Err(self)

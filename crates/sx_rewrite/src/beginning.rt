@@ -42,6 +42,7 @@ impl Accepted {
                 first,
                 plain: PlainTable::new(alloc, labels),
                 flats: Vec::new(alloc),
+                sizes: Vec::new(alloc),
             }),
             Err(e) => {
                 drop(own);

@@ -1,6 +1,6 @@
 //! Accepted sets with other rules.
 
-ghost use Rattle.std.specs.Prelude.{◌≡◌, ◌+◌, ◌++◌, length, MatchResult};
+ghost use Rattle.std.specs.Prelude.{◌≡◌, ◌+◌, ◌++◌, length};
 ghost use Rattle.std.specs.List.{AllByRecursion};
 ghost use Rattle.sx_rules.specs.Sets.{shapes_in, forms_in, rules_in, bare_rules_in};
 ghost use Rattle.sx_plain.specs.Views.{table_of};
@@ -9,9 +9,10 @@ ghost use Rattle.sx_rewrite.specs.Extensions.{HasGrownSoundly};
 ghost use Rattle.sx_rewrite.specs.Stored.{accepted_from, IsHeld, ArePlain};
 ghost use Rattle.sx_rewrite.specs.AcceptedView.{signature};
 ghost use Rattle.sx_rewrite.specs.Adds.{IsJoined};
+ghost use Rattle.sx_rewrite.specs.Sizes.{AreSizesOf};
 
 use crate::accepted::Accepted;
-use crate::flat::Flat;
+use crate::certificates::Certificates;
 use crate::grown::Grown;
 use sx_plain::PlainTable;
 
@@ -22,18 +23,20 @@ impl Accepted {
         self,
         grown: Grown,
         plain: PlainTable,
-        flats: Vec<Flat>,
+        more: Certificates,
     ) -> Result<Accepted, Accepted>
         requires held { ∥ IsHeld (shapes_in self.base) (shapes_in grown.rules) (forms_in self.base) (forms_in grown.rules) (bare_rules_in grown.rules)
-            (accepted_from (bare_rules_in self.base) (bare_rules_in grown.rules) (table_of plain) (self.flats.items ++ flats.items)) ∥₁ }
+            (accepted_from (bare_rules_in self.base) (bare_rules_in grown.rules) (table_of plain) (self.flats.items ++ more.flats.items)) ∥₁ }
         requires sound { HasGrownSoundly (signature self).subjects (length (shapes_in self.base))
-            (accepted_from (bare_rules_in self.base) (bare_rules_in grown.rules) (table_of plain) (self.flats.items ++ flats.items)) }
+            (accepted_from (bare_rules_in self.base) (bare_rules_in grown.rules) (table_of plain) (self.flats.items ++ more.flats.items)) }
         requires plain_are { ∥ ArePlain (shapes_in grown.rules) (shapes_in grown.plain_rules) (forms_in self.base) (forms_in grown.plain_rules) (table_of plain)
             (rules_in grown.rules) (rules_in grown.plain_rules) ∥₁ }
-        requires shallow { ∥ AllByRecursion IsShallow (self.flats.items ++ flats.items) ∥₁ }
+        requires shallow { ∥ AllByRecursion IsShallow (self.flats.items ++ more.flats.items) ∥₁ }
+        requires sized { ∥ AreSizesOf (accepted_from (bare_rules_in self.base) (bare_rules_in grown.rules) (table_of plain) (self.flats.items ++ more.flats.items)).more
+            (self.sizes.items ++ more.sizes.items) ∥₁ }
         requires labels { plain.base ≡ length (shapes_in self.base) }
-        requires many { length (bare_rules_in grown.rules) ≡ self.first + length (self.flats.items ++ flats.items) }
-        ensures { IsJoined self grown plain flats.items result }
+        requires many { length (bare_rules_in grown.rules) ≡ self.first + length (self.flats.items ++ more.flats.items) }
+        ensures { IsJoined self grown plain more.flats.items result }
     {
         let Accepted {
             alloc,
@@ -42,10 +45,11 @@ impl Accepted {
             plain_rules,
             first,
             plain: table,
-            flats: stored,
+            flats,
+            sizes,
         } = self;
-        match appended(stored, flats) {
-            Ok(flats) => {
+        match (Certificates { flats, sizes }).appended(more) {
+            Ok(Certificates { flats, sizes }) => {
                 drop(rules);
                 drop(plain_rules);
                 drop(table);
@@ -57,9 +61,10 @@ impl Accepted {
                     first,
                     plain,
                     flats,
+                    sizes,
                 })
             }
-            Err(flats) => {
+            Err(Certificates { flats, sizes }) => {
                 drop(grown);
                 drop(plain);
                 Err(Accepted {
@@ -70,26 +75,9 @@ impl Accepted {
                     first,
                     plain: table,
                     flats,
+                    sizes,
                 })
             }
-        }
-    }
-}
-
-/// What is stored, and then more. The one refusal is want of memory, and hands back what is stored.
-fn appended(stored: Vec<Flat>, more: Vec<Flat>) -> Result<Vec<Flat>, Vec<Flat>>
-    ensures { MatchResult result (λ x. x.items ≡ stored.items ++ more.items) (λ x. x.items ≡ stored.items) }
-{
-    let mut stored = stored;
-    let mut more = more;
-    match stored.append(&mut more) {
-        Ok(()) => {
-            drop(more);
-            Ok(stored)
-        }
-        Err(_) => {
-            drop(more);
-            Err(stored)
         }
     }
 }

@@ -9,6 +9,7 @@ use Rattle.sx_rewrite.specs.PlainRules.{plain_named}
 use Rattle.sx_rewrite.specs.Kinds.{HaveSortsFor}
 use Rattle.sx_rewrite.proofs.Begun.{begins-as, begins-sound, begins-held, same-bare}
 use Rattle.sx_rewrite.proofs.PlainGood.{none-stay}
+use Rattle.sx_rewrite.proofs.SizedSets.{sizes-none}
 use Rattle.sx_rewrite.proofs.accepted.Accepted.none.Goals as goal
 
 pub invariant_of-result-clause-held : goal.invariant_of-result-clause-held
@@ -38,6 +39,9 @@ invariant_of-result-clause-plain_are c =
       forms_are = plain_are.1 ∙ sym c.in_ok-own.ensures.1;
       rules_are = plain_are.2 ∙ sym stay ∙ ap (λ (x : List NamedRule). map (plain_named table) x) (sym rules_are.2);
     } ∣₁
+
+pub invariant_of-result-clause-sized : goal.invariant_of-result-clause-sized
+invariant_of-result-clause-sized c = ∣ sizes-none _ _ _ c.new-in-Ok.ensures.items c.new-in-Ok-2.ensures.items ∣₁
 
 pub returns-in-Ok-clause-set : goal.returns-in-Ok-clause-set
 returns-in-Ok-clause-set c =

@@ -1,0 +1,29 @@
+//! The sizes that an accepted set keeps.
+
+ghost use Rattle.std.specs.Prelude.{◌≡◌, MatchOption, IfSome, None};
+ghost use Rattle.sx_rewrite.specs.Stored.{stored_at};
+ghost use Rattle.sx_rewrite.specs.AcceptedView.{accepted};
+ghost use Rattle.sx_rewrite.specs.Sizes.{IsSizeIn, IsSmall, UsesPremises};
+
+use crate::accepted::Accepted;
+use crate::certificate_size::CertificateSize;
+
+impl Accepted {
+    /// The size of the rule's certificate, or None exactly where the number is not of an extension rule. A certificate uses the givens
+    /// of its rule's premises alone.
+    pub(crate) fn certificate_size(&self, rule: u32) -> Option<&CertificateSize>
+        ensures value { MatchOption result (stored_at (accepted self.now) rule ≡ None) (λ size. IsSizeIn (stored_at (accepted self.now) rule) size.now) }
+        ensures small { IfSome result (λ size. IsSmall size.now) }
+        ensures only { UsesPremises (stored_at (accepted self.now) rule) }
+    {
+        self.facts();
+        if rule < self.first {
+            return None;
+        }
+        let place = (rule - self.first) as usize;
+        if place < self.sizes.len() {
+            return Some(&self.sizes[place]);
+        }
+        None
+    }
+}
