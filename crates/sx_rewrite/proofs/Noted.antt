@@ -1,11 +1,11 @@
 -- What a walk over a certificate notes.
-use Rattle.std.proofs.Common.{◌≡◌, ℕ, zero, suc, ◌+◌, ◌<◌, ◌≤◌, ◌^◌, ◌-◌, min, max, Bool, true, false, ◌||◌, List, [], ◌∷◌, ◌++◌, length, set, get_or, map, drop, Box, Vec, refl, sym, ap, ◌∙◌, subst, arith, if◌then◌else◌}
+use Rattle.std.proofs.Common.{◌≡◌, ℕ, zero, suc, ◌+◌, ◌<◌, ◌≤◌, max, Bool, true, false, ◌||◌, List, [], ◌∷◌, ◌++◌, length, set, get_or, map, drop, Box, Vec, refl, sym, ap, ◌∙◌, subst, arith, if◌then◌else◌}
 use Rattle.std.specs.Prelude.{nat_eq, nat_lt}
 use Rattle.std.specs.declared.alloc.Global.{Global}
 use Rattle.std.proofs.lemmas.Bool.{eqb-true, eq-eqb}
 use Rattle.std.proofs.lemmas.List.{at_drop_more, drop_all}
 use Rattle.sx_rules.specs.Discipline.{one_when}
-use Rattle.sx_rules.specs.declared.proof.Proof.{Proof as ProofOf, By, Given}
+use Rattle.sx_rules.specs.declared.proof.Proof.{Proof as ProofOf, By}
 use Rattle.sx_term.specs.declared.term.Term.{Term}
 use Rattle.sx_term.specs.Term.{tree}
 use Rattle.sx_rules.specs.declared.rule.Premise.{Premise}

@@ -1,15 +1,15 @@
 -- What is counted of derivations by plain rules.
-use Rattle.std.proofs.Common.{◌≡◌, ℕ, suc, ◌+◌, List, [], ◌∷◌, ◌++◌, map, length, Option, Some, None, refl, sym, ap, ◌∙◌, subst, arith}
+use Rattle.std.proofs.Common.{◌≡◌, ℕ, suc, List, [], ◌∷◌, ◌++◌, map, length, Option, Some, None, refl, ap, ◌∙◌, subst}
 use Rattle.std.specs.Prelude.{slice_get, option_map}
 use Rattle.std.proofs.lemmas.Option.{slice_get-map}
 use Rattle.sx_rules.specs.Rules.{Premise, holds, apart, Rule, judgements_of}
 use Rattle.sx_rules.specs.Derivations.{Proof, Proofs, by, given, no_more, ◌⊳◌}
 use Rattle.sx_plain.specs.Plain.{Table}
-use Rattle.sx_rewrite.specs.Accepted.{Known, basic, checked, Checked, Accepted, known_of, rule_in}
+use Rattle.sx_rewrite.specs.Accepted.{Known, basic, checked, Checked, Accepted, known_of}
 use Rattle.sx_rewrite.specs.PlainRules.{image_premise, plain_checked, plain_of}
 use Rattle.sx_rewrite.specs.Used.{lowered_nodes, lowered_nodes_of, lowered_height, lowered_heights_of, nodes_at, height_at}
 use Rattle.sx_rewrite.specs.Copied.{copied, copied_of, copied_at}
-use Rattle.sx_rewrite.specs.LoweredSizes.{number_of, FitKids, HasFitKids, HaveFitKids}
+use Rattle.sx_rewrite.specs.LoweredSizes.{FitKids, HasFitKids, HaveFitKids}
 use Rattle.sx_rewrite.specs.SizeLaws.{DerivationsFit, PlainRulesCountAlike}
 use Rattle.sx_rewrite.proofs.Tallied.{derived-fit}
 

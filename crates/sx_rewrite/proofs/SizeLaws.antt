@@ -1,5 +1,5 @@
 -- What the sizes of certificates say of nodes that are lowered.
-use Rattle.std.proofs.Common.{◌≡◌, ℕ, zero, suc, ◌+◌, ◌-◌, ◌*◌, ◌^◌, ◌<◌, ◌≤◌, min, max, Bool, true, false, ◌||◌, ◌⊎◌, inl, inr, List, [], ◌∷◌, length, drop, get_or, refl, sym, ap, ◌∙◌, arith, if◌then◌else◌}
+use Rattle.std.proofs.Common.{◌≡◌, ℕ, zero, suc, ◌+◌, ◌-◌, ◌*◌, ◌^◌, ◌<◌, ◌≤◌, min, Bool, true, false, ◌||◌, ◌⊎◌, inl, inr, List, [], ◌∷◌, length, drop, get_or, refl, sym, ap, ◌∙◌, arith, if◌then◌else◌}
 use Rattle.std.specs.Prelude.{nat_eq, nat_lt}
 use Rattle.std.proofs.lemmas.Bool.{ltb-true, ltb-false, lt-ltb, le-ltb}
 use Rattle.std.proofs.lemmas.List.{drop_more}
@@ -8,7 +8,7 @@ use Rattle.sx_rules.specs.Derivations.{Proof, Proofs, by, given, no_more, ◌⊳
 use Rattle.sx_rewrite.specs.declared.given_use.GivenUse.{GivenUse}
 use Rattle.sx_rewrite.specs.Measured.{is_used, is_used_among}
 use Rattle.sx_rewrite.specs.Copied.{times_given, times_given_in, copies, used_total}
-use Rattle.sx_rewrite.specs.Counts.{own_nodes, own_nodes_of, own_height, own_height_of, nodes_above, nodes_above_in, sum_of, most_of}
+use Rattle.sx_rewrite.specs.Counts.{own_height, own_height_of, nodes_above, nodes_above_in, sum_of, most_of}
 use Rattle.sx_rewrite.specs.Sizes.{in_u128, in_u64, IsUseOf, AreUsesOf, AreNear, used_sum, used_most, used_copies}
 
 either : (a b : ℕ) → (a ≤ b) ⊎ (b < a)

@@ -1,5 +1,5 @@
 -- What is counted of lowered derivations.
-use Rattle.std.proofs.Common.{◌≡◌, ℕ, zero, suc, ◌+◌, ◌-◌, ◌*◌, ◌<◌, ◌≤◌, max, Bool, true, false, List, [], ◌∷◌, length, drop, get_or, map, Box, Vec, Option, Some, None, refl, sym, ap, ◌∙◌, subst, arith, if◌then◌else◌}
+use Rattle.std.proofs.Common.{◌≡◌, ℕ, zero, suc, ◌+◌, ◌-◌, ◌*◌, ◌<◌, ◌≤◌, max, List, [], ◌∷◌, length, drop, get_or, map, Box, Vec, Option, Some, None, refl, sym, ap, ◌∙◌, subst, arith, if◌then◌else◌}
 use Rattle.std.specs.Prelude.{nat_lt, slice_get}
 use Rattle.std.specs.declared.alloc.Global.{Global}
 use Rattle.std.proofs.lemmas.List.{drop_all}
@@ -18,7 +18,7 @@ use Rattle.sx_rewrite.specs.declared.certificate_size.CertificateSize.{Certifica
 use Rattle.sx_rewrite.specs.declared.tally.Tally.{Tally}
 use Rattle.sx_rewrite.specs.Accepted.{Known, basic, checked, Checked, Accepted, known_of, rules_of, rule_in}
 use Rattle.sx_rewrite.specs.Stored.{stored_in}
-use Rattle.sx_rewrite.specs.Used.{IsUsed, lowered_nodes, lowered_nodes_of, lowered_height, lowered_heights_of, nodes_at, height_at}
+use Rattle.sx_rewrite.specs.Used.{lowered_nodes, lowered_nodes_of, lowered_height, lowered_heights_of, nodes_at, height_at}
 use Rattle.sx_rewrite.specs.Copied.{copied, copied_of, copied_at}
 use Rattle.sx_rewrite.specs.Sizes.{in_u128, in_u64, IsSizeIn, UsesPremises, used_sum, used_most, used_copies}
 use Rattle.sx_rewrite.specs.LoweredSizes.{number_of, FitKids, HasFitKids, HaveFitKids}

@@ -1,14 +1,14 @@
-use Rattle.std.proofs.Common.{ap, arith, rules, sym, refl, drop, get_or, set, length, max, ◌≡◌, ◌≤◌, ◌<◌, ◌+◌, ◌∙◌, List, ℕ}
+use Rattle.std.proofs.Common.{ap, arith, rules, sym, drop, get_or, length, max, ◌≡◌, ◌≤◌, ◌<◌, ◌+◌, ◌∙◌, List}
 use Rattle.std.proofs.lemmas.List.{drop_all}
 use Rattle.sx_rules.specs.declared.proof.Proof.TheViews.{the_lemmas}
 use Rattle.sx_rules.specs.declared.proof.Proof.{Proof as ProofOf}
-use Rattle.sx_rules.specs.Derivations.{Proof, Proofs, height_of, most_height}
+use Rattle.sx_rules.specs.Derivations.{Proofs, height_of}
 use Rattle.sx_rules.specs.ProofView.{proof, boxed}
 use Rattle.sx_rules.proofs.ProofRows.{height_of-kid}
 use Rattle.sx_rewrite.specs.declared.given_use.GivenUse.{GivenUse}
-use Rattle.sx_rewrite.specs.Counts.{own_nodes, own_nodes_of, own_height, own_height_of}
+use Rattle.sx_rewrite.specs.Counts.{own_nodes_of, own_height_of}
 use Rattle.sx_rewrite.proofs.SizeLaws.{all_own_height-within}
-use Rattle.sx_rewrite.proofs.Noted.{noted_in, noted_by, noted-more, noted-up, noted-none, noted-at, noted-past, kids-drop, noted-height, noted-own_nodes, noted-own_height, noted-node}
+use Rattle.sx_rewrite.proofs.Noted.{noted_in, noted_by, noted-more, noted-none, noted-at, noted-past, kids-drop, noted-height, noted-own_nodes, noted-own_height, noted-node}
 use Rattle.sx_rewrite.proofs.sizing.+note.Goals as goal
 
 pub note-own-requires : goal.note-own-requires

@@ -1,18 +1,13 @@
-use Rattle.std.proofs.Common.{ap, arith, rules, sym, refl, get_or, length, max, ◌<◌, ◌≡◌, ◌+◌, ◌-◌, ◌*◌, ◌∙◌, List, ℕ, Box, Bool, true, if◌then◌else◌}
-use Rattle.std.specs.Prelude.{nat_lt}
-use Rattle.std.specs.declared.alloc.Global.{Global}
+use Rattle.std.proofs.Common.{ap, arith, rules, sym, refl, get_or, length, max, ◌<◌, ◌≡◌, ◌+◌, ◌-◌, ◌*◌, ◌∙◌, List, ℕ, Bool, if◌then◌else◌}
 use Rattle.std.proofs.lemmas.Bool.{lt-ltb}
-use Rattle.sx_rules.specs.declared.proof.Proof.{Proof as ProofOf}
-use Rattle.sx_rules.specs.Derivations.{height_of, most_height}
-use Rattle.sx_rules.specs.ProofView.{proof, boxed}
+use Rattle.sx_rules.specs.ProofView.{proof}
 use Rattle.sx_rewrite.specs.declared.given_use.GivenUse.{GivenUse}
-use Rattle.sx_rewrite.specs.declared.tally.Tally.{Tally}
 use Rattle.sx_rewrite.specs.AcceptedView.{accepted}
 use Rattle.sx_rewrite.specs.Used.{lowered_nodes, lowered_height}
 use Rattle.sx_rewrite.specs.Copied.{copied}
 use Rattle.sx_rewrite.specs.Sizes.{in_u128, in_u64}
 use Rattle.sx_rewrite.proofs.SizeLaws.{kid-nodes, kid-copied, near-at}
-use Rattle.sx_rewrite.proofs.Tallied.{KidsSoFar, IsKidAdded, kids-on, base-on, kids-nodes, kids-heights, kids-copied, all_base-nodes, all_base-height, all_base-copied, kid-height, kid-fit, node-less, node-height, node-fit, sized-nodes, sized-height, sized-copied, sized-many, base-nodes, base-height, base-copied}
+use Rattle.sx_rewrite.proofs.Tallied.{IsKidAdded, kids-on, base-on, kids-nodes, kids-heights, kids-copied, all_base-nodes, all_base-height, all_base-copied, kid-height, kid-fit, node-less, node-height, node-fit, sized-nodes, sized-height, sized-copied, sized-many, base-nodes, base-height, base-copied}
 use Rattle.sx_rewrite.proofs.tallying.+tallied.Goals as goal
 
 pub with_kid-returns-clause-nodes : goal.with_kid-returns-clause-nodes
