@@ -30,6 +30,6 @@ pub use laws::{
     sorted_terms_fit,
 };
 pub use lowering::lower;
-pub use measure::Measure;
+pub use measure::{Measure, image_measure};
 pub use plain_error::PlainError;
 pub use table::PlainTable;

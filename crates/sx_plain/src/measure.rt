@@ -23,7 +23,7 @@ pub struct Measure {
 
 /// The depth and the size of the plain image. Each node of the term is looked at once, and no body.
 #[cycle(measured)]
-pub(crate) fn image_measure(table: &PlainTable, term: &Term) -> Measure
+pub fn image_measure(table: &PlainTable, term: &Term) -> Measure
     requires shallow { depth_of (tree term.now) ≤ 1000 }
     requires fits { FitsTable (table_of table.now) (tree term.now) }
     ensures depth { result.depth ≡ depth_of (image (table_of table.now) (tree term.now)) }
