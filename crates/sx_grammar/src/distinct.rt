@@ -1,12 +1,23 @@
 //! The distinct literals of a grammar.
 
-ghost use Rattle.std.specs.Prelude.{◌≡◌, [], OnOk, IfOk};
+ghost use Rattle.std.specs.Prelude.{◌≡◌, [], ◌∷◌, ◌++◌, Contains, OnOk, IfOk};
 ghost use Rattle.sx_grammar.specs.Parts.{texts};
 ghost use Rattle.sx_grammar.specs.Distinct.{distinct};
 
 use crate::names::Names;
 use std::alloc::Global;
 use sx_term::{NoMemory, Text};
+
+/// Adds a text that is none of the names, and the same as a name.
+fn add(alloc: Global, text: &Text, out: &mut Vec<Text>, names: &mut Names) -> Result<(), NoMemory>
+    requires { ¬ (Contains names.old text.now) }
+    ensures texts { OnOk result (out.new.items ≡ out.old.items ++ text.now ∷ []) }
+    ensures names { OnOk result (names.new ≡ names.old ++ text.now ∷ []) }
+{
+    names.push(alloc, text.bytes())?;
+    out.push(text.copy(alloc)?)?;
+    Ok(())
+}
 
 /// Adds each text once, where it first stands, to no texts, and the same as names.
 fn fill(
@@ -22,8 +33,7 @@ fn fill(
 {
     for text in list {
         if names.number(text.bytes()).is_none() {
-            names.push(alloc, text.bytes())?;
-            out.push(text.copy(alloc)?)?;
+            add(alloc, text, out, names)?;
         }
     }
     Ok(())

@@ -21,10 +21,23 @@ fn with_more(
 ) -> Result<GrammarParts, NoMemory>
     ensures { IfOk result (λ p. parts p ≡ extended (parts from.now) (map line more.items)) }
 {
-    let mut all = from.copy(alloc)?;
     let mut more = more;
-    all.productions.append(&mut more)?;
-    Ok(all)
+    let mut all = match from.copy(alloc) {
+        Ok(all) => all,
+        Err(e) => {
+            drop(more);
+            return Err(e);
+        }
+    };
+    let added = all.productions.append(&mut more);
+    drop(more);
+    match added {
+        Ok(()) => Ok(all),
+        Err(e) => {
+            drop(all);
+            Err(NoMemory::from(e))
+        }
+    }
 }
 
 impl Grammar {

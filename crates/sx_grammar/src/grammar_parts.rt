@@ -1,6 +1,6 @@
 //! What a grammar is made of.
 
-ghost use Rattle.std.specs.Prelude.{◌≡◌, IfOk, map};
+ghost use Rattle.std.specs.Prelude.{◌≡◌, [], OnOk, IfOk, map};
 ghost use Rattle.sx_grammar.specs.Parts.{line, parts};
 
 use crate::production::Production;
@@ -15,15 +15,44 @@ pub struct GrammarParts {
     pub productions: Vec<Production>,
 }
 
+/// Fills a list that has no sorts with equal ones.
+fn fill_sorts(alloc: Global, sorts: &[SortLine], copies: &mut Vec<SortLine>) -> Result<(), NoMemory>
+    requires { copies.old.items ≡ [] }
+    ensures { OnOk result (copies.new.items ≡ sorts.now) }
+{
+    for i in 0..sorts.len() {
+        copies.push(sorts[i].copy(alloc)?)?;
+    }
+    Ok(())
+}
+
 /// Equal sorts.
 fn copy_sorts(alloc: Global, sorts: &[SortLine]) -> Result<Vec<SortLine>, NoMemory>
     ensures { IfOk result (λ v. v.items ≡ sorts.now) }
 {
     let mut copies = Vec::with_capacity(alloc, sorts.len())?;
-    for i in 0..sorts.len() {
-        copies.push(sorts[i].copy(alloc)?)?;
+    match fill_sorts(alloc, sorts, &mut copies) {
+        Ok(()) => Ok(copies),
+        Err(e) => {
+            drop(copies);
+            Err(e)
+        }
     }
-    Ok(copies)
+}
+
+/// Fills a list that has no productions with equal ones.
+fn fill_productions(
+    alloc: Global,
+    productions: &[Production],
+    copies: &mut Vec<Production>,
+) -> Result<(), NoMemory>
+    requires { copies.old.items ≡ [] }
+    ensures { OnOk result (map line copies.new.items ≡ map line productions.now) }
+{
+    for i in 0..productions.len() {
+        copies.push(productions[i].copy(alloc)?)?;
+    }
+    Ok(())
 }
 
 /// Equal productions.
@@ -31,10 +60,13 @@ fn copy_productions(alloc: Global, productions: &[Production]) -> Result<Vec<Pro
     ensures { IfOk result (λ v. map line v.items ≡ map line productions.now) }
 {
     let mut copies = Vec::with_capacity(alloc, productions.len())?;
-    for i in 0..productions.len() {
-        copies.push(productions[i].copy(alloc)?)?;
+    match fill_productions(alloc, productions, &mut copies) {
+        Ok(()) => Ok(copies),
+        Err(e) => {
+            drop(copies);
+            Err(e)
+        }
     }
-    Ok(copies)
 }
 
 impl GrammarParts {

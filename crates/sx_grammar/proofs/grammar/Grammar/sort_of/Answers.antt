@@ -1,10 +1,16 @@
-use Rattle.std.proofs.Common.{ap, subst, sym, ◌∙◌, ◌<◌, length}
+use Rattle.std.proofs.Common.{ap, subst, sym, ◌∙◌, ◌<◌, length, arith}
 use Rattle.sx_grammar.specs.Numbered.{production}
 use Rattle.sx_grammar.specs.Parts.{parts}
 use Rattle.sx_grammar.specs.Tables.{literals_of}
 use Rattle.sx_grammar.specs.Told.{IsSortOf, sort_with}
-use Rattle.sx_grammar.proofs.TableLaws.{production_at}
+use Rattle.sx_grammar.proofs.TableLaws.{numbered_length, production_at}
 use Rattle.sx_grammar.proofs.grammar.Grammar.sort_of.Goals as goal
+
+pub index-production-requires : goal.index-production-requires
+index-production-requires c =
+    let p = parts c.self.inside.parts in
+    let known : c.args.label < length p.productions = subst (λ d. c.args.label < length d.parts.productions) (sym c.self.view_is) c.requires in
+    omega (arith, known, numbered_length p c.self.inside.productions.items c.self.invariant.has_productions)
 
 pub returns : goal.returns
 returns c =

@@ -1,5 +1,5 @@
 use Rattle.std.proofs.Common.{◌≡◌, take}
-use Rattle.sx_grammar.proofs.grammar_parts.copy_sorts.Given as goal
+use Rattle.sx_grammar.proofs.grammar_parts.fill_sorts.Given as goal
 
 abbrev pub invariant-loop-i : goal.invariant-loop-i
 invariant-loop-i l = l.copies.items ≡ take l.i l.sorts
