@@ -1,10 +1,11 @@
 //! Why no core text is read.
 
 use crate::no_memory::NoMemory;
+use std::fmt;
 use thiserror::Error;
 
 /// Why no core text is read at a place.
-#[derive(Debug, Drop, Error)]
+#[derive(Drop, Error)]
 pub enum CoreError {
     /// Memory is lacking.
     #[error("out of memory")]
@@ -16,6 +17,12 @@ pub enum CoreError {
     /// A core text stands there, of a term with this depth, which is more than 1,000.
     #[error("a core text is too deep")]
     TooDeep(u64),
+}
+
+impl fmt::Debug for CoreError {
+    fn fmt<W: fmt::Write>(&self, f: &mut fmt::Formatter<W>) -> fmt::Result {
+        fmt::Display::fmt(self, f)
+    }
 }
 
 impl From<NoMemory> for CoreError {

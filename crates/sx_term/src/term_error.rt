@@ -1,10 +1,11 @@
 //! The limits of terms.
 
 use crate::no_memory::NoMemory;
+use std::fmt;
 use thiserror::Error;
 
 /// Why no instance is made.
-#[derive(Debug, Drop, Error)]
+#[derive(Drop, Error)]
 pub enum TermError {
     /// Memory is lacking.
     #[error("out of memory")]
@@ -15,6 +16,12 @@ pub enum TermError {
     /// The instance has so many nodes, lexemes and variables, which are more than 1,000,000. The number stays at the greatest u64.
     #[error("a term has too many nodes")]
     TooBig(u64),
+}
+
+impl fmt::Debug for TermError {
+    fn fmt<W: fmt::Write>(&self, f: &mut fmt::Formatter<W>) -> fmt::Result {
+        fmt::Display::fmt(self, f)
+    }
 }
 
 impl From<NoMemory> for TermError {

@@ -1,10 +1,11 @@
 //! Why bytes are no text.
 
 use std::alloc::AllocError;
+use std::fmt;
 use thiserror::Error;
 
 /// Why bytes are no text.
-#[derive(Debug, Drop, Error)]
+#[derive(Drop, Error)]
 pub enum TextError {
     /// Memory is lacking.
     #[error("out of memory")]
@@ -12,6 +13,12 @@ pub enum TextError {
     /// The bytes are not UTF-8: so many of them stand before the first bad sequence.
     #[error("not UTF-8")]
     NotUtf8(usize),
+}
+
+impl fmt::Debug for TextError {
+    fn fmt<W: fmt::Write>(&self, f: &mut fmt::Formatter<W>) -> fmt::Result {
+        fmt::Display::fmt(self, f)
+    }
 }
 
 impl From<AllocError> for TextError {
