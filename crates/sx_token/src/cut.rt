@@ -58,15 +58,28 @@ pub(crate) fn cut(
             }
             Front::Token(mark, len) => {
                 if out.len() == MOST_TOKENS {
+                    drop(out);
                     return Err(TokenError::TooManyTokens);
                 }
                 let (token, after) = rest.split_at(len);
                 let to = (text.len() - after.len()) as u32;
-                push_token(alloc, &mut out, mark, token, from, to)?;
+                match push_token(alloc, &mut out, mark, token, from, to) {
+                    Ok(()) => {}
+                    Err(e) => {
+                        drop(out);
+                        return Err(e);
+                    }
+                }
                 rest = after;
             }
-            Front::Open => return Err(TokenError::OpenString(from)),
-            Front::Bad => return Err(TokenError::BadToken(from)),
+            Front::Open => {
+                drop(out);
+                return Err(TokenError::OpenString(from));
+            }
+            Front::Bad => {
+                drop(out);
+                return Err(TokenError::BadToken(from));
+            }
         }
     }
     Ok(out)

@@ -29,4 +29,4 @@ loop-rest-preserved c =
     cut_token _ c.args.metas c.args.text.now (pieces c.loop-rest.out.items) (pieces c.push_token.new.out.items) rest after t c.in-Token.len c.loop-rest.invariant stands
     c.split_at-in-Token.ensures.front c.split_at-in-Token.ensures.back refl refl
     (λ full. absurd (omega (arith, length-map c.loop-rest.out.items piece_of, c.len.ensures, c.if-len-eq-MOST_TOKENS.false, c.loop-rest.out.ok.0, full)))
-    c.in_ok-push_token-in-Token.ensures.ok
+    c.in-Ok.ensures.ok
