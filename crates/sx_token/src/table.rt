@@ -44,8 +44,22 @@ pub(crate) fn make_table<'a>(alloc: Global, literals: &'a [Text]) -> Result<Tabl
         let text = literal.as_str();
         let bytes = text.as_bytes();
         note_length(&mut longest, bytes);
-        lengths.insert(bytes.len())?;
-        places.insert(text, i as u32)?;
+        match lengths.insert(bytes.len()) {
+            Ok(_) => {}
+            Err(e) => {
+                drop(lengths);
+                drop(places);
+                return Err(e.into());
+            }
+        }
+        match places.insert(text, i as u32) {
+            Ok(_) => {}
+            Err(e) => {
+                drop(lengths);
+                drop(places);
+                return Err(e.into());
+            }
+        }
     }
     Ok(Table {
         literals,

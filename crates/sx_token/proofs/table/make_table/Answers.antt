@@ -10,10 +10,10 @@ loop-i-init c = table_none _ _ _ _ (λ text. let h = c.new-places.ensures.empty 
 pub loop-i-preserved : goal.loop-i-preserved
 loop-i-preserved c =
     let same = c.as_bytes-bytes.ensures.value in
-    let put = c.in_ok-insert.ensures.updates in
+    let put = c.in-Ok.ensures.updates in
     table_more _ c.loop-i.i _ _ _ _ c.loop-i.longest c.note_length.new.longest c.as_str-text.result.now c.loop-i.invariant
     (literal_at c.args.literals.now c.loop-i.i c.index-literals-i.result c.as_str-text.result.now c.loop-i-test.true c.index-literals-i.is c.as_str-text.ensures)
-    (hash_map_updates_str c.as_str-text.result.now c.loop-i.places c.insert-in-loop-i.new.self _ c.in_ok-insert-2.ensures.updates)
+    (hash_map_updates_str c.as_str-text.result.now c.loop-i.places c.insert-in-loop-i.new.self _ c.in-Ok-insert.ensures.updates)
     (λ q h. kept_key _ _ _ (put.0 q) h)
     (ap (λ t. contains_by (λ n. length t == n) c.insert.new.self) (sym same) ∙ put.1)
     c.note_length.ensures.grows
