@@ -1,7 +1,7 @@
 //! What the calls of the outside answer.
 
 /// What a read of a name answers.
-#[derive(Clone, Copy, PartialEq, Eq, Debug)]
+#[derive(Clone, Copy, PartialEq, Eq)]
 pub enum ReadAnswer {
     /// The bytes under the name came.
     Found,
@@ -16,7 +16,7 @@ pub enum ReadAnswer {
 }
 
 /// What a write answers.
-#[derive(Clone, Copy, PartialEq, Eq, Debug)]
+#[derive(Clone, Copy, PartialEq, Eq)]
 pub enum WriteAnswer {
     /// The bytes were written whole.
     Done,
@@ -27,7 +27,7 @@ pub enum WriteAnswer {
 }
 
 /// What a take answers.
-#[derive(Clone, Copy, PartialEq, Eq, Debug)]
+#[derive(Clone, Copy, PartialEq, Eq)]
 pub enum TakeAnswer {
     /// So many bytes came: none only where there was no room for any.
     Took(usize),
