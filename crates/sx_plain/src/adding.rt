@@ -60,12 +60,15 @@ impl PlainTable {
         ensures base { self.new.base ≡ self.old.base }
     {
         if self.entry(label).is_some() {
+            drop(term);
             return Err(PlainError::Twice(label));
         }
         if let Some(later) = first_later(self, &term) {
+            drop(term);
             return Err(PlainError::UsesLater(later));
         }
         if let Some(part) = first_dropped(self.alloc, &term, arity)? {
+            drop(term);
             return Err(PlainError::Drops(part));
         }
         match lower(self.alloc, self, &term) {
@@ -74,9 +77,18 @@ impl PlainTable {
                 self.put(label, entry)?;
                 Ok(())
             }
-            Err(TermError::TooDeep(depth)) => Err(PlainError::TooDeep(depth)),
-            Err(TermError::TooBig(nodes)) => Err(PlainError::TooBig(nodes)),
-            Err(TermError::Memory) => Err(PlainError::Memory),
+            Err(TermError::TooDeep(depth)) => {
+                drop(term);
+                Err(PlainError::TooDeep(depth))
+            }
+            Err(TermError::TooBig(nodes)) => {
+                drop(term);
+                Err(PlainError::TooBig(nodes))
+            }
+            Err(TermError::Memory) => {
+                drop(term);
+                Err(PlainError::Memory)
+            }
         }
     }
 
