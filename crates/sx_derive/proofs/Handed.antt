@@ -113,10 +113,3 @@ module _ (modes : Modes) (rules : List Rule) (pairs : List Pair) (old now new : 
     is = λ js. subst (λ (x : Result). IsStep modes rules js new answers step x) (sym (read_same step js))
         (step_other modes rules js new (hand_on modes (hyps_in pairs now js) (frames_in modes rules now c.before)) answers step (hand_on modes (hyps_in pairs now js) (waiting_in modes rules now c) (answer_in now head outs)) n (m.is js));
   }
-
-pub handed_end : (modes : Modes) (rules : List Rule) (pairs : List Pair) (old now : Store) (frames : ℕ) (first : Head) (firsts : List ℕ) (waiting : ℕ) (head : Head) (outs : Vec ℕ Global) →
-    Handing modes rules pairs old now frames first firsts waiting head outs.items → waiting ≡ 0 → IsHanded modes rules pairs old now frames first firsts (Done head outs)
-handed_end modes rules pairs old now frames first firsts waiting head outs i z = record {
-  grows = i.grows;
-  is = λ js. (i.fits, i.below, i.same js ∙ ap (λ w. hand_on modes (hyps_in pairs old js) (frames_in modes rules now w) (answer_in now head outs.items)) z);
-}

@@ -51,15 +51,6 @@ sizes modes rules s = record {
   frames = grown-length (waiting_step modes rules (store_envs s) (store_kids s)) s.frames.items;
 }
 
--- the rule and the premise of a frame
-pub waits_rule : (modes : Modes) (rules : List Rule) (s : Store) (c : Waiting) → IsWaiting modes rules s c → c.rule < length rules
-waits_rule modes rules s c w = within rules c.rule w.waits.0 w.waits.2
-  where
-    within : (rs : List Rule) (i : ℕ) (r : Rule) → slice_get rs i ≡ Some r → i < length rs
-    within [] i r e = cc
-    within (x ∷ rs) zero r e = omega arith
-    within (x ∷ rs) (suc i) r e = let k = within rs i r e in omega arith
-
 -- the premise of the rule at the frame
 pub waits_at : (modes : Modes) (rules : List Rule) (s : Store) (c : Waiting) → IsWaiting modes rules s c → (rule : Rule) → slice_get rules c.rule ≡ Some rule →
     (j : Judgement) × (slice_get rule.premises c.premise ≡ Some (holds j))

@@ -2,11 +2,12 @@
 
 use crate::blame::Blame;
 use std::alloc::{AllocError, AllocFailed};
+use std::fmt;
 use sx_term::NoMemory;
 use thiserror::Error;
 
 /// Want of memory, or how a search without an answer ended.
-#[derive(Debug, Drop, Error)]
+#[derive(Drop, Error)]
 pub enum DeriveError {
     #[error("out of memory")]
     Memory,
@@ -14,18 +15,24 @@ pub enum DeriveError {
     #[error("no derivation")]
     Underivable(Blame),
     /// The search needs more tries than these.
-    #[error("no derivation within {0} tries")]
+    #[error("the tries are spent")]
     BudgetSpent(u64),
     /// The search comes to a goal that is deeper than this.
-    #[error("no derivation within depth {0}")]
+    #[error("a goal is too deep")]
     DepthSpent(u32),
     /// A term of this depth is made, which is more than 1,000. The number stays at the greatest u64.
-    #[error("depth {0} is over 1000")]
+    #[error("a term is too deep")]
     TooDeep(u64),
     /// A term of so many nodes, lexemes and variables is made, which are more than 1,000,000. The number stays at the greatest
     /// u64.
-    #[error("a term has {0} nodes, over 1000000")]
+    #[error("a term has too many nodes")]
     TooBig(u64),
+}
+
+impl fmt::Debug for DeriveError {
+    fn fmt<W: fmt::Write>(&self, f: &mut fmt::Formatter<W>) -> fmt::Result {
+        fmt::Display::fmt(self, f)
+    }
 }
 
 impl From<NoMemory> for DeriveError {

@@ -1,22 +1,29 @@
 //! Why a search goes no further.
 
+use std::fmt;
 use sx_term::NoMemory;
 use thiserror::Error;
 
 /// Why a search goes no further.
-#[derive(Debug, Drop, Error)]
+#[derive(Drop, Error)]
 pub enum SearchError {
     #[error("out of memory")]
     Memory,
     /// A derivation would be deeper than this many levels.
-    #[error("derivation deeper than {0}")]
+    #[error("a derivation is too deep")]
     DepthSpent(u32),
     /// A term would have this depth.
-    #[error("a term of depth {0}")]
+    #[error("a term is too deep")]
     TooDeep(u64),
     /// A term would have this size.
-    #[error("a term of size {0}")]
+    #[error("a term has too many nodes")]
     TooBig(u64),
+}
+
+impl fmt::Debug for SearchError {
+    fn fmt<W: fmt::Write>(&self, f: &mut fmt::Formatter<W>) -> fmt::Result {
+        fmt::Display::fmt(self, f)
+    }
 }
 
 impl From<NoMemory> for SearchError {

@@ -27,11 +27,7 @@ overflow_sub-levels c =
     let m = modes_of c.args.rules.now in
     let rs = rules_of c.args.rules.now in
     let s = c.args.store.now in
-    let t : Store = record { arena = c.make_places.new.arena; binds = s.binds; kids = s.kids; frames = s.frames } in
     let j = judgement_of c.args.judgement.now in
-    let S = filled (env_at (store_envs s) c.args.env) in
-    let held : AreHeld s.arena t.arena c.in_ok-terms.terms.items (inputs_of m (judgement_instance S j)) =
-    held_as _ _ _ _ _ (λ i. selected false (c.roles.ensures i) (map (instance S) (map tree (c.deref.ensures.value i)))) c.in_ok-terms.ensures in
     let b = c.requires.facts in
     let l = quiet_level m rs (hyps_in c.args.pairs.now s b.0) c.args.budget c.args.levels (asked_goal m s c.args.env j) (c.requires.quiet b.0 b.1) in
     omega arith
@@ -39,7 +35,6 @@ overflow_sub-levels c =
 pub first_answer-requires-clause-facts : goal.first_answer-requires-clause-facts
 first_answer-requires-clause-facts c =
     let m = modes_of c.args.rules.now in
-    let rs = rules_of c.args.rules.now in
     let s = c.args.store.now in
     let t : Store = record { arena = c.make_places.new.arena; binds = s.binds; kids = s.kids; frames = s.frames } in
     let j = judgement_of c.args.judgement.now in
@@ -47,7 +42,6 @@ first_answer-requires-clause-facts c =
     let held : AreHeld s.arena t.arena c.in_ok-terms.terms.items (inputs_of m (judgement_instance S j)) =
     held_as _ _ _ _ _ (λ i. selected false (c.roles.ensures i) (map (instance S) (map tree (c.deref.ensures.value i)))) c.in_ok-terms.ensures in
     let b = c.requires.facts in
-    let l = quiet_level m rs (hyps_in c.args.pairs.now s b.0) c.args.budget c.args.levels (asked_goal m s c.args.env j) (c.requires.quiet b.0 b.1) in
     (b.0, (facts_stay m (store_trees s) (store_trees t) held.extends b.0 c.args.facts.now b.1))
 
 pub first_answer-requires-clause-store : goal.first_answer-requires-clause-store
@@ -60,22 +54,17 @@ first_answer-requires-clause-store c =
     let S = filled (env_at (store_envs s) c.args.env) in
     let held : AreHeld s.arena t.arena c.in_ok-terms.terms.items (inputs_of m (judgement_instance S j)) =
     held_as _ _ _ _ _ (λ i. selected false (c.roles.ensures i) (map (instance S) (map tree (c.deref.ensures.value i)))) c.in_ok-terms.ensures in
-    let b = c.requires.facts in
-    let l = quiet_level m rs (hyps_in c.args.pairs.now s b.0) c.args.budget c.args.levels (asked_goal m s c.args.env j) (c.requires.quiet b.0 b.1) in
     (made_grows m rs c.args.pairs.now s t c.args.env c.args.levels c.args.budget j c.in_ok-terms.terms.items c.requires.store c.requires.pairs c.requires.env held refl refl refl).store
 
 pub first_answer-requires-clause-pairs : goal.first_answer-requires-clause-pairs
 first_answer-requires-clause-pairs c =
     let m = modes_of c.args.rules.now in
-    let rs = rules_of c.args.rules.now in
     let s = c.args.store.now in
     let t : Store = record { arena = c.make_places.new.arena; binds = s.binds; kids = s.kids; frames = s.frames } in
     let j = judgement_of c.args.judgement.now in
     let S = filled (env_at (store_envs s) c.args.env) in
     let held : AreHeld s.arena t.arena c.in_ok-terms.terms.items (inputs_of m (judgement_instance S j)) =
     held_as _ _ _ _ _ (λ i. selected false (c.roles.ensures i) (map (instance S) (map tree (c.deref.ensures.value i)))) c.in_ok-terms.ensures in
-    let b = c.requires.facts in
-    let l = quiet_level m rs (hyps_in c.args.pairs.now s b.0) c.args.budget c.args.levels (asked_goal m s c.args.env j) (c.requires.quiet b.0 b.1) in
     pairs_more_terms _ _ (extends-length _ _ held.extends) _ c.requires.pairs
 
 pub first_answer-requires-clause-quiet : goal.first_answer-requires-clause-quiet
@@ -105,7 +94,6 @@ fit_places-requires-clause-arena c =
     let held : AreHeld s.arena t.arena c.in_ok-terms.terms.items (inputs_of m (judgement_instance S j)) =
     held_as _ _ _ _ _ (λ i. selected false (c.roles.ensures i) (map (instance S) (map tree (c.deref.ensures.value i)))) c.in_ok-terms.ensures in
     let b = c.requires.facts in
-    let l = quiet_level m rs (hyps_in c.args.pairs.now s b.0) c.args.budget c.args.levels (asked_goal m s c.args.env j) (c.requires.quiet b.0 b.1) in
     let r0 = c.in_ok-first.ensures b.0 (facts_stay m (store_trees s) (store_trees t) held.extends b.0 c.args.facts.now b.1) in
     let su = grows_then m rs s t c.first_answer.new.store (made_grows m rs c.args.pairs.now s t c.args.env c.args.levels c.args.budget j c.in_ok-terms.terms.items c.requires.store c.requires.pairs c.requires.env held refl refl refl) r0.0 in
     su.store.arena
@@ -121,7 +109,6 @@ fit_places-requires-clause-binds c =
     let held : AreHeld s.arena t.arena c.in_ok-terms.terms.items (inputs_of m (judgement_instance S j)) =
     held_as _ _ _ _ _ (λ i. selected false (c.roles.ensures i) (map (instance S) (map tree (c.deref.ensures.value i)))) c.in_ok-terms.ensures in
     let b = c.requires.facts in
-    let l = quiet_level m rs (hyps_in c.args.pairs.now s b.0) c.args.budget c.args.levels (asked_goal m s c.args.env j) (c.requires.quiet b.0 b.1) in
     let r0 = c.in_ok-first.ensures b.0 (facts_stay m (store_trees s) (store_trees t) held.extends b.0 c.args.facts.now b.1) in
     let su = grows_then m rs s t c.first_answer.new.store (made_grows m rs c.args.pairs.now s t c.args.env c.args.levels c.args.budget j c.in_ok-terms.terms.items c.requires.store c.requires.pairs c.requires.env held refl refl refl) r0.0 in
     su.store.binds
@@ -168,7 +155,6 @@ returns-in-None-clause-grows c =
     let held : AreHeld s.arena t.arena c.in_ok-terms.terms.items (inputs_of m (judgement_instance S j)) =
     held_as _ _ _ _ _ (λ i. selected false (c.roles.ensures i) (map (instance S) (map tree (c.deref.ensures.value i)))) c.in_ok-terms.ensures in
     let b = c.requires.facts in
-    let l = quiet_level m rs (hyps_in c.args.pairs.now s b.0) c.args.budget c.args.levels (asked_goal m s c.args.env j) (c.requires.quiet b.0 b.1) in
     let r0 = c.in_ok-first.ensures b.0 (facts_stay m (store_trees s) (store_trees t) held.extends b.0 c.args.facts.now b.1) in
     let su = grows_then m rs s t c.first_answer.new.store (made_grows m rs c.args.pairs.now s t c.args.env c.args.levels c.args.budget j c.in_ok-terms.terms.items c.requires.store c.requires.pairs c.requires.env held refl refl refl) r0.0 in
     su
@@ -198,7 +184,6 @@ returns-in-None-fit-clause-grows c =
     let held : AreHeld s.arena t.arena c.in_ok-terms.terms.items (inputs_of m (judgement_instance S j)) =
     held_as _ _ _ _ _ (λ i. selected false (c.roles.ensures i) (map (instance S) (map tree (c.deref.ensures.value i)))) c.in_ok-terms.ensures in
     let b = c.requires.facts in
-    let l = quiet_level m rs (hyps_in c.args.pairs.now s b.0) c.args.budget c.args.levels (asked_goal m s c.args.env j) (c.requires.quiet b.0 b.1) in
     let r0 = c.in_ok-first.ensures b.0 (facts_stay m (store_trees s) (store_trees t) held.extends b.0 c.args.facts.now b.1) in
     let su = grows_then m rs s t c.first_answer.new.store (made_grows m rs c.args.pairs.now s t c.args.env c.args.levels c.args.budget j c.in_ok-terms.terms.items c.requires.store c.requires.pairs c.requires.env held refl refl refl) r0.0 in
     grows_then m rs s c.first_answer.new.store (record { arena = c.first_answer.new.store.arena; binds = c.fit_places.new.binds; kids = c.first_answer.new.store.kids; frames = c.first_answer.new.store.frames }) su (grows_binds m rs c.first_answer.new.store (record { arena = c.first_answer.new.store.arena; binds = c.fit_places.new.binds; kids = c.first_answer.new.store.kids; frames = c.first_answer.new.store.frames }) su.store c.in_ok-fit-in-Some.ensures.grows refl refl refl)
@@ -214,7 +199,6 @@ returns-in-Some-fit-clause-grows c =
     let held : AreHeld s.arena t.arena c.in_ok-terms.terms.items (inputs_of m (judgement_instance S j)) =
     held_as _ _ _ _ _ (λ i. selected false (c.roles.ensures i) (map (instance S) (map tree (c.deref.ensures.value i)))) c.in_ok-terms.ensures in
     let b = c.requires.facts in
-    let l = quiet_level m rs (hyps_in c.args.pairs.now s b.0) c.args.budget c.args.levels (asked_goal m s c.args.env j) (c.requires.quiet b.0 b.1) in
     let r0 = c.in_ok-first.ensures b.0 (facts_stay m (store_trees s) (store_trees t) held.extends b.0 c.args.facts.now b.1) in
     let su = grows_then m rs s t c.first_answer.new.store (made_grows m rs c.args.pairs.now s t c.args.env c.args.levels c.args.budget j c.in_ok-terms.terms.items c.requires.store c.requires.pairs c.requires.env held refl refl refl) r0.0 in
     grows_then m rs s c.first_answer.new.store (record { arena = c.first_answer.new.store.arena; binds = c.fit_places.new.binds; kids = c.first_answer.new.store.kids; frames = c.first_answer.new.store.frames }) su (grows_binds m rs c.first_answer.new.store (record { arena = c.first_answer.new.store.arena; binds = c.fit_places.new.binds; kids = c.first_answer.new.store.kids; frames = c.first_answer.new.store.frames }) su.store c.in_ok-fit-in-Some.ensures.grows refl refl refl)

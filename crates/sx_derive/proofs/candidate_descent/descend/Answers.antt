@@ -10,7 +10,6 @@ use Rattle.sx_derive.proofs.candidate_descent.descend.Goals as goal
 pub descend_rules-requires-clause-quiet : goal.descend_rules-requires-clause-quiet
 descend_rules-requires-clause-quiet c =
     let m = modes_of c.args.rules.now in
-    let su = subjects_of c.args.rules.now in
     let rs = rules_of c.args.rules.now in
     let s = c.args.store.now in
     (c.requires.quiet.0, c.requires.quiet.1, quiet_rules m rs c.requires.quiet.0 c.args.known c.args.budget c.args.levels (spot_goal s c.args.spot) c.requires.quiet.2)

@@ -23,14 +23,7 @@ rule_at-requires c =
 
 pub descend_premises-requires-clause-shallow : goal.descend_premises-requires-clause-shallow
 descend_premises-requires-clause-shallow c =
-    let m = modes_of c.args.rules.now in
-    let su = subjects_of c.args.rules.now in
     let rs = rules_of c.args.rules.now in
-    let s = c.args.store.now in
-    let t = c.first_rule.new.store in
-    let g = c.in_ok-first_rule.ensures.grows in
-    let f0 = subst (λ is. IsFirstRule m t (goal_in s c.args.spot.form is) 0 rs c.in_ok-first_rule.field-0) c.deref.ensures.value c.in_ok-first_rule.ensures.first in
-    let f = subst (λ o. IsFirstRule m t (spot_goal s c.args.spot) 0 rs o) c.in-Some.is f0 in
     shallow_at rs c.in-Some.number _ c.facts.ensures.shallow c.rule_at.ensures
 
 pub descend_premises-requires-clause-env : goal.descend_premises-requires-clause-env
@@ -48,12 +41,10 @@ descend_premises-requires-clause-env c =
 pub descend_premises-requires-clause-terms : goal.descend_premises-requires-clause-terms
 descend_premises-requires-clause-terms c =
     let m = modes_of c.args.rules.now in
-    let su = subjects_of c.args.rules.now in
     let rs = rules_of c.args.rules.now in
     let s = c.args.store.now in
     let t = c.first_rule.new.store in
     let g = c.in_ok-first_rule.ensures.grows in
-    let f0 = subst (λ is. IsFirstRule m t (goal_in s c.args.spot.form is) 0 rs c.in_ok-first_rule.field-0) c.deref.ensures.value c.in_ok-first_rule.ensures.first in
     (spot_stays m rs s t c.args.spot g c.requires.terms).0
 
 pub descend_premises-requires-clause-quiet : goal.descend_premises-requires-clause-quiet

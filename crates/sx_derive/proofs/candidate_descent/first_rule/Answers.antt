@@ -13,9 +13,7 @@ use Rattle.sx_derive.proofs.candidate_descent.first_rule.Goals as goal
 
 pub rule_fit-requires-clause-shallow : goal.rule_fit-requires-clause-shallow
 rule_fit-requires-clause-shallow c =
-    let m = modes_of c.args.rules.now in
     let rs = rules_of c.args.rules.now in
-    let s = c.args.store.now in
     let r = rule_of c.in-Some.rule.now in
     let e = rule_found c.args.rules.now.rules.items c.loop-rule.number c.in-Some.rule.now c.in-Some.ensures in
     shallow_at rs c.loop-rule.number r c.facts.ensures.shallow e
@@ -38,22 +36,17 @@ returns-in-Some-2-clause-first c =
 
 pub overflow_add-number : goal.overflow_add-number
 overflow_add-number c =
-    let m = modes_of c.args.rules.now in
     let rs = rules_of c.args.rules.now in
-    let s = c.args.store.now in
     let r = rule_of c.in-Some.rule.now in
     let e = rule_found c.args.rules.now.rules.items c.loop-rule.number c.in-Some.rule.now c.in-Some.ensures in
     let w = rule_within rs c.loop-rule.number r e in
-    let g = c.facts.ensures.good.0 in
     let n = length-map c.args.rules.now.rules.items rule_of in
     let k = length-map c.args.rules.now.rules.items named in
     omega arith
 
 pub loop-rule-smaller : goal.loop-rule-smaller
 loop-rule-smaller c =
-    let m = modes_of c.args.rules.now in
     let rs = rules_of c.args.rules.now in
-    let s = c.args.store.now in
     let r = rule_of c.in-Some.rule.now in
     let e = rule_found c.args.rules.now.rules.items c.loop-rule.number c.in-Some.rule.now c.in-Some.ensures in
     let w = rule_within rs c.loop-rule.number r e in

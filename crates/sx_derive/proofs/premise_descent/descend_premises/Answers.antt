@@ -15,6 +15,7 @@ use Rattle.sx_derive.specs.declared.descent.Descent.{Descent}
 use Rattle.sx_derive.specs.declared.descent.Descent.TheVariants.{Stuck, Below}
 use Rattle.sx_derive.specs.declared.descent.Reason.TheVariants.{Mismatch}
 use Rattle.sx_derive.specs.Ways.{subjects_of}
+use Rattle.sx_derive.proofs.Stored.{grows_same, grows_then}
 use Rattle.sx_derive.proofs.Premised.{IsShallowPremise, shallow_premise_at, drop_premise, drop_premises_end}
 use Rattle.sx_derive.proofs.Descended.{hyps_stay, for_hyps, descending_as, descending_at, apart_grown, apart_fails, apart_holds, ask_facts, ask_quiet, ask_silent, answered_below, answered_differs, answered_matched, end_grown, end_stuck}
 use Rattle.sx_derive.proofs.premise_descent.descend_premises.Goals as goal
@@ -35,9 +36,7 @@ instances_apart-requires-clause-second c =
 pub instances_apart-requires-clause-pairs : goal.instances_apart-requires-clause-pairs
 instances_apart-requires-clause-pairs c =
     let m = modes_of c.args.rules.now in
-    let su = subjects_of c.args.rules.now in
     let rs = rules_of c.args.rules.now in
-    let r = rule_of c.args.rule.now in
     let s = c.args.store.now in
     let x = c.loop-k.invariant.0 in
     let d = c.loop-k.invariant.1 in
@@ -85,9 +84,7 @@ ask_known-requires-clause-facts c =
 pub ask_known-requires-clause-pairs : goal.ask_known-requires-clause-pairs
 ask_known-requires-clause-pairs c =
     let m = modes_of c.args.rules.now in
-    let su = subjects_of c.args.rules.now in
     let rs = rules_of c.args.rules.now in
-    let r = rule_of c.args.rule.now in
     let s = c.args.store.now in
     let x = c.loop-k.invariant.0 in
     let d = c.loop-k.invariant.1 in
@@ -201,3 +198,37 @@ returns-clause-descent c =
     λ hyps are. for_hyps m s c.args.facts.now c.args.pairs.now x hyps d.are are
     (λ hs. IsDescent m su rs hs c.args.budget c.args.levels (record { arena = c.make_places.new.arena; binds = c.loop-k.store.binds; kids = c.loop-k.store.kids; frames = c.loop-k.store.frames }) (PremisesLead m su rs hs c.args.budget c.args.levels c.args.number r (spot_goal s c.args.spot) c.args.spot.path.items 0 r.premises (env_at (store_envs s) c.args.first)) (Stuck c.args.spot (Mismatch None c.in_ok-got.got)))
     (end_stuck m su rs x c.facts.ensures.moded c.args.known c.args.budget c.args.levels c.args.number r s c.args.facts.now c.args.pairs.now c.args.first c.args.spot c.requires.terms c.loop-k.store (record { arena = c.make_places.new.arena; binds = c.loop-k.store.binds; kids = c.loop-k.store.kids; frames = c.loop-k.store.frames }) c.loop-k.k c.loop-k.env [] d' c.in_ok-got.got held refl refl refl)
+
+pub loop-k-init : goal.loop-k-init
+loop-k-init c =
+    let q = c.requires.quiet in (
+      q.0,
+      record {
+        are = q.1;
+        grows = grows_same (modes_of c.args.rules.now) (rules_of c.args.rules.now) c.args.store.now c.requires.store;
+        within = c.requires.env;
+        quiet = q.2;
+        leads = λ blame h. h;
+      },
+    )
+
+pub instances_apart-requires-clause-arena : goal.instances_apart-requires-clause-arena
+instances_apart-requires-clause-arena c = c.loop-k.invariant.1.grows.store.arena
+
+pub instances_apart-requires-clause-binds : goal.instances_apart-requires-clause-binds
+instances_apart-requires-clause-binds c = c.loop-k.invariant.1.grows.store.binds
+
+pub instances_apart-requires-clause-env : goal.instances_apart-requires-clause-env
+instances_apart-requires-clause-env c = c.loop-k.invariant.1.within
+
+pub ask_known-requires-clause-store : goal.ask_known-requires-clause-store
+ask_known-requires-clause-store c = c.loop-k.invariant.1.grows.store
+
+pub ask_known-requires-clause-env : goal.ask_known-requires-clause-env
+ask_known-requires-clause-env c = c.loop-k.invariant.1.within
+
+pub returns-in-Unanswered-clause-grows : goal.returns-in-Unanswered-clause-grows
+returns-in-Unanswered-clause-grows c = grows_then _ _ _ _ _ c.loop-k.invariant.1.grows c.in_ok-next-in-Holds.ensures.grows
+
+pub returns-in-Differs-clause-grows : goal.returns-in-Differs-clause-grows
+returns-in-Differs-clause-grows c = grows_then _ _ _ _ _ c.loop-k.invariant.1.grows c.in_ok-next-in-Holds.ensures.grows
