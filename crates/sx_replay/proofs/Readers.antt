@@ -109,13 +109,6 @@ env_later rules s t g env l =
     let x = extends-length (reader_envs s) (reader_envs t) g.envs in
     ((omega arith), env_stays (reader_envs s) (reader_envs t) g.envs env (omega arith))
 
-pub binds_more : (rules : List Rule) (s t : Reader) → Grows rules s t → length s.binds.cells.items ≤ length t.binds.cells.items
-binds_more rules s t g =
-    let a = envs_length s in
-    let b = envs_length t in
-    let x = extends-length (reader_envs s) (reader_envs t) g.envs in
-    omega arith
-
 -- rules that waited, with more terms and bindings
 pub stack_later : (modes : Modes) (rules : List Rule) (s t : Reader) → IsReader rules s → Extends (reader_envs s) (reader_envs t) → t.waiting.items ≡ s.waiting.items → stack modes rules t ≡ stack modes rules s
 stack_later modes rules s t h x e =

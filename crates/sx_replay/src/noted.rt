@@ -9,7 +9,7 @@ use sx_arena::Arena;
 
 /// The depth of the first term deeper than 1,000 and the size of the first with more than 1,000,000 nodes, each the
 /// greatest number where it is more.
-#[derive(Clone, Copy, PartialEq, Eq, Debug)]
+#[derive(Clone, Copy)]
 pub struct Noted {
     pub deep: Option<u64>,
     pub big: Option<u64>,

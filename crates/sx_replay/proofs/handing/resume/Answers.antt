@@ -1,15 +1,19 @@
-use Rattle.std.proofs.Common.{◌<◌, List, map, sym, ◌∙◌, subst, length, arith}
+use Rattle.std.proofs.Common.{◌≡◌, ◌<◌, Some, List, map, sym, ◌∙◌, subst, length, arith}
+use Rattle.std.proofs.lemmas.Option.{slice_get_within}
+use Rattle.std.proofs.lemmas.List.{length-map}
 use Rattle.sx_term.specs.Term.{tree}
 use Rattle.sx_rules.specs.Modes.{outputs}
+use Rattle.sx_rules.specs.Rules.{holds}
+use Rattle.sx_rules.specs.declared.rule.Premise.TheVariants.{Apart}
 use Rattle.sx_rules.specs.Deep.{AreShallow}
 use Rattle.sx_arena.specs.Matching.{match_all}
 use Rattle.sx_arena.specs.Arena.{tree_at}
 use Rattle.sx_arena.specs.Binds.{env_at}
-use Rattle.sx_arena.specs.Views.{rules_of, modes_of, rule_of, judgement_of}
+use Rattle.sx_arena.specs.Views.{rules_of, modes_of, rule_of, premise_of, judgement_of}
 use Rattle.sx_arena.proofs.Patterns.{ok_weaker}
 use Rattle.sx_replay.specs.Reader.{reader_trees, reader_envs}
 use Rattle.sx_replay.proofs.Readers.{shallow_rule}
-use Rattle.sx_replay.proofs.Premised.{IsShallowPremise, shallow_premise_at}
+use Rattle.sx_replay.proofs.Premised.{IsShallowPremise, shallow_premise_at, premise_get}
 use Rattle.sx_replay.proofs.Handed.{waits_at, holds_at, bound_grows, resumed_none, resumed_more}
 use Rattle.sx_replay.proofs.handing.resume.Goals as goal
 
@@ -57,3 +61,25 @@ returns-in-Some c =
     c.requires.reader c.rule_at-rule.ensures l.1 c.fit_places.new.binds c.in_ok-fit-in-Holds.ensures.grows c.premises.new.reader c.in-Some.env step
     ((λ i. match_all (outputs (sym c.roles.ensures i) (map tree (sym c.deref.ensures.value i))) (map (tree_at (reader_trees s)) c.args.outputs.now) (env_at (reader_envs s) c.args.waiting.env)) ∙ f.1) p)
     c.premises.result c.premises.ensures
+
+pub rule_at-rule-requires : goal.rule_at-rule-requires
+rule_at-rule-requires c = slice_get_within (rules_of c.args.rules.now) c.args.waiting.rule _ c.requires.waits.found
+
+pub index-requires : goal.index-requires
+index-requires c =
+    let x = waits_at _ _ _ c.requires.waits _ c.rule_at-rule.ensures in
+    let l = slice_get_within (map premise_of c.rule_at-rule.result.now.premises.items) c.args.waiting.premise _ x.1 in
+    let m = length-map c.rule_at-rule.result.now.premises.items premise_of in
+    omega arith
+
+pub unreachable-requires : goal.unreachable-requires
+unreachable-requires c =
+    let x = waits_at _ _ _ c.requires.waits _ c.rule_at-rule.ensures in
+    let ps = c.rule_at-rule.result.now.premises.items in
+    let l = slice_get_within (map premise_of ps) c.args.waiting.premise _ x.1 in
+    let m = length-map ps premise_of in
+    let same : Some (holds x.0) ≡ Some (premise_of (Apart c.in-Apart.field-0 c.in-Apart.field-1)) = sym x.1 ∙ premise_get ps c.args.waiting.premise _ _ (omega arith) c.index.ensures c.in-Apart.is in
+    cc
+
+pub premises-requires-clause-env : goal.premises-requires-clause-env
+premises-requires-clause-env c = (rw c.in-Some.is at c.in_ok-fit-in-Holds.ensures.fit).0
