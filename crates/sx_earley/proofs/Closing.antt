@@ -1,4 +1,4 @@
-use Rattle.std.proofs.Common.{◌≡◌, ℕ, zero, suc, ◌+◌, ◌≤◌, List, [], ◌∷◌, ◌++◌, ◌⊎◌, inl, inr, ⊎_elim, sym, subst, refl, ap, ◌∙◌, length, take, drop, take-append-drop, get_or, Contains, Option, Some, None, arith, add-one}
+use Rattle.std.proofs.Common.{◌≡◌, ℕ, zero, suc, ◌+◌, ◌≤◌, List, [], ◌∷◌, ◌++◌, ◌⊎◌, inl, inr, ⊎_elim, sym, subst, refl, ap, ◌∙◌, length, take, get_or, Contains, Option, Some, None, arith, add-one}
 use Rattle.std.specs.List.{slice_get}
 use Rattle.std.proofs.lemmas.Option.{same_Some, none-some, some_pair_parts, slice_get-get_or}
 use Rattle.std.proofs.lemmas.Bool.{cases_lt}
@@ -175,10 +175,6 @@ front_on (y ∷ xs) more (suc n) x e = ap (λ v. y ∷ v) (front_on xs more n x 
 
 pub front_more : (keys new : List Item) (n : ℕ) (x : Item) → Extends keys new → slice_get keys n ≡ Some x → take n keys ++ x ∷ [] ≡ take (n + 1) new
 front_more keys new n x grown e = rw (add-one, grown.1) (front_on keys grown.0 n x e)
-
--- each element of a front is in the list
-pub front_in : (n : ℕ) (xs : List Item) (x : Item) → Contains (take n xs) x → Contains xs x
-front_in n xs x there = subst (λ l. Contains l x) (take-append-drop n xs) (Contains-append_left (take n xs) (drop n xs) x there)
 
 -- where there is no element, the list has ended
 pub ended : (xs : List Item) (n : ℕ) → None ≡ slice_get xs n → length xs ≤ n

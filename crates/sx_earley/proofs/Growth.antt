@@ -11,9 +11,6 @@ extends_on a b c h k = (h.0 ++ k.0, k.1 ∙ (ap (λ l. l ++ k.0) h.1 ∙ append_
 pub still_there : {X : Type 0} (a b : List X) (x : X) → Extends a b → Contains a x → Contains b x
 still_there a b x h there = subst (λ l. Contains l x) (sym h.1) (Contains-append_left a h.0 x there)
 
-pub only_self : {X : Type 0} (P : X → Type 0) (xs : List X) → Only xs xs P
-only_self P xs = λ i h. inl h
-
 pub only_more : {X : Type 0} (a b : List X) (P Q : X → Type 0) → ((i : X) → P i → Q i) → Only a b P → Only a b Q
 only_more a b P Q weaker h = λ i there. ⊎_elim (λ old. inl old) (λ p. inr (weaker i p)) (h i there)
 
