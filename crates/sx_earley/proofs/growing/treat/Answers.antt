@@ -63,3 +63,13 @@ returns-clause-asked c =
     let e14 = extends_on k1 k2 k4 c.scan.ensures.extends (extends_on k2 k3 k4 c.join_each.ensures.extends c.join_over.ensures.extends) in
     let asked = c.predict_next.new.asked.keys in
     ok_then c.join_over.result _ (AllAsked g asked k4) c.join_over.ensures.every (λ _. asked_on g asked k1 k4 e14 c.in_ok-predict_next.ensures.asked)
+
+pub returns-in_err-scan-clause-extends : goal.returns-in_err-scan-clause-extends
+returns-in_err-scan-clause-extends c = extends_on _ _ _ c.predict_next.ensures.extends c.scan.ensures.extends
+
+pub returns-in_err-join_each-clause-extends : goal.returns-in_err-join_each-clause-extends
+returns-in_err-join_each-clause-extends c = extends_on _ _ _ c.predict_next.ensures.extends (extends_on _ _ _ c.scan.ensures.extends c.join_each.ensures.extends)
+
+pub returns-clause-extends : goal.returns-clause-extends
+returns-clause-extends c =
+    extends_on _ _ _ c.predict_next.ensures.extends (extends_on _ _ _ c.scan.ensures.extends (extends_on _ _ _ c.join_each.ensures.extends c.join_over.ensures.extends))
