@@ -82,13 +82,16 @@ fn what_a_language_declares(rt: HostRuntime) {
         rules: 12,
         premises: 13,
     };
-    assert!(rt; sizes_read(alloc, b"Lam", LAM) == Some(sizes));
     let main = MainForm {
         form: 0,
         empty: 0,
         add: 1,
     };
-    assert!(rt; main_of(alloc, LAM) == Some(main));
+    let hold = [
+        sizes_read(alloc, b"Lam", LAM) == Some(sizes),
+        main_of(alloc, LAM) == Some(main),
+    ];
+    assert_eq!(rt; hold, [true; 2]);
 }
 
 /// Whether the line has this number and these bytes.
@@ -134,7 +137,7 @@ fn sizes_of_loop(alloc: Global) -> Option<Sizes> {
 #[test]
 fn other_languages(rt: HostRuntime) {
     let alloc = rt.alloc();
-    let sizes = Sizes {
+    let of_loop = Sizes {
         sorts: 3,
         productions: 4,
         vars: 4,
@@ -142,8 +145,7 @@ fn other_languages(rt: HostRuntime) {
         rules: 2,
         premises: 1,
     };
-    assert!(rt; sizes_of_loop(alloc) == Some(sizes));
-    let sizes = Sizes {
+    let of_amb = Sizes {
         sorts: 3,
         productions: 5,
         vars: 4,
@@ -151,7 +153,11 @@ fn other_languages(rt: HostRuntime) {
         rules: 2,
         premises: 2,
     };
-    assert!(rt; sizes_read(alloc, b"Amb", AMB) == Some(sizes));
+    let hold = [
+        sizes_of_loop(alloc) == Some(of_loop),
+        sizes_read(alloc, b"Amb", AMB) == Some(of_amb),
+    ];
+    assert_eq!(rt; hold, [true; 2]);
 }
 
 /// A file with carriage returns, comments, blanks, declarations in another order, and no last line
@@ -197,7 +203,6 @@ fn blanks_and_comments(rt: HostRuntime) {
         empty: 1,
         add: 0,
     };
-    assert!(rt; main_of(alloc, MIXED) == Some(main));
     let read = read(alloc, b"Lam", MIXED);
     let is_read = match &read {
         Ok(o) => match o.rules.as_slice() {
@@ -207,5 +212,6 @@ fn blanks_and_comments(rt: HostRuntime) {
         Err(_) => false,
     };
     drop(read);
-    assert!(rt; is_read);
+    let hold = [main_of(alloc, MIXED) == Some(main), is_read];
+    assert_eq!(rt; hold, [true; 2]);
 }
