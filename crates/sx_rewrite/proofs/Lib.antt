@@ -36,3 +36,9 @@ pub mod Noted
 pub mod SizedSets
 pub mod Tallied
 pub mod PlainSizes
+pub mod Puts
+pub mod Instanced
+pub mod Certificates
+pub mod Placed
+pub mod ProofCopies
+pub mod Taking

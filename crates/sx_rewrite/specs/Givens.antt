@@ -1,6 +1,7 @@
 -- The givens of a derivation.
-use Rattle.std.specs.Prelude.{◌≡◌, ℕ, suc, List, [], ◌∷◌, ◌++◌}
-use Rattle.sx_rules.specs.Derivations.{Proof, Proofs, by, given, no_more, ◌⊳◌}
+use Rattle.std.specs.Prelude.{◌≡◌, ℕ, suc, ◌+◌, ◌<◌, nat_eq, List, [], ◌∷◌, ◌++◌, length}
+use Rattle.sx_rules.specs.Discipline.{one_when}
+use Rattle.sx_rules.specs.Derivations.{Proof, Proofs, by, given, no_more, ◌⊳◌, proof_at, put_for}
 
 -- the numbers of its givens in preorder
 abbrev mutual
@@ -17,3 +18,29 @@ abbrev mutual
 abbrev pub AreNumbered : ℕ → List ℕ → Type 0
 AreNumbered first [] = Unit {0}
 AreNumbered first (i ∷ is) = (i ≡ first) × AreNumbered (suc first) is
+
+-- the proof with its givens numbered from the first number on, in preorder
+abbrev mutual
+  pub numbered : ℕ → Proof → Proof
+  numbered first (by r binds kids) = by r binds (all_numbered first kids)
+  numbered first (given i) = given first
+
+  -- the proofs with theirs numbered, one proof after another
+  pub all_numbered : ℕ → Proofs → Proofs
+  all_numbered first no_more = no_more
+  all_numbered first (p ⊳ ps) = numbered first p ⊳ all_numbered (first + length (givens_of p)) ps
+
+-- the proof at each of the numbers, one after another
+abbrev pub placed : Proofs → List ℕ → Proofs
+placed proofs [] = no_more
+placed proofs (i ∷ is) = put_for (proof_at proofs i) i ⊳ placed proofs is
+
+-- how often the number stands in the list
+abbrev pub times_among : ℕ → List ℕ → ℕ
+times_among i [] = 0
+times_among i (j ∷ js) = one_when (nat_eq i j) + times_among i js
+
+-- each number is below the bound
+abbrev pub AllBelow : ℕ → List ℕ → Type 0
+AllBelow bound [] = Unit {0}
+AllBelow bound (i ∷ is) = (i < bound) × AllBelow bound is

@@ -30,3 +30,6 @@ pub mod Adds
 pub mod Sizes
 pub mod LoweredSizes
 pub mod SizeLaws
+pub mod Puts
+pub mod Put
+pub mod Taken

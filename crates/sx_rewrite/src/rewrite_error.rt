@@ -1,5 +1,6 @@
 //! Why a derivation is not rewritten.
 
+use std::alloc::{AllocError, AllocFailed};
 use sx_term::NoMemory;
 use thiserror::Error;
 
@@ -30,6 +31,28 @@ impl From<NoMemory> for RewriteError {
     ghost from_gives = { λ _ e. e ≡ Memory };
 
     fn from(_e: NoMemory) -> RewriteError {
+        RewriteError::Memory
+    }
+}
+
+impl From<AllocError> for RewriteError {
+    ghost use Rattle.std.specs.Prelude.{◌≡◌};
+    ghost use Rattle.sx_rewrite.specs.declared.rewrite_error.RewriteError.TheVariants.{Memory};
+
+    ghost from_gives = { λ _ e. e ≡ Memory };
+
+    fn from(_e: AllocError) -> RewriteError {
+        RewriteError::Memory
+    }
+}
+
+impl<T: Drop> From<AllocFailed<T>> for RewriteError {
+    ghost use Rattle.std.specs.Prelude.{◌≡◌};
+    ghost use Rattle.sx_rewrite.specs.declared.rewrite_error.RewriteError.TheVariants.{Memory};
+
+    ghost from_gives = { λ _ e. e ≡ Memory };
+
+    fn from(_e: AllocFailed<T>) -> RewriteError {
         RewriteError::Memory
     }
 }

@@ -1,0 +1,56 @@
+use Rattle.std.proofs.Common.{List, ℕ, ◌≡◌, ◌++◌, length, ap, sym, subst, ◌∙◌}
+use Rattle.sx_term.specs.Instances.{bound_by}
+use Rattle.sx_rules.specs.Derivations.{proof_instance, graft}
+use Rattle.sx_rules.specs.ProofView.{proof, boxed}
+use Rattle.sx_rules.specs.Sets.{bare_rules_in}
+use Rattle.sx_rewrite.specs.Givens.{givens_of, numbered, AllBelow}
+use Rattle.sx_rewrite.specs.Rewriting.{first_over}
+use Rattle.sx_rewrite.specs.Measured.{certificate_terms}
+use Rattle.sx_rewrite.specs.Puts.{Tells, Answers}
+use Rattle.sx_rewrite.proofs.Instanced.{err_is}
+use Rattle.sx_rewrite.proofs.Placed.{body-grafted, body-numbered, body-many, body-low}
+use Rattle.sx_rewrite.proofs.certifying.certified.Goals as goal
+
+pub returns-in_err-body : goal.returns-in_err-body
+returns-in_err-body c = λ more q.
+    let p = proof c.args.certificate.now in
+    let over = first_over (certificate_terms (bare_rules_in c.args.base.now) (bound_by more) p) in
+    err_is (Answers over (λ x. proof x.value ≡ graft (boxed c.args.kids.items) (proof_instance (bound_by more) p))) c.from_residual.result _ c.from_residual.ensures.1
+    (λ e same. subst (Tells over) (sym same) (c.in_err-body.ensures.body more q))
+
+pub placed_kids-requires-clause-below : goal.placed_kids-requires-clause-below
+placed_kids-requires-clause-below c =
+    let g = c.in_ok-body.ensures.givens ∙ ap (λ (xs : List ℕ). xs ++ givens_of (proof c.args.certificate.now)) c.new-givens.ensures.items in
+    subst (λ (xs : List ℕ). AllBelow (length c.args.kids.items) xs) (sym g) c.requires.givens
+
+pub graft-requires-clause-numbered : goal.graft-requires-clause-numbered
+graft-requires-clause-numbered c =
+    let p = proof c.args.certificate.now in
+    let put = c.requires.put in
+    let g = c.in_ok-body.ensures.givens ∙ ap (λ (xs : List ℕ). xs ++ givens_of p) c.new-givens.ensures.items in
+    let is = (c.in_ok-body.ensures.body put.0 put.1).1 ∙ ap (λ (xs : List ℕ). numbered (length xs) (proof_instance (bound_by put.0) p)) c.new-givens.ensures.items in
+    body-numbered p (bound_by put.0) c.args.kids.items c.in_ok-placed.placed.items _ _ g is c.in_ok-placed.ensures
+
+pub graft-requires-clause-many : goal.graft-requires-clause-many
+graft-requires-clause-many c =
+    let p = proof c.args.certificate.now in
+    let put = c.requires.put in
+    let g = c.in_ok-body.ensures.givens ∙ ap (λ (xs : List ℕ). xs ++ givens_of p) c.new-givens.ensures.items in
+    let is = (c.in_ok-body.ensures.body put.0 put.1).1 ∙ ap (λ (xs : List ℕ). numbered (length xs) (proof_instance (bound_by put.0) p)) c.new-givens.ensures.items in
+    body-many p (bound_by put.0) c.args.kids.items c.in_ok-placed.placed.items _ _ g is c.in_ok-placed.ensures
+
+pub graft-requires-clause-shallow : goal.graft-requires-clause-shallow
+graft-requires-clause-shallow c =
+    let p = proof c.args.certificate.now in
+    let put = c.requires.put in
+    let g = c.in_ok-body.ensures.givens ∙ ap (λ (xs : List ℕ). xs ++ givens_of p) c.new-givens.ensures.items in
+    let is = (c.in_ok-body.ensures.body put.0 put.1).1 ∙ ap (λ (xs : List ℕ). numbered (length xs) (proof_instance (bound_by put.0) p)) c.new-givens.ensures.items in
+    body-low p (bound_by put.0) c.args.kids.items c.in_ok-placed.placed.items _ _ g is c.in_ok-placed.ensures c.requires.whole
+
+pub returns : goal.returns
+returns c = λ more q.
+    let p = proof c.args.certificate.now in
+    let g = c.in_ok-body.ensures.givens ∙ ap (λ (xs : List ℕ). xs ++ givens_of p) c.new-givens.ensures.items in
+    let made = c.in_ok-body.ensures.body more q in
+    let is = made.1 ∙ ap (λ (xs : List ℕ). numbered (length xs) (proof_instance (bound_by more) p)) c.new-givens.ensures.items in
+    (made.0, c.graft.ensures ∙ body-grafted p (bound_by more) c.args.kids.items c.in_ok-placed.placed.items _ _ g is c.in_ok-placed.ensures)

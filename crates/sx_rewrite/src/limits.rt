@@ -1,0 +1,25 @@
+//! The limits of terms.
+
+ghost use Rattle.sx_rewrite.specs.Puts.{IsLimited};
+
+use crate::rewrite_error::RewriteError;
+use sx_plain::Measure;
+
+/// How deep a term may be.
+const MOST_DEPTH: u32 = 1000;
+
+/// How many nodes, lexemes and variables a term may have.
+const MOST_SIZE: u64 = 1_000_000;
+
+/// Refuses a measure that passes a limit: the depth, or else the size.
+pub(crate) fn check_measure(measure: Measure) -> Result<(), RewriteError>
+    ensures { IsLimited measure result }
+{
+    if measure.depth > MOST_DEPTH {
+        return Err(RewriteError::TooDeep(u64::from(measure.depth)));
+    }
+    if measure.size > MOST_SIZE {
+        return Err(RewriteError::TooBig(measure.size));
+    }
+    Ok(())
+}
