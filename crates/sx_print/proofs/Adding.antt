@@ -47,10 +47,6 @@ Adds-append xs ys a b c h k = record {
   utf8 = HaveUtf8-append xs ys h.utf8 k.utf8;
 }
 
--- one token
-pub Adds-one : (mark : Mark) (text : Text) (old new : List ℕ) → new ≡ old ++ (text ++ 32 ∷ []) → IsUtf8 text → Adds (record { mark = mark; text = text } ∷ []) old new
-Adds-one mark text old new e utf8 = record { text = e ∙ ap (λ x. old ++ x) (sym (append-nil (text ++ 32 ∷ []))); utf8 = (utf8, tt) }
-
 -- a literal by its number
 pub literal_adds : (literals texts : List Text) (n : ℕ) (text : Text) (old new : List ℕ) → texts ≡ literals → n < length literals → text ≡ get_or texts n text → ((mark : Mark) → Adds (record { mark = mark; text = text } ∷ []) old new)
     → Adds (literal_token (slice_index_or literals n []) ∷ []) old new

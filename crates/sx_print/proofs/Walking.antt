@@ -14,13 +14,13 @@ use Rattle.sx_grammar.specs.declared.numbered.NumberedSymbol.{NumberedSymbol}
 use Rattle.sx_grammar.specs.declared.numbered.NumberedSymbol.TheVariants.{Lit, Lex, Part}
 use Rattle.sx_grammar.specs.declared.numbered.NumberedProduction.{NumberedProduction}
 use Rattle.sx_term.specs.declared.lex_kind.LexKind.{LexKind}
-use Rattle.sx_grammar.specs.Grammar.{Text, Symbol, Production, Brackets, Grammar, Stem, of_kind, of_sort, Mark, is_lexeme, is_variable, Token, pair_of}
+use Rattle.sx_grammar.specs.Grammar.{Text, Brackets, Grammar, Stem, of_kind, of_sort, Mark, is_lexeme, is_variable, Token, pair_of}
 use Rattle.sx_grammar.specs.Parts.{Parts, numbered, numbered_line, names}
 use Rattle.sx_grammar.specs.Numbered.{symbol, production}
 use Rattle.sx_grammar.specs.Tables.{literals_of, AreNumbered, HaveLiteralsBelow, IsNumberedPair}
 use Rattle.sx_grammar.specs.Print.{literal_token, in_brackets, print, print_each, print_node, print_symbols}
 use Rattle.sx_grammar.proofs.TableLaws.{production_at, numbered_length}
-use Rattle.sx_print.specs.Printed.{Adds, written, IsBuilt, AreBuilt, brackets_below, parts_in}
+use Rattle.sx_print.specs.Printed.{Adds, IsBuilt, AreBuilt, brackets_below, parts_in}
 use Rattle.sx_print.specs.Rows.{HasLiteralsBelow}
 use Rattle.sx_print.proofs.Adding.{Adds-append}
 
@@ -61,9 +61,6 @@ kid_is_built g variables (t ∷ ts) (suc i) k are lt at = kid_is_built g variabl
 -- a row of the table has numbers of literals below the bound
 pub row_below : (bound : ℕ) (ps : List NumberedProduction) (label : ℕ) (q : NumberedProduction) (ss : List NumberedSymbol) → HaveLiteralsBelow bound ps → label < length ps → q ≡ get_or ps label q → ss ≡ q.symbols.items → HasLiteralsBelow bound ss
 row_below bound ps label q ss below lt at same = subst (HasLiteralsBelow bound) (sym same) (λ k n here. below label q k n (slice_get_read ps (length ps) label q refl lt at) here)
-
-pub number_below : (bound : ℕ) (ss : List NumberedSymbol) (i n : ℕ) (s : NumberedSymbol) → HasLiteralsBelow bound ss → i < length ss → s ≡ get_or ss i s → s ≡ Lit n → n < bound
-number_below bound ss i n s below lt at is = below i n (slice_get_read ss (length ss) i s refl lt at ∙ ap Some is)
 
 -- the numbers of a pair are those of literals
 pub pair_within : (texts : List Text) (pair : Option Brackets) (opening closing : ℕ) → IsNumberedPair texts pair (Some (opening, closing)) → (opening < length texts) × (closing < length texts)
