@@ -42,3 +42,4 @@ pub mod Certificates
 pub mod Placed
 pub mod ProofCopies
 pub mod Taking
+pub mod BasedTerms

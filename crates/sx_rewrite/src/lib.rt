@@ -13,6 +13,7 @@
 mod accept_laws;
 mod accepted;
 mod adding;
+mod basing;
 mod beginning;
 mod certificate_instance;
 mod certificate_size;
@@ -58,6 +59,7 @@ pub use accept_laws::{
     growth_goes_on, rejected_is_unsound, sound_rules_are_sorted, stored_is_sound,
 };
 pub use accepted::Accepted;
+pub use basing::based;
 pub use certifying::certified;
 pub use count_laws::{certificates_use_premises, height_is_greatest, nodes_are_summed};
 pub use ext_rule::ExtRule;

@@ -69,7 +69,11 @@ fn instances(alloc: Global, terms: &[Term], puts: &PutTerms) -> Result<PutTerms,
 
 /// Refuses the first place of the conclusion of the rule with this number that passes a limit under terms of these measures. Nothing is
 /// made. A number without a rule has no places.
-fn check_conclusion(base: &RuleSet, rule: u32, measures: &[Measure]) -> Result<(), RewriteError>
+pub(crate) fn check_conclusion(
+    base: &RuleSet,
+    rule: u32,
+    measures: &[Measure],
+) -> Result<(), RewriteError>
     requires { greatest (depths_of measures.now) ≤ 1001000 }
     ensures { (binds : List Tree) → AreMeasuresOf binds measures.now →
         Answers (first_over (conclusion_terms (slice_get (bare_rules_in base.now) rule) binds)) (λ _. Unit {0}) result }
