@@ -40,6 +40,5 @@ pub mod Puts
 pub mod Instanced
 pub mod Certificates
 pub mod Placed
-pub mod ProofCopies
 pub mod Taking
 pub mod BasedTerms

@@ -39,7 +39,6 @@ mod own_size;
 mod placed_kids;
 mod plain_laws;
 mod plain_rule;
-mod proof_copy;
 mod put_terms;
 mod rewrite_error;
 mod rewriting_laws;

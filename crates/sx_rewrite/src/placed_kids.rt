@@ -6,10 +6,9 @@ ghost use Rattle.sx_rules.specs.ProofView as view;
 ghost use Rattle.sx_rewrite.specs.Givens.{placed, times_among, AllBelow};
 ghost use Rattle.sx_rewrite.specs.Taken.{IsTaken};
 
-use crate::proof_copy::copy_proof;
 use std::alloc::Global;
 use std::mem;
-use sx_rules::Proof;
+use sx_rules::{Proof, copy_proof};
 use sx_term::NoMemory;
 
 /// The kid at each place, where the givens tell whose place it is. A kid is moved to its last place and copied for those before it; one

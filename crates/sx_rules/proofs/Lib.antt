@@ -20,3 +20,4 @@ pub mod TallyLaws
 pub mod Texts
 pub mod Firsts
 pub mod Refusals
+pub mod ProofCopies

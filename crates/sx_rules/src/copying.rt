@@ -66,7 +66,7 @@ impl Rule {
 }
 
 /// Equal terms.
-fn copy_terms(alloc: Global, terms: &[Term]) -> Result<Vec<Term>, NoMemory>
+pub(crate) fn copy_terms(alloc: Global, terms: &[Term]) -> Result<Vec<Term>, NoMemory>
     requires { AreShallow (map tree terms.now) }
     ensures { IfOk result (λ x. map tree x.items ≡ map tree terms.now) }
 {
