@@ -17,14 +17,17 @@ fn is_refused(alloc: Global, body: &[u8], told: &[u8]) -> bool {
 fn modules_that_are_refused(rt: HostRuntime) {
     let alloc = rt.alloc();
     let name = b"soundx: Main.mod: line 4 column 1: no rule concludes [] @ x : _\n";
-    assert!(rt; is_refused(alloc, b"x", name));
     let number = b"soundx: Main.mod: line 4 column 1: [] |- 1 : Int \
         is not what premise 1 of T-App asks for\n";
-    assert!(rt; is_refused(alloc, b"1 2", number));
     let bracket = b"soundx: Main.mod: line 4 column 3: no reading\n";
-    assert!(rt; is_refused(alloc, b"1 )", bracket));
     let string = b"soundx: Main.mod: line 4 column 1: string without end\n";
-    assert!(rt; is_refused(alloc, b"\"a", string));
+    let hold = [
+        is_refused(alloc, b"x", name),
+        is_refused(alloc, b"1 2", number),
+        is_refused(alloc, b"1 )", bracket),
+        is_refused(alloc, b"\"a", string),
+    ];
+    assert_eq!(rt; hold, [true; 4]);
 }
 
 /// Whether the command line, over the language and this module, is refused with this line.
@@ -44,11 +47,14 @@ fn is_file_refused(alloc: Global, line: &str, module: &[u8], told: &[u8]) -> boo
 fn module_files_that_are_refused(rt: HostRuntime) {
     let alloc = rt.alloc();
     let header = b"soundx: Main.mod: line 1: bad header\n";
-    assert!(rt; is_file_refused(alloc, "build Main", b"", header));
     let not_utf8 = b"soundx: Main.mod: not UTF-8 at byte 0\n";
-    assert!(rt; is_file_refused(alloc, "build Main", &[255], not_utf8));
     let absent = b"soundx: Other.mod: absent\n";
-    assert!(rt; is_file_refused(alloc, "build Other", b"", absent));
+    let hold = [
+        is_file_refused(alloc, "build Main", b"", header),
+        is_file_refused(alloc, "build Main", &[255], not_utf8),
+        is_file_refused(alloc, "build Other", b"", absent),
+    ];
+    assert_eq!(rt; hold, [true; 3]);
 }
 
 #[test]
@@ -56,21 +62,27 @@ fn modules_that_need_other_files(rt: HostRuntime) {
     let alloc = rt.alloc();
     let yet = b"soundx: Main.mod: not read yet\n";
     let uses = b"module Main\nlanguage Lam\nuse Let\n---\n1\n";
-    assert!(rt; is_file_refused(alloc, "build Main", uses, yet));
     let imports = b"module Main\nlanguage Lam\nimport A\n---\n1\n";
-    assert!(rt; is_file_refused(alloc, "build Main", imports, yet));
     let other = b"module Main\nlanguage Lim\n---\n1\n";
     let absent = b"soundx: Lim.lang: absent\n";
-    assert!(rt; is_file_refused(alloc, "build Main", other, absent));
+    let hold = [
+        is_file_refused(alloc, "build Main", uses, yet),
+        is_file_refused(alloc, "build Main", imports, yet),
+        is_file_refused(alloc, "build Main", other, absent),
+    ];
+    assert_eq!(rt; hold, [true; 3]);
 }
 
 #[test]
 fn modules_without_an_end(rt: HostRuntime) {
     let alloc = rt.alloc();
     let deep = b"soundx: Main.mod: derivation deeper than 3000\n";
-    assert!(rt; LOOP.stops(alloc, "build Main", b"1", 6, deep));
     let spent = b"soundx: Main.mod: more than 100 tries\n";
-    assert!(rt; LOOP.stops(alloc, "build --tries=100 Main", b"1", 6, spent));
+    let hold = [
+        LOOP.stops(alloc, "build Main", b"1", 6, deep),
+        LOOP.stops(alloc, "build --tries=100 Main", b"1", 6, spent),
+    ];
+    assert_eq!(rt; hold, [true; 2]);
 }
 
 #[test]
@@ -78,10 +90,13 @@ fn modules_with_two_readings(rt: HostRuntime) {
     let alloc = rt.alloc();
     let printed = b"soundx: Main.mod: printed text has two readings: \
         plus(num(1),plus(num(2),num(3))) and plus(plus(num(1),num(2)),num(3))\n";
-    assert!(rt; AMB.stops(alloc, "build Main", b"( 1 + 2 ) + 3", 1, printed));
     let written = b"soundx: Main.mod: two readings: \
         plus(num(1),plus(num(2),num(3))) and plus(plus(num(1),num(2)),num(3))\n";
-    assert!(rt; AMB.stops(alloc, "build Main", b"1 + 2 + 3", 1, written));
+    let hold = [
+        AMB.stops(alloc, "build Main", b"( 1 + 2 ) + 3", 1, printed),
+        AMB.stops(alloc, "build Main", b"1 + 2 + 3", 1, written),
+    ];
+    assert_eq!(rt; hold, [true; 2]);
 }
 
 /// Whether a module of the language `Few` with this text is refused with this line.
@@ -99,9 +114,12 @@ fn languages_that_are_refused(rt: HostRuntime) {
     let alloc = rt.alloc();
     let sorts = b"language Few\nsort A plain\nsort B plain\n";
     let main = b"soundx: Few.lang: line 4: main\n";
-    assert!(rt; is_language_refused(alloc, sorts, main));
     let head = b"soundx: Few.lang: line 1: head\n";
-    assert!(rt; is_language_refused(alloc, b"language Other\n", head));
+    let hold = [
+        is_language_refused(alloc, sorts, main),
+        is_language_refused(alloc, b"language Other\n", head),
+    ];
+    assert_eq!(rt; hold, [true; 2]);
 }
 
 #[test]

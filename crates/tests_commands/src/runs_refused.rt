@@ -23,40 +23,43 @@ fn goals_that_are_stuck(rt: HostRuntime) {
     let alloc = rt.alloc();
     let goal = b"goal f (1 (0) (0))\n".as_slice();
     let no_rule = b"soundx: C.core: no rule concludes f (0) _\n";
-    assert!(rt; is_refused(alloc, &[SIGNATURE, PAIR, goal], no_rule));
     let leaf = b"rule Z1\nthen f (0) (2)\nend\n".as_slice();
     let asks = b"rule Q Exp Exp\nif f ?0 (3)\nif f ?1 (2)\nthen f (1 ?0 ?1) (2)\nend\n".as_slice();
     let mismatch = b"soundx: C.core: f (0) (2) is not what premise 1 of Q asks for\n";
-    assert!(rt; is_refused(alloc, &[SIGNATURE, leaf, asks, goal], mismatch));
     let name = b"con n Exp id\n".as_slice();
     let differ = b"rule N id id\nnot ?0 ?1\nthen f (1 (4 ?0) (4 ?1)) (2)\nend\n".as_slice();
     let alike = b"goal f (1 (4 i1:x) (4 i1:x))\n".as_slice();
     let equal = b"soundx: C.core: f (1 (4 i1:x) (4 i1:x)) _: premise 1 of N does not hold\n";
-    assert!(rt; is_refused(alloc, &[SIGNATURE, name, differ, alike], equal));
+    let hold = [
+        is_refused(alloc, &[SIGNATURE, PAIR, goal], no_rule),
+        is_refused(alloc, &[SIGNATURE, leaf, asks, goal], mismatch),
+        is_refused(alloc, &[SIGNATURE, name, differ, alike], equal),
+    ];
+    assert_eq!(rt; hold, [true; 3]);
 }
 
 #[test]
 fn files_that_are_refused(rt: HostRuntime) {
     let alloc = rt.alloc();
-    assert!(rt; is_refused(alloc, &[b"sxcore 2\n"], b"soundx: C.core: line 1: head\n"));
     let short = b"con c\n".as_slice();
+    let goal = b"goal f (0)\n".as_slice();
+    let loose = b"rule R Exp\nthen f (0) (2)\nend\n".as_slice();
+    let not_bound = b"soundx: C.core: rule R: ?0 is not bound\n";
+    let twice = b"soundx: C.core: rule Z1 stands twice\n";
+    let not_utf8 = b"soundx: C.core: not UTF-8 at byte 2\n";
     let hold = [
+        is_refused(alloc, &[b"sxcore 2\n"], b"soundx: C.core: line 1: head\n"),
         is_refused(
             alloc,
             &[SIGNATURE, short],
             b"soundx: C.core: line 9: shape\n",
         ),
         is_refused(alloc, &[SIGNATURE], b"soundx: C.core: line 9: main\n"),
+        is_refused(alloc, &[SIGNATURE, loose, goal], not_bound),
+        is_refused(alloc, &[SIGNATURE, LEAVES, LEAVES, goal], twice),
+        is_refused(alloc, &[&[b'a', b'\n', 255]], not_utf8),
     ];
-    assert_eq!(rt; hold, [true; 2]);
-    let goal = b"goal f (0)\n".as_slice();
-    let loose = b"rule R Exp\nthen f (0) (2)\nend\n".as_slice();
-    let not_bound = b"soundx: C.core: rule R: ?0 is not bound\n";
-    assert!(rt; is_refused(alloc, &[SIGNATURE, loose, goal], not_bound));
-    let twice = b"soundx: C.core: rule Z1 stands twice\n";
-    assert!(rt; is_refused(alloc, &[SIGNATURE, LEAVES, LEAVES, goal], twice));
-    let not_utf8 = b"soundx: C.core: not UTF-8 at byte 2\n";
-    assert!(rt; is_refused(alloc, &[&[b'a', b'\n', 255]], not_utf8));
+    assert_eq!(rt; hold, [true; 6]);
 }
 
 /// Whether building a core file of so many line feeds is refused with this line.
