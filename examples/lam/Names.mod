@@ -1,0 +1,5 @@
+module Names
+language Lam
+---
+// the inner x is meant
+\ x : Int . \ x : Str . cons x nil Str

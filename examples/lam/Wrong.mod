@@ -1,0 +1,5 @@
+module Wrong
+language Lam
+---
+// a number is applied
+\ n : Int . 1 n

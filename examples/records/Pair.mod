@@ -1,0 +1,4 @@
+module Pair
+language Records
+---
+( fun x : Int => { first = x ; second = { } ; } ) 1

@@ -1,0 +1,4 @@
+module Reader
+language Records
+---
+fun p : { x : Int ; y : Int ; } => p . y
