@@ -38,7 +38,7 @@ pub mod Tallied
 pub mod PlainSizes
 pub mod Puts
 pub mod Instanced
-pub mod Certificates
+pub mod KidInstances
 pub mod Placed
 pub mod Taking
 pub mod BasedTerms

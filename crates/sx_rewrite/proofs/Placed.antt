@@ -6,7 +6,7 @@ use Rattle.sx_term.specs.Tree.{Tree}
 use Rattle.sx_rules.specs.declared.proof.Proof.{Proof as ProofOf}
 use Rattle.sx_rules.specs.ProofView.{proof, row_of, boxed}
 use Rattle.sx_rules.specs.Derivations.{Proof, Proofs, by, given, no_more, ◌⊳◌, proof_at, put_for, proof_instance, proof_instances, graft, grafts, height_of, most_height}
-use Rattle.sx_rewrite.proofs.Certificates.{givens-instance}
+use Rattle.sx_rewrite.proofs.KidInstances.{givens-instance}
 use Rattle.sx_rewrite.specs.Givens.{givens_of, givens_of_all, numbered, all_numbered, placed, AreNumbered}
 
 -- from a number on the proofs are those of the givens

@@ -11,7 +11,7 @@ use Rattle.sx_rewrite.specs.Rewriting.{first_over}
 use Rattle.sx_rewrite.specs.Measured.{certificate_terms, certificate_terms_of}
 use Rattle.sx_rewrite.specs.Puts.{Tells, Answers}
 use Rattle.sx_rewrite.proofs.Instanced.{err_is}
-use Rattle.sx_rewrite.proofs.Certificates.{KidsSoFar, kids-tell, kids-step, kids-end, kid-high, kid-shallow, node-low, node-lower, node-binds, node-kids, node-givens, node-tells, later-tells, node-answers, any-ok}
+use Rattle.sx_rewrite.proofs.KidInstances.{KidsSoFar, kids-tell, kids-step, kids-end, kid-high, kid-shallow, node-low, node-lower, node-binds, node-kids, node-givens, node-tells, later-tells, node-answers, any-ok}
 use Rattle.sx_rewrite.proofs.certificate_instance.+certificate.Goals as goal
 
 pub certificate_instance-node_instance-requires-clause-shallow : goal.certificate_instance-node_instance-requires-clause-shallow

@@ -2,7 +2,7 @@ use Rattle.std.proofs.Common.{◌+◌, ◌*◌}
 use Rattle.sx_rules.specs.Derivations.{height_of, most_height}
 use Rattle.sx_rules.specs.ProofView.{proof, boxed}
 use Rattle.sx_rules.specs.Sets.{bare_rules_in}
-use Rattle.sx_rewrite.proofs.Certificates.{KidsSoFar}
+use Rattle.sx_rewrite.proofs.KidInstances.{KidsSoFar}
 use Rattle.sx_rewrite.proofs.certificate_instance.+certificate.Given as goal
 
 abbrev pub decreases-certificate_instance : goal.decreases-certificate_instance
