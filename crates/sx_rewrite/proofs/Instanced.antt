@@ -52,21 +52,21 @@ map-both : (s : ℕ → Tree) (ts us : List Tree) → map (instance s) (ts ++ us
 map-both s [] us = refl
 map-both s (t ∷ ts) us = ap (λ (xs : List Tree). instance s t ∷ xs) (map-both s ts us)
 
-tree-both : (ts us : List Term) → map tree (ts ++ us) ≡ map tree ts ++ map tree us
+pub tree-both : (ts us : List Term) → map tree (ts ++ us) ≡ map tree ts ++ map tree us
 tree-both [] us = refl
 tree-both (t ∷ ts) us = ap (λ (xs : List Tree). tree t ∷ xs) (tree-both ts us)
 
-measures-both : (ts us : List Tree) (ms ns : List Measure) → AreMeasuresOf ts ms → AreMeasuresOf us ns → AreMeasuresOf (ts ++ us) (ms ++ ns)
+pub measures-both : (ts us : List Tree) (ms ns : List Measure) → AreMeasuresOf ts ms → AreMeasuresOf us ns → AreMeasuresOf (ts ++ us) (ms ++ ns)
 measures-both [] us [] ns h k = k
 measures-both [] us (m ∷ ms) ns h k = absurd h
 measures-both (t ∷ ts) us [] ns h k = absurd h
 measures-both (t ∷ ts) us (m ∷ ms) ns h k = (h.0, measures-both ts us ms ns h.1 k)
 
-deep-both : (ts : List Tree) (t : Tree) (n : ℕ) → greatest_depth (forest ts) ≤ n → depth_of t ≤ n → greatest_depth (forest (ts ++ t ∷ [])) ≤ n
+pub deep-both : (ts : List Tree) (t : Tree) (n : ℕ) → greatest_depth (forest ts) ≤ n → depth_of t ≤ n → greatest_depth (forest (ts ++ t ∷ [])) ≤ n
 deep-both [] t n h k = omega (arith, k)
 deep-both (x ∷ ts) t n h k = let r = deep-both ts t n (omega (arith, h)) k in omega (arith, h, r)
 
-greatest-both : (ms : List Measure) (m : Measure) (n : ℕ) → greatest (depths_of ms) ≤ n → m.depth ≤ n → greatest (depths_of (ms ++ m ∷ [])) ≤ n
+pub greatest-both : (ms : List Measure) (m : Measure) (n : ℕ) → greatest (depths_of ms) ≤ n → m.depth ≤ n → greatest (depths_of (ms ++ m ∷ [])) ≤ n
 greatest-both [] m n h k = omega (arith, k)
 greatest-both (x ∷ ms) m n h k = let r = greatest-both ms m n (omega (arith, h)) k in omega (arith, h, r)
 

@@ -42,3 +42,8 @@ pub mod KidInstances
 pub mod Placed
 pub mod Taking
 pub mod BasedTerms
+pub mod PutImages
+pub mod SubjectTerms
+pub mod PutSubjects
+pub mod PutEach
+pub mod Needs

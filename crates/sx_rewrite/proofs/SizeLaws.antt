@@ -84,7 +84,7 @@ positive-least n = go (nat_lt 0 n) refl
 pub none-positive : (n : ℕ) (b : Bool) → nat_lt 0 n ≡ b → b ≡ false → n ≡ 0
 none-positive n b e f = let l = ltb-false 0 n (e ∙ f) in omega (arith, l)
 
-use-stands : (i : ℕ) (p : Proof) (u : GivenUse) → IsUseOf i p u → nat_lt 0 u.times ≡ is_used i p
+pub use-stands : (i : ℕ) (p : Proof) (u : GivenUse) → IsUseOf i p u → nat_lt 0 u.times ≡ is_used i p
 use-stands i p u h = ap (nat_lt 0) h.0 ∙ positive-least (times_given i p) ∙ stands-times i p
 
 -- the numbers by the uses that are kept

@@ -33,3 +33,7 @@ pub mod SizeLaws
 pub mod Puts
 pub mod Put
 pub mod Taken
+pub mod PutImages
+pub mod SubjectTerms
+pub mod PutSubjects
+pub mod Needed
