@@ -82,7 +82,7 @@ module _ (sig : Signature) (a : Accepted) (hyps : Hypotheses) where
           here.1 ∙ ap (height_at (Some known)) below.1 ∙ ap (λ (o : Option Known). height_at o (lowered_heights_of a kids)) (sym at_r),
         )
 
-    all_counted : (ps qs : Proofs) (ks : List Judgement) → LowersEach a sig.subjects hyps ps qs ks → (nodes_each qs ≡ lowered_nodes_of a ps) × (height_each qs ≡ lowered_heights_of a ps)
+    pub all_counted : (ps qs : Proofs) (ks : List Judgement) → LowersEach a sig.subjects hyps ps qs ks → (nodes_each qs ≡ lowered_nodes_of a ps) × (height_each qs ≡ lowered_heights_of a ps)
     all_counted no_more no_more [] l = (refl, refl)
     all_counted no_more no_more (k ∷ ks) l = absurd l
     all_counted no_more (q ⊳ qs) ks l = absurd l

@@ -47,3 +47,9 @@ pub mod SubjectTerms
 pub mod PutSubjects
 pub mod PutEach
 pub mod Needs
+pub mod LoweredKids
+pub mod LoweredNode
+pub mod LoweredBy
+pub mod LoweringKids
+pub mod LoweringNode
+pub mod Judged

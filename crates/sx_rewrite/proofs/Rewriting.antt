@@ -118,10 +118,10 @@ pub rewriting_is_unique : RewritingIsUnique
 rewriting_is_unique sig base shapes a ok hyps p budget x y h k = once sig base shapes a ok hyps p budget x y h k
 
 -- terms that are not over are not deep
-abbrev is_shallow : Tree → Bool
+abbrev pub is_shallow : Tree → Bool
 is_shallow t = if nat_lt 1000 (depth_of t) then false else true
 
-not_over : (ts : List Tree) → first_over ts ≡ None → AllPass is_shallow ts
+pub not_over : (ts : List Tree) → first_over ts ≡ None → AllPass is_shallow ts
 not_over [] e = tt
 not_over (t ∷ ts) e = go (not_over ts) (nat_lt 1000 (depth_of t)) (nat_lt 1000000 (size_of t)) refl e
   where
@@ -151,7 +151,7 @@ own test None binds h = h
 own test (Some rule) binds h = left test binds (judgement_instance (bound_by binds) rule.conclusion).places h
 
 mutual
-  binds-shallow : (rules : List Rule) (p : Proof) → ProofPasses is_shallow rules p → HasShallowBinds p
+  pub binds-shallow : (rules : List Rule) (p : Proof) → ProofPasses is_shallow rules p → HasShallowBinds p
   binds-shallow rules (by r binds kids) h = (shallow binds (own is_shallow (slice_get rules r) binds h.0), all_binds-shallow rules kids h.1)
   binds-shallow rules (given i) h = tt
 
@@ -164,7 +164,7 @@ given-shallow [] i j h e = cc
 given-shallow (x ∷ xs) zero j h e = let q : x ≡ j = cc in subst (λ (y : Judgement). AreShallow y.places) q h.0
 given-shallow (x ∷ xs) (suc i) j h e = given-shallow xs i j h.1 e
 
-places-shallow : (rules : List Rule) (hyps : Hypotheses) (q : Proof) (k : Judgement) → ShallowJudgements hyps.judgements → Derives rules hyps k q → ProofPasses is_shallow rules q → AreShallow k.places
+pub places-shallow : (rules : List Rule) (hyps : Hypotheses) (q : Proof) (k : Judgement) → ShallowJudgements hyps.judgements → Derives rules hyps k q → ProofPasses is_shallow rules q → AreShallow k.places
 places-shallow rules hyps (given i) k near d h = given-shallow hyps.judgements i k near d
 places-shallow rules hyps (by r binds kids) k near (rule, at_r, many, concluded, apart_ones, each) h =
     let all = subst (λ (o : Option Rule). AllPass is_shallow (node_terms o binds)) at_r h.0 in

@@ -138,7 +138,7 @@ typed_variables_are_used sig base shapes a ok r c at_r v k at_v x = typed-used s
 
 -- an instance of a proof depends on the variables that stand in it
 mutual
-  proof_instance-same : (s t : ℕ → Tree) (p : Proof) → ((v : ℕ) → StandsInProof v p → s v ≡ t v) → proof_instance s p ≡ proof_instance t p
+  pub proof_instance-same : (s t : ℕ → Tree) (p : Proof) → ((v : ℕ) → StandsInProof v p → s v ≡ t v) → proof_instance s p ≡ proof_instance t p
   proof_instance-same s t (by r binds kids) h =
       let a = map_instance-same s t binds (λ v k. h v (inl k)) in
       let b = proof_instances-same s t kids (λ v k. h v (inr k)) in
@@ -152,7 +152,7 @@ mutual
       let b = proof_instances-same s t ps (λ v k. h v (inr k)) in cc
 
 mutual
-  used-instance : (s : ℕ → Tree) (p : Proof) (i : ℕ) → IsUsed i (proof_instance s p) → IsUsed i p
+  pub used-instance : (s : ℕ → Tree) (p : Proof) (i : ℕ) → IsUsed i (proof_instance s p) → IsUsed i p
   used-instance s (by r binds kids) i h = used-instances s kids i h
   used-instance s (given j) i h = h
 
@@ -211,7 +211,7 @@ module _ (sig : Signature) (base shapes : List Shape) (a : Accepted) (ok : IsAcc
   used-zero : (i : ℕ) → IsUsed i c.proof → IsUsed (0 + i) c.proof
   used-zero i u = subst (λ (n : ℕ). IsUsed n c.proof) (let e : i ≡ 0 + i = omega arith in e) u
 
-  bound-same : (v : ℕ) → StandsInProof v c.proof ⊎ StandsAmong v (flat_conclusion a.table sig.subjects c).places → bound_by more v ≡ bound_by other v
+  pub bound-same : (v : ℕ) → StandsInProof v c.proof ⊎ StandsAmong v (flat_conclusion a.table sig.subjects c).places → bound_by more v ≡ bound_by other v
   bound-same v x = go (slice_get c.rule.sorts v) refl
     where
       untyped : (sort : Sort) → slice_get c.rule.sorts v ≡ Some sort → ((k : ℕ) → sort ≡ Typed k → ⊥) → bound_by more v ≡ bound_by other v

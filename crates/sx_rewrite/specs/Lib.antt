@@ -37,3 +37,5 @@ pub mod PutImages
 pub mod SubjectTerms
 pub mod PutSubjects
 pub mod Needed
+pub mod Lowering
+pub mod SourceView

@@ -2,9 +2,9 @@
 use Rattle.std.specs.Prelude.{◌≡◌, ℕ, ◌<◌, Bool, true, List, [], ◌∷◌, length, Some, slice_get}
 use Rattle.sx_term.specs.Tree.{Tree, hole}
 use Rattle.sx_term.specs.Instances.{bound_by}
-use Rattle.sx_rules.specs.Rules.{Judgement, Rule, Hypotheses}
+use Rattle.sx_rules.specs.Rules.{Judgement, Rule, Hypotheses, judgements_of}
 use Rattle.sx_rules.specs.Modes.{Modes}
-use Rattle.sx_rules.specs.Discipline.{subjects_of, IsSubjectIn}
+use Rattle.sx_rules.specs.Discipline.{subjects_of, IsSubjectIn, AreBareSubjects}
 use Rattle.sx_rules.specs.Derivations.{Proof, Proofs, proof_at, Derives, AreShallow, HasShallowBinds}
 
 -- the proof derives a judgement by the rules, and no term of the two is deeper than 1,000
@@ -31,3 +31,11 @@ pub record ArePutBelow (subjects : Modes) (rules : List Rule) (hyps : Hypotheses
 -- the kids that are needed are ready
 abbrev pub AreReady : List Rule → Hypotheses → (ℕ → Bool) → Proofs → Type 0
 AreReady rules hyps need kids = (i : ℕ) (q : Proof) → need i ≡ true → proof_at kids i ≡ Some q → IsReady rules hyps q
+
+-- the rule with the number has so many variables and so many judgements among its premises, and their subjects are bare variables
+pub record IsNodeOf (rules : List Rule) (subjects : Modes) (r variables kids : ℕ) : Type 0 where
+  pub rule : Rule
+  pub at : slice_get rules r ≡ Some rule
+  pub binds_many : variables ≡ length rule.sorts
+  pub kids_many : kids ≡ length (judgements_of rule.premises)
+  pub bare : AreBareSubjects subjects rule.conclusion [] (judgements_of rule.premises)

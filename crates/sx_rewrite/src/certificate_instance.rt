@@ -75,7 +75,7 @@ fn kid_instances(
 }
 
 /// The derivation by the rule with these bindings and kids. The one refusal is want of memory.
-fn by_rule(
+pub(crate) fn by_rule(
     alloc: Global,
     rule: u32,
     binds: Vec<Term>,

@@ -49,7 +49,7 @@ pub(crate) fn lowered_subject(
 }
 
 /// The hypothesis with this number, or None where there is none.
-fn hypothesis(given: &Hyps, number: u32) -> Option<&Judgement>
+pub(crate) fn hypothesis(given: &Hyps, number: u32) -> Option<&Judgement>
     ensures { MatchOption result (slice_get (map judgement given.now.holds.items) number ≡ None)
         (λ j. slice_get (map judgement given.now.holds.items) number ≡ Some (judgement j.now)) }
 {
