@@ -53,3 +53,5 @@ pub mod LoweredBy
 pub mod LoweringKids
 pub mod LoweringNode
 pub mod Judged
+pub mod Rewrote
+pub mod Sources

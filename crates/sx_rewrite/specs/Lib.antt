@@ -39,3 +39,4 @@ pub mod PutSubjects
 pub mod Needed
 pub mod Lowering
 pub mod SourceView
+pub mod Rewrites

@@ -19,7 +19,7 @@ use sx_term::Term;
 
 /// The bindings of a node by the base rule with this number: the terms that are put. The first of them, or else of the places of the
 /// rule's conclusion under them, that passes a limit is refused.
-pub fn based(base: &RuleSet, rule: u32, puts: PutTerms) -> Result<Vec<Term>, RewriteError>
+pub(crate) fn based(base: &RuleSet, rule: u32, puts: PutTerms) -> Result<Vec<Term>, RewriteError>
     ensures { (more : List Tree) → ArePut more puts → Answers (first_over (node_terms (slice_get (bare_rules_in base.now) rule) more))
         (λ x. map tree x.items ≡ more) result }
 {

@@ -23,7 +23,7 @@ use sx_rules::{Proof, RuleSet};
 /// The certificate under what is put for the variables of its rule, with the kids at the places of its givens. A kid is moved to its
 /// last place and copied for those before it. Each term of the certificate is measured before it is made, node by node in preorder,
 /// and the first that passes a limit is refused. Terms that are put are measured where they stand in the certificate alone.
-pub fn certified(
+pub(crate) fn certified(
     alloc: Global,
     base: &RuleSet,
     certificate: &Proof,

@@ -4,6 +4,8 @@
 //!   conclusion has a subject, and a certificate: a derivation of its flat conclusion from its flat premises by the base rules. The
 //!   rules of each extension are sound after the extensions before it.
 //! - `graft` puts derivations in the place of the givens of another, and only moves them.
+//! - `rewrite` and `rewrite_open` lower a derivation by the extended rules or by the plain rules to one by the base rules alone. The
+//!   nodes are counted before any term is made, and each term is measured before it is made.
 //! - Laws: a derivation by the extended rules is lowered to one by the base rules, in one way alone; a rule is sound by what is
 //!   stored of it where a search finds a derivation, and is not where none exists; a set stays accepted as it grows.
 //!
@@ -48,6 +50,7 @@ mod put_subjects;
 mod put_term;
 mod put_terms;
 mod putting;
+mod rewrite_calls;
 mod rewrite_error;
 mod rewriting_laws;
 mod rule_set_laws;
@@ -67,8 +70,6 @@ pub use accept_laws::{
     growth_goes_on, rejected_is_unsound, sound_rules_are_sorted, stored_is_sound,
 };
 pub use accepted::Accepted;
-pub use basing::based;
-pub use certifying::certified;
 pub use count_laws::{certificates_use_premises, height_is_greatest, nodes_are_summed};
 pub use ext_rule::ExtRule;
 pub use extension_data::ExtensionData;
@@ -78,7 +79,7 @@ pub use laws::{lowered_are_derivations, lowered_are_sorted, lowering_exists, low
 pub use lowered::Lowered;
 pub use measured_laws::{measured_are_all, measuring_is_unique, terms_are_measured};
 pub use plain_laws::{plain_rules_are_accepted, plain_rules_lower_alike};
-pub use put_terms::PutTerms;
+pub use rewrite_calls::{rewrite, rewrite_open};
 pub use rewrite_error::RewriteError;
 pub use rewriting_laws::{rewriting_answers, rewriting_is_good, rewriting_is_unique};
 pub use rule_set_laws::good_rules_are_disciplined;

@@ -12,7 +12,7 @@ use sx_term::Term;
 /// For each variable of a rule how deep and how big the term is that is put for it, and that term where it passes no limit. In the
 /// place of one that passes a limit stands any term, since no instance that passes none has its variable.
 #[derive(Drop)]
-pub struct PutTerms {
+pub(crate) struct PutTerms {
     pub terms: Vec<Term>,
     pub measures: Vec<Measure>,
     ghost shallow: { deep.greatest_depth (deep.forest (map tree terms.items)) ≤ 1000 },
