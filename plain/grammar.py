@@ -38,6 +38,7 @@ class Grammar:
     def __init__(self, sorts, productions):
         self.sorts = sorts
         self.productions = productions
+        self.rows = None
         self.literals = _literals(sorts, productions)
         _check_names(self)
         self.by_name = {}

@@ -1,148 +1,158 @@
-"""`build`: a module without `use` and `import` lines is read, typed and printed."""
+"""`build` and `compile`: modules are read, typed, lowered and printed."""
 
-import hashlib
-
-import outside
-from language_files import Language
-from lines import Stop, is_blank, is_file_name, line_and_column, lines_of, of_file
-from printing import printed
-from readings import NoReading, TwoReadings, place_of, read_one, term_of
+from auditors import named, show
+from closure import Closure, Module, module_alone
+from environments import environment, extension_marks
+from extensions import extended
+from held_language import HeldLanguage, signature_sort, subject_sort
+from interfaces import Interface, digest, interface_text, read_interface
+from lines import Stop, of_file
+from one_term import read_body
+from prints import Print
 from rules import list_text
-from terms import node
-from tokens import MOST, Defect, cut, placed
 from walk import Walk, preorder, stuck
 
 
-class Header:
-    """The header of a module file: its language, its `use` and `import` names, and where its body begins."""
+class Compiled:
+    """The three texts of a module, its base derivation, and how many nodes and tokens there are."""
 
-    def __init__(self, name, text):
-        self.language = None
-        self.names = {b"use": [], b"import": []}
-        lines = lines_of(text)
-        due = "module"
-        for line in lines:
-            if is_blank(line.content) or line.content.startswith(b"//"):
-                continue
-            due = self._next(due, line.content, name)
-            if due is None:
-                raise Stop(b"line %d: bad header" % line.number)
-            if due == "body":
-                self.body = lines[line.number].start if line.number < len(lines) else len(text)
-                return
-        raise Stop(b"line %d: bad header" % (len(lines) + 1))
-
-    def _next(self, due, content, name):
-        """What is due after a line: the language, then names, then the body; None after a bad line."""
-        word, _, rest = content.partition(b" ")
-        if due == "module":
-            return "language" if content == b"module " + name else None
-        if due == "language":
-            self.language = rest
-            return "use" if word == b"language" and is_file_name(rest) else None
-        if content == b"---":
-            return "body"
-        if word not in self.names or not is_file_name(rest) or rest in self.names[word]:
-            return None
-        if word == b"use" and due == "import":
-            return None
-        self.names[word].append(rest)
-        return word.decode()
+    def __init__(self, base, derivation, interface, proof, nodes, source_tokens, base_tokens):
+        self.base = base
+        self.derivation = derivation
+        self.interface = interface
+        self.proof = proof
+        self.nodes = nodes
+        self.source_tokens = source_tokens
+        self.base_tokens = base_tokens
 
 
-def read_body(language, text, start):
-    """The only reading of a module's body with its tokens."""
-    def line_of(place):
-        return line_and_column(text, place)
+class Compiler:
+    """Compiles one module against the interfaces of its imports; `version` is that of its own interface."""
 
-    try:
-        tokens = cut(text, language.grammar.literals, False, start)
-        reading = read_one(language.grammar, subject_sort(language), {}, tokens)
-    except Defect as defect:
-        raise placed(defect, line_of)
-    except NoReading as none:
-        place = tokens[none.place].start if none.place < len(tokens) else len(text)
-        raise Stop(b"line %d column %d: no reading" % line_of(place))
-    except TwoReadings as two:
-        raise Stop(two.text)
-    return reading, tokens
+    def __init__(self, module, held, more, imports, command, version):
+        self.module = module
+        self.held = held
+        self.language = held.language
+        self.more = more
+        self.imports = imports
+        self.command = command
+        self.version = version
 
+    def run(self):
+        """The environment is made, the body read and typed, its derivation lowered, the texts printed."""
+        around = environment(self.held, self.more, self.imports)
+        body = read_body(self.more.grammar, subject_sort(self.language), self.module.text,
+                         self.module.header.body)
+        proof, outputs = self._derive(around, body)
+        base_proof, judgement = self.more.lower(proof, self.command.nodes)
+        form = self.language.forms[self.language.main]
+        base, base_tokens = self._base(judgement.places[form.subject])
+        interface = self._interface(base, judgement.places[form.outputs[0]], outputs[0])
+        numbers = preorder(base_proof)
+        derivation = list_text(self.language.rule_set.rules, numbers)
+        return Compiled(base, derivation, interface, base_proof, len(numbers), len(body.tokens), base_tokens)
 
-def place_name(language, role):
-    """The name of the sort of the main form's place with this role."""
-    for of, (_, number) in language.forms[language.main].places:
-        if of == role:
-            return language.grammar.sorts[number].name
+    def _derive(self, around, body):
+        """The first derivation of the body in the environment, with its outputs."""
+        main = self.language.main
+        form = self.language.forms[main]
+        inputs = [body.term if n == form.subject else around for n in form.inputs]
+        found = Walk(self.more.rules, self.command.tries).first(main, inputs)
+        if found is None:
+            blame = stuck(self.more.rules, main, inputs)
+            shown = blame.text(self.more.rules.rules, self.more.goal_text)
+            raise Stop(b"line %d column %d: %s" % (*body.place_of_path(blame.path), shown))
+        return found
 
+    def _base(self, subject):
+        """The text of the base file and the number of its body's tokens."""
+        print_of = Print(b"printed text", self.language.grammar, subject_sort(self.language), subject)
+        lines = [b"module " + self.module.name, b"language " + self.language.name]
+        lines.extend(b"import " + name for name in self.module.header.imports)
+        text = b"".join(line + b"\n" for line in lines + [b"---", print_of.text])
+        print_of.need_readable(len(text))
+        return text, len(print_of.pieces)
 
-def subject_sort(language):
-    """The name of the sort of modules."""
-    return place_name(language, "sub")
+    def _interface(self, base, output, stated):
+        """The text of the interface, with the signature in the base language and as it is stated."""
+        sort = signature_sort(self.language)
+        print_of = Print(b"printed signature", self.language.grammar, sort, output)
+        text = self._interface_text(base, [print_of.text])
+        print_of.need_readable(len(text))
+        if self.version == 1:
+            return text
+        self._need_no_captured(stated)
+        print_stated = Print(b"printed stated signature", self.more.grammar, sort, stated)
+        text = self._interface_text(base, [print_of.text, print_stated.text])
+        print_stated.need_readable(len(text))
+        return text
 
+    def _interface_text(self, base, texts):
+        marks = [(interface.module, interface.digest) for interface in self.imports]
+        return interface_text(self.version, self.module.name, self.language.name, self.held.digest,
+                              extension_marks(self.more), digest(base), marks, texts)
 
-def type_error(language, text, form, inputs, reading, tokens):
-    """The stop for a module without a derivation: the stuck goal and the place of its subject."""
-    blame = stuck(language.rule_set, form, inputs)
-    token = place_of(reading, blame.path)
-    place = tokens[token].start if token < len(tokens) else len(text)
-    shown = blame.text(language.rule_set.rules, language.goal_text)
-    return Stop(b"line %d column %d: %s" % (*line_and_column(text, place), shown))
-
-
-def need_readable(language, what, sort, pieces, size):
-    """A print is within the limits and has just one reading."""
-    if size > outside.LIMIT:
-        raise Stop(b"%s has %d bytes, over %d" % (what, size, outside.LIMIT))
-    if len(pieces) > MOST:
-        raise Stop(b"%s has %d tokens, over %d" % (what, len(pieces), MOST))
-    tokens = cut(b" ".join(pieces), language.grammar.literals, False)
-    try:
-        read_one(language.grammar, sort, {}, tokens)
-    except TwoReadings as two:
-        raise Stop(b"%s has %s" % (what, two.text))
-    except Stop as stop:
-        words = stop.text.split(b" ")
-        if words[0] == b"depth":
-            raise Stop(b"%s has depth %s, over %s" % (what, words[1], words[4]))
-        raise Stop(b"%s %s" % (what, stop.text.partition(b" ")[2]))
-
-
-def compile_module(name, text, header, language, language_text, tries):
-    """The three texts of a module, and the number of its derivation's nodes."""
-    reading, tokens = read_body(language, text, header.body)
-    subject = term_of(reading, tokens, [])
-    form = language.forms[language.main]
-    inputs = [subject if n == form.subject else node(language.empty, []) for n in form.inputs]
-    found = Walk(language.rule_set, tries).first(language.main, inputs)
-    if found is None:
-        raise type_error(language, text, language.main, inputs, reading, tokens)
-    pieces = printed(language.grammar, [], subject, 0)
-    base = b"module %s\nlanguage %s\n---\n%s\n" % (name, header.language, b" ".join(pieces))
-    need_readable(language, b"printed text", subject_sort(language), pieces, len(base))
-    pieces = printed(language.grammar, [], found[1][0], 0)
-    interface = b"sxint 1\nmodule %s\nlanguage %s %s\nbase %s\n---\n%s\n" % (
-        name, header.language, digest(language_text), digest(base), b" ".join(pieces))
-    need_readable(language, b"printed signature", place_name(language, "out"), pieces, len(interface))
-    numbers = preorder(found[0])
-    return base, list_text(language.rule_set.rules, numbers), interface, len(numbers)
+    def _need_no_captured(self, term):
+        """Stops at the first name in a term that is a literal of the extended grammar."""
+        if term.what == "lexeme" and term.kind == 0 and term.text in self.more.grammar.literals:
+            raise Stop(b"stated signature has the literal %s as a name" % term.text)
+        for kid in term.kids if term.what == "node" else ():
+            self._need_no_captured(kid)
 
 
-def digest(text):
-    """The digits of the SHA-256."""
-    return hashlib.sha256(text).hexdigest().encode()
+def treat(module, held, imports, command, auditors, version=2):
+    """What a module compiles to; each auditor has seen its base derivation."""
+    of_file(module.file, module.header.need_no_literal, held.language.grammar.literals)
+    more = extended(held.language, module.header.uses, module.file, command.tries, command.nodes)
+    compiled = of_file(module.file, Compiler(module, held, more, imports, command, version).run)
+    of_file(module.file, show, auditors, held.language.rule_set.rules, compiled.proof)
+    return compiled
 
 
-def build(name, tries):
-    """The three files of a module and the line."""
-    file = name + b".mod"
-    text = outside.read_text(file)
-    header = of_file(file, Header, name, text)
-    if header.names[b"use"] or header.names[b"import"]:
-        raise Stop(b"not read yet", file=file)
-    language_file = header.language + b".lang"
-    language_text = outside.read_text(language_file)
-    language = of_file(language_file, Language, header.language, language_text)
-    base, derivation, interface, nodes = of_file(
-        file, compile_module, name, text, header, language, language_text, tries)
-    return ([(name + b".base", base), (name + b".der", derivation), (name + b".int", interface)],
-            b"built %s: %d nodes\n" % (name, nodes))
+def answer(compiled, auditors):
+    """The files to be written and the lines to be said, for modules with what they compile to."""
+    files, lines = [], []
+    for module, it in compiled:
+        files.append((module.name + b".base", it.base))
+        files.append((module.name + b".der", it.derivation))
+        files.append((module.name + b".int", it.interface))
+        lines.append(b"built %s: %d nodes\n" % (module.name, it.nodes))
+    lines.extend(auditor.text() + b"\n" for auditor in auditors)
+    return files, b"".join(lines)
+
+
+def build_closure(command, auditors):
+    """Each module of the closure with what it compiles to, imports first."""
+    modules = Closure(command.name).order
+    held = HeldLanguage(modules[-1].header.language).read()
+    interfaces, made = {}, []
+    for module in modules:
+        imports = [interfaces[name] for name in module.header.imports]
+        compiled = treat(module, held, imports, command, auditors)
+        interfaces[module.name] = Interface(module.name, compiled.interface)
+        made.append((module, compiled))
+    return made
+
+
+def build(command):
+    """The files of all modules of the closure, and the lines."""
+    auditors = named(command.audits)
+    return answer(build_closure(command, auditors), auditors)
+
+
+def compile_one(command):
+    """The files of one module against the interfaces of its imports, and the lines."""
+    auditors = named(command.audits)
+    module = of_file(command.name + b".mod", module_alone, command.name)
+    held = HeldLanguage(module.header.language).read()
+    imports = [read_interface(name) for name in module.header.imports]
+    return answer([(module, treat(module, held, imports, command, auditors))], auditors)
+
+
+def build_alone(command):
+    """`build` where there are modules only: no extensions, no imports, interfaces of the first version."""
+    module = Module(command.name)
+    if module.header.uses or module.header.imports:
+        raise Stop(b"not read yet", file=module.file)
+    held = HeldLanguage(module.header.language).read()
+    return answer([(module, treat(module, held, [], command, [], version=1))], [])

@@ -85,13 +85,20 @@ def _form_symbol(part):
 
 
 class RuleLines:
-    """A rule: its name, its line's number, its premise lines and its conclusion line."""
+    """A rule: its name, its line's number, its premise lines, its conclusion line, and the line of its body or None."""
 
     def __init__(self, name, number):
         self.name = name
         self.number = number
         self.premises = []
         self.conclusion = None
+        self.body = None
+
+
+def kept_lines(lines):
+    """The lines that are not skipped, each with its parts."""
+    kept = [(line, parts_of_line(line.content)) for line in lines]
+    return [(line, parts) for line, parts in kept if parts and not parts[0].startswith(b"//")]
 
 
 class Outline:
@@ -99,8 +106,7 @@ class Outline:
 
     def __init__(self, name, text):
         self.lines = lines_of(text)
-        kept = [(line, parts_of_line(line.content)) for line in self.lines]
-        kept = [(line, parts) for line, parts in kept if parts and not parts[0].startswith(b"//")]
+        kept = kept_lines(self.lines)
         if not kept or kept[0][1] != [b"language", name]:
             raise Stop(b"line %d: head" % (kept[0][0].number if kept else len(self.lines) + 1))
         self.sorts, self.productions, self.stems, self.forms, self.rules = [], [], {}, [], []

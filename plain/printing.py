@@ -31,10 +31,10 @@ def _print_node(grammar, names, term, least, pieces):
         pieces.append(brackets[1])
 
 
-def goal_text(grammar, production, places):
+def goal_text(grammar, production, places, names=()):
     """The symbols of a form; for each place its term at the place's least level, or `_`.
 
-    `places` has for each place a term or None."""
+    `places` has for each place a term or None, `names` the names of the variables."""
     pieces = []
     rest = iter(places)
     for symbol in production.symbols:
@@ -45,7 +45,7 @@ def goal_text(grammar, production, places):
         if term is None:
             pieces.append(b"_")
         else:
-            pieces.extend(printed(grammar, [], term, symbol[2] if symbol[0] == "part" else 0))
+            pieces.extend(printed(grammar, names, term, symbol[2] if symbol[0] == "part" else 0))
     return b" ".join(pieces)
 
 

@@ -44,8 +44,11 @@ class Chart:
     prediction, scanning and completion. A spot is a row with its dot."""
 
     def __init__(self, grammar, start, stems, tokens):
-        self.rows = Rows(grammar)
+        if grammar.rows is None:
+            grammar.rows = Rows(grammar)
+        self.rows = grammar.rows
         self.tokens = tokens
+        self.literals = [token.text if token.mark == "literal" else None for token in tokens] + [None]
         self.stems = stems
         self.items = [set() for _ in range(len(tokens) + 1)]
         self.count = 0
@@ -73,13 +76,16 @@ class Chart:
         return symbol[0] == "lex" and token.mark == name.decode()
 
     def _add(self, end, spot, origin):
+        """Adds an item that is new. From one before a literal that does not stand there nothing follows."""
         key = spot * (len(self.tokens) + 1) + origin
         if key not in self.items[end]:
             self.items[end].add(key)
             self.count += 1
             if self.count > MOST_ITEMS:
                 raise Stop(b"parsing needs more than %d items" % MOST_ITEMS)
-            self.due[end].append((spot, origin))
+            symbol = self.rows.next[spot]
+            if symbol is None or symbol[0] != "literal" or symbol[1] == self.literals[end]:
+                self.due[end].append((spot, origin))
 
     def holds(self, row, dot, origin, end):
         """Whether the item holds."""

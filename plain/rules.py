@@ -38,12 +38,19 @@ class Rule:
         self.conclusion = conclusion
 
 
-class RuleSet:
+class Rules:
+    """Forms and rules, as the walk takes them."""
+
+    def __init__(self, forms, rules):
+        self.forms = forms
+        self.rules = rules
+
+
+class RuleSet(Rules):
     """Forms and rules that are well sorted, disciplined and moded. `shown` tells a variable of a rule by its number."""
 
     def __init__(self, cons, forms, rules, shown):
-        self.forms = forms
-        self.rules = rules
+        super().__init__(forms, rules)
         if len(rules) > MOST_RULES:
             raise Stop(b"more than %d rules" % MOST_RULES)
         names = set()
@@ -78,7 +85,7 @@ def _well_sorted(cons, forms, rule, it):
                for term, (_, sort) in zip(it.places, forms[it.form].places))
 
 
-def _subject(forms, it):
+def subject_of(forms, it):
     """The subject of a judgement, or None."""
     if isinstance(it, tuple) or forms[it.form].subject is None:
         return None
@@ -87,9 +94,9 @@ def _subject(forms, it):
 
 def _breach(forms, rule):
     """The first part of the discipline that is broken, and the first premise that breaks it."""
-    subjects = [(n, _subject(forms, it)) for n, it in enumerate(rule.premises, 1)]
+    subjects = [(n, subject_of(forms, it)) for n, it in enumerate(rule.premises, 1)]
     subjects = [(n, term) for n, term in subjects if term is not None]
-    whole = _subject(forms, rule.conclusion)
+    whole = subject_of(forms, rule.conclusion)
     standing = variables_of(whole) if whole is not None else []
     for n, term in subjects:
         if term.what != "variable":

@@ -69,6 +69,17 @@ def instance(term, binds):
     return node(term.label, [instance(kid, binds) for kid in term.kids])
 
 
+def filled(term, binds, done):
+    """The same; `done` has what is known under these bindings, so that a term that stands often is filled once."""
+    if not term.open:
+        return term
+    if term.what == "variable":
+        return binds[term.number]
+    if term not in done:
+        done[term] = node(term.label, [filled(kid, binds, done) for kid in term.kids])
+    return done[term]
+
+
 def matches(pattern, term, binds):
     """Whether an extension of the bindings makes the pattern's instance the term; `binds` is then so extended."""
     if not pattern.open:

@@ -23,21 +23,53 @@ def outputs_of(form, judgement):
     return [judgement.places[n] for n in form.outputs]
 
 
-def apart(sides, binds):
-    """Whether the instances of two terms are different lexemes."""
+class Hypotheses:
+    """What is given: judgements, and pairs of terms that are apart. Variables in them are constants."""
+
+    def __init__(self, holds=(), pairs=()):
+        self.holds = holds
+        self.pairs = pairs
+
+
+NOTHING = Hypotheses()
+
+
+class Derivation(tuple):
+    """A derivation as the pair of a rule's number and the derivations of its judgement premises.
+
+    Beside the pair stand what the rule's variables are bound to, the number of nodes and the depth. A given has
+    no rule: the pair is None and no derivations, and `given` says which of the judgements that hold it is."""
+
+    def __new__(cls, number, kids, binds, given=None):
+        """The derivation; the kids are derivations of this kind too."""
+        made = super().__new__(cls, (number, kids))
+        made.number, made.kids, made.binds, made.given = number, kids, binds, given
+        made.nodes = 1 + sum(kid.nodes for kid in kids)
+        made.depth = 1 + max((kid.depth for kid in kids), default=0)
+        return made
+
+
+def apart(sides, binds, given=NOTHING):
+    """Whether the instances of two terms are a given pair, either way round, or different lexemes."""
     one, other = (instance(side, binds) for side in sides)
+    if (one, other) in given.pairs or (other, one) in given.pairs:
+        return True
     return one.what == other.what == "lexeme" and one is not other
 
 
+def is_goal(of, judgement, form, inputs):
+    """Whether a judgement has this form and these inputs."""
+    return judgement.form == form and inputs_of(of, judgement) == inputs
+
+
 class Walk:
-    """The events of goals, read from the front: tries are counted, a stop ends the walk.
+    """The events of goals, read from the front: tries are counted, a stop ends the walk."""
 
-    A derivation is a rule's number with the derivations of its judgement premises."""
-
-    def __init__(self, rule_set, budget):
+    def __init__(self, rule_set, budget, given=NOTHING):
         self.forms = rule_set.forms
         self.rules = rule_set.rules
         self.budget = budget
+        self.given = given
         self.tries = 0
 
     def one_try(self):
@@ -48,6 +80,10 @@ class Walk:
 
     def derivations(self, form, inputs, depth):
         """The derivations of a goal in order, each with its outputs: candidate after candidate."""
+        for number, judgement in enumerate(self.given.holds):
+            self.one_try()
+            if is_goal(self.forms[form], judgement, form, inputs):
+                yield Derivation(None, (), {}, number), outputs_of(self.forms[form], judgement)
         for number, rule in enumerate(self.rules):
             self.one_try()
             if rule.conclusion.form == form:
@@ -62,11 +98,11 @@ class Walk:
             form = self.forms[rule.conclusion.form]
             outputs = [instance(term, binds) for term in outputs_of(form, rule.conclusion)]
             measure(outputs)
-            yield (number, kids), outputs
+            yield Derivation(number, kids, binds), outputs
             return
         premise = rule.premises[at]
         if isinstance(premise, tuple):
-            if apart(premise, binds):
+            if apart(premise, binds, self.given):
                 yield from self.rest(number, at + 1, binds, kids, depth)
             return
         form = self.forms[premise.form]
@@ -84,9 +120,12 @@ class Walk:
             raise Spent(b"derivation deeper than %d" % DEEPEST)
         return inputs
 
-    def first(self, form, inputs, depth=1):
-        """The first derivation of a goal with its outputs, or None."""
-        return next(self.derivations(form, inputs, depth), None)
+    def first(self, form, inputs, depth=1, wanted=None):
+        """The first derivation of a goal with its outputs, or the first with the wanted outputs, or None."""
+        for proof, outputs in self.derivations(form, inputs, depth):
+            if wanted is None or outputs == wanted:
+                return proof, outputs
+        return None
 
 
 class Blame:
@@ -106,6 +145,8 @@ class Blame:
         goal = goal_text(self.form, self.inputs, self.got)
         if self.cause == "no rule":
             return b"no rule concludes " + goal
+        if self.cause == "conclusion":
+            return b"%s is not the stated conclusion" % goal
         name = rules[self.rule].name
         if self.cause == "equal":
             return b"%s: premise %d of %s does not hold" % (goal, self.premise, name)
@@ -129,20 +170,26 @@ def path_of(forms, rule, premise, path):
     return path + paths_to(rule.conclusion.places[conclusion], premise.places[of].number)[0]
 
 
-def stuck(rule_set, form, inputs):
+def stuck(rule_set, form, inputs, given=NOTHING):
     """The stuck goal of a goal without a derivation: from goal to goal, the first candidate whose inputs match and
-    the first of its premises that fails under first derivations of the premises before."""
+    the first of its premises that fails under first derivations of the premises before.
+
+    Where nothing fails, the outputs are not the wanted ones."""
     forms, rules = rule_set.forms, rule_set.rules
     path, depth = (), 1
     while True:
+        for judgement in given.holds:
+            if is_goal(forms[form], judgement, form, inputs):
+                return Blame(form, inputs, path, "conclusion", got=outputs_of(forms[form], judgement))
         fits = [(n, match_all(inputs_of(forms[form], rule.conclusion), inputs, {}))
                 for n, rule in enumerate(rules) if rule.conclusion.form == form]
         fits = [(n, binds) for n, binds in fits if binds is not None]
         if not fits:
             return Blame(form, inputs, path, "no rule")
-        step = _first_failure(rule_set, *fits[0], depth)
+        at, cause, goal, got = _first_failure(rule_set, *fits[0], depth, given)
+        if cause == "conclusion":
+            return Blame(form, inputs, path, cause, got=got)
         rule = rules[fits[0][0]]
-        at, cause, goal, got = step
         premise = rule.premises[at]
         if cause == "equal":
             return Blame(form, inputs, path, cause, fits[0][0], at + 1)
@@ -152,12 +199,15 @@ def stuck(rule_set, form, inputs):
         form, inputs, depth = premise.form, goal, depth + 1
 
 
-def _first_failure(rule_set, number, binds, depth):
-    """The first premise of a rule that fails: where, how, its goal's inputs, and the outputs got."""
-    walk = Walk(rule_set, None)
-    for at, premise in enumerate(rule_set.rules[number].premises):
+def _first_failure(rule_set, number, binds, depth, given):
+    """The first premise of a rule that fails: where, how, its goal's inputs, and the outputs got.
+
+    Where none fails, the outputs that the rule concludes."""
+    walk = Walk(rule_set, None, given)
+    rule = rule_set.rules[number]
+    for at, premise in enumerate(rule.premises):
         if isinstance(premise, tuple):
-            if not apart(premise, binds):
+            if not apart(premise, binds, given):
                 return at, "equal", None, None
             continue
         goal = walk.goal_of(premise, binds, depth)
@@ -168,11 +218,12 @@ def _first_failure(rule_set, number, binds, depth):
         if more is None:
             return at, "mismatch", goal, found[1]
         binds = more
-    raise AssertionError("the goal has a derivation")
+    outputs = outputs_of(rule_set.forms[rule.conclusion.form], rule.conclusion)
+    return None, "conclusion", None, [instance(term, binds) for term in outputs]
 
 
 def preorder(proof):
-    """The numbers of the rules of a derivation in preorder."""
+    """The numbers of the rules of a derivation in preorder; None for a given."""
     numbers, due = [], [proof]
     while due:
         number, kids = due.pop()
