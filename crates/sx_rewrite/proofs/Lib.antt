@@ -55,3 +55,4 @@ pub mod LoweringNode
 pub mod Judged
 pub mod Rewrote
 pub mod Sources
+pub mod FitTerms

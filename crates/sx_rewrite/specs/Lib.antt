@@ -40,3 +40,4 @@ pub mod Needed
 pub mod Lowering
 pub mod SourceView
 pub mod Rewrites
+pub mod FitLaws
