@@ -92,11 +92,11 @@ module _ (shapes others : List Shape) (table : Table) (vars : List Sort) (each :
     premises-sorted conclusion before (apart t u ∷ ps) h b = premises-sorted conclusion before ps h.1 b
 
     -- the body's image is well sorted by the other shapes
-    abbrev Placed : Option Tree → Type 0
+    abbrev pub Placed : Option Tree → Type 0
     Placed None = Unit {0}
     Placed (Some t) = (sort : Sort) → HasSort shapes vars t sort → HasSort others vars (image table t) sort
 
-    conclusion-sorted : (n : ℕ) (rule : Rule) (body : Option Tree) → Placed body → rule.sorts ≡ vars → JudgementIsSorted shapes sig.forms vars rule.conclusion → BodyFits sig shapes n table rule body →
+    pub conclusion-sorted : (n : ℕ) (rule : Rule) (body : Option Tree) → Placed body → rule.sorts ≡ vars → JudgementIsSorted shapes sig.forms vars rule.conclusion → BodyFits sig shapes n table rule body →
         JudgementIsSorted others sig.forms vars (flat_judgement table sig.subjects (option_map (image table) body) rule.conclusion)
     conclusion-sorted n rule None p e h b =
         let j = rule.conclusion in

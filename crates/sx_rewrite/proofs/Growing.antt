@@ -15,7 +15,7 @@ use Rattle.sx_plain.proofs.Tables.{sorted-below, images_stay}
 use Rattle.sx_rewrite.specs.Flat.{flat_places, flat_judgement, flat_pairs, flat_hypotheses}
 use Rattle.sx_rewrite.specs.Accepted.{ExtRule, Checked, flat_conclusion, Known, basic, checked, rule_in, Accepted, rules_of, AllCertified, AllDisciplined, Signature, IsAccepted}
 use Rattle.sx_rewrite.specs.Sound.{AreSoundBy}
-use Rattle.sx_rewrite.specs.Extensions.{with_table, extended, BodiesFit, Fits}
+use Rattle.sx_rewrite.specs.Extensions.{with_table, extended, BodiesFit, GoesOn}
 use Rattle.sx_rewrite.specs.AcceptLaws.{BaseRulesAreAccepted, AcceptedSetsGrow, GrowthGoesOn}
 use Rattle.sx_rewrite.proofs.LoweredSorted.{more-sorted, list-more-sorted}
 use Rattle.sx_rewrite.proofs.Sound.{sound_rules_are_sorted}
@@ -75,7 +75,7 @@ module _ (shapes : List Shape) (forms : FormSorts) (subjects : Modes) (table oth
       let a = same-image t x h.0 in
       let b = same-places subject bs ts xs h.1 in cc
 
-  same-flat : (subject : Option Tree) (j : Judgement) → JudgementIsSorted shapes forms vars j → flat_judgement table subjects subject j ≡ flat_judgement other subjects subject j
+  pub same-flat : (subject : Option Tree) (j : Judgement) → JudgementIsSorted shapes forms vars j → flat_judgement table subjects subject j ≡ flat_judgement other subjects subject j
   same-flat subject j h = let e = same-places subject (subjects j.form) j.places (forms j.form) h in λ i. record { form = j.form; places = e i }
 
   same-premises : (ps : List Premise) → PremisesAreSorted shapes forms vars ps → map (flat_judgement table subjects None) (judgements_of ps) ≡ map (flat_judgement other subjects None) (judgements_of ps)
@@ -116,7 +116,7 @@ module _ (sig : Signature) (base shapes : List Shape) (rules : List Rule) (table
   certified-both [] new a b = b
   certified-both (x ∷ xs) new a b = (a.0, a.1, certified-both xs new a.2 b)
 
-sorted-more : (shapes : List Shape) (forms : FormSorts) (base : List Rule) (more : List Known) → RulesAreSorted shapes forms (map rule_in (map basic base ++ more)) → RulesAreSorted shapes forms (map rule_in more)
+pub sorted-more : (shapes : List Shape) (forms : FormSorts) (base : List Rule) (more : List Known) → RulesAreSorted shapes forms (map rule_in (map basic base ++ more)) → RulesAreSorted shapes forms (map rule_in more)
 sorted-more shapes forms [] more h = h
 sorted-more shapes forms (b ∷ bs) more h = sorted-more shapes forms bs more h.1
 
@@ -181,8 +181,8 @@ module _ (sig : Signature) (base shapes : List Shape) (a : Accepted) (ok : IsAcc
   sound-certified (e ∷ es) (c ∷ cs) h d f s = (s.0.certified, sound_rules_are_sorted sig base shapes a ok n e h.0 d.0 f.0 c s.0, sound-certified es cs h.1 d.1 f.1 s.1)
 
 -- the set with a longer table is accepted by more shapes
-pub longer : (sig : Signature) (base shapes all : List Shape) (a : Accepted) (table : Table) (rules : List ExtRule) → IsAccepted sig base shapes a → Fits sig base shapes all a.table table rules → IsAccepted sig base all (with_table a table)
-longer sig base shapes all a table rules ok x = record {
+pub longer : (sig : Signature) (base shapes all : List Shape) (a : Accepted) (table : Table) → IsAccepted sig base shapes a → GoesOn base shapes all a.table table → IsAccepted sig base all (with_table a table)
+longer sig base shapes all a table ok x = record {
   begins = (ok.begins.0 ++ x.begins.0, x.begins.1 ∙ ap (λ (ss : List Shape). ss ++ x.begins.0) ok.begins.1 ∙ append-shapes base ok.begins.0 x.begins.0);
   no_typed = x.no_typed;
   fits = ok.fits;
@@ -198,7 +198,7 @@ longer sig base shapes all a table rules ok x = record {
 pub accepted_sets_grow : AcceptedSetsGrow
 accepted_sets_grow sig base shapes all a e ok x s =
     let so_far = with_table a e.table in
-    let first = longer sig base shapes all a e.table e.rules ok x in
+    let first = longer sig base shapes all a e.table ok x.goes_on in
     let same = sound-rules sig.subjects (length base) so_far e.rules e.stored s in
     let rules = sym (all-rules a.base a.more e.stored) in
     let new = sound-certified sig base all so_far first (length shapes) e.rules e.stored x.sorted x.disciplined x.bodies s in
@@ -215,7 +215,7 @@ accepted_sets_grow sig base shapes all a e ok x s =
       disciplined = subst (λ (rs : List Rule). AllDisciplined sig.subjects rs) rules
           (disciplined-both sig.subjects (rules_of a) (map rule_in (map checked e.stored)) first.disciplined (subst (λ (rs : List Rule). AllDisciplined sig.subjects rs) same x.disciplined));
       desugars = first.desugars;
-      certified = certified-both sig base shapes a.base a.table e.table x.keeps a.more e.stored first.certified new;
+      certified = certified-both sig base shapes a.base a.table e.table x.goes_on.keeps a.more e.stored first.certified new;
     }
 
 pub growth_goes_on : GrowthGoesOn

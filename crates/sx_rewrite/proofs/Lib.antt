@@ -56,3 +56,5 @@ pub mod Judged
 pub mod Rewrote
 pub mod Sources
 pub mod FitTerms
+pub mod LongerTables
+pub mod Checks

@@ -20,12 +20,12 @@ module _ (base shapes all : List Shape) (forms own plain_forms : List FormData) 
     (plain_are : ps ≡ map (plain_named a.table) (map named rs)) where
   pub plain-added : ps ++ map (λ e. plain_named other (named e.rule)) es ≡ map (plain_named other) (map named rs ++ map (λ e. named e.rule) es)
   plain-added =
-      plain-grown shapes (sorts_of forms) (subjects_in forms) a.table other x.keeps ps rs es (subst (λ (y : List Rule). RulesAreSorted shapes (sorts_of forms) y) (sym rules_are) ok.sorted) plain_are
+      plain-grown shapes (sorts_of forms) (subjects_in forms) a.table other x.goes_on.keeps ps rs es (subst (λ (y : List Rule). RulesAreSorted shapes (sorts_of forms) y) (sym rules_are) ok.sorted) plain_are
 
   pub plain-added-good : own ≡ forms → plain_forms ≡ forms → IsRuleSet all own (map named rs ++ map (λ e. named e.rule) es) → IsRuleSet all plain_forms (ps ++ map (λ e. plain_named other (named e.rule)) es)
   plain-added-good forms_are plain_forms_are good =
-      let first = longer (signature_of forms) base shapes all a other exts ok x in
+      let first = longer (signature_of forms) base shapes all a other ok x.goes_on in
       let named_good = subst (λ (y : List FormData). IsRuleSet all y (map named rs ++ map (λ e. named e.rule) es)) forms_are good in
-      let plain_good = plain-set base all forms other first.begins x.no_typed ok.fits ok.typed x.desugars (map named rs ++ map (λ e. named e.rule) es) named_good in
+      let plain_good = plain-set base all forms other first.begins first.no_typed ok.fits ok.typed first.desugars (map named rs ++ map (λ e. named e.rule) es) named_good in
       let moved = subst (λ (y : List NamedRule). IsRuleSet all forms y) (sym plain-added) plain_good in
       subst (λ (y : List FormData). IsRuleSet all y (ps ++ map (λ e. plain_named other (named e.rule)) es)) (sym plain_forms_are) moved

@@ -129,13 +129,18 @@ module _ (shapes : List Shape) (forms : FormSorts) (subjects : Modes) (table oth
       let c = premises-same vars ps h.1 in
       λ i. apart (a i) (b i) ∷ c i
 
+  pub rule-same : (r : Rule) → RuleIsSorted shapes forms r → plain_rule table r ≡ plain_rule other r
+  rule-same r h =
+      let a = premises-same r.sorts r.premises h.1 in
+      let b = judgement-same r.sorts r.conclusion h.0 in
+      λ i. record { sorts = r.sorts; premises = a i; conclusion = b i }
+
   pub named-same : (rs : List NamedRule) → RulesAreSorted shapes forms (map (λ r. r.rule) rs) → map (plain_named table) rs ≡ map (plain_named other) rs
   named-same [] h = refl
   named-same (r ∷ rs) h =
-      let a = premises-same r.rule.sorts r.rule.premises h.0.1 in
-      let b = judgement-same r.rule.sorts r.rule.conclusion h.0.0 in
+      let a = rule-same r.rule h.0 in
       let c = named-same rs h.1 in
-      λ i. record { name = r.name; rule = record { sorts = r.rule.sorts; premises = a i; conclusion = b i } } ∷ c i
+      λ i. record { name = r.name; rule = a i } ∷ c i
 
 -- plain rules are not deep
 terms-shallow : (table : Table) (ts : List Tree) → AllByRecursion (HasImage table) ts → AreShallow (map (image table) ts)

@@ -85,8 +85,8 @@ module _ (sig : Signature) (base shapes : List Shape) (a : Accepted) (ok : IsAcc
       × (HasBaseSyntax (length base) a.table ext.body → JudgementIsSorted base sig.forms ext.rule.sorts (flat_goal a.table sig.subjects ext))
   flat_sorted = flat_forms_are_sorted sig base shapes a.table ok.begins ok.no_typed ok.fits ok.desugars n ext h disciplined fit
 
-  below : HypothesesBelow (length base) given
-  below = (
+  pub flat-below : HypothesesBelow (length base) (flat_given a.table sig.subjects ext)
+  flat-below = (
     judgements-below base sig.forms ext.rule.sorts given.judgements flat_sorted.0,
     pairs-below base shapes a.table ok.begins ok.no_typed ok.desugars ext.rule.sorts sig.forms ext.rule.premises h.1,
   )
@@ -113,9 +113,9 @@ module _ (sig : Signature) (base shapes : List Shape) (a : Accepted) (ok : IsAcc
       let table = a.table in
       let plain = plain_rules_are_accepted sig base shapes a ok in
       let goal = flat_goal table sig.subjects ext in
-      let own = lowered_are_derivations sig base shapes (plain_of a) plain given below x.proof x.lowered goal k x.derives x.lowers in
+      let own = lowered_are_derivations sig base shapes (plain_of a) plain given flat-below x.proof x.lowered goal k x.derives x.lowers in
       let goal_sorted = inputs-sorted shapes ext.rule.sorts (sig.modes j.form) goal.places (sig.forms j.form) flat_sorted.1 in
-      let sorted = lowered_are_sorted sig base shapes (plain_of a) plain given ext.rule.sorts flat_sorted.0 below x.proof x.lowered goal k x.derives goal_sorted x.lowers in
+      let sorted = lowered_are_sorted sig base shapes (plain_of a) plain given ext.rule.sorts flat_sorted.0 flat-below x.proof x.lowered goal k x.derives goal_sorted x.lowers in
       let target = flat_judgement table sig.subjects (Some t) j in
       let others = inputs-sorted shapes ext.rule.sorts bs j.places (sig.forms j.form) h.0 in
       let twice = list-twice base shapes table ok.begins ok.no_typed ok.desugars ext.rule.sorts (inputs bs j.places) (inputs bs (sig.forms j.form)) others (ok.fits.others j.form) in

@@ -48,3 +48,9 @@ IsStored sig n a ext c =
     (HasBaseSyntax n a.table ext.body × (answer : Answer) × IsFirstBy sig a a.base ext answer
     × (c ≡ record { rule = ext.rule; body = option_map (image a.table) ext.body; proof = answer.0 }))
     ⊎ ((HasBaseSyntax n a.table ext.body → ⊥) × (answer : Answer) × IsFirstBy sig a (rules_of (plain_of a)) ext answer × IsStoredLowered sig a ext answer.0 c)
+
+-- so it is of each rule, with what stands at its place
+abbrev pub AreStored : Signature → ℕ → Accepted → List ExtRule → List Checked → Type 0
+AreStored sig n a [] [] = Unit {0}
+AreStored sig n a (e ∷ es) (c ∷ cs) = IsStored sig n a e c × AreStored sig n a es cs
+AreStored sig n a _ _ = ⊥

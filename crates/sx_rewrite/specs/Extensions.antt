@@ -5,11 +5,11 @@ use Rattle.sx_term.specs.Sorts.{Shape, HaveSorts}
 use Rattle.sx_term.specs.Untyped.{PlainHaveNoTyped}
 use Rattle.sx_rules.specs.Rules.{Rule}
 use Rattle.sx_rules.specs.Modes.{Modes, outputs, AllModed}
-use Rattle.sx_rules.specs.Sorts.{RulesAreSorted}
-use Rattle.sx_rules.specs.Discipline.{subjects_of}
+use Rattle.sx_rules.specs.Sorts.{RuleIsSorted, RulesAreSorted}
+use Rattle.sx_rules.specs.Discipline.{subjects_of, IsDisciplined}
 use Rattle.sx_plain.specs.Plain.{Table}
 use Rattle.sx_plain.specs.Tables.{IsCovered, Begins, Desugars}
-use Rattle.sx_rewrite.specs.Accepted.{ExtRule, Checked, Accepted, AllDisciplined, Signature}
+use Rattle.sx_rewrite.specs.Accepted.{ExtRule, Checked, Accepted, AllDisciplined, Signature, IsAccepted}
 use Rattle.sx_rewrite.specs.Sound.{AreSoundBy}
 
 -- an extension with what is stored of its rules, and the plain table of the extensions up to it
@@ -47,17 +47,33 @@ abbrev pub BodiesFit : Signature → List Shape → ℕ → Table → List ExtRu
 BodiesFit sig shapes n table [] = Unit {0}
 BodiesFit sig shapes n table (e ∷ es) = BodyFits sig shapes n table e.rule e.body × BodiesFit sig shapes n table es
 
--- The extension fits the rules that have the shapes: its own shapes come after those, its table keeps their entries and has one for each plain constructor that is
--- not base, and its rules are well sorted, moded and disciplined, with bodies of syntax before it.
-pub record Fits (sig : Signature) (base shapes all : List Shape) (before table : Table) (rules : List ExtRule) : Type 0 where
+-- The shapes and the table go on from those before: the new shapes come after those before, and the table keeps
+-- their entries and has one for each plain constructor that is not base.
+pub record GoesOn (base shapes all : List Shape) (before table : Table) : Type 0 where
   pub begins : Begins shapes all
   pub no_typed : PlainHaveNoTyped all
   pub keeps : (label : ℕ) → label < length shapes → before label ≡ table label
   pub desugars : Desugars base all table
+
+-- The extension fits the rules that have the shapes: its shapes and its table go on from theirs, and its rules
+-- are well sorted, moded and disciplined, with bodies of syntax before it.
+pub record Fits (sig : Signature) (base shapes all : List Shape) (before table : Table)
+    (rules : List ExtRule) : Type 0 where
+  pub goes_on : GoesOn base shapes all before table
   pub sorted : RulesAreSorted all sig.forms (map (λ e. e.rule) rules)
   pub moded : AllModed sig.modes (map (λ e. e.rule) rules)
   pub disciplined : AllDisciplined sig.subjects (map (λ e. e.rule) rules)
   pub bodies : BodiesFit sig all (length shapes) table rules
+
+-- The rule is of an extension after the set: the shapes and the table of the extension go on from those of the
+-- set, and the rule is well sorted and disciplined, with a body of syntax before the extension.
+pub record ComesAfter (sig : Signature) (base shapes all : List Shape) (a : Accepted) (table : Table)
+    (ext : ExtRule) : Type 0 where
+  pub accepted : IsAccepted sig base shapes a
+  pub goes_on : GoesOn base shapes all a.table table
+  pub sorted : RuleIsSorted all sig.forms ext.rule
+  pub disciplined : IsDisciplined sig.subjects ext.rule
+  pub body : BodyFits sig all (length shapes) table ext.rule ext.body
 
 -- some extensions in order made the set from its base rules, and the rules of each are sound after those before it
 abbrev pub HasGrownSoundly : Modes → ℕ → Accepted → Type 0

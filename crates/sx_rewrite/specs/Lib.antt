@@ -41,3 +41,4 @@ pub mod Lowering
 pub mod SourceView
 pub mod Rewrites
 pub mod FitLaws
+pub mod CheckLaws

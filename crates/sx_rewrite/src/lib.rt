@@ -21,6 +21,7 @@ mod certificate_instance;
 mod certificate_size;
 mod certificates;
 mod certifying;
+mod check_laws;
 mod count_laws;
 mod ext_rule;
 mod extension_data;
@@ -71,6 +72,11 @@ pub use accept_laws::{
     growth_goes_on, rejected_is_unsound, sound_rules_are_sorted, stored_is_sound,
 };
 pub use accepted::Accepted;
+pub use check_laws::{
+    checks_are_rewritten_alike, checks_are_sound, checks_have_fit_terms, flat_goals_stay,
+    flat_premises_are_base, found_checks_can_be_rewritten, longer_tables_are_accepted,
+    longer_tables_rewrite_alike, plain_rules_stay, stored_extensions_are_sound,
+};
 pub use count_laws::{certificates_use_premises, height_is_greatest, nodes_are_summed};
 pub use ext_rule::ExtRule;
 pub use extension_data::ExtensionData;
