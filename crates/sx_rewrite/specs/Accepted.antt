@@ -30,7 +30,8 @@ flat_conclusion table subjects c = flat_judgement table subjects c.body c.rule.c
 
 -- by the base rules the certificate derives the flat conclusion from the flat premises; the variables of the rule are constants
 abbrev pub IsCertified : Table → Modes → List Rule → Checked → Type 0
-IsCertified table subjects base c = Derives base (flat_hypotheses table subjects c.rule.premises) (flat_conclusion table subjects c) c.proof
+IsCertified table subjects base c =
+    Derives base (flat_hypotheses table subjects c.rule.premises) (flat_conclusion table subjects c) c.proof
 
 -- a rule of an accepted set: a base rule, or an extension rule
 pub data Known : Type 0 where

@@ -1,6 +1,17 @@
 //! What holds of the rules of an extension that are checked by the set before it.
 
-ghost use Rattle.sx_rewrite.specs.CheckLaws.{LongerTablesAreAccepted, PlainRulesStay, LongerTablesRewriteAlike, FlatPremisesAreBase, FlatGoalsStay, ChecksHaveFitTerms, FoundChecksCanBeRewritten, ChecksAreRewrittenAlike, ChecksAreSound, StoredExtensionsAreSound};
+ghost use Rattle.sx_rewrite.specs.CheckLaws.{
+  LongerTablesAreAccepted,
+  PlainRulesStay,
+  LongerTablesRewriteAlike,
+  FlatPremisesAreBase,
+  FlatGoalsStay,
+  ChecksHaveFitTerms,
+  FoundChecksCanBeRewritten,
+  ChecksAreRewrittenAlike,
+  ChecksAreSound,
+  StoredExtensionsAreSound,
+};
 
 /// An accepted set stays one with a table that goes on from its own.
 pub fn longer_tables_are_accepted()
