@@ -18,7 +18,8 @@ pub record ExtRule : Type 0 where
   pub rule : Rule
   pub body : Option Tree
 
--- an extension rule as it is stored: with its flat body, where its conclusion has a subject, and its certificate
+-- an extension rule as it is stored: with its flat body, where its conclusion has a subject,
+-- and its certificate
 pub record Checked : Type 0 where
   pub rule : Rule
   pub body : Option Tree
@@ -28,10 +29,12 @@ pub record Checked : Type 0 where
 abbrev pub flat_conclusion : Table → Modes → Checked → Judgement
 flat_conclusion table subjects c = flat_judgement table subjects c.body c.rule.conclusion
 
--- by the base rules the certificate derives the flat conclusion from the flat premises; the variables of the rule are constants
+-- by the base rules the certificate derives the flat conclusion from the flat premises;
+-- the variables of the rule are constants
 abbrev pub IsCertified : Table → Modes → List Rule → Checked → Type 0
 IsCertified table subjects base c =
-    Derives base (flat_hypotheses table subjects c.rule.premises) (flat_conclusion table subjects c) c.proof
+    Derives base (flat_hypotheses table subjects c.rule.premises)
+    (flat_conclusion table subjects c) c.proof
 
 -- a rule of an accepted set: a base rule, or an extension rule
 pub data Known : Type 0 where
@@ -58,10 +61,12 @@ abbrev pub rules_of : Accepted → List Rule
 rules_of a = map rule_in (known_of a)
 
 -- each extension rule has a certificate, and its flat conclusion is well sorted by the base shapes
-abbrev pub AllCertified : Table → Modes → FormSorts → List Shape → List Rule → List Checked → Type 0
+abbrev pub AllCertified : Table → Modes → FormSorts → List Shape → List Rule →
+    List Checked → Type 0
 AllCertified table subjects forms shapes base [] = Unit {0}
 AllCertified table subjects forms shapes base (c ∷ cs) =
-    IsCertified table subjects base c × JudgementIsSorted shapes forms c.rule.sorts (flat_conclusion table subjects c)
+    IsCertified table subjects base c
+    × JudgementIsSorted shapes forms c.rule.sorts (flat_conclusion table subjects c)
     × AllCertified table subjects forms shapes base cs
 
 -- each of the rules is disciplined
@@ -80,8 +85,9 @@ pub record Signature : Type 0 where
   pub subjects : Modes
   pub forms : FormSorts
 
--- An accepted set, with the shapes of its base rules and of all its rules. All rules are well sorted, moded and disciplined, the
--- base rules by the base shapes alone; the table desugars the plain constructors; and each extension rule has a certificate.
+-- An accepted set, with the shapes of its base rules and of all its rules. All rules are well
+-- sorted, moded and disciplined, the base rules by the base shapes alone; the table
+-- desugars the plain constructors; and each extension rule has a certificate.
 pub record IsAccepted (sig : Signature) (base shapes : List Shape) (a : Accepted) : Type 0 where
   pub begins : Begins base shapes
   pub no_typed : PlainHaveNoTyped shapes

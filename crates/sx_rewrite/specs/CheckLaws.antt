@@ -23,7 +23,8 @@ use Rattle.sx_rewrite.specs.Sound.{flat_given, flat_goal, IsSoundBy, AreSoundBy}
 abbrev pub LongerTablesAreAccepted : Type 0
 LongerTablesAreAccepted =
     (sig : Signature) (base shapes all : List Shape) →
-    (a : Accepted) → IsAccepted sig base shapes a → (table : Table) → GoesOn base shapes all a.table table →
+    (a : Accepted) → IsAccepted sig base shapes a → (table : Table) →
+    GoesOn base shapes all a.table table →
     IsAccepted sig base all (with_table a table)
 
 -- its plain rules stay as they are
@@ -98,6 +99,7 @@ ChecksAreSound =
 abbrev pub StoredExtensionsAreSound : Type 0
 StoredExtensionsAreSound =
     (sig : Signature) (base shapes all : List Shape) →
-    (a : Accepted) → IsAccepted sig base shapes a → (e : Extension) → Fits sig base shapes all a.table e.table e.rules →
+    (a : Accepted) → IsAccepted sig base shapes a → (e : Extension) →
+    Fits sig base shapes all a.table e.table e.rules →
     AreStored sig (length base) (with_table a e.table) e.rules e.stored →
     AreSoundBy sig.subjects (length base) (with_table a e.table) e.rules e.stored

@@ -13,15 +13,20 @@ use Rattle.sx_rewrite.specs.Counts.{own_nodes, own_height, nodes_above, sum_of, 
 abbrev pub CertificatesUsePremises : Type 0
 CertificatesUsePremises =
     (sig : Signature) (base shapes : List Shape) (a : Accepted) → IsAccepted sig base shapes a →
-    (r : ℕ) (c : Checked) → slice_get (known_of a) r ≡ Some (checked c) → (i : ℕ) → IsUsed i c.proof → i < length (judgements_of c.rule.premises)
+    (r : ℕ) (c : Checked) → slice_get (known_of a) r ≡ Some (checked c) → (i : ℕ) →
+    IsUsed i c.proof → i < length (judgements_of c.rule.premises)
 
--- the nodes of a proof with others in the place of its givens are its own, and those of each other as often as its given stands
+-- the nodes of a proof with others in the place of its givens are its own,
+-- and those of each other as often as its given stands
 abbrev pub NodesAreSummed : Type 0
 NodesAreSummed =
-    (p : Proof) (ns : List ℕ) → ((i : ℕ) → IsUsed i p → i < length ns) → grafted_nodes ns p ≡ own_nodes p + sum_of (λ i. times_given i p) 0 ns
+    (p : Proof) (ns : List ℕ) → ((i : ℕ) → IsUsed i p → i < length ns) →
+    grafted_nodes ns p ≡ own_nodes p + sum_of (λ i. times_given i p) 0 ns
 
--- and it is as deep as it is by itself, or as one of the others that stand, with the nodes above it
+-- and it is as deep as it is by itself, or as one of the others that stand,
+-- with the nodes above it
 abbrev pub HeightIsGreatest : Type 0
 HeightIsGreatest =
     (p : Proof) (hs : List ℕ) → ((i : ℕ) → IsUsed i p → i < length hs) →
-    grafted_height hs p ≡ max (own_height p) (most_of (λ i. is_used i p) (λ i. nodes_above i p) 0 hs)
+    grafted_height hs p ≡ max (own_height p)
+    (most_of (λ i. is_used i p) (λ i. nodes_above i p) 0 hs)

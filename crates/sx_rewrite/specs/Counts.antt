@@ -34,7 +34,8 @@ abbrev mutual
   -- the most, of the proofs in which it stands
   pub nodes_above_in : ℕ → Proofs → ℕ
   nodes_above_in i no_more = 0
-  nodes_above_in i (p ⊳ ps) = max (if is_used i p then nodes_above i p else 0) (nodes_above_in i ps)
+  nodes_above_in i (p ⊳ ps) =
+      max (if is_used i p then nodes_above i p else 0) (nodes_above_in i ps)
 
 -- the sum of the numbers, counted from i, each as often as it stands
 abbrev pub sum_of : (ℕ → ℕ) → ℕ → List ℕ → ℕ
@@ -44,4 +45,5 @@ sum_of times i (n ∷ ns) = times i * n + sum_of times (i + 1) ns
 -- the greatest of the numbers, counted from i, that stand, each with what is above it
 abbrev pub most_of : (ℕ → Bool) → (ℕ → ℕ) → ℕ → List ℕ → ℕ
 most_of stands above i [] = 0
-most_of stands above i (h ∷ hs) = max (if stands i then above i + h else 0) (most_of stands above (i + 1) hs)
+most_of stands above i (h ∷ hs) =
+    max (if stands i then above i + h else 0) (most_of stands above (i + 1) hs)

@@ -34,29 +34,34 @@ extended a e = record { base = a.base; more = a.more ++ e.stored; table = e.tabl
 abbrev pub GrowsSoundly : Modes → ℕ → Accepted → List Extension → Accepted → Type 0
 GrowsSoundly subjects n start [] a = start ≡ a
 GrowsSoundly subjects n start (e ∷ es) a =
-    AreSoundBy subjects n (with_table start e.table) e.rules e.stored × GrowsSoundly subjects n (extended start e) es a
+    AreSoundBy subjects n (with_table start e.table) e.rules e.stored
+    × GrowsSoundly subjects n (extended start e) es a
 
--- where the conclusion has a subject stands a body of its sort, whose typed constructors are those before the extension: their labels are below n
+-- where the conclusion has a subject stands a body of its sort,
+-- whose typed constructors are those before the extension: their labels are below n
 abbrev pub BodyFits : Signature → List Shape → ℕ → Table → Rule → Option Tree → Type 0
 BodyFits sig shapes n table rule None = subjects_of sig.subjects rule.conclusion ≡ []
 BodyFits sig shapes n table rule (Some body) =
-    HaveSorts shapes rule.sorts (body ∷ []) (outputs (sig.subjects rule.conclusion.form) (sig.forms rule.conclusion.form)) × IsCovered n table body
+    HaveSorts shapes rule.sorts (body ∷ [])
+    (outputs (sig.subjects rule.conclusion.form) (sig.forms rule.conclusion.form))
+    × IsCovered n table body
 
 -- so it is of each rule
 abbrev pub BodiesFit : Signature → List Shape → ℕ → Table → List ExtRule → Type 0
 BodiesFit sig shapes n table [] = Unit {0}
-BodiesFit sig shapes n table (e ∷ es) = BodyFits sig shapes n table e.rule e.body × BodiesFit sig shapes n table es
+BodiesFit sig shapes n table (e ∷ es) =
+    BodyFits sig shapes n table e.rule e.body × BodiesFit sig shapes n table es
 
--- The shapes and the table go on from those before: the new shapes come after those before, and the table keeps
--- their entries and has one for each plain constructor that is not base.
+-- The shapes and the table go on from those before: the new shapes come after those before, and
+-- the table keeps their entries and has one for each plain constructor that is not base.
 pub record GoesOn (base shapes all : List Shape) (before table : Table) : Type 0 where
   pub begins : Begins shapes all
   pub no_typed : PlainHaveNoTyped all
   pub keeps : (label : ℕ) → label < length shapes → before label ≡ table label
   pub desugars : Desugars base all table
 
--- The extension fits the rules that have the shapes: its shapes and its table go on from theirs, and its rules
--- are well sorted, moded and disciplined, with bodies of syntax before it.
+-- The extension fits the rules that have the shapes: its shapes and its table go on from theirs,
+-- and its rules are well sorted, moded and disciplined, with bodies of syntax before it.
 pub record Fits (sig : Signature) (base shapes all : List Shape) (before table : Table)
     (rules : List ExtRule) : Type 0 where
   pub goes_on : GoesOn base shapes all before table
@@ -65,16 +70,19 @@ pub record Fits (sig : Signature) (base shapes all : List Shape) (before table :
   pub disciplined : AllDisciplined sig.subjects (map (λ e. e.rule) rules)
   pub bodies : BodiesFit sig all (length shapes) table rules
 
--- The rule is of an extension after the set: the shapes and the table of the extension go on from those of the
--- set, and the rule is well sorted and disciplined, with a body of syntax before the extension.
-pub record ComesAfter (sig : Signature) (base shapes all : List Shape) (a : Accepted) (table : Table)
-    (ext : ExtRule) : Type 0 where
+-- The rule is of an extension after the set: the shapes and the table of the
+-- extension go on from those of the set, and the rule is well sorted and
+-- disciplined, with a body of syntax before the extension.
+pub record ComesAfter (sig : Signature) (base shapes all : List Shape)
+    (a : Accepted) (table : Table) (ext : ExtRule) : Type 0 where
   pub accepted : IsAccepted sig base shapes a
   pub goes_on : GoesOn base shapes all a.table table
   pub sorted : RuleIsSorted all sig.forms ext.rule
   pub disciplined : IsDisciplined sig.subjects ext.rule
   pub body : BodyFits sig all (length shapes) table ext.rule ext.body
 
--- some extensions in order made the set from its base rules, and the rules of each are sound after those before it
+-- some extensions in order made the set from its base rules,
+-- and the rules of each are sound after those before it
 abbrev pub HasGrownSoundly : Modes → ℕ → Accepted → Type 0
-HasGrownSoundly subjects n a = ∥ ((es : List Extension) × GrowsSoundly subjects n (without_extensions a.base) es a) ∥₁
+HasGrownSoundly subjects n a =
+    ∥ ((es : List Extension) × GrowsSoundly subjects n (without_extensions a.base) es a) ∥₁

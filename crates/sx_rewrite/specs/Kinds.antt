@@ -16,4 +16,5 @@ IsSortFor Out sort = IsUntypedSort sort
 
 -- so it is of the places of the forms
 abbrev pub HaveSortsFor : List FormData → Type 0
-HaveSortsFor forms = AllByRecursion (λ f. AllByRecursion (λ p. IsSortFor p.role p.sort) f.places) forms
+HaveSortsFor forms =
+    AllByRecursion (λ f. AllByRecursion (λ p. IsSortFor p.role p.sort) f.places) forms

@@ -18,7 +18,8 @@ abbrev pub FitKids : Option Known → Proofs → Type 0
 FitKids None kids = ⊥
 FitKids (Some known) kids = number_of kids ≡ length (judgements_of (rule_in known).premises)
 
--- each node of the proof is by a rule of the set, and has a kid for each judgement among its premises
+-- each node of the proof is by a rule of the set,
+-- and has a kid for each judgement among its premises
 abbrev mutual
   pub HasFitKids : Accepted → Proof → Type 0
   HasFitKids a (by r binds kids) = FitKids (slice_get (known_of a) r) kids × HaveFitKids a kids
@@ -33,4 +34,5 @@ abbrev mutual
 abbrev pub IsLoweredSize : Accepted → Proof → ℕ → Option LoweredSize → Type 0
 IsLoweredSize a p budget None = budget < lowered_nodes a p
 IsLoweredSize a p budget (Some size) =
-    (lowered_nodes a p ≤ budget) × (size.nodes ≡ lowered_nodes a p) × (size.height ≡ lowered_height a p) × (size.copied ≡ in_u64 (copied a p))
+    (lowered_nodes a p ≤ budget) × (size.nodes ≡ lowered_nodes a p)
+    × (size.height ≡ lowered_height a p) × (size.copied ≡ in_u64 (copied a p))

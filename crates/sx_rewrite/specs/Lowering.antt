@@ -37,28 +37,37 @@ pub record CanLower (a : Accepted) (hyps : Hypotheses) (p : Proof) : Type 0 wher
   pub low : lowered_height a p ≤ 3000
 
 -- p is lowered to q, and no term that is measured for it passes a limit
-pub record IsLoweredTo (a : Accepted) (subjects : Modes) (hyps : Hypotheses) (p q : Proof) : Type 0 where
+pub record IsLoweredTo (a : Accepted) (subjects : Modes) (hyps : Hypotheses)
+    (p q : Proof) : Type 0 where
   pub lowered : (other : Proof) (k : Judgement) → Lowers a subjects hyps p other k → q ≡ other
   pub small : (ts : List Tree) → Measures a subjects hyps p ts → first_over ts ≡ None
 
--- each kid that is needed is lowered to the one at its place, and in the place of another stands a given
-pub record AreLoweredTo (a : Accepted) (subjects : Modes) (hyps : Hypotheses) (need : ℕ → Bool) (ps qs : Proofs) : Type 0 where
+-- each kid that is needed is lowered to the one at its place,
+-- and in the place of another stands a given
+pub record AreLoweredTo (a : Accepted) (subjects : Modes) (hyps : Hypotheses) (need : ℕ → Bool)
+    (ps qs : Proofs) : Type 0 where
   pub many : number_of qs ≡ number_of ps
-  pub each : (i : ℕ) (p q : Proof) → need i ≡ true → proof_at ps i ≡ Some p → proof_at qs i ≡ Some q → IsLoweredTo a subjects hyps p q
-  pub blank : (i : ℕ) (q : Proof) → need i ≡ false → proof_at qs i ≡ Some q → (n : ℕ) × (q ≡ given n)
+  pub each : (i : ℕ) (p q : Proof) → need i ≡ true → proof_at ps i ≡ Some p →
+      proof_at qs i ≡ Some q → IsLoweredTo a subjects hyps p q
+  pub blank : (i : ℕ) (q : Proof) → need i ≡ false → proof_at qs i ≡ Some q →
+      (n : ℕ) × (q ≡ given n)
 
 -- the terms of the kids, counted from i, that are needed
 abbrev pub needed_terms : (ℕ → Bool) → ℕ → List (List Tree) → List Tree
 needed_terms need i [] = []
 needed_terms need i (ts ∷ tss) = (if need i then ts else []) ++ needed_terms need (i + 1) tss
 
--- the error tells the first term that is measured for the proof and passes a limit, or want of memory
+-- the error tells the first term that is measured for the proof and passes a limit,
+-- or want of memory
 abbrev pub IsRefused : Accepted → Modes → Hypotheses → Proof → RewriteError → Type 0
-IsRefused a subjects hyps p e = (ts : List Tree) → Measures a subjects hyps p ts → Tells (first_over ts) e
+IsRefused a subjects hyps p e =
+    (ts : List Tree) → Measures a subjects hyps p ts → Tells (first_over ts) e
 
 -- so it does of the kids that are needed
 abbrev pub AreRefused : Accepted → Modes → Hypotheses → (ℕ → Bool) → Proofs → RewriteError → Type 0
-AreRefused a subjects hyps need ps e = (tss : List (List Tree)) → MeasuresEach a subjects hyps ps tss → Tells (first_over (needed_terms need 0 tss)) e
+AreRefused a subjects hyps need ps e =
+    (tss : List (List Tree)) → MeasuresEach a subjects hyps ps tss →
+    Tells (first_over (needed_terms need 0 tss)) e
 
 -- the terms of a node by a base rule, or else those of its certificate, under what is put
 abbrev pub own_terms : List Rule → Option Proof → ℕ → List Tree → List Tree
@@ -70,14 +79,20 @@ abbrev pub own_proof : Option Proof → ℕ → List Tree → Proofs → Proof
 own_proof None r more qs = by r more qs
 own_proof (Some certificate) r more qs = graft qs (proof_instance (bound_by more) certificate)
 
--- where the node has a certificate, it uses the givens of kids alone, and with these in their place it is no deeper than 3,000
+-- where the node has a certificate, it uses the givens of kids alone,
+-- and with these in their place it is no deeper than 3,000
 abbrev pub CanGraft : Option Proof → Proofs → Type 0
-CanGraft certificate qs = (p : Proof) → certificate ≡ Some p → AllBelow (number_of qs) (givens_of p) × (height_of (graft qs p) ≤ 3000)
+CanGraft certificate qs =
+    (p : Proof) → certificate ≡ Some p →
+    AllBelow (number_of qs) (givens_of p) × (height_of (graft qs p) ≤ 3000)
 
 -- the kid is lowered where it is needed, and else a given stands in its place
 abbrev pub IsKidLowered : Accepted → Modes → Hypotheses → Bool → Proof → Proof → Type 0
-IsKidLowered a subjects hyps need p q = (need ≡ true → IsLoweredTo a subjects hyps p q) × (need ≡ false → (n : ℕ) × (q ≡ given n))
+IsKidLowered a subjects hyps need p q =
+    (need ≡ true → IsLoweredTo a subjects hyps p q) × (need ≡ false → (n : ℕ) × (q ≡ given n))
 
 -- the error tells the first term that passes a limit of a kid that is needed, or want of memory
 abbrev pub IsKidRefused : Accepted → Modes → Hypotheses → Bool → Proof → RewriteError → Type 0
-IsKidRefused a subjects hyps need p e = (ts : List Tree) → Measures a subjects hyps p ts → Tells (first_over (if need then ts else [])) e
+IsKidRefused a subjects hyps need p e =
+    (ts : List Tree) → Measures a subjects hyps p ts →
+    Tells (first_over (if need then ts else [])) e

@@ -14,22 +14,30 @@ use Rattle.sx_rewrite.specs.Accepted.{flat_conclusion, Known, basic, checked, ru
 -- each premise's subject has as its instance the subject of the lowered judgement
 abbrev pub SubjectsAreLowered : Modes → (ℕ → Tree) → List Judgement → List Judgement → Type 0
 SubjectsAreLowered subjects s [] [] = Unit {0}
-SubjectsAreLowered subjects s (j ∷ js) (k ∷ ks) = (map (instance s) (subjects_of subjects j) ≡ subjects_of subjects k) × SubjectsAreLowered subjects s js ks
+SubjectsAreLowered subjects s (j ∷ js) (k ∷ ks) =
+    (map (instance s) (subjects_of subjects j) ≡ subjects_of subjects k)
+    × SubjectsAreLowered subjects s js ks
 SubjectsAreLowered subjects s _ _ = ⊥
 
--- the bindings of a lowered node: the plain image for each variable of a plain or lexical sort, and the lowered subject for each that is a premise's subject
-pub record AreLoweredBinds (table : Table) (subjects : Modes) (rule : Rule) (binds more : List Tree) (ks : List Judgement) : Type 0 where
+-- the bindings of a lowered node: the plain image for each variable of a plain or lexical sort,
+-- and the lowered subject for each that is a premise's subject
+pub record AreLoweredBinds (table : Table) (subjects : Modes) (rule : Rule)
+    (binds more : List Tree) (ks : List Judgement) : Type 0 where
   pub many : length more ≡ length rule.sorts
   pub images : (v : ℕ) → IsUntyped rule.sorts v → bound_by more v ≡ image table (bound_by binds v)
   pub subjects_are : SubjectsAreLowered subjects (bound_by more) (judgements_of rule.premises) ks
 
--- a base rule stays; an extension rule gives way to its certificate, with the lowered kids in the place of its givens
+-- a base rule stays; an extension rule gives way to its certificate,
+-- with the lowered kids in the place of its givens
 abbrev pub LowersTo : Table → Modes → Known → ℕ → List Tree → Proofs → Proof → Judgement → Type 0
-LowersTo table subjects (basic rule) r more qs q k = (q ≡ by r more qs) × (k ≡ judgement_instance (bound_by more) rule.conclusion)
+LowersTo table subjects (basic rule) r more qs q k =
+    (q ≡ by r more qs) × (k ≡ judgement_instance (bound_by more) rule.conclusion)
 LowersTo table subjects (checked c) r more qs q k =
-    (q ≡ graft qs (proof_instance (bound_by more) c.proof)) × (k ≡ judgement_instance (bound_by more) (flat_conclusion table subjects c))
+    (q ≡ graft qs (proof_instance (bound_by more) c.proof))
+    × (k ≡ judgement_instance (bound_by more) (flat_conclusion table subjects c))
 
--- the derivation, by the rules of the accepted set from hypotheses, is lowered to the derivation q of k
+-- the derivation, by the rules of the accepted set from hypotheses,
+-- is lowered to the derivation q of k
 abbrev mutual
   pub Lowers : Accepted → Modes → Hypotheses → Proof → Proof → Judgement → Type 0
   Lowers a subjects hyps (given i) q k = (q ≡ given i) × (slice_get hyps.judgements i ≡ Some k)
@@ -43,7 +51,8 @@ abbrev mutual
   -- each is lowered to the one at its place
   pub LowersEach : Accepted → Modes → Hypotheses → Proofs → Proofs → List Judgement → Type 0
   LowersEach a subjects hyps no_more no_more [] = Unit {0}
-  LowersEach a subjects hyps (p ⊳ ps) (q ⊳ qs) (k ∷ ks) = Lowers a subjects hyps p q k × LowersEach a subjects hyps ps qs ks
+  LowersEach a subjects hyps (p ⊳ ps) (q ⊳ qs) (k ∷ ks) =
+      Lowers a subjects hyps p q k × LowersEach a subjects hyps ps qs ks
   LowersEach a subjects hyps _ _ _ = ⊥
 
 -- there are none

@@ -22,23 +22,27 @@ abbrev mutual
 -- the terms of a node: its bindings and then the places of its conclusion
 abbrev pub node_terms : Option Rule → List Tree → List Tree
 node_terms None binds = binds
-node_terms (Some rule) binds = binds ++ (judgement_instance (bound_by binds) rule.conclusion).places
+node_terms (Some rule) binds =
+    binds ++ (judgement_instance (bound_by binds) rule.conclusion).places
 
 -- the terms of the instance of a certificate, node by node in preorder
 abbrev mutual
   pub certificate_terms : List Rule → (ℕ → Tree) → Proof → List Tree
-  certificate_terms base s (by r binds kids) = node_terms (slice_get base r) (map (instance s) binds) ++ certificate_terms_of base s kids
+  certificate_terms base s (by r binds kids) =
+      node_terms (slice_get base r) (map (instance s) binds) ++ certificate_terms_of base s kids
   certificate_terms base s (given i) = []
 
   -- the same of each proof
   pub certificate_terms_of : List Rule → (ℕ → Tree) → Proofs → List Tree
   certificate_terms_of base s no_more = []
-  certificate_terms_of base s (p ⊳ ps) = certificate_terms base s p ++ certificate_terms_of base s ps
+  certificate_terms_of base s (p ⊳ ps) =
+      certificate_terms base s p ++ certificate_terms_of base s ps
 
 -- the terms of the kids, counted from i, whose givens the certificate uses
 abbrev pub used_terms : Proof → ℕ → List (List Tree) → List Tree
 used_terms certificate i [] = []
-used_terms certificate i (ts ∷ tss) = (if is_used i certificate then ts else []) ++ used_terms certificate (i + 1) tss
+used_terms certificate i (ts ∷ tss) =
+    (if is_used i certificate then ts else []) ++ used_terms certificate (i + 1) tss
 
 -- the terms of all of them
 abbrev pub all_terms : List (List Tree) → List Tree
@@ -48,14 +52,16 @@ all_terms (ts ∷ tss) = ts ++ all_terms tss
 -- those of the kids that are lowered, and then those of the node
 abbrev pub terms_at : Accepted → Known → ℕ → List Tree → List (List Tree) → List Tree
 terms_at a (basic rule) r more tss = all_terms tss ++ node_terms (slice_get a.base r) more
-terms_at a (checked c) r more tss = used_terms c.proof 0 tss ++ certificate_terms a.base (bound_by more) c.proof
+terms_at a (checked c) r more tss =
+    used_terms c.proof 0 tss ++ certificate_terms a.base (bound_by more) c.proof
 
 -- the terms of the derivation that p is lowered to, in the order in which they are measured
 abbrev mutual
   pub Measures : Accepted → Modes → Hypotheses → Proof → List Tree → Type 0
   Measures a subjects hyps (given i) ts = ts ≡ []
   Measures a subjects hyps (by r binds kids) ts =
-      (known : Known) × (qs : Proofs) × (ks : List Judgement) × (more : List Tree) × (tss : List (List Tree))
+      (known : Known) × (qs : Proofs) × (ks : List Judgement) × (more : List Tree)
+      × (tss : List (List Tree))
       × (slice_get (known_of a) r ≡ Some known)
       × LowersEach a subjects hyps kids qs ks
       × AreLoweredBinds a.table subjects (rule_in known) binds more ks
@@ -65,7 +71,8 @@ abbrev mutual
   -- each has the terms at its place
   pub MeasuresEach : Accepted → Modes → Hypotheses → Proofs → List (List Tree) → Type 0
   MeasuresEach a subjects hyps no_more [] = Unit {0}
-  MeasuresEach a subjects hyps (p ⊳ ps) (ts ∷ tss) = Measures a subjects hyps p ts × MeasuresEach a subjects hyps ps tss
+  MeasuresEach a subjects hyps (p ⊳ ps) (ts ∷ tss) =
+      Measures a subjects hyps p ts × MeasuresEach a subjects hyps ps tss
   MeasuresEach a subjects hyps _ _ = ⊥
 
 -- each of the terms passes a test
@@ -76,7 +83,8 @@ AllPass test (t ∷ ts) = (test t ≡ true) × AllPass test ts
 -- so it is of the bindings and the conclusion's places of each node of a derivation by the rules
 abbrev mutual
   pub ProofPasses : (Tree → Bool) → List Rule → Proof → Type 0
-  ProofPasses test rules (by r binds kids) = AllPass test (node_terms (slice_get rules r) binds) × ProofsPass test rules kids
+  ProofPasses test rules (by r binds kids) =
+      AllPass test (node_terms (slice_get rules r) binds) × ProofsPass test rules kids
   ProofPasses test rules (given i) = Unit {0}
 
   -- and of each proof

@@ -12,17 +12,20 @@ use Rattle.sx_rewrite.specs.Measured.{Measures, AllPass, ProofPasses}
 abbrev pub TermsAreMeasured : Type 0
 TermsAreMeasured =
     (sig : Signature) (base shapes : List Shape) (a : Accepted) → IsAccepted sig base shapes a →
-    (hyps : Hypotheses) (p : Proof) (j : Judgement) → Derives (rules_of a) hyps j p → (ts : List Tree) × Measures a sig.subjects hyps p ts
+    (hyps : Hypotheses) (p : Proof) (j : Judgement) → Derives (rules_of a) hyps j p →
+    (ts : List Tree) × Measures a sig.subjects hyps p ts
 
 -- and one alone
 abbrev pub MeasuringIsUnique : Type 0
 MeasuringIsUnique =
     (sig : Signature) (base shapes : List Shape) (a : Accepted) → IsAccepted sig base shapes a →
-    (hyps : Hypotheses) (p : Proof) (ts us : List Tree) → Measures a sig.subjects hyps p ts → Measures a sig.subjects hyps p us → ts ≡ us
+    (hyps : Hypotheses) (p : Proof) (ts us : List Tree) → Measures a sig.subjects hyps p ts →
+    Measures a sig.subjects hyps p us → ts ≡ us
 
 -- where all measured terms pass a test, all terms of the lowered derivation do
 abbrev pub MeasuredAreAll : Type 0
 MeasuredAreAll =
     (sig : Signature) (base shapes : List Shape) (a : Accepted) → IsAccepted sig base shapes a →
-    (hyps : Hypotheses) (p q : Proof) (k : Judgement) (ts : List Tree) → Lowers a sig.subjects hyps p q k → Measures a sig.subjects hyps p ts →
+    (hyps : Hypotheses) (p q : Proof) (k : Judgement) (ts : List Tree) →
+    Lowers a sig.subjects hyps p q k → Measures a sig.subjects hyps p ts →
     (test : Tree → Bool) → AllPass test ts → ProofPasses test a.base q

@@ -17,11 +17,14 @@ abbrev pub image_premise : Table → Premise → Premise
 image_premise table (holds j) = holds (image_judgement table j)
 image_premise table (apart t u) = apart (image table t) (image table u)
 
--- The plain rule: each term gives way to its plain image. A typed constructor has no entry, so it stays as it is, and so does the
--- bare variable that is a premise's subject.
+-- The plain rule: each term gives way to its plain image. A typed constructor has no entry, so it
+-- stays as it is, and so does the bare variable that is a premise's subject.
 abbrev pub plain_rule : Table → Rule → Rule
-plain_rule table rule =
-    record { sorts = rule.sorts; premises = map (image_premise table) rule.premises; conclusion = image_judgement table rule.conclusion }
+plain_rule table rule = record {
+  sorts = rule.sorts;
+  premises = map (image_premise table) rule.premises;
+  conclusion = image_judgement table rule.conclusion;
+}
 
 -- the plain rule, with what is stored of the rule
 abbrev pub plain_checked : Table → Checked → Checked
@@ -35,7 +38,8 @@ plain_of a = record { base = a.base; more = map (plain_checked a.table) a.more; 
 abbrev pub plain_named : Table → NamedRule → NamedRule
 plain_named table r = record { name = r.name; rule = plain_rule table r.rule }
 
--- the term is no deeper than 1,000, each of its nodes has as many parts as the table asks for, and its plain image is within the limits of terms
+-- the term is no deeper than 1,000, each of its nodes has as many parts as the table asks for,
+-- and its plain image is within the limits of terms
 pub record HasImage (table : Table) (t : Tree) : Type 0 where
   pub shallow : depth_of t ≤ 1000
   pub fits : FitsTable table t
@@ -49,4 +53,6 @@ PremiseHasImage table (apart t u) = HasImage table t × HasImage table u
 
 -- so it is of the terms of the rule
 abbrev pub RuleHasImage : Table → Rule → Type 0
-RuleHasImage table rule = AllByRecursion (HasImage table) rule.conclusion.places × AllByRecursion (PremiseHasImage table) rule.premises
+RuleHasImage table rule =
+    AllByRecursion (HasImage table) rule.conclusion.places
+    × AllByRecursion (PremiseHasImage table) rule.premises

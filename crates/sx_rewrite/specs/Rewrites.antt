@@ -12,7 +12,8 @@ use Rattle.sx_rewrite.specs.Lowers.{HypothesesBelow}
 use Rattle.sx_rewrite.specs.SourceView.{set_of}
 use Rattle.sx_rewrite.specs.Used.{lowered_nodes, lowered_height}
 
--- the proof derives a judgement by the rules of the set and is no deeper than 3,000, no term of it is deeper than 1,000, and its terms have as many parts as the table asks for
+-- the proof derives a judgement by the rules of the set and is no deeper than 3,000,
+-- no term of it is deeper than 1,000, and its terms have as many parts as the table asks for
 pub record CanRewrite (a : Accepted) (hyps : Hypotheses) (p : Proof) : Type 0 where
   pub judgement : Judgement
   pub derives : Derives (rules_of a) hyps judgement p
@@ -28,5 +29,7 @@ pub record AreGood (n : ℕ) (hyps : Hypotheses) : Type 0 where
 -- a derivation counts as much by these rules as by the extended rules
 abbrev pub CountsAlike : Source → Type 0
 CountsAlike s =
-    (p : Proof) → (HasFitKids (set_of s) p → HasFitKids (accepted s.set.now) p) × (lowered_nodes (set_of s) p ≡ lowered_nodes (accepted s.set.now) p)
-    × (lowered_height (set_of s) p ≡ lowered_height (accepted s.set.now) p) × (copied (set_of s) p ≡ copied (accepted s.set.now) p)
+    (p : Proof) → (HasFitKids (set_of s) p → HasFitKids (accepted s.set.now) p)
+    × (lowered_nodes (set_of s) p ≡ lowered_nodes (accepted s.set.now) p)
+    × (lowered_height (set_of s) p ≡ lowered_height (accepted s.set.now) p)
+    × (copied (set_of s) p ≡ copied (accepted s.set.now) p)

@@ -1,4 +1,5 @@
--- Laws of rewriting. A set with its plain rules is an accepted set too, so they hold of open derivations by plain rules.
+-- Laws of rewriting. A set with its plain rules is an accepted set too,
+-- so they hold of open derivations by plain rules.
 use Rattle.std.specs.Prelude.{◌≡◌, ℕ, ◌≤◌, List, Result, Ok, length}
 use Rattle.sx_term.specs.declared.sort.Sort.{Sort}
 use Rattle.sx_term.specs.Sorts.{Shape}
@@ -14,7 +15,8 @@ use Rattle.sx_rewrite.specs.Rewriting.{Refusal, Rewritten, IsRewritten}
 abbrev pub RewritingAnswers : Type 0
 RewritingAnswers =
     (sig : Signature) (base shapes : List Shape) (a : Accepted) → IsAccepted sig base shapes a →
-    (hyps : Hypotheses) (p : Proof) (j : Judgement) → Derives (rules_of a) hyps j p → (budget : ℕ) →
+    (hyps : Hypotheses) (p : Proof) (j : Judgement) →
+    Derives (rules_of a) hyps j p → (budget : ℕ) →
     (answer : Result Rewritten Refusal) × IsRewritten a sig.subjects hyps p budget answer
 
 -- and one alone
@@ -22,11 +24,15 @@ abbrev pub RewritingIsUnique : Type 0
 RewritingIsUnique =
     (sig : Signature) (base shapes : List Shape) (a : Accepted) → IsAccepted sig base shapes a →
     (hyps : Hypotheses) (p : Proof) (budget : ℕ) (answer other : Result Rewritten Refusal) →
-    IsRewritten a sig.subjects hyps p budget answer → IsRewritten a sig.subjects hyps p budget other → answer ≡ other
+    IsRewritten a sig.subjects hyps p budget answer →
+    IsRewritten a sig.subjects hyps p budget other → answer ≡ other
 
--- The lowered derivation derives its judgement from the hypotheses by the base rules alone, and the places that are no subjects are plain images. All is well
--- sorted by the base shapes, no term is deeper than 1,000, and the derivation has no more nodes than the budget and is no deeper than 3,000.
-pub record IsGoodRewriting (sig : Signature) (base : List Shape) (a : Accepted) (hyps : Hypotheses) (vars : List Sort) (budget : ℕ) (j : Judgement) (x : Rewritten) : Type 0 where
+-- The lowered derivation derives its judgement from the hypotheses by the base rules
+-- alone, and the places that are no subjects are plain images. All is well sorted
+-- by the base shapes, no term is deeper than 1,000, and the derivation has no
+-- more nodes than the budget and is no deeper than 3,000.
+pub record IsGoodRewriting (sig : Signature) (base : List Shape) (a : Accepted) (hyps : Hypotheses)
+    (vars : List Sort) (budget : ℕ) (j : Judgement) (x : Rewritten) : Type 0 where
   pub derives : Derives a.base hyps x.judgement x.proof
   pub images : IsImageOf a.table sig.subjects x.judgement j
   pub judgement_sorted : JudgementIsSorted base sig.forms vars x.judgement
@@ -40,6 +46,10 @@ pub record IsGoodRewriting (sig : Signature) (base : List Shape) (a : Accepted) 
 abbrev pub RewritingIsGood : Type 0
 RewritingIsGood =
     (sig : Signature) (base shapes : List Shape) (a : Accepted) → IsAccepted sig base shapes a →
-    (hyps : Hypotheses) (vars : List Sort) → JudgementsAreSorted base sig.forms vars hyps.judgements → HypothesesBelow (length base) hyps → ShallowJudgements hyps.judgements →
-    (p : Proof) (j : Judgement) → Derives (rules_of a) hyps j p → GoalIsSorted shapes sig.forms sig.modes vars (goal_of sig.modes j) →
-    (budget : ℕ) (x : Rewritten) → IsRewritten a sig.subjects hyps p budget (Ok x) → IsGoodRewriting sig base a hyps vars budget j x
+    (hyps : Hypotheses) (vars : List Sort) →
+    JudgementsAreSorted base sig.forms vars hyps.judgements → HypothesesBelow (length base) hyps →
+    ShallowJudgements hyps.judgements →
+    (p : Proof) (j : Judgement) → Derives (rules_of a) hyps j p →
+    GoalIsSorted shapes sig.forms sig.modes vars (goal_of sig.modes j) →
+    (budget : ℕ) (x : Rewritten) → IsRewritten a sig.subjects hyps p budget (Ok x) →
+    IsGoodRewriting sig base a hyps vars budget j x

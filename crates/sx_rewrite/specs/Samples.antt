@@ -1,5 +1,5 @@
--- An accepted set, and a derivation that is lowered by it: a type `twin t` that stands for `fun t t`, and a term `twice e` that
--- stands for `both e e`.
+-- An accepted set, and a derivation that is lowered by it: a type `twin t` that stands
+-- for `fun t t`, and a term `twice e` that stands for `both e e`.
 use Rattle.std.specs.Prelude.{zero, suc, true, false, List, [], ◌∷◌, Some, None}
 use Rattle.sx_term.specs.Tree.{Tree, node, lexeme, hole, none, ◌▹◌}
 use Rattle.sx_term.specs.declared.lex_kind.LexKind.TheVariants.{Str}
@@ -67,13 +67,18 @@ signature = record {
 
 -- a quoted text has the type of texts
 abbrev pub quote_rule : Rule
-quote_rule = record { sorts = Plain 0 ∷ Lex Str ∷ []; premises = []; conclusion = typing (hole 0) (quote (hole 1)) str }
+quote_rule = record {
+  sorts = Plain 0 ∷ Lex Str ∷ [];
+  premises = [];
+  conclusion = typing (hole 0) (quote (hole 1)) str;
+}
 
 -- two terms of one type together are a function
 abbrev pub both_rule : Rule
 both_rule = record {
   sorts = Plain 0 ∷ Typed 0 ∷ Typed 0 ∷ Plain 1 ∷ [];
-  premises = holds (typing (hole 0) (hole 1) (hole 3)) ∷ holds (typing (hole 0) (hole 2) (hole 3)) ∷ [];
+  premises =
+      holds (typing (hole 0) (hole 1) (hole 3)) ∷ holds (typing (hole 0) (hole 2) (hole 3)) ∷ [];
   conclusion = typing (hole 0) (both (hole 1) (hole 2)) (fun (hole 3) (hole 3));
 }
 
@@ -102,7 +107,11 @@ sample_table _ = None
 
 -- the base rules with the extension
 abbrev pub sample : Accepted
-sample = record { base = quote_rule ∷ both_rule ∷ []; more = twice_checked ∷ []; table = sample_table }
+sample = record {
+  base = quote_rule ∷ both_rule ∷ [];
+  more = twice_checked ∷ [];
+  table = sample_table;
+}
 
 -- `"a"`, and the derivation of its type
 abbrev pub letter : Tree
@@ -111,8 +120,8 @@ letter = lexeme Str (34 ∷ 97 ∷ 34 ∷ [])
 abbrev pub letter_proof : Proof
 letter_proof = by 0 (empty ∷ letter ∷ []) no_more
 
--- The set is accepted. The derivation of `twice "a" : twin str` is lowered to that of `both "a" "a" : fun str str`, with its kid
--- used twice.
+-- The set is accepted. The derivation of `twice "a" : twin str` is lowered to
+-- that of `both "a" "a" : fun str str`, with its kid used twice.
 abbrev pub SampleIsLowered : Type 0
 SampleIsLowered =
     IsAccepted signature base_shapes all_shapes sample

@@ -23,23 +23,31 @@ abbrev pub unused : ℕ → List GivenUse
 unused zero = []
 unused (suc n) = record { times = 0; above = 0 } ∷ unused n
 
--- the uses of the givens from i on, with those in a proof under so many nodes, by how often each stands, whether it does, and how many nodes are above it there
+-- the uses of the givens from i on, with those in a proof under so many nodes,
+-- by how often each stands, whether it does, and how many nodes are above it there
 abbrev pub noted : (ℕ → ℕ) → (ℕ → Bool) → (ℕ → ℕ) → ℕ → ℕ → List GivenUse → List GivenUse
 noted times stands above over i [] = []
 noted times stands above over i (u ∷ us) =
-    (if stands i then record { times = in_u128 (u.times + times i); above = max u.above (over + above i) } else u) ∷ noted times stands above over (i + 1) us
+    (if stands i then record {
+      times = in_u128 (u.times + times i);
+      above = max u.above (over + above i);
+    } else u)
+    ∷ noted times stands above over (i + 1) us
 
--- how often the given i stands in the certificate, and how many nodes stand above its deepest place, or 0 where it does not stand
+-- how often the given i stands in the certificate,
+-- and how many nodes stand above its deepest place, or 0 where it does not stand
 abbrev pub IsUseOf : ℕ → Proof → GivenUse → Type 0
 IsUseOf i certificate u =
-    (u.times ≡ in_u128 (times_given i certificate)) × (u.above ≡ (if is_used i certificate then nodes_above i certificate else 0))
+    (u.times ≡ in_u128 (times_given i certificate))
+    × (u.above ≡ (if is_used i certificate then nodes_above i certificate else 0))
 
 -- so it is of the givens from i on
 abbrev pub AreUsesOf : ℕ → Proof → List GivenUse → Type 0
 AreUsesOf i certificate [] = Unit {0}
 AreUsesOf i certificate (u ∷ us) = IsUseOf i certificate u × AreUsesOf (i + 1) certificate us
 
--- the certificate is no deeper than 3,000, and these are its own nodes, its own height, and the uses of the givens of its rule's premises
+-- the certificate is no deeper than 3,000, and these are its own nodes, its own height,
+-- and the uses of the givens of its rule's premises
 pub record IsSizeOf (c : Checked) (size : CertificateSize) : Type 0 where
   pub shallow : height_of c.proof ≤ 3000
   pub nodes : size.nodes ≡ in_u128 (own_nodes c.proof)
@@ -84,7 +92,8 @@ abbrev pub used_copies : List GivenUse → List ℕ → List ℕ → ℕ
 used_copies [] ns cs = 0
 used_copies (u ∷ us) [] cs = 0
 used_copies (u ∷ us) (n ∷ ns) [] = 0
-used_copies (u ∷ us) (n ∷ ns) (c ∷ cs) = (u.times - 1) * n + (if nat_lt 0 u.times then c else 0) + used_copies us ns cs
+used_copies (u ∷ us) (n ∷ ns) (c ∷ cs) =
+    (u.times - 1) * n + (if nat_lt 0 u.times then c else 0) + used_copies us ns cs
 
 -- the certificate of what is stored uses the givens of its rule's premises alone
 abbrev pub UsesPremises : Option Checked → Type 0

@@ -11,6 +11,7 @@ pub record IsTaken (number : ℕ) (left then : List ℕ) (kids now : List (Box P
   pub others : (g : ℕ) → (g ≡ number → ⊥) → slice_index_or then g 0 ≡ slice_index_or left g 0
   pub left_many : length then ≡ length left
   pub kids_many : length now ≡ length kids
-  pub kept : (g : ℕ) → 0 < slice_index_or then g 0 → proof_at (boxed now) g ≡ proof_at (boxed kids) g
+  pub kept : (g : ℕ) → 0 < slice_index_or then g 0 →
+      proof_at (boxed now) g ≡ proof_at (boxed kids) g
   pub height : most_height (boxed now) ≤ 3000
   pub binds : HaveShallowBinds (boxed now)

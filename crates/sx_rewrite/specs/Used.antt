@@ -35,24 +35,31 @@ abbrev mutual
   StandsInProofs v (p ⊳ ps) = StandsInProof v p ⊎ StandsInProofs v ps
 
 -- each kid, counted from i, whose given the certificate uses is lowered
-abbrev pub LowersWhereUsed : Accepted → Modes → Hypotheses → Proof → ℕ → Proofs → Proofs → List Judgement → Type 0
+abbrev pub LowersWhereUsed : Accepted → Modes → Hypotheses → Proof → ℕ → Proofs → Proofs →
+    List Judgement → Type 0
 LowersWhereUsed a subjects hyps certificate i no_more no_more [] = Unit {0}
 LowersWhereUsed a subjects hyps certificate i (p ⊳ ps) (q ⊳ qs) (k ∷ ks) =
-    (IsUsed i certificate → Lowers a subjects hyps p q k) × LowersWhereUsed a subjects hyps certificate (suc i) ps qs ks
+    (IsUsed i certificate → Lowers a subjects hyps p q k)
+    × LowersWhereUsed a subjects hyps certificate (suc i) ps qs ks
 LowersWhereUsed a subjects hyps certificate i _ _ _ = ⊥
 
--- each premise's subject, where its given is used, has as its instance the subject of the lowered judgement
-abbrev pub SubjectsWhereUsed : Modes → (ℕ → Tree) → Proof → ℕ → List Judgement → List Judgement → Type 0
+-- each premise's subject, where its given is used,
+-- has as its instance the subject of the lowered judgement
+abbrev pub SubjectsWhereUsed : Modes → (ℕ → Tree) → Proof → ℕ → List Judgement →
+    List Judgement → Type 0
 SubjectsWhereUsed subjects s certificate i [] [] = Unit {0}
 SubjectsWhereUsed subjects s certificate i (j ∷ js) (k ∷ ks) =
-    (IsUsed i certificate → map (instance s) (subjects_of subjects j) ≡ subjects_of subjects k) × SubjectsWhereUsed subjects s certificate (suc i) js ks
+    (IsUsed i certificate → map (instance s) (subjects_of subjects j) ≡ subjects_of subjects k)
+    × SubjectsWhereUsed subjects s certificate (suc i) js ks
 SubjectsWhereUsed subjects s certificate i _ _ = ⊥
 
 -- the bindings of a lowered node, where only the kids that are used count
-pub record AreUsedBinds (table : Table) (subjects : Modes) (rule : Rule) (certificate : Proof) (binds more : List Tree) (ks : List Judgement) : Type 0 where
+pub record AreUsedBinds (table : Table) (subjects : Modes) (rule : Rule) (certificate : Proof)
+    (binds more : List Tree) (ks : List Judgement) : Type 0 where
   pub many : length more ≡ length rule.sorts
   pub images : (v : ℕ) → IsUntyped rule.sorts v → bound_by more v ≡ image table (bound_by binds v)
-  pub subjects_are : SubjectsWhereUsed subjects (bound_by more) certificate 0 (judgements_of rule.premises) ks
+  pub subjects_are : SubjectsWhereUsed subjects (bound_by more) certificate 0
+      (judgements_of rule.premises) ks
 
 -- how many nodes a proof has with proofs in the place of its givens, by how many each of these has
 abbrev mutual
@@ -102,7 +109,8 @@ abbrev mutual
 -- how deep it is
 abbrev mutual
   pub lowered_height : Accepted → Proof → ℕ
-  lowered_height a (by r binds kids) = height_at (slice_get (known_of a) r) (lowered_heights_of a kids)
+  lowered_height a (by r binds kids) =
+      height_at (slice_get (known_of a) r) (lowered_heights_of a kids)
   lowered_height a (given i) = 1
 
   -- each of these

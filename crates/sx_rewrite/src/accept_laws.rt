@@ -17,7 +17,8 @@ pub fn rejected_is_unsound()
     ensures { RejectedIsUnsound }
 {}
 
-/// The flat premises of a rule that fits are well sorted by the base shapes, and its flat goal is well sorted.
+/// The flat premises of a rule that fits are well sorted by the base shapes,
+/// and its flat goal is well sorted.
 pub fn flat_forms_are_sorted()
     ensures { FlatFormsAreSorted }
 {}

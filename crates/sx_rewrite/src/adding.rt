@@ -31,23 +31,28 @@ use sx_rules::{Rule, RuleSet};
 use sx_term::{NoMemory, Shapes};
 
 impl Accepted {
-    /// The set with the extension after it: its rules, each with the flat body and the certificate at its place, and its plain table.
-    /// Bodies and the terms of certificates are no deeper than 1,000, and certificates no deeper than 3,000.
-    /// The one refusal is want of memory, and hands the set back as it was.
+    /// The set with the extension after it: its rules, each with the flat body and the
+    /// certificate at its place, and its plain table. Bodies and the terms of
+    /// certificates are no deeper than 1,000, and certificates no deeper than 3,000. The
+    /// one refusal is want of memory, and hands the set back as it was.
     pub fn add(
         self,
         all: &Shapes,
         ext: ExtensionData,
         flats: Vec<Flat>,
     ) -> Result<Accepted, Accepted>
-        requires good { IsRuleSet (shapes all.now) (forms_in self.rules) (rules_in self.rules ++ named_rules ext) }
+        requires good { IsRuleSet (shapes all.now) (forms_in self.rules)
+            (rules_in self.rules ++ named_rules ext) }
         requires shallow { RulesAreShallow (map (λ e. rule e.rule) ext.rules.items) }
         requires stored { AllByRecursion IsShallow flats.items }
-        requires images { AllByRecursion (λ e. RuleHasImage (table_of ext.plain) (rule e.rule)) ext.rules.items }
+        requires images { AllByRecursion
+            (λ e. RuleHasImage (table_of ext.plain) (rule e.rule)) ext.rules.items }
         requires labels { ext.plain.base ≡ self.plain.base }
-        requires fits { Fits (signature self) (shapes_in self.base) (shapes_in self.rules) (shapes all.now) (table_of self.plain) (table_of ext.plain)
+        requires fits { Fits (signature self) (shapes_in self.base) (shapes_in self.rules)
+            (shapes all.now) (table_of self.plain) (table_of ext.plain)
             (map ext_rule ext.rules.items) }
-        requires sound { AreSoundBy (signature self).subjects (length (shapes_in self.base)) (with_table (accepted self) (table_of ext.plain))
+        requires sound { AreSoundBy (signature self).subjects (length (shapes_in self.base))
+            (with_table (accepted self) (table_of ext.plain))
             (map ext_rule ext.rules.items) (extension_with ext flats.items).stored }
         requires many { length flats.items ≡ length ext.rules.items }
         ensures { IsAdded self (shapes all.now) ext flats.items result }
@@ -85,14 +90,21 @@ fn grown(
     rules: Vec<ExtRule>,
 ) -> Result<Grown, NoMemory>
     requires shallow { RulesAreShallow (map (λ e. rule e.rule) rules.items) }
-    requires good { IsRuleSet (shapes all.now) (forms_in set.now.rules) (rules_in set.now.rules ++ map (λ e. named e.rule) rules.items) }
-    requires images { AllByRecursion (λ e. RuleHasImage (table_of plain.now) (rule e.rule)) rules.items }
+    requires good { IsRuleSet (shapes all.now) (forms_in set.now.rules)
+        (rules_in set.now.rules ++ map (λ e. named e.rule) rules.items) }
+    requires images { AllByRecursion
+        (λ e. RuleHasImage (table_of plain.now) (rule e.rule)) rules.items }
     requires plain_good { IsRuleSet (shapes all.now) (forms_in set.now.plain_rules)
-        (rules_in set.now.plain_rules ++ map (λ e. plain_named (table_of plain.now) (named e.rule)) rules.items) }
-    ensures rules { IfOk result (λ x. (shapes_in x.rules ≡ shapes all.now) × (forms_in x.rules ≡ forms_in set.now.rules)
+        (rules_in set.now.plain_rules
+        ++ map (λ e. plain_named (table_of plain.now) (named e.rule)) rules.items) }
+    ensures rules { IfOk result
+        (λ x. (shapes_in x.rules ≡ shapes all.now) × (forms_in x.rules ≡ forms_in set.now.rules)
         × (rules_in x.rules ≡ rules_in set.now.rules ++ map (λ e. named e.rule) rules.items)) }
-    ensures plain { IfOk result (λ x. (shapes_in x.plain_rules ≡ shapes all.now) × (forms_in x.plain_rules ≡ forms_in set.now.plain_rules)
-        × (rules_in x.plain_rules ≡ rules_in set.now.plain_rules ++ map (λ e. plain_named (table_of plain.now) (named e.rule)) rules.items)) }
+    ensures plain { IfOk result
+        (λ x. (shapes_in x.plain_rules ≡ shapes all.now)
+        × (forms_in x.plain_rules ≡ forms_in set.now.plain_rules)
+        × (rules_in x.plain_rules ≡ rules_in set.now.plain_rules
+        ++ map (λ e. plain_named (table_of plain.now) (named e.rule)) rules.items)) }
 {
     match grown_plain(alloc, &set.plain_rules, all, plain, &rules) {
         Ok(plain_rules) => match grown_rules(alloc, &set.rules, all, rules) {
@@ -117,10 +129,14 @@ fn grown_plain(
     plain: &PlainTable,
     rules: &[ExtRule],
 ) -> Result<RuleSet, NoMemory>
-    requires images { AllByRecursion (λ e. RuleHasImage (table_of plain.now) (rule e.rule)) rules.now }
-    requires good { IsRuleSet (shapes all.now) (forms_in set.now) (rules_in set.now ++ map (λ e. plain_named (table_of plain.now) (named e.rule)) rules.now) }
+    requires images { AllByRecursion
+        (λ e. RuleHasImage (table_of plain.now) (rule e.rule)) rules.now }
+    requires good { IsRuleSet (shapes all.now) (forms_in set.now)
+        (rules_in set.now
+        ++ map (λ e. plain_named (table_of plain.now) (named e.rule)) rules.now) }
     ensures { IfOk result (λ x. (shapes_in x ≡ shapes all.now) × (forms_in x ≡ forms_in set.now)
-        × (rules_in x ≡ rules_in set.now ++ map (λ e. plain_named (table_of plain.now) (named e.rule)) rules.now)) }
+        × (rules_in x ≡ rules_in set.now
+        ++ map (λ e. plain_named (table_of plain.now) (named e.rule)) rules.now)) }
 {
     let more = plain_rules(alloc, plain, rules)?;
     with_more(alloc, set, all, more)
@@ -134,8 +150,10 @@ fn grown_rules(
     rules: Vec<ExtRule>,
 ) -> Result<RuleSet, NoMemory>
     requires shallow { RulesAreShallow (map (λ e. rule e.rule) rules.items) }
-    requires good { IsRuleSet (shapes all.now) (forms_in set.now) (rules_in set.now ++ map (λ e. named e.rule) rules.items) }
-    ensures { IfOk result (λ x. (shapes_in x ≡ shapes all.now) × (forms_in x ≡ forms_in set.now) × (rules_in x ≡ rules_in set.now ++ map (λ e. named e.rule) rules.items)) }
+    requires good { IsRuleSet (shapes all.now) (forms_in set.now)
+        (rules_in set.now ++ map (λ e. named e.rule) rules.items) }
+    ensures { IfOk result (λ x. (shapes_in x ≡ shapes all.now) × (forms_in x ≡ forms_in set.now)
+        × (rules_in x ≡ rules_in set.now ++ map (λ e. named e.rule) rules.items)) }
 {
     let more = bare(alloc, rules)?;
     with_more(alloc, set, all, more)

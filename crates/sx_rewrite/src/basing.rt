@@ -17,10 +17,12 @@ use sx_plain::Measure;
 use sx_rules::RuleSet;
 use sx_term::Term;
 
-/// The bindings of a node by the base rule with this number: the terms that are put. The first of them, or else of the places of the
-/// rule's conclusion under them, that passes a limit is refused.
+/// The bindings of a node by the base rule with this number: the terms that
+/// are put. The first of them, or else of the places of the rule's
+/// conclusion under them, that passes a limit is refused.
 pub(crate) fn based(base: &RuleSet, rule: u32, puts: PutTerms) -> Result<Vec<Term>, RewriteError>
-    ensures { (more : List Tree) → ArePut more puts → Answers (first_over (node_terms (slice_get (bare_rules_in base.now) rule) more))
+    ensures { (more : List Tree) → ArePut more puts →
+        Answers (first_over (node_terms (slice_get (bare_rules_in base.now) rule) more))
         (λ x. map tree x.items ≡ more) result }
 {
     check_measures(&puts.measures)?;
@@ -32,7 +34,8 @@ pub(crate) fn based(base: &RuleSet, rule: u32, puts: PutTerms) -> Result<Vec<Ter
 
 /// Refuses the first of the measures that passes a limit.
 fn check_measures(measures: &[Measure]) -> Result<(), RewriteError>
-    ensures { (ts : List Tree) → AreMeasuresOf ts measures.now → Answers (first_over ts) (λ _. Unit {0}) result }
+    ensures { (ts : List Tree) → AreMeasuresOf ts measures.now →
+        Answers (first_over ts) (λ _. Unit {0}) result }
 {
     for measure in measures {
         check_measure(*measure)?;

@@ -17,15 +17,18 @@ use sx_rules::RuleSet;
 use sx_term::NoMemory;
 
 impl Accepted {
-    /// The set without extensions: the base rules alone. The base labels of its plain table are those of the rules' shapes. The one
-    /// refusal is want of memory.
+    /// The set without extensions: the base rules alone. The base labels of its plain table
+    /// are those of the rules' shapes. The one refusal is want of memory.
     pub fn none(alloc: Global, base: &RuleSet) -> Result<Accepted, NoMemory>
         requires no_typed { PlainHaveNoTyped (shapes_in base.now) }
         requires forms { HaveSortsFor (forms_in base.now) }
         requires labels { length (shapes_in base.now) < 2 ^ 32 }
         ensures set { IfOk result (λ a. accepted a ≡ without_extensions (bare_rules_in base.now)) }
-        ensures rules { IfOk result (λ a. (rules_in a.base ≡ rules_in base.now) × (rules_in a.rules ≡ rules_in base.now)) }
-        ensures shapes { IfOk result (λ a. (shapes_in a.base ≡ shapes_in base.now) × (shapes_in a.rules ≡ shapes_in base.now)) }
+        ensures rules { IfOk result
+            (λ a. (rules_in a.base ≡ rules_in base.now) × (rules_in a.rules ≡ rules_in base.now)) }
+        ensures shapes { IfOk result
+            (λ a. (shapes_in a.base ≡ shapes_in base.now)
+            × (shapes_in a.rules ≡ shapes_in base.now)) }
         ensures forms { IfOk result (λ a. forms_in a.base ≡ forms_in base.now) }
     {
         base.facts();
@@ -54,8 +57,13 @@ impl Accepted {
 
 /// Two equal sets. The one refusal is want of memory.
 fn two_copies(alloc: Global, set: &RuleSet) -> Result<Grown, NoMemory>
-    ensures rules { IfOk result (λ x. (shapes_in x.rules ≡ shapes_in set.now) × (forms_in x.rules ≡ forms_in set.now) × (rules_in x.rules ≡ rules_in set.now)) }
-    ensures plain { IfOk result (λ x. (shapes_in x.plain_rules ≡ shapes_in set.now) × (forms_in x.plain_rules ≡ forms_in set.now) × (rules_in x.plain_rules ≡ rules_in set.now)) }
+    ensures rules { IfOk result
+        (λ x. (shapes_in x.rules ≡ shapes_in set.now) × (forms_in x.rules ≡ forms_in set.now)
+        × (rules_in x.rules ≡ rules_in set.now)) }
+    ensures plain { IfOk result
+        (λ x. (shapes_in x.plain_rules ≡ shapes_in set.now)
+        × (forms_in x.plain_rules ≡ forms_in set.now)
+        × (rules_in x.plain_rules ≡ rules_in set.now)) }
 {
     let rules = copied(alloc, set)?;
     match copied(alloc, set) {

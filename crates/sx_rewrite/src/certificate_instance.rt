@@ -21,9 +21,9 @@ use std::alloc::Global;
 use sx_rules::{Proof, RuleSet};
 use sx_term::Term;
 
-/// The instance of the certificate, with its givens numbered in preorder from the number of givens so far; after those so far it adds
-/// which given stands at each. Each term is measured before it is made, node by node in preorder, and the first that passes a limit is
-/// refused.
+/// The instance of the certificate, with its givens numbered in preorder from the number of givens
+/// so far; after those so far it adds which given stands at each. Each term is measured before it
+/// is made, node by node in preorder, and the first that passes a limit is refused.
 #[cycle(certificate)]
 pub(crate) fn certificate_instance(
     alloc: Global,
@@ -36,9 +36,13 @@ pub(crate) fn certificate_instance(
     requires binds { spec.HasShallowBinds (view.proof certificate.now) }
     requires put { (more : List Tree) × ArePut more puts.now }
     ensures body { (more : List Tree) → ArePut more puts.now →
-        Answers (first_over (certificate_terms (bare_rules_in base.now) (bound_by more) (view.proof certificate.now)))
-        (λ x. view.proof x.value ≡ numbered (length givens.old.items) (spec.proof_instance (bound_by more) (view.proof certificate.now))) result }
-    ensures givens { IfOk result (λ _. givens.new.items ≡ givens.old.items ++ givens_of (view.proof certificate.now)) }
+        Answers (first_over
+        (certificate_terms (bare_rules_in base.now) (bound_by more)
+        (view.proof certificate.now)))
+        (λ x. view.proof x.value ≡ numbered (length givens.old.items)
+        (spec.proof_instance (bound_by more) (view.proof certificate.now))) result }
+    ensures givens { IfOk result
+        (λ _. givens.new.items ≡ givens.old.items ++ givens_of (view.proof certificate.now)) }
 {
     match certificate {
         Proof::By { rule, binds, kids } => {
@@ -63,9 +67,12 @@ fn kid_instances(
     requires binds { spec.HaveShallowBinds (view.boxed kids.now) }
     requires put { (more : List Tree) × ArePut more puts.now }
     ensures bodies { (more : List Tree) → ArePut more puts.now →
-        Answers (first_over (certificate_terms_of (bare_rules_in base.now) (bound_by more) (view.boxed kids.now)))
-        (λ x. view.boxed x.items ≡ all_numbered (length givens.old.items) (spec.proof_instances (bound_by more) (view.boxed kids.now))) result }
-    ensures givens { IfOk result (λ _. givens.new.items ≡ givens.old.items ++ givens_of_all (view.boxed kids.now)) }
+        Answers (first_over
+        (certificate_terms_of (bare_rules_in base.now) (bound_by more) (view.boxed kids.now)))
+        (λ x. view.boxed x.items ≡ all_numbered (length givens.old.items)
+        (spec.proof_instances (bound_by more) (view.boxed kids.now))) result }
+    ensures givens { IfOk result
+        (λ _. givens.new.items ≡ givens.old.items ++ givens_of_all (view.boxed kids.now)) }
 {
     let mut made = Vec::with_capacity(alloc, kids.len())?;
     for i in 0..kids.len() {
@@ -81,14 +88,18 @@ pub(crate) fn by_rule(
     binds: Vec<Term>,
     kids: Vec<Box<Proof>>,
 ) -> Result<Box<Proof>, RewriteError>
-    ensures { MatchResult result (λ x. view.proof x.value ≡ spec.by rule (map tree binds.items) (view.boxed kids.items)) (λ e. e ≡ Memory) }
+    ensures { MatchResult result
+        (λ x. view.proof x.value ≡ spec.by rule (map tree binds.items) (view.boxed kids.items))
+        (λ e. e ≡ Memory) }
 {
     Ok(Box::new(alloc, Proof::By { rule, binds, kids })?)
 }
 
-/// The next given, and after those so far which it is. The one refusal is want of memory: there is no room for more than 2^32 of them.
+/// The next given, and after those so far which it is. The one refusal is want of memory:
+/// there is no room for more than 2^32 of them.
 fn place(alloc: Global, given: u32, givens: &mut Vec<u32>) -> Result<Box<Proof>, RewriteError>
-    ensures proof { MatchResult result (λ x. view.proof x.value ≡ spec.given (length givens.old.items)) (λ e. e ≡ Memory) }
+    ensures proof { MatchResult result
+        (λ x. view.proof x.value ≡ spec.given (length givens.old.items)) (λ e. e ≡ Memory) }
     ensures givens { IfOk result (λ _. givens.new.items ≡ givens.old.items ++ given ∷ []) }
 {
     let Ok(number) = u32::try_from(givens.len()) else {

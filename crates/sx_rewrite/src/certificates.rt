@@ -14,10 +14,15 @@ pub(crate) struct Certificates {
 }
 
 impl Certificates {
-    /// What is stored, and then more. The one refusal is want of memory, and hands back what is stored.
+    /// What is stored, and then more. The one refusal is want of memory,
+    /// and hands back what is stored.
     pub(crate) fn appended(self, more: Certificates) -> Result<Certificates, Certificates>
-        ensures flats { MatchResult result (λ all. all.flats.items ≡ self.flats.items ++ more.flats.items) (λ all. all.flats.items ≡ self.flats.items) }
-        ensures sizes { MatchResult result (λ all. all.sizes.items ≡ self.sizes.items ++ more.sizes.items) (λ all. all.sizes.items ≡ self.sizes.items) }
+        ensures flats { MatchResult result
+            (λ all. all.flats.items ≡ self.flats.items ++ more.flats.items)
+            (λ all. all.flats.items ≡ self.flats.items) }
+        ensures sizes { MatchResult result
+            (λ all. all.sizes.items ≡ self.sizes.items ++ more.sizes.items)
+            (λ all. all.sizes.items ≡ self.sizes.items) }
     {
         let Certificates { flats, sizes } = self;
         let mut flats = flats;
@@ -39,8 +44,10 @@ fn append(
     sizes: &mut Vec<CertificateSize>,
     more: &mut Certificates,
 ) -> Result<(), NoMemory>
-    ensures flats { flats.new.items ≡ (if is_ok result then flats.old.items ++ more.old.flats.items else flats.old.items) }
-    ensures sizes { sizes.new.items ≡ (if is_ok result then sizes.old.items ++ more.old.sizes.items else sizes.old.items) }
+    ensures flats { flats.new.items
+        ≡ (if is_ok result then flats.old.items ++ more.old.flats.items else flats.old.items) }
+    ensures sizes { sizes.new.items
+        ≡ (if is_ok result then sizes.old.items ++ more.old.sizes.items else sizes.old.items) }
 {
     let count = sizes.len();
     sizes.append(&mut more.sizes)?;

@@ -20,9 +20,10 @@ use crate::rewrite_error::RewriteError;
 use std::alloc::Global;
 use sx_rules::{Proof, RuleSet};
 
-/// The certificate under what is put for the variables of its rule, with the kids at the places of its givens. A kid is moved to its
-/// last place and copied for those before it. Each term of the certificate is measured before it is made, node by node in preorder,
-/// and the first that passes a limit is refused. Terms that are put are measured where they stand in the certificate alone.
+/// The certificate under what is put for the variables of its rule, with the kids at the places of
+/// its givens. A kid is moved to its last place and copied for those before it. Each term of the
+/// certificate is measured before it is made, node by node in preorder, and the first that passes
+/// a limit is refused. Terms that are put are measured where they stand in the certificate alone.
 pub(crate) fn certified(
     alloc: Global,
     base: &RuleSet,
@@ -36,10 +37,14 @@ pub(crate) fn certified(
     requires givens { AllBelow (length kids.items) (givens_of (view.proof certificate.now)) }
     requires kids_height { spec.most_height (view.boxed kids.items) ≤ 3000 }
     requires kids_binds { spec.HaveShallowBinds (view.boxed kids.items) }
-    requires whole { spec.height_of (spec.graft (view.boxed kids.items) (view.proof certificate.now)) ≤ 3000 }
+    requires whole { spec.height_of
+        (spec.graft (view.boxed kids.items) (view.proof certificate.now)) ≤ 3000 }
     ensures { (more : List Tree) → ArePut more puts.now →
-        Answers (first_over (certificate_terms (bare_rules_in base.now) (bound_by more) (view.proof certificate.now)))
-        (λ x. view.proof x.value ≡ spec.graft (view.boxed kids.items) (spec.proof_instance (bound_by more) (view.proof certificate.now))) result }
+        Answers (first_over
+        (certificate_terms (bare_rules_in base.now) (bound_by more)
+        (view.proof certificate.now)))
+        (λ x. view.proof x.value ≡ spec.graft (view.boxed kids.items)
+        (spec.proof_instance (bound_by more) (view.proof certificate.now))) result }
 {
     let mut givens = Vec::new(alloc);
     let body = certificate_instance(alloc, base, certificate, puts, &mut givens)?;

@@ -2,7 +2,8 @@
 
 ghost use Rattle.sx_rewrite.specs.CountLaws.{CertificatesUsePremises, NodesAreSummed, HeightIsGreatest};
 
-/// The nodes of a proof with others in the place of its givens are its own, and those of each other as often as its given stands.
+/// The nodes of a proof with others in the place of its givens are its own,
+/// and those of each other as often as its given stands.
 pub fn nodes_are_summed()
     ensures { NodesAreSummed }
 {}

@@ -4,7 +4,8 @@ use crate::ext_rule::ExtRule;
 use sx_plain::PlainTable;
 use sx_term::Text;
 
-/// What an extension adds: its rules, and the plain table with the entries of all extensions up to it.
+/// What an extension adds: its rules, and the plain
+/// table with the entries of all extensions up to it.
 #[derive(Drop)]
 pub struct ExtensionData {
     pub name: Text,

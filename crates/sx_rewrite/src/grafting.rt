@@ -8,13 +8,15 @@ ghost use Rattle.sx_rewrite.specs.Givens.{givens_of, givens_of_all, AreNumbered}
 use std::mem;
 use sx_rules::Proof;
 
-/// The body with kid i in the place of its given i, where its givens in preorder are 0, 1 and so on, as many as kids. Kids are moved:
-/// no memory is taken, and nothing is refused.
+/// The body with kid i in the place of its given i, where its givens in preorder are 0, 1 and so
+/// on, as many as kids. Kids are moved: no memory is taken, and nothing is refused.
 pub fn graft(body: Box<Proof>, kids: Vec<Box<Proof>>) -> Box<Proof>
     requires numbered { AreNumbered 0 (givens_of (view.proof body.value)) }
     requires many { length (givens_of (view.proof body.value)) ≡ length kids.items }
-    requires shallow { spec.height_of (spec.graft (view.boxed kids.items) (view.proof body.value)) ≤ 3000 }
-    ensures { view.proof result.value ≡ spec.graft (view.boxed kids.items) (view.proof body.value) }
+    requires shallow { spec.height_of
+        (spec.graft (view.boxed kids.items) (view.proof body.value)) ≤ 3000 }
+    ensures { view.proof result.value
+        ≡ spec.graft (view.boxed kids.items) (view.proof body.value) }
 {
     let mut body = body;
     let mut kids = kids;
@@ -25,7 +27,8 @@ pub fn graft(body: Box<Proof>, kids: Vec<Box<Proof>>) -> Box<Proof>
     body
 }
 
-/// The derivation with the kids, from the next one on, in the place of its givens. Then the kid after these is next.
+/// The derivation with the kids, from the next one on, in the place of its givens.
+/// Then the kid after these is next.
 #[cycle(filling)]
 fn filled(proof: Proof, next: &mut usize, kids: &mut [Box<Proof>]) -> Proof
     requires shallow { spec.height_of (view.proof proof) ≤ 3000 }
@@ -57,13 +60,15 @@ fn filled(proof: Proof, next: &mut usize, kids: &mut [Box<Proof>]) -> Proof
     }
 }
 
-/// Puts the kids, from the next one on, in the place of the givens of each part. Then the kid after these is next.
+/// Puts the kids, from the next one on, in the place of the givens of each part.
+/// Then the kid after these is next.
 #[cycle(filling)]
 fn fill_each(parts: &mut [Box<Proof>], next: &mut usize, kids: &mut [Box<Proof>])
     requires shallow { spec.most_height (view.boxed parts.old) < 3000 }
     requires numbered { AreNumbered next.old (givens_of_all (view.boxed parts.old)) }
     requires many { next.old + length (givens_of_all (view.boxed parts.old)) ≤ length kids.old }
-    ensures grafted { view.boxed parts.new ≡ spec.grafts (view.boxed kids.old) (view.boxed parts.old) }
+    ensures grafted { view.boxed parts.new
+        ≡ spec.grafts (view.boxed kids.old) (view.boxed parts.old) }
     ensures next { next.new ≡ next.old + length (givens_of_all (view.boxed parts.old)) }
     ensures rest { drop next.new kids.new ≡ drop next.new kids.old }
 {

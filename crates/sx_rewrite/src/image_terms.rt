@@ -15,8 +15,9 @@ use std::alloc::Global;
 use sx_plain::{Measure, PlainTable, image_measure, lower};
 use sx_term::{NoMemory, Sort, Term, TermError};
 
-/// What is put for variables of these sorts to which these terms are bound: the plain image of each, and a node without kids for one
-/// of a typed sort. An image is measured before it is made, and made only where it passes no limit. The one refusal is want of memory.
+/// What is put for variables of these sorts to which these terms are bound: the plain image of
+/// each, and a node without kids for one of a typed sort. An image is measured before it is made,
+/// and made only where it passes no limit. The one refusal is want of memory.
 pub(crate) fn image_terms(
     alloc: Global,
     table: &PlainTable,
@@ -26,7 +27,8 @@ pub(crate) fn image_terms(
     requires many { length binds.now ≡ length sorts.now }
     requires shallow { greatest_depth (forest (map tree binds.now)) ≤ 1000 }
     requires fit { FitTable (table_of table.now) (forest (map tree binds.now)) }
-    ensures { IfOk result (ArePut (images_for (table_of table.now) sorts.now (map tree binds.now))) }
+    ensures { IfOk result
+        (ArePut (images_for (table_of table.now) sorts.now (map tree binds.now))) }
 {
     let mut terms = Vec::with_capacity(alloc, binds.len())?;
     let mut measures = Vec::with_capacity(alloc, binds.len())?;
@@ -47,7 +49,8 @@ fn sort_at(sorts: &[Sort], place: usize) -> Sort
     sorts[place]
 }
 
-/// What is put for a variable of the sort to which the term is bound. The one refusal is want of memory.
+/// What is put for a variable of the sort to which the term is bound.
+/// The one refusal is want of memory.
 fn put_image(
     alloc: Global,
     table: &PlainTable,
@@ -68,7 +71,8 @@ fn put_image(
     }
 }
 
-/// The plain image of the term, which is made where it passes no limit. The one refusal is want of memory.
+/// The plain image of the term, which is made where it passes no limit.
+/// The one refusal is want of memory.
 fn image_put(alloc: Global, table: &PlainTable, term: &Term) -> Result<PutTerm, NoMemory>
     requires shallow { depth_of (tree term.now) ≤ 1000 }
     requires fits { FitsTable (table_of table.now) (tree term.now) }

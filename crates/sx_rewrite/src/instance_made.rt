@@ -8,11 +8,13 @@ ghost use Rattle.sx_term.specs.Instances.{instance, bound_by};
 use std::alloc::Global;
 use sx_term::{NoMemory, Term};
 
-/// The instance of the term, with a part in the place of each variable. The one refusal is want of memory.
+/// The instance of the term, with a part in the place of each variable.
+/// The one refusal is want of memory.
 pub(crate) fn instance_made(alloc: Global, term: &Term, parts: &[Term]) -> Result<Term, NoMemory>
     requires shallow { depth_of (tree term.now) ≤ 1000 }
     requires parts { greatest_depth (forest (map tree parts.now)) ≤ 1000 }
-    ensures { IfOk result (λ t. tree t ≡ instance (bound_by (map tree parts.now)) (tree term.now)) }
+    ensures { IfOk result (λ t. tree t
+        ≡ instance (bound_by (map tree parts.now)) (tree term.now)) }
 {
     match term {
         Term::Node { label, kids } => {

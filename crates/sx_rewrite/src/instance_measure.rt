@@ -9,14 +9,16 @@ ghost use Rattle.sx_plain.specs.PartMeasures.{depths_of, sizes_of};
 use sx_plain::Measure;
 use sx_term::Term;
 
-/// The depth and the size of the instance of the term, by those of what is put for its variables. The size stays at the greatest
-/// u64. Each node of the term is looked at once, and nothing that is put.
+/// The depth and the size of the instance of the term, by those of what is put
+/// for its variables. The size stays at the greatest u64. Each node of
+/// the term is looked at once, and nothing that is put.
 pub(crate) fn instance_measure(term: &Term, parts: &[Measure]) -> Measure
     requires shallow { depth_of (tree term.now) ≤ 1000 }
     requires parts { greatest (depths_of parts.now) ≤ 1001000 }
     ensures depth { result.depth ≡ depth_with (depths_of parts.now) (tree term.now) }
     ensures small { result.depth ≤ 1001000 + depth_of (tree term.now) }
-    ensures size { result.size ≡ min (size_with (sizes_of parts.now) (tree term.now)) (2 ^ 64 - 1) }
+    ensures size { result.size
+        ≡ min (size_with (sizes_of parts.now) (tree term.now)) (2 ^ 64 - 1) }
 {
     match term {
         Term::Node { label: _, kids } => {

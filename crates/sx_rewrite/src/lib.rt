@@ -1,13 +1,16 @@
 //! Accepted sets, and derivations that are rewritten by them.
 //!
-//! - `Accepted` has base rules, extension rules after them, and the plain table. Each extension rule has a flat body, where its
-//!   conclusion has a subject, and a certificate: a derivation of its flat conclusion from its flat premises by the base rules. The
+//! - `Accepted` has base rules, extension rules after them, and the plain table. Each
+//!   extension rule has a flat body, where its conclusion has a subject, and a certificate: a
+//!   derivation of its flat conclusion from its flat premises by the base rules. The
 //!   rules of each extension are sound after the extensions before it.
 //! - `graft` puts derivations in the place of the givens of another, and only moves them.
-//! - `rewrite` and `rewrite_open` lower a derivation by the extended rules or by the plain rules to one by the base rules alone. The
-//!   nodes are counted before any term is made, and each term is measured before it is made.
-//! - Laws: a derivation by the extended rules is lowered to one by the base rules, in one way alone; a rule is sound by what is
-//!   stored of it where a search finds a derivation, and is not where none exists; a set stays accepted as it grows.
+//! - `rewrite` and `rewrite_open` lower a derivation by the extended rules or by the
+//!   plain rules to one by the base rules alone. The nodes are counted before any
+//!   term is made, and each term is measured before it is made.
+//! - Laws: a derivation by the extended rules is lowered to one by the base rules, in one
+//!   way alone; a rule is sound by what is stored of it where a search finds a
+//!   derivation, and is not where none exists; a set stays accepted as it grows.
 //!
 //! Contracts see a set as plain data (`specs/Accepted.antt`), and rules without their names.
 #![tactic(auto)]

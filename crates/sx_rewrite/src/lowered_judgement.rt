@@ -16,8 +16,8 @@ use std::alloc::Global;
 use sx_rules::{Hyps, Judgement, Proof, RuleSet};
 use sx_term::{NoMemory, Term};
 
-/// The judgement that the derivation by base rules derives from the hypotheses. It is read off the last step alone. The one refusal is
-/// want of memory.
+/// The judgement that the derivation by base rules derives from the hypotheses. It is
+/// read off the last step alone. The one refusal is want of memory.
 pub(crate) fn lowered_judgement(
     alloc: Global,
     base: &RuleSet,
@@ -26,8 +26,11 @@ pub(crate) fn lowered_judgement(
 ) -> Result<Judgement, NoMemory>
     requires binds { HasShallowBinds (view.proof proof.now) }
     requires near { ShallowJudgements (hypotheses given.now).judgements }
-    requires derives { (k : known.Judgement) × Derives (bare_rules_in base.now) (hypotheses given.now) k (view.proof proof.now) }
-    ensures { IfOk result (λ j. (k : known.Judgement) → Derives (bare_rules_in base.now) (hypotheses given.now) k (view.proof proof.now) → judgement j ≡ k) }
+    requires derives { (k : known.Judgement)
+        × Derives (bare_rules_in base.now) (hypotheses given.now) k (view.proof proof.now) }
+    ensures { IfOk result (λ j. (k : known.Judgement) →
+        Derives (bare_rules_in base.now) (hypotheses given.now) k (view.proof proof.now) →
+        judgement j ≡ k) }
 {
     base.facts();
     match proof {
@@ -54,7 +57,8 @@ fn instance_judgement(
 ) -> Result<Judgement, NoMemory>
     requires places { AreShallow (judgement from.now).places }
     requires binds { greatest_depth (forest (map tree binds.now)) ≤ 1000 }
-    ensures { IfOk result (λ j. judgement j ≡ known.judgement_instance (bound_by (map tree binds.now)) (judgement from.now)) }
+    ensures { IfOk result (λ j. judgement j
+        ≡ known.judgement_instance (bound_by (map tree binds.now)) (judgement from.now)) }
 {
     Ok(Judgement {
         form: from.form,
@@ -66,7 +70,8 @@ fn instance_judgement(
 fn instances(alloc: Global, terms: &[Term], binds: &[Term]) -> Result<Vec<Term>, NoMemory>
     requires terms { greatest_depth (forest (map tree terms.now)) ≤ 1000 }
     requires binds { greatest_depth (forest (map tree binds.now)) ≤ 1000 }
-    ensures { IfOk result (λ x. map tree x.items ≡ map (instance (bound_by (map tree binds.now))) (map tree terms.now)) }
+    ensures { IfOk result (λ x. map tree x.items
+        ≡ map (instance (bound_by (map tree binds.now))) (map tree terms.now)) }
 {
     let mut made = Vec::with_capacity(alloc, terms.len())?;
     for i in 0..terms.len() {

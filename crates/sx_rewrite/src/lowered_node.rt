@@ -21,8 +21,9 @@ use crate::rewrite_error::RewriteError;
 use std::alloc::Global;
 use sx_rules::{Proof, RuleSet};
 
-/// The node by the rule, with what is put for its variables, over lowered kids: the certificate of an extension rule with the kids at
-/// the places of its givens, and a base rule as it is. The first of its terms that passes a limit is refused.
+/// The node by the rule, with what is put for its variables, over lowered kids: the
+/// certificate of an extension rule with the kids at the places of its givens, and a base
+/// rule as it is. The first of its terms that passes a limit is refused.
 pub(crate) fn lowered_node(
     alloc: Global,
     set: &Accepted,
@@ -34,8 +35,12 @@ pub(crate) fn lowered_node(
     requires graft { CanGraft (certificate_at (accepted set.now) rule) (view.boxed kids.items) }
     requires height { spec.most_height (view.boxed kids.items) ≤ 3000 }
     requires binds { spec.HaveShallowBinds (view.boxed kids.items) }
-    ensures { (more : List Tree) → ArePut more puts → Answers (first_over (own_terms (bare_rules_in set.now.base) (certificate_at (accepted set.now) rule) rule more))
-        (λ x. view.proof x.value ≡ own_proof (certificate_at (accepted set.now) rule) rule more (view.boxed kids.items)) result }
+    ensures { (more : List Tree) → ArePut more puts →
+        Answers (first_over
+        (own_terms (bare_rules_in set.now.base)
+        (certificate_at (accepted set.now) rule) rule more))
+        (λ x. view.proof x.value ≡ own_proof (certificate_at (accepted set.now) rule) rule more
+        (view.boxed kids.items)) result }
 {
     match set.certificate(rule) {
         Some(certificate) => {
@@ -55,7 +60,8 @@ fn base_node(
     puts: PutTerms,
     kids: Vec<Box<Proof>>,
 ) -> Result<Box<Proof>, RewriteError>
-    ensures { (more : List Tree) → ArePut more puts → Answers (first_over (own_terms (bare_rules_in base.now) None rule more))
+    ensures { (more : List Tree) → ArePut more puts →
+        Answers (first_over (own_terms (bare_rules_in base.now) None rule more))
         (λ x. view.proof x.value ≡ own_proof None rule more (view.boxed kids.items)) result }
 {
     match based(base, rule, puts) {

@@ -18,8 +18,8 @@ use std::alloc::Global;
 use sx_rules::{Hyps, Judgement, Place, Proof, RuleSet};
 use sx_term::{NoMemory, Role, Term};
 
-/// The subject of the judgement that the derivation by base rules derives from the hypotheses, or None where it has none. It is read
-/// off the last step alone. The one refusal is want of memory.
+/// The subject of the judgement that the derivation by base rules derives from the hypotheses, or
+/// None where it has none. It is read off the last step alone. The one refusal is want of memory.
 pub(crate) fn lowered_subject(
     alloc: Global,
     base: &RuleSet,
@@ -28,7 +28,8 @@ pub(crate) fn lowered_subject(
 ) -> Result<Option<Term>, NoMemory>
     requires binds { HasShallowBinds (view.proof proof.now) }
     requires near { ShallowJudgements (hypotheses given.now).judgements }
-    ensures { IfOk result (λ s. (k : known.Judgement) → Derives (bare_rules_in base.now) (hypotheses given.now) k (view.proof proof.now) →
+    ensures { IfOk result (λ s. (k : known.Judgement) →
+        Derives (bare_rules_in base.now) (hypotheses given.now) k (view.proof proof.now) →
         IsSubject (subjects_of (subjects_in (forms_in base.now)) k) s) }
 {
     base.facts();
@@ -69,7 +70,9 @@ fn instance_subject(
 ) -> Result<Option<Term>, NoMemory>
     requires places { AreShallow (judgement from.now).places }
     requires binds { greatest_depth (forest (map tree binds.now)) ≤ 1000 }
-    ensures { IfOk result (IsSubject (subjects_of (subjects_in (forms_in set.now)) (known.judgement_instance (bound_by (map tree binds.now)) (judgement from.now)))) }
+    ensures { IfOk result
+        (IsSubject (subjects_of (subjects_in (forms_in set.now))
+        (known.judgement_instance (bound_by (map tree binds.now)) (judgement from.now)))) }
 {
     match subject_of(set, from) {
         Some(term) => Ok(Some(instance_made(alloc, term, binds)?)),
@@ -80,7 +83,8 @@ fn instance_subject(
 /// The subject of the judgement. The one refusal is want of memory.
 fn own_subject(alloc: Global, set: &RuleSet, from: &Judgement) -> Result<Option<Term>, NoMemory>
     requires { AreShallow (judgement from.now).places }
-    ensures { IfOk result (IsSubject (subjects_of (subjects_in (forms_in set.now)) (judgement from.now))) }
+    ensures { IfOk result
+        (IsSubject (subjects_of (subjects_in (forms_in set.now)) (judgement from.now))) }
 {
     match subject_of(set, from) {
         Some(term) => Ok(Some(term.copy(alloc)?)),
@@ -90,8 +94,11 @@ fn own_subject(alloc: Global, set: &RuleSet, from: &Judgement) -> Result<Option<
 
 /// The subject of the judgement, where its form has one.
 pub(crate) fn subject_of<'a>(set: &RuleSet, from: &'a Judgement) -> Option<&'a Term>
-    ensures { MatchOption result (subjects_of (subjects_in (forms_in set.entry.now)) (judgement from.entry.now) ≡ [])
-        (λ t. (rest : List Tree) × (subjects_of (subjects_in (forms_in set.entry.now)) (judgement from.entry.now) ≡ tree t.now ∷ rest)) }
+    ensures { MatchOption result
+        (subjects_of (subjects_in (forms_in set.entry.now)) (judgement from.entry.now) ≡ [])
+        (λ t. (rest : List Tree)
+        × (subjects_of (subjects_in (forms_in set.entry.now)) (judgement from.entry.now)
+        ≡ tree t.now ∷ rest)) }
 {
     subject_at(places_of(set, from.form), &from.places)
 }
@@ -118,8 +125,11 @@ fn is_subject(places: &[Place], place: usize) -> bool
 
 /// The first term at a subject place.
 fn subject_at<'a>(places: &[Place], terms: &'a [Term]) -> Option<&'a Term>
-    ensures { MatchOption result (outputs (subject_mask places.entry.now) (map tree terms.entry.now) ≡ [])
-        (λ t. (rest : List Tree) × (outputs (subject_mask places.entry.now) (map tree terms.entry.now) ≡ tree t.now ∷ rest)) }
+    ensures { MatchOption result
+        (outputs (subject_mask places.entry.now) (map tree terms.entry.now) ≡ [])
+        (λ t. (rest : List Tree)
+        × (outputs (subject_mask places.entry.now) (map tree terms.entry.now)
+        ≡ tree t.now ∷ rest)) }
 {
     for i in 0..terms.len() {
         if is_subject(places, i) {

@@ -18,8 +18,8 @@ use crate::source::Source;
 use std::alloc::Global;
 use sx_rules::Proof;
 
-/// What the derivation is lowered to. The first of the measured terms that passes a limit is refused: those of the kids that a node
-/// needs, and then those of the node.
+/// What the derivation is lowered to. The first of the measured terms that passes a limit is
+/// refused: those of the kids that a node needs, and then those of the node.
 #[cycle(lowering)]
 pub(crate) fn lower_proof(
     alloc: Global,
@@ -28,9 +28,13 @@ pub(crate) fn lower_proof(
 ) -> Result<Box<Proof>, RewriteError>
     requires shallow { spec.height_of (view.proof proof.now) ≤ 3000 }
     requires source { IsSource source.now }
-    requires derived { CanLower (set_of source.now) (hypotheses source.now.given.now) (view.proof proof.now) }
-    ensures { MatchResult result (λ x. IsLoweredTo (set_of source.now) (subjects_in (forms_in source.now.set.now.base)) (hypotheses source.now.given.now) (view.proof proof.now) (view.proof x.value))
-        (IsRefused (set_of source.now) (subjects_in (forms_in source.now.set.now.base)) (hypotheses source.now.given.now) (view.proof proof.now)) }
+    requires derived { CanLower (set_of source.now) (hypotheses source.now.given.now)
+        (view.proof proof.now) }
+    ensures { MatchResult result
+        (λ x. IsLoweredTo (set_of source.now) (subjects_in (forms_in source.now.set.now.base))
+        (hypotheses source.now.given.now) (view.proof proof.now) (view.proof x.value))
+        (IsRefused (set_of source.now) (subjects_in (forms_in source.now.set.now.base))
+        (hypotheses source.now.given.now) (view.proof proof.now)) }
 {
     match proof {
         Proof::By { rule, binds, kids } => {
@@ -42,7 +46,8 @@ pub(crate) fn lower_proof(
     }
 }
 
-/// What the kids of a node by the rule are lowered to. In the place of a kid that is not needed stands a given.
+/// What the kids of a node by the rule are lowered to.
+/// In the place of a kid that is not needed stands a given.
 #[cycle(lowering)]
 fn lower_kids(
     alloc: Global,
@@ -52,11 +57,18 @@ fn lower_kids(
 ) -> Result<Vec<Box<Proof>>, RewriteError>
     requires shallow { spec.most_height (view.boxed kids.now) < 3000 }
     requires source { IsSource source.now }
-    requires derived { (i : ℕ) (p : spec.Proof) → needed (certificate_at (accepted source.now.set.now) rule) i ≡ true → spec.proof_at (view.boxed kids.now) i ≡ Some p →
+    requires derived { (i : ℕ) (p : spec.Proof) →
+        needed (certificate_at (accepted source.now.set.now) rule) i ≡ true →
+        spec.proof_at (view.boxed kids.now) i ≡ Some p →
         CanLower (set_of source.now) (hypotheses source.now.given.now) p }
-    ensures { MatchResult result (λ x. AreLoweredTo (set_of source.now) (subjects_in (forms_in source.now.set.now.base)) (hypotheses source.now.given.now)
-        (needed (certificate_at (accepted source.now.set.now) rule)) (view.boxed kids.now) (view.boxed x.items))
-        (AreRefused (set_of source.now) (subjects_in (forms_in source.now.set.now.base)) (hypotheses source.now.given.now) (needed (certificate_at (accepted source.now.set.now) rule)) (view.boxed kids.now)) }
+    ensures { MatchResult result
+        (λ x. AreLoweredTo (set_of source.now) (subjects_in (forms_in source.now.set.now.base))
+        (hypotheses source.now.given.now)
+        (needed (certificate_at (accepted source.now.set.now) rule))
+        (view.boxed kids.now) (view.boxed x.items))
+        (AreRefused (set_of source.now) (subjects_in (forms_in source.now.set.now.base))
+        (hypotheses source.now.given.now)
+        (needed (certificate_at (accepted source.now.set.now) rule)) (view.boxed kids.now)) }
 {
     let mut lowered = Vec::with_capacity(alloc, kids.len())?;
     for i in 0..kids.len() {
@@ -65,7 +77,8 @@ fn lower_kids(
     Ok(lowered)
 }
 
-/// What the kid with this number of a node by the rule is lowered to, or a given where it is not needed.
+/// What the kid with this number of a node by the rule is lowered to,
+/// or a given where it is not needed.
 #[cycle(lowering)]
 fn lower_kid(
     alloc: Global,
@@ -76,10 +89,17 @@ fn lower_kid(
 ) -> Result<Box<Proof>, RewriteError>
     requires shallow { spec.height_of (view.proof kid.now) < 3000 }
     requires source { IsSource source.now }
-    requires derived { needed (certificate_at (accepted source.now.set.now) rule) number ≡ true → CanLower (set_of source.now) (hypotheses source.now.given.now) (view.proof kid.now) }
-    ensures { MatchResult result (λ x. IsKidLowered (set_of source.now) (subjects_in (forms_in source.now.set.now.base)) (hypotheses source.now.given.now)
-        (needed (certificate_at (accepted source.now.set.now) rule) number) (view.proof kid.now) (view.proof x.value))
-        (IsKidRefused (set_of source.now) (subjects_in (forms_in source.now.set.now.base)) (hypotheses source.now.given.now) (needed (certificate_at (accepted source.now.set.now) rule) number) (view.proof kid.now)) }
+    requires derived { needed (certificate_at (accepted source.now.set.now) rule) number ≡ true →
+        CanLower (set_of source.now) (hypotheses source.now.given.now) (view.proof kid.now) }
+    ensures { MatchResult result
+        (λ x. IsKidLowered (set_of source.now) (subjects_in (forms_in source.now.set.now.base))
+        (hypotheses source.now.given.now)
+        (needed (certificate_at (accepted source.now.set.now) rule) number)
+        (view.proof kid.now) (view.proof x.value))
+        (IsKidRefused (set_of source.now) (subjects_in (forms_in source.now.set.now.base))
+        (hypotheses source.now.given.now)
+        (needed (certificate_at (accepted source.now.set.now) rule) number)
+        (view.proof kid.now)) }
 {
     if source.set.is_needed(rule, number) {
         return lower_proof(alloc, source, kid);

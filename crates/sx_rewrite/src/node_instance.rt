@@ -22,8 +22,9 @@ use sx_plain::Measure;
 use sx_rules::RuleSet;
 use sx_term::Term;
 
-/// The instances of the bindings of a node by the rule with this number. Each is measured before it is made, and after them the places
-/// of the rule's conclusion under them are measured. The first that passes a limit is refused.
+/// The instances of the bindings of a node by the rule with this number. Each is
+/// measured before it is made, and after them the places of the rule's conclusion
+/// under them are measured. The first that passes a limit is refused.
 pub(crate) fn node_instance(
     alloc: Global,
     base: &RuleSet,
@@ -34,7 +35,9 @@ pub(crate) fn node_instance(
     requires shallow { greatest_depth (forest (map tree binds.now)) ≤ 1000 }
     requires put { (more : List Tree) × ArePut more puts.now }
     ensures { (more : List Tree) → ArePut more puts.now →
-        Answers (first_over (node_terms (slice_get (bare_rules_in base.now) rule) (map (instance (bound_by more)) (map tree binds.now))))
+        Answers (first_over
+        (node_terms (slice_get (bare_rules_in base.now) rule)
+        (map (instance (bound_by more)) (map tree binds.now))))
         (λ x. map tree x.items ≡ map (instance (bound_by more)) (map tree binds.now)) result }
 {
     let made = instances(alloc, binds, puts)?;
@@ -44,12 +47,13 @@ pub(crate) fn node_instance(
     Ok(terms)
 }
 
-/// The instances of the terms, with how deep and how big they are. Each is measured before it is made, and the first that passes a
-/// limit is refused.
+/// The instances of the terms, with how deep and how big they are. Each is measured
+/// before it is made, and the first that passes a limit is refused.
 fn instances(alloc: Global, terms: &[Term], puts: &PutTerms) -> Result<PutTerms, RewriteError>
     requires shallow { greatest_depth (forest (map tree terms.now)) ≤ 1000 }
     requires put { (more : List Tree) × ArePut more puts.now }
-    ensures { (more : List Tree) → ArePut more puts.now → Answers (first_over (map (instance (bound_by more)) (map tree terms.now)))
+    ensures { (more : List Tree) → ArePut more puts.now →
+        Answers (first_over (map (instance (bound_by more)) (map tree terms.now)))
         (IsMadeOf (map (instance (bound_by more)) (map tree terms.now))) result }
 {
     let mut made = Vec::with_capacity(alloc, terms.len())?;
@@ -67,8 +71,8 @@ fn instances(alloc: Global, terms: &[Term], puts: &PutTerms) -> Result<PutTerms,
     })
 }
 
-/// Refuses the first place of the conclusion of the rule with this number that passes a limit under terms of these measures. Nothing is
-/// made. A number without a rule has no places.
+/// Refuses the first place of the conclusion of the rule with this number that passes a limit
+/// under terms of these measures. Nothing is made. A number without a rule has no places.
 pub(crate) fn check_conclusion(
     base: &RuleSet,
     rule: u32,
@@ -76,7 +80,8 @@ pub(crate) fn check_conclusion(
 ) -> Result<(), RewriteError>
     requires { greatest (depths_of measures.now) ≤ 1001000 }
     ensures { (binds : List Tree) → AreMeasuresOf binds measures.now →
-        Answers (first_over (conclusion_terms (slice_get (bare_rules_in base.now) rule) binds)) (λ _. Unit {0}) result }
+        Answers (first_over (conclusion_terms (slice_get (bare_rules_in base.now) rule) binds))
+        (λ _. Unit {0}) result }
 {
     base.facts();
     match base.rule(rule) {
@@ -85,12 +90,14 @@ pub(crate) fn check_conclusion(
     }
 }
 
-/// Refuses the first of the terms that passes a limit under terms of these measures. Nothing is made.
+/// Refuses the first of the terms that passes a limit under terms of these measures.
+/// Nothing is made.
 fn check_places(places: &[Term], measures: &[Measure]) -> Result<(), RewriteError>
     requires shallow { greatest_depth (forest (map tree places.now)) ≤ 1000 }
     requires measured { greatest (depths_of measures.now) ≤ 1001000 }
     ensures { (binds : List Tree) → AreMeasuresOf binds measures.now →
-        Answers (first_over (map (instance (bound_by binds)) (map tree places.now))) (λ _. Unit {0}) result }
+        Answers (first_over (map (instance (bound_by binds)) (map tree places.now)))
+        (λ _. Unit {0}) result }
 {
     for i in 0..places.len() {
         check_measure(instance_measure(&places[i], measures))?;

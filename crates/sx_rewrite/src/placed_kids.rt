@@ -11,8 +11,9 @@ use std::mem;
 use sx_rules::{Proof, copy_proof};
 use sx_term::NoMemory;
 
-/// The kid at each place, where the givens tell whose place it is. A kid is moved to its last place and copied for those before it; one
-/// without a place is dropped. The one refusal is want of memory.
+/// The kid at each place, where the givens tell whose place it is. A kid is
+/// moved to its last place and copied for those before it; one without a
+/// place is dropped. The one refusal is want of memory.
 pub(crate) fn placed_kids(
     alloc: Global,
     givens: &Vec<u32>,
@@ -21,7 +22,8 @@ pub(crate) fn placed_kids(
     requires below { AllBelow (length kids.items) givens.now.items }
     requires height { spec.most_height (view.boxed kids.items) ≤ 3000 }
     requires binds { spec.HaveShallowBinds (view.boxed kids.items) }
-    ensures { IfOk result (λ x. view.boxed x.items ≡ placed (view.boxed kids.items) givens.now.items) }
+    ensures { IfOk result (λ x. view.boxed x.items
+        ≡ placed (view.boxed kids.items) givens.now.items) }
 {
     let mut kids = kids;
     let mut left = places_left(alloc, givens, kids.len())?;
@@ -35,7 +37,8 @@ pub(crate) fn placed_kids(
 fn places_left(alloc: Global, givens: &Vec<u32>, many: usize) -> Result<Vec<usize>, NoMemory>
     requires { AllBelow many givens.now.items }
     ensures many { IfOk result (λ x. length x.items ≡ many) }
-    ensures times { IfOk result (λ x. (g : ℕ) → g < many → slice_index_or x.items g 0 ≡ times_among g givens.now.items) }
+    ensures times { IfOk result
+        (λ x. (g : ℕ) → g < many → slice_index_or x.items g 0 ≡ times_among g givens.now.items) }
 {
     let mut left = Vec::from_elem(alloc, 0, many)?;
     for i in 0..givens.len() {
@@ -53,7 +56,8 @@ fn put_kids(
 ) -> Result<Vec<Box<Proof>>, NoMemory>
     requires below { AllBelow (length kids.old) givens.now }
     requires many { length left.old ≡ length kids.old }
-    requires times { (g : ℕ) → g < length kids.old → slice_index_or left.old g 0 ≡ times_among g givens.now }
+    requires times { (g : ℕ) → g < length kids.old →
+        slice_index_or left.old g 0 ≡ times_among g givens.now }
     requires height { spec.most_height (view.boxed kids.old) ≤ 3000 }
     requires binds { spec.HaveShallowBinds (view.boxed kids.old) }
     ensures { IfOk result (λ x. view.boxed x.items ≡ placed (view.boxed kids.old) givens.now) }
@@ -65,7 +69,8 @@ fn put_kids(
     Ok(placed)
 }
 
-/// The kid with this number, which has a place left: moved where that is its last, and copied before.
+/// The kid with this number, which has a place left: moved where that is its last,
+/// and copied before.
 fn take_kid(
     alloc: Global,
     number: usize,
@@ -78,7 +83,8 @@ fn take_kid(
     requires height { spec.most_height (view.boxed kids.old) ≤ 3000 }
     requires binds { spec.HaveShallowBinds (view.boxed kids.old) }
     ensures taken { OnOk result (IsTaken number left.old left.new kids.old kids.new) }
-    ensures kid { IfOk result (λ x. Some (view.proof x.value) ≡ spec.proof_at (view.boxed kids.old) number) }
+    ensures kid { IfOk result
+        (λ x. Some (view.proof x.value) ≡ spec.proof_at (view.boxed kids.old) number) }
 {
     left[number] -= 1;
     if left[number] > 0 {

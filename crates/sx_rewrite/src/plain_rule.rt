@@ -21,7 +21,8 @@ pub(crate) fn plain_rules(
     rules: &[ExtRule],
 ) -> Result<Vec<Rule>, NoMemory>
     requires { AllByRecursion (λ e. RuleHasImage (table_of table.now) (rule e.rule)) rules.now }
-    ensures { IfOk result (λ x. map named x.items ≡ map (λ e. plain_named (table_of table.now) (named e.rule)) rules.now) }
+    ensures { IfOk result (λ x. map named x.items
+        ≡ map (λ e. plain_named (table_of table.now) (named e.rule)) rules.now) }
 {
     let mut plain = Vec::with_capacity(alloc, rules.len())?;
     for ext in rules {
@@ -50,7 +51,8 @@ fn plain_premises(
     premises: &[Premise],
 ) -> Result<Vec<Premise>, NoMemory>
     requires { AllByRecursion (PremiseHasImage (table_of table.now)) (map premise premises.now) }
-    ensures { IfOk result (λ x. map premise x.items ≡ map (image_premise (table_of table.now)) (map premise premises.now)) }
+    ensures { IfOk result (λ x. map premise x.items
+        ≡ map (image_premise (table_of table.now)) (map premise premises.now)) }
 {
     let mut plain = Vec::with_capacity(alloc, premises.len())?;
     for premise in premises {
@@ -62,7 +64,8 @@ fn plain_premises(
 /// The premise with plain images.
 fn plain_premise(alloc: Global, table: &PlainTable, from: &Premise) -> Result<Premise, NoMemory>
     requires { PremiseHasImage (table_of table.now) (premise from.now) }
-    ensures { IfOk result (λ x. premise x ≡ image_premise (table_of table.now) (premise from.now)) }
+    ensures { IfOk result (λ x. premise x
+        ≡ image_premise (table_of table.now) (premise from.now)) }
 {
     match from {
         Premise::Holds(it) => Ok(Premise::Holds(plain_judgement(alloc, table, it)?)),
@@ -80,7 +83,8 @@ fn plain_judgement(
     from: &Judgement,
 ) -> Result<Judgement, NoMemory>
     requires { AllByRecursion (HasImage (table_of table.now)) (map tree from.now.places.items) }
-    ensures { IfOk result (λ x. judgement x ≡ image_judgement (table_of table.now) (judgement from.now)) }
+    ensures { IfOk result (λ x. judgement x
+        ≡ image_judgement (table_of table.now) (judgement from.now)) }
 {
     Ok(Judgement {
         form: from.form,
@@ -91,7 +95,8 @@ fn plain_judgement(
 /// The plain images of the terms.
 fn plain_terms(alloc: Global, table: &PlainTable, terms: &[Term]) -> Result<Vec<Term>, NoMemory>
     requires { AllByRecursion (HasImage (table_of table.now)) (map tree terms.now) }
-    ensures { IfOk result (λ x. map tree x.items ≡ map (image (table_of table.now)) (map tree terms.now)) }
+    ensures { IfOk result (λ x. map tree x.items
+        ≡ map (image (table_of table.now)) (map tree terms.now)) }
 {
     let mut plain = Vec::with_capacity(alloc, terms.len())?;
     for term in terms {

@@ -24,8 +24,8 @@ use sx_plain::Measure;
 use sx_rules::{Hyps, Judgement, Premise, Proof, RuleSet};
 use sx_term::{NoMemory, Term};
 
-/// Puts the subject of each lowered kid that a node by the rule needs for the variable that is the subject of its premise. The one
-/// refusal is want of memory.
+/// Puts the subject of each lowered kid that a node by the rule needs for the variable
+/// that is the subject of its premise. The one refusal is want of memory.
 pub(crate) fn put_subjects(
     alloc: Global,
     source: &Source,
@@ -35,12 +35,20 @@ pub(crate) fn put_subjects(
     puts: &mut PutTerms,
 ) -> Result<(), NoMemory>
     requires near { ShallowJudgements (hypotheses source.now.given.now).judgements }
-    requires ready { AreReady (bare_rules_in source.now.set.now.base) (hypotheses source.now.given.now) (needed (certificate_at (accepted source.now.set.now) rule)) (view.boxed kids.now) }
+    requires ready { AreReady (bare_rules_in source.now.set.now.base)
+        (hypotheses source.now.given.now)
+        (needed (certificate_at (accepted source.now.set.now) rule)) (view.boxed kids.now) }
     requires many { length kids.now ≡ length (judgements_of (map premise premises.now)) }
-    requires bare { (conclusion : known.Judgement) × AreBareSubjects (subjects_in (forms_in source.now.set.now.base)) conclusion [] (judgements_of (map premise premises.now)) }
-    ensures { OnOk result ((old : List Tree) → ArePut old puts.old → (more : List Tree) × ArePut more puts.new
-        × ArePutBelow (subjects_in (forms_in source.now.set.now.base)) (bare_rules_in source.now.set.now.base) (hypotheses source.now.given.now)
-        (needed (certificate_at (accepted source.now.set.now) rule)) (judgements_of (map premise premises.now)) (view.boxed kids.now) (length kids.now) old more) }
+    requires bare { (conclusion : known.Judgement)
+        × AreBareSubjects (subjects_in (forms_in source.now.set.now.base)) conclusion []
+        (judgements_of (map premise premises.now)) }
+    ensures { OnOk result
+        ((old : List Tree) → ArePut old puts.old → (more : List Tree) × ArePut more puts.new
+        × ArePutBelow (subjects_in (forms_in source.now.set.now.base))
+        (bare_rules_in source.now.set.now.base) (hypotheses source.now.given.now)
+        (needed (certificate_at (accepted source.now.set.now) rule))
+        (judgements_of (map premise premises.now)) (view.boxed kids.now)
+        (length kids.now) old more) }
 {
     let mut number = 0;
     for from in premises {
@@ -64,7 +72,8 @@ pub(crate) fn put_subjects(
     Ok(())
 }
 
-/// Puts the subject of what the kid derives for the variable that is the subject of the premise. The one refusal is want of memory.
+/// Puts the subject of what the kid derives for the variable that is the subject of the premise.
+/// The one refusal is want of memory.
 fn put_subject(
     alloc: Global,
     base: &RuleSet,
@@ -75,8 +84,10 @@ fn put_subject(
 ) -> Result<(), NoMemory>
     requires near { ShallowJudgements (hypotheses given.now).judgements }
     requires ready { IsReady (bare_rules_in base.now) (hypotheses given.now) (view.proof kid.now) }
-    ensures { OnOk result ((old : List Tree) → ArePut old puts.old → (more : List Tree) × ArePut more puts.new
-        × IsSubjectPut (subjects_in (forms_in base.now)) (bare_rules_in base.now) (hypotheses given.now) (judgement premise.now) (view.proof kid.now) old more) }
+    ensures { OnOk result
+        ((old : List Tree) → ArePut old puts.old → (more : List Tree) × ArePut more puts.new
+        × IsSubjectPut (subjects_in (forms_in base.now)) (bare_rules_in base.now)
+        (hypotheses given.now) (judgement premise.now) (view.proof kid.now) old more) }
 {
     match premise_variable(base, premise) {
         Some(variable) => match lowered_subject(alloc, base, given, kid)? {
@@ -92,8 +103,13 @@ fn put_subject(
 
 /// The variable that is the subject of the premise.
 fn premise_variable(set: &RuleSet, premise: &Judgement) -> Option<u32>
-    ensures { MatchOption result ((v : ℕ) (rest : List Tree) → subjects_of (subjects_in (forms_in set.now)) (judgement premise.now) ≡ hole v ∷ rest → ⊥)
-        (λ v. (rest : List Tree) × (subjects_of (subjects_in (forms_in set.now)) (judgement premise.now) ≡ hole v ∷ rest)) }
+    ensures { MatchOption result
+        ((v : ℕ) (rest : List Tree) →
+        subjects_of (subjects_in (forms_in set.now)) (judgement premise.now)
+        ≡ hole v ∷ rest → ⊥)
+        (λ v. (rest : List Tree)
+        × (subjects_of (subjects_in (forms_in set.now)) (judgement premise.now)
+        ≡ hole v ∷ rest)) }
 {
     match subject_of(set, premise) {
         Some(term) => variable_of(term),
@@ -103,7 +119,8 @@ fn premise_variable(set: &RuleSet, premise: &Judgement) -> Option<u32>
 
 /// The number of the variable that the term is.
 fn variable_of(term: &Term) -> Option<u32>
-    ensures { MatchOption result ((v : ℕ) → tree term.now ≡ hole v → ⊥) (λ v. tree term.now ≡ hole v) }
+    ensures { MatchOption result ((v : ℕ) → tree term.now ≡ hole v → ⊥)
+        (λ v. tree term.now ≡ hole v) }
 {
     match term {
         Term::Node { label: _, kids: _ } => None,
@@ -112,10 +129,12 @@ fn variable_of(term: &Term) -> Option<u32>
     }
 }
 
-/// Puts the term for the variable in the place of what is put for it; a number past the variables has no place.
+/// Puts the term for the variable in the place of what is put for it;
+/// a number past the variables has no place.
 fn put_at(puts: &mut PutTerms, variable: u32, term: Term)
     requires { depth_of (tree term) ≤ 1000 }
-    ensures { (old : List Tree) → ArePut old puts.old → ArePut (slice_set old variable (tree term)) puts.new }
+    ensures { (old : List Tree) → ArePut old puts.old →
+        ArePut (slice_set old variable (tree term)) puts.new }
 {
     let place = variable as usize;
     if place < puts.terms.len() && place < puts.measures.len() {

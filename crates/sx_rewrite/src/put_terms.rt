@@ -9,8 +9,9 @@ ghost use Rattle.sx_plain.specs.PartMeasures.{depths_of};
 use sx_plain::Measure;
 use sx_term::Term;
 
-/// For each variable of a rule how deep and how big the term is that is put for it, and that term where it passes no limit. In the
-/// place of one that passes a limit stands any term, since no instance that passes none has its variable.
+/// For each variable of a rule how deep and how big the term is that is put for it, and
+/// that term where it passes no limit. In the place of one that passes a limit stands
+/// any term, since no instance that passes none has its variable.
 #[derive(Drop)]
 pub(crate) struct PutTerms {
     pub terms: Vec<Term>,

@@ -26,8 +26,9 @@ use std::alloc::Global;
 use sx_rules::Proof;
 use sx_term::{NoMemory, Term};
 
-/// What is put for the variables of the rule at a node with these bindings and lowered kids: the plain image of what is bound, and for
-/// the subject of each premise whose kid is needed the subject of what that kid derives. The one refusal is want of memory.
+/// What is put for the variables of the rule at a node with these bindings and lowered kids: the
+/// plain image of what is bound, and for the subject of each premise whose kid is needed the
+/// subject of what that kid derives. The one refusal is want of memory.
 pub(crate) fn put_terms(
     alloc: Global,
     source: &Source,
@@ -36,13 +37,21 @@ pub(crate) fn put_terms(
     kids: &[Box<Proof>],
 ) -> Result<PutTerms, NoMemory>
     requires near { ShallowJudgements (hypotheses source.now.given.now).judgements }
-    requires ready { AreReady (bare_rules_in source.now.set.now.base) (hypotheses source.now.given.now) (needed (certificate_at (accepted source.now.set.now) rule)) (view.boxed kids.now) }
-    requires node { IsNodeOf (bare_rules_in source.now.rules.now) (subjects_in (forms_in source.now.set.now.base)) rule (length binds.now) (length kids.now) }
+    requires ready { AreReady (bare_rules_in source.now.set.now.base)
+        (hypotheses source.now.given.now)
+        (needed (certificate_at (accepted source.now.set.now) rule)) (view.boxed kids.now) }
+    requires node { IsNodeOf (bare_rules_in source.now.rules.now)
+        (subjects_in (forms_in source.now.set.now.base)) rule (length binds.now)
+        (length kids.now) }
     requires shallow { greatest_depth (forest (map tree binds.now)) ≤ 1000 }
     requires fit { FitTable (table_of source.now.set.now.plain) (forest (map tree binds.now)) }
-    ensures { IfOk result (λ p. (x : known.Rule) → slice_get (bare_rules_in source.now.rules.now) rule ≡ Some x → (more : List Tree) × ArePut more p
-        × ArePutBelow (subjects_in (forms_in source.now.set.now.base)) (bare_rules_in source.now.set.now.base) (hypotheses source.now.given.now)
-        (needed (certificate_at (accepted source.now.set.now) rule)) (judgements_of x.premises) (view.boxed kids.now) (length kids.now)
+    ensures { IfOk result (λ p. (x : known.Rule) →
+        slice_get (bare_rules_in source.now.rules.now) rule ≡ Some x →
+        (more : List Tree) × ArePut more p
+        × ArePutBelow (subjects_in (forms_in source.now.set.now.base))
+        (bare_rules_in source.now.set.now.base) (hypotheses source.now.given.now)
+        (needed (certificate_at (accepted source.now.set.now) rule))
+        (judgements_of x.premises) (view.boxed kids.now) (length kids.now)
         (images_for (table_of source.now.set.now.plain) x.sorts (map tree binds.now)) more) }
 {
     match source.rules.rule(rule) {

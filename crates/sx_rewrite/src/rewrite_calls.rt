@@ -28,8 +28,9 @@ use sx_rules::{Hyps, Proof};
 /// How deep a derivation may be.
 const MOST_HEIGHT: u64 = 3000;
 
-/// What a derivation by the plain rules of the set, from base hypotheses, is lowered to. Where that has more nodes than the budget, is
-/// deeper than 3,000, or has a term over a limit, the first of these is refused, in this order.
+/// What a derivation by the plain rules of the set, from base hypotheses, is lowered
+/// to. Where that has more nodes than the budget, is deeper than 3,000, or has a
+/// term over a limit, the first of these is refused, in this order.
 pub fn rewrite_open(
     alloc: Global,
     set: &Accepted,
@@ -38,8 +39,10 @@ pub fn rewrite_open(
     budget: u64,
 ) -> Result<Lowered, RewriteError>
     requires given { AreGood (length (shapes_in set.now.base)) (hypotheses given.now) }
-    requires derived { CanRewrite (plain_of (accepted set.now)) (hypotheses given.now) (view.proof proof.now) }
-    ensures { IsRewriting (plain_of (accepted set.now)) (signature set.now).subjects (hypotheses given.now) (view.proof proof.now) budget result }
+    requires derived { CanRewrite (plain_of (accepted set.now)) (hypotheses given.now)
+        (view.proof proof.now) }
+    ensures { IsRewriting (plain_of (accepted set.now)) (signature set.now).subjects
+        (hypotheses given.now) (view.proof proof.now) budget result }
 {
     set.facts();
     let source = Source {
@@ -50,8 +53,9 @@ pub fn rewrite_open(
     rewrite_by(alloc, &source, proof, budget)
 }
 
-/// What a derivation by the extended rules of the set, without hypotheses, is lowered to. Where that has more nodes than the budget, is
-/// deeper than 3,000, or has a term over a limit, the first of these is refused, in this order.
+/// What a derivation by the extended rules of the set, without hypotheses, is lowered
+/// to. Where that has more nodes than the budget, is deeper than 3,000, or has a
+/// term over a limit, the first of these is refused, in this order.
 pub fn rewrite(
     alloc: Global,
     set: &Accepted,
@@ -59,7 +63,8 @@ pub fn rewrite(
     budget: u64,
 ) -> Result<Lowered, RewriteError>
     requires { CanRewrite (accepted set.now) bare.no_hypotheses (view.proof proof.now) }
-    ensures { IsRewriting (accepted set.now) (signature set.now).subjects bare.no_hypotheses (view.proof proof.now) budget result }
+    ensures { IsRewriting (accepted set.now) (signature set.now).subjects bare.no_hypotheses
+        (view.proof proof.now) budget result }
 {
     let none = no_hypotheses(alloc);
     let answer = rewrite_from(alloc, set, proof, &none, budget);
@@ -77,7 +82,8 @@ fn no_hypotheses(alloc: Global) -> Hyps
     }
 }
 
-/// What a derivation by the extended rules of the set, from base hypotheses, is lowered to, or the first refusal.
+/// What a derivation by the extended rules of the set, from base hypotheses, is lowered to,
+/// or the first refusal.
 fn rewrite_from(
     alloc: Global,
     set: &Accepted,
@@ -86,8 +92,10 @@ fn rewrite_from(
     budget: u64,
 ) -> Result<Lowered, RewriteError>
     requires given { AreGood (length (shapes_in set.now.base)) (hypotheses given.now) }
-    requires derived { CanRewrite (accepted set.now) (hypotheses given.now) (view.proof proof.now) }
-    ensures { IsRewriting (accepted set.now) (signature set.now).subjects (hypotheses given.now) (view.proof proof.now) budget result }
+    requires derived { CanRewrite (accepted set.now) (hypotheses given.now)
+        (view.proof proof.now) }
+    ensures { IsRewriting (accepted set.now) (signature set.now).subjects (hypotheses given.now)
+        (view.proof proof.now) budget result }
 {
     set.facts();
     let source = Source {
@@ -107,8 +115,10 @@ fn rewrite_by(
 ) -> Result<Lowered, RewriteError>
     requires source { IsSource source.now }
     requires counts { CountsAlike source.now }
-    requires derived { CanRewrite (set_of source.now) (hypotheses source.now.given.now) (view.proof proof.now) }
-    ensures { IsRewriting (set_of source.now) (signature source.now.set.now).subjects (hypotheses source.now.given.now) (view.proof proof.now) budget result }
+    requires derived { CanRewrite (set_of source.now) (hypotheses source.now.given.now)
+        (view.proof proof.now) }
+    ensures { IsRewriting (set_of source.now) (signature source.now.set.now).subjects
+        (hypotheses source.now.given.now) (view.proof proof.now) budget result }
 {
     match lowered_size(source.set, proof, budget) {
         None => Err(RewriteError::RewriteSpent(budget)),
@@ -130,9 +140,14 @@ fn with_judgement(
     copied: u64,
 ) -> Result<Lowered, RewriteError>
     requires near { ShallowJudgements (hypotheses source.now.given.now).judgements }
-    requires ready { IsReady (bare_rules_in source.now.set.now.base) (hypotheses source.now.given.now) (view.proof proof.value) }
-    ensures { MatchResult result (λ x. (view.proof x.proof.value ≡ view.proof proof.value) × (x.copied ≡ copied)
-        × ((k : known.Judgement) → Derives (bare_rules_in source.now.set.now.base) (hypotheses source.now.given.now) k (view.proof proof.value) → judgement x.judgement ≡ k))
+    requires ready { IsReady (bare_rules_in source.now.set.now.base)
+        (hypotheses source.now.given.now) (view.proof proof.value) }
+    ensures { MatchResult result
+        (λ x. (view.proof x.proof.value ≡ view.proof proof.value) × (x.copied ≡ copied)
+        × ((k : known.Judgement) →
+        Derives (bare_rules_in source.now.set.now.base) (hypotheses source.now.given.now)
+        k (view.proof proof.value) →
+        judgement x.judgement ≡ k))
         (λ e. e ≡ Memory) }
 {
     match lowered_judgement(alloc, &source.set.base, source.given, &proof) {

@@ -19,7 +19,8 @@ pub enum RewriteError {
     /// A term of it, the first that is measured, has this depth, which is more than 1,000.
     #[error("depth {0} is over 1000")]
     TooDeep(u64),
-    /// A term of it, the first that is measured, has so many nodes, lexemes and variables, which are more than 1,000,000.
+    /// A term of it, the first that is measured, has so many nodes, lexemes and variables,
+    /// which are more than 1,000,000.
     #[error("a term has {0} nodes, over 1000000")]
     TooBig(u64),
 }

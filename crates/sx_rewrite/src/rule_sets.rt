@@ -14,7 +14,8 @@ use sx_term::{NoMemory, Shapes};
 /// The most rules that a set has.
 const MOST_RULES: u32 = 4096;
 
-/// The rules of the set and then more, which are good with these shapes. The one refusal is want of memory.
+/// The rules of the set and then more, which are good with these shapes.
+/// The one refusal is want of memory.
 pub(crate) fn with_more(
     alloc: Global,
     set: &RuleSet,
@@ -22,8 +23,10 @@ pub(crate) fn with_more(
     more: Vec<Rule>,
 ) -> Result<RuleSet, NoMemory>
     requires shallow { RulesAreShallow (map rule more.items) }
-    requires good { IsRuleSet (shapes all.now) (forms_in set.now) (rules_in set.now ++ map named more.items) }
-    ensures { IfOk result (λ x. (shapes_in x ≡ shapes all.now) × (forms_in x ≡ forms_in set.now) × (rules_in x ≡ rules_in set.now ++ map named more.items)) }
+    requires good { IsRuleSet (shapes all.now) (forms_in set.now)
+        (rules_in set.now ++ map named more.items) }
+    ensures { IfOk result (λ x. (shapes_in x ≡ shapes all.now) × (forms_in x ≡ forms_in set.now)
+        × (rules_in x ≡ rules_in set.now ++ map named more.items)) }
 {
     match RuleSet::extend(alloc, set, all, more) {
         Ok(extended) => Ok(extended),
@@ -39,7 +42,8 @@ pub(crate) fn with_more(
 
 /// An equal set. The one refusal is want of memory.
 pub(crate) fn copied(alloc: Global, set: &RuleSet) -> Result<RuleSet, NoMemory>
-    ensures { IfOk result (λ x. (shapes_in x ≡ shapes_in set.now) × (forms_in x ≡ forms_in set.now) × (rules_in x ≡ rules_in set.now)) }
+    ensures { IfOk result (λ x. (shapes_in x ≡ shapes_in set.now) × (forms_in x ≡ forms_in set.now)
+        × (rules_in x ≡ rules_in set.now)) }
 {
     set.facts();
     with_more(alloc, set, set.shapes(), Vec::new(alloc))

@@ -7,7 +7,8 @@ pub fn derivations_fit()
     ensures { DerivationsFit }
 {}
 
-/// What is counted of a derivation by the plain rules is what is counted of it by the extended rules.
+/// What is counted of a derivation by the plain rules
+/// is what is counted of it by the extended rules.
 pub fn plain_rules_count_alike()
     ensures { PlainRulesCountAlike }
 {}

@@ -30,7 +30,8 @@ pub(crate) fn certificate_sizes(
 ) -> Result<Vec<CertificateSize>, NoMemory>
     requires many { length flats.now ≡ length rules.now }
     requires shallow { AllByRecursion IsShallow flats.now }
-    ensures { IfOk result (λ sizes. AreSizesOf (checked_of (map (λ e. rule e.rule) rules.now) flats.now) sizes.items) }
+    ensures { IfOk result (λ sizes. AreSizesOf
+        (checked_of (map (λ e. rule e.rule) rules.now) flats.now) sizes.items) }
 {
     let mut sizes = Vec::with_capacity(alloc, flats.len())?;
     for i in 0..flats.len() {
@@ -46,9 +47,12 @@ fn certificate_size(
     certificate: &Proof,
 ) -> Result<CertificateSize, NoMemory>
     requires { height_of (view.proof certificate.now) ≤ 3000 }
-    ensures nodes { IfOk result (λ size. size.nodes ≡ in_u128 (count.own_nodes (view.proof certificate.now))) }
-    ensures height { IfOk result (λ size. size.height ≡ count.own_height (view.proof certificate.now)) }
-    ensures many { IfOk result (λ size. length size.uses.items ≡ length (judgements_of (map premise premises.now))) }
+    ensures nodes { IfOk result
+        (λ size. size.nodes ≡ in_u128 (count.own_nodes (view.proof certificate.now))) }
+    ensures height { IfOk result
+        (λ size. size.height ≡ count.own_height (view.proof certificate.now)) }
+    ensures many { IfOk result
+        (λ size. length size.uses.items ≡ length (judgements_of (map premise premises.now))) }
     ensures uses { IfOk result (λ size. AreUsesOf 0 (view.proof certificate.now) size.uses.items) }
 {
     let mut uses = no_uses(alloc, premises)?;
@@ -62,7 +66,8 @@ fn certificate_size(
 
 /// For each judgement among the premises a given that is not used.
 fn no_uses(alloc: Global, premises: &[Premise]) -> Result<Vec<GivenUse>, NoMemory>
-    ensures { IfOk result (λ uses. uses.items ≡ unused (length (judgements_of (map premise premises.now)))) }
+    ensures { IfOk result (λ uses. uses.items
+        ≡ unused (length (judgements_of (map premise premises.now)))) }
 {
     let mut uses = Vec::new(alloc);
     for premise in premises {
@@ -92,12 +97,14 @@ fn once_more(given: GivenUse, above: u32) -> GivenUse
     }
 }
 
-/// Notes which givens stand in the proof, which stands under so many nodes. The answer is the proof's own size.
+/// Notes which givens stand in the proof, which stands under so many nodes.
+/// The answer is the proof's own size.
 fn note(proof: &Proof, above: u32, uses: &mut Vec<GivenUse>) -> OwnSize
     requires shallow { above + height_of (view.proof proof.now) ≤ 3001 }
     ensures nodes { result.nodes ≡ in_u128 (count.own_nodes (view.proof proof.now)) }
     ensures height { result.height ≡ count.own_height (view.proof proof.now) }
-    ensures uses { uses.new.items ≡ noted (λ i. times_given i (view.proof proof.now)) (λ i. is_used i (view.proof proof.now))
+    ensures uses { uses.new.items ≡ noted (λ i. times_given i (view.proof proof.now))
+        (λ i. is_used i (view.proof proof.now))
         (λ i. count.nodes_above i (view.proof proof.now)) above 0 uses.old.items }
 {
     match proof {

@@ -18,8 +18,9 @@ use crate::sizing::use_at;
 use crate::tally::Tally;
 use sx_rules::Proof;
 
-/// How big the proof is when it is lowered by the set, or None exactly where it then has more nodes than the budget. No memory is
-/// taken, no certificate is looked at, and no kid whose given the certificate of its node does not use.
+/// How big the proof is when it is lowered by the set, or None exactly where it then has
+/// more nodes than the budget. No memory is taken, no certificate is looked at, and
+/// no kid whose given the certificate of its node does not use.
 pub(crate) fn lowered_size(set: &Accepted, proof: &Proof, budget: u64) -> Option<LoweredSize>
     requires shallow { height_of (view.proof proof.now) ≤ 3000 }
     requires kids { HasFitKids (accepted set.now) (view.proof proof.now) }
@@ -41,10 +42,12 @@ pub(crate) fn lowered_size(set: &Accepted, proof: &Proof, budget: u64) -> Option
 fn tally(set: &Accepted, proof: &Proof) -> Tally
     requires shallow { height_of (view.proof proof.now) ≤ 3000 }
     requires kids { HasFitKids (accepted set.now) (view.proof proof.now) }
-    ensures nodes { result.nodes ≡ in_u128 (lowered_nodes (accepted set.now) (view.proof proof.now)) }
+    ensures nodes { result.nodes
+        ≡ in_u128 (lowered_nodes (accepted set.now) (view.proof proof.now)) }
     ensures height { result.height ≡ lowered_height (accepted set.now) (view.proof proof.now) }
     ensures small { result.height ≤ 3000 * height_of (view.proof proof.now) }
-    ensures copied { in_u64 result.copied ≡ in_u64 (copies.copied (accepted set.now) (view.proof proof.now)) }
+    ensures copied { in_u64 result.copied
+        ≡ in_u64 (copies.copied (accepted set.now) (view.proof proof.now)) }
 {
     match proof {
         Proof::By {
@@ -70,10 +73,17 @@ fn certificate_tally(set: &Accepted, size: &CertificateSize, kids: &[Box<Proof>]
     requires fit { HaveFitKids (accepted set.now) (view.boxed kids.now) }
     requires many { length kids.now ≡ length size.now.uses.items }
     requires small { IsSmall size.now }
-    ensures nodes { result.nodes ≡ in_u128 (size.now.nodes + used_sum size.now.uses.items (lowered_nodes_of (accepted set.now) (view.boxed kids.now))) }
-    ensures height { result.height ≡ max size.now.height (used_most size.now.uses.items (lowered_heights_of (accepted set.now) (view.boxed kids.now))) }
+    ensures nodes { result.nodes
+        ≡ in_u128 (size.now.nodes + used_sum size.now.uses.items
+        (lowered_nodes_of (accepted set.now) (view.boxed kids.now))) }
+    ensures height { result.height
+        ≡ max size.now.height
+        (used_most size.now.uses.items
+        (lowered_heights_of (accepted set.now) (view.boxed kids.now))) }
     ensures small { result.height ≤ 3000 * (most_height (view.boxed kids.now) + 1) }
-    ensures copied { in_u64 result.copied ≡ in_u64 (used_copies size.now.uses.items (lowered_nodes_of (accepted set.now) (view.boxed kids.now))
+    ensures copied { in_u64 result.copied
+        ≡ in_u64 (used_copies size.now.uses.items
+        (lowered_nodes_of (accepted set.now) (view.boxed kids.now))
         (copies.copied_of (accepted set.now) (view.boxed kids.now))) }
 {
     let mut all = Tally {
@@ -93,10 +103,13 @@ fn certificate_tally(set: &Accepted, size: &CertificateSize, kids: &[Box<Proof>]
 fn base_tally(set: &Accepted, kids: &[Box<Proof>]) -> Tally
     requires shallow { most_height (view.boxed kids.now) < 3000 }
     requires fit { HaveFitKids (accepted set.now) (view.boxed kids.now) }
-    ensures nodes { result.nodes ≡ in_u128 (total (lowered_nodes_of (accepted set.now) (view.boxed kids.now)) + 1) }
-    ensures height { result.height ≡ greatest (lowered_heights_of (accepted set.now) (view.boxed kids.now)) + 1 }
+    ensures nodes { result.nodes
+        ≡ in_u128 (total (lowered_nodes_of (accepted set.now) (view.boxed kids.now)) + 1) }
+    ensures height { result.height
+        ≡ greatest (lowered_heights_of (accepted set.now) (view.boxed kids.now)) + 1 }
     ensures small { result.height ≤ 3000 * (most_height (view.boxed kids.now) + 1) }
-    ensures copied { in_u64 result.copied ≡ in_u64 (total (copies.copied_of (accepted set.now) (view.boxed kids.now))) }
+    ensures copied { in_u64 result.copied
+        ≡ in_u64 (total (copies.copied_of (accepted set.now) (view.boxed kids.now))) }
 {
     let mut all = Tally {
         nodes: 1,
@@ -115,11 +128,21 @@ fn with_kid(set: &Accepted, so_far: Tally, given: GivenUse, kid: &Proof) -> Tall
     requires shallow { height_of (view.proof kid.now) < 3000 }
     requires kids { HasFitKids (accepted set.now) (view.proof kid.now) }
     requires near { given.above ≤ 3000 }
-    ensures nodes { result.nodes ≡ in_u128 (so_far.nodes + given.times * lowered_nodes (accepted set.now) (view.proof kid.now)) }
-    ensures height { result.height ≡ max so_far.height (if nat_lt 0 given.times then given.above + lowered_height (accepted set.now) (view.proof kid.now) else 0) }
-    ensures small { result.height ≤ max so_far.height (3000 * (height_of (view.proof kid.now) + 1)) }
-    ensures copied { in_u64 result.copied ≡ in_u64 (so_far.copied + ((given.times - 1) * lowered_nodes (accepted set.now) (view.proof kid.now)
-        + (if nat_lt 0 given.times then copies.copied (accepted set.now) (view.proof kid.now) else 0))) }
+    ensures nodes { result.nodes
+        ≡ in_u128 (so_far.nodes
+        + given.times * lowered_nodes (accepted set.now) (view.proof kid.now)) }
+    ensures height { result.height
+        ≡ max so_far.height (if nat_lt 0 given.times
+        then given.above + lowered_height (accepted set.now) (view.proof kid.now)
+        else 0) }
+    ensures small { result.height
+        ≤ max so_far.height (3000 * (height_of (view.proof kid.now) + 1)) }
+    ensures copied { in_u64 result.copied
+        ≡ in_u64 (so_far.copied
+        + ((given.times - 1) * lowered_nodes (accepted set.now) (view.proof kid.now)
+        + (if nat_lt 0 given.times
+        then copies.copied (accepted set.now) (view.proof kid.now)
+        else 0))) }
 {
     if given.times == 0 {
         return so_far;
