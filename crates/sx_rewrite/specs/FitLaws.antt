@@ -20,7 +20,7 @@ DerivationsHaveFitTerms =
     (p : Proof) (j : Judgement) → Derives (rules_of a) hyps j p →
     GoalIsSorted shapes sig.forms sig.modes vars (goal_of sig.modes j) → BindsFit a.table p
 
--- a proof of such a goal can be rewritten, if it is no deeper than 3,000 and its terms than 1,000
+-- such a derivation can be rewritten, if it is no deeper than 3,000 and its terms than 1,000
 abbrev pub FoundCanBeRewritten : Type 0
 FoundCanBeRewritten =
     (sig : Signature) (base shapes : List Shape) (a : Accepted) → IsAccepted sig base shapes a →

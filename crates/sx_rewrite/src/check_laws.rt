@@ -18,12 +18,13 @@ pub fn longer_tables_are_accepted()
     ensures { LongerTablesAreAccepted }
 {}
 
-/// Its plain rules stay as they are.
+/// The plain rules of an accepted set stay as they are with a longer table.
 pub fn plain_rules_stay()
     ensures { PlainRulesStay }
 {}
 
-/// A derivation whose terms are well sorted by the shapes of the set is rewritten alike.
+/// A derivation whose terms are well sorted by the shapes of a set is rewritten alike
+/// with a longer table.
 pub fn longer_tables_rewrite_alike()
     ensures { LongerTablesRewriteAlike }
 {}
@@ -38,17 +39,20 @@ pub fn flat_goals_stay()
     ensures { FlatGoalsStay }
 {}
 
-/// The terms of a derivation of it by plain rules have as many parts as the set's table asks for.
+/// The terms of a derivation of the flat goal by plain rules have as many parts as the table
+/// of the set asks for.
 pub fn checks_have_fit_terms()
     ensures { ChecksHaveFitTerms }
 {}
 
-/// The first can be rewritten, if it is no deeper than 3,000 and its terms than 1,000.
+/// The first derivation of the flat goal by plain rules can be rewritten, if it is no deeper
+/// than 3,000 and its terms than 1,000.
 pub fn found_checks_can_be_rewritten()
     ensures { FoundChecksCanBeRewritten }
 {}
 
-/// Each is rewritten by the set as by the set with the extension's table.
+/// A derivation of the flat goal by plain rules is rewritten by the set as by the set with the
+/// table of the extension.
 pub fn checks_are_rewritten_alike()
     ensures { ChecksAreRewrittenAlike }
 {}
@@ -58,7 +62,7 @@ pub fn checks_are_sound()
     ensures { ChecksAreSound }
 {}
 
-/// So it is of the rules of an extension that fits.
+/// What is stored of the rules of an extension that fits makes them sound after the set.
 pub fn stored_extensions_are_sound()
     ensures { StoredExtensionsAreSound }
 {}

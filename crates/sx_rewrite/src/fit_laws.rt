@@ -7,8 +7,8 @@ pub fn derivations_have_fit_terms()
     ensures { DerivationsHaveFitTerms }
 {}
 
-/// A proof of such a goal can be rewritten,
-/// if it is no deeper than 3,000 and its terms than 1,000.
+/// A derivation of a well sorted goal can be rewritten, if it is no deeper than 3,000
+/// and its terms than 1,000.
 pub fn found_can_be_rewritten()
     ensures { FoundCanBeRewritten }
 {}
