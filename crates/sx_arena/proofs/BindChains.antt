@@ -77,10 +77,14 @@ envs_stay ts us x b h = grown-same (bind_step ts) (bind_step us) (BindFits ts) (
     [] b.cells.items h
 
 pub binds_same : (ts : List Tree) (b : Binds) → IsBinds ts b → BindsGrow ts b b
-binds_same ts b h = record { binds = h; extends = extends-same (envs ts b) }
+binds_same ts b h = record { binds = h; cells = extends-same b.cells.items; extends = extends-same (envs ts b) }
 
 pub binds_then : (ts : List Tree) (a b c : Binds) → BindsGrow ts a b → BindsGrow ts b c → BindsGrow ts a c
-binds_then ts a b c p q = record { binds = q.binds; extends = extends-then (envs ts a) (envs ts b) (envs ts c) p.extends q.extends }
+binds_then ts a b c p q = record {
+  binds = q.binds;
+  cells = extends-then a.cells.items b.cells.items c.cells.items p.cells q.cells;
+  extends = extends-then (envs ts a) (envs ts b) (envs ts c) p.extends q.extends;
+}
 
 -- one more binding
 pub binds_one : (ts : List Tree) (old new : Binds) (c : Bind) → IsBinds ts old → c.term < length ts → c.before ≤ length old.cells.items → new.cells.items ≡ old.cells.items ++ c ∷ [] →
@@ -93,6 +97,7 @@ binds_one ts old new c h t l e =
     let m = ap length e ∙ length_push old.cells.items c in (
       record {
         binds = subst (λ (x : List Bind). Fits (bind_step ts) (BindFits ts) [] x) (sym e) (fits-one (bind_step ts) (BindFits ts) [] old.cells.items c h p);
+        cells = (c ∷ [], e);
         extends = (bind_step ts (envs ts old) c ∷ [], f);
       },
       ap (env_at (envs ts new)) k ∙ ap (λ es. get_or es (length old.cells.items) unbound) f ∙ get_or_push (envs ts old) (bind_step ts (envs ts old) c) unbound (length old.cells.items) n,

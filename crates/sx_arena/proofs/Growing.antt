@@ -1,6 +1,8 @@
 -- Values of cells that refer to earlier cells.
 use Rattle.std.proofs.Common.{◌≡◌, ℕ, zero, suc, ◌+◌, ◌<◌, ◌≤◌, List, [], ◌∷◌, ◌++◌, length, get_or, refl, sym, ap, ◌∙◌, append_assoc, arith, subst}
-use Rattle.std.proofs.lemmas.List.{append-nil, get_or_append_left, length-append, length_push, get_or_at}
+use Rattle.std.specs.Prelude.{take}
+use Rattle.std.proofs.Math.Seq.{take-append_seam}
+use Rattle.std.proofs.lemmas.List.{append-nil, get_or_append_left, length-append, length_push, get_or_at, take_all}
 use Rattle.sx_arena.specs.Grown.{Extends, grown_from, Fits}
 
 pub extends-same : {V : Type 0} (xs : List V) → Extends xs xs
@@ -17,6 +19,10 @@ extends-length xs ys (more, e) = let f = ap length e ∙ length-append xs more i
 
 pub extends-at : {V : Type 0} (xs ys : List V) → Extends xs ys → (i : ℕ) (d : V) → i < length xs → get_or ys i d ≡ get_or xs i d
 extends-at xs ys (more, e) i d h = ap (λ l. get_or l i d) e ∙ get_or_append_left xs more d i h
+
+-- what a list goes on from is its beginning
+pub take_extended : {V : Type 0} (xs ys : List V) (n : ℕ) → n ≡ length xs → Extends xs ys → take n ys ≡ xs
+take_extended xs ys n e (more, f) = (λ i. take (e i) (f i)) ∙ take-append_seam xs more
 
 pub grown_from-append : {C V : Type 0} (step : List V → C → V) (vs : List V) (cs ds : List C) → grown_from step vs (cs ++ ds) ≡ grown_from step (grown_from step vs cs) ds
 grown_from-append step vs [] ds = refl
@@ -70,3 +76,29 @@ grown-same {C} {V} step other P Q same vs (c ∷ cs) h =
     let s = same vs c h.0 in
     let r = grown-same step other P Q same (vs ++ step vs c ∷ []) cs h.1 in
     (ap (λ (x : V). grown_from other (vs ++ x ∷ []) cs) (sym s.0) ∙ r.0, (s.1, subst (λ (x : V). Fits other Q (vs ++ x ∷ []) cs) s.0 r.1))
+
+-- the first cells stand for the first values
+grown_from-take : {C V : Type 0} (step : List V → C → V) (vs : List V) (n : ℕ) (cs : List C) → grown_from step vs (take n cs) ≡ take (length vs + n) (grown_from step vs cs)
+grown_from-take step vs zero [] = sym (take_all (length vs + 0) vs (omega arith))
+grown_from-take step vs (suc n) [] = sym (take_all (length vs + suc n) vs (omega arith))
+grown_from-take step vs zero (c ∷ cs) =
+    sym (take_extended vs (grown_from step vs (c ∷ cs)) (length vs + 0) (omega arith) (grown_from-extends step vs (c ∷ cs)))
+grown_from-take step vs (suc n) (c ∷ cs) =
+    let l = length_push vs (step vs c) in
+    let e : length (vs ++ step vs c ∷ []) + n ≡ length vs + suc n = omega arith in
+    grown_from-take step (vs ++ step vs c ∷ []) n cs ∙ ap (λ k. take k (grown_from step (vs ++ step vs c ∷ []) cs)) e
+
+fits_from-take : {C V : Type 0} (step : List V → C → V) (P : List V → C → Type 0) (vs : List V) (n : ℕ) (cs : List C) → Fits step P vs cs → Fits step P vs (take n cs)
+fits_from-take step P vs zero [] h = tt
+fits_from-take step P vs (suc n) [] h = tt
+fits_from-take step P vs zero (c ∷ cs) h = tt
+fits_from-take step P vs (suc n) (c ∷ cs) h = (h.0, fits_from-take step P (vs ++ step vs c ∷ []) n cs h.1)
+
+pub grown-take : {C V : Type 0} (step : List V → C → V) (n : ℕ) (cs ds : List C) → ds ≡ take n cs → grown_from step [] ds ≡ take n (grown_from step [] cs)
+grown-take {C} {V} step n cs ds e =
+    let z : 0 + n ≡ n = omega arith in
+    ap (λ (xs : List C). grown_from step [] xs) e ∙ grown_from-take step [] n cs ∙ ap (λ (k : ℕ). take k (grown_from step [] cs)) z
+
+-- and fit as they did
+pub fits-take : {C V : Type 0} (step : List V → C → V) (P : List V → C → Type 0) (n : ℕ) (cs ds : List C) → ds ≡ take n cs → Fits step P [] cs → Fits step P [] ds
+fits-take {C} {V} step P n cs ds e h = subst (λ (xs : List C). Fits step P [] xs) (sym e) (fits_from-take step P [] n cs h)

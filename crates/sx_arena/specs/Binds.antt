@@ -25,9 +25,10 @@ envs ts b = grown_from (bind_step ts) [] b.cells.items
 abbrev pub IsBinds : List Tree → Binds → Type 0
 IsBinds ts b = Fits (bind_step ts) (BindFits ts) [] b.cells.items
 
--- the chains go on from the others
+-- the chains go on from the others, whose cells stay where they are
 pub record BindsGrow (ts : List Tree) (old new : Binds) : Type 0 where
   pub binds : IsBinds ts new
+  pub cells : Extends old.cells.items new.cells.items
   pub extends : Extends (envs ts old) (envs ts new)
 
 -- what a match answers: no chain where nothing matches, and else the chain that states the match

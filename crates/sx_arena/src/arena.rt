@@ -1,6 +1,6 @@
 //! Terms of a search: equal terms are stored once, and named by a number.
 
-ghost use Rattle.std.specs.Prelude.{◌≡◌, ℕ, ◌+◌, ◌-◌, ◌^◌, ◌<◌, ◌≤◌, [], IfOk, length, map, min};
+ghost use Rattle.std.specs.Prelude.{◌≡◌, ℕ, ◌+◌, ◌-◌, ◌^◌, ◌<◌, ◌≤◌, [], IfOk, length, map, min, take};
 ghost use Rattle.sx_term.specs.Tree.{node, lexeme, hole, forest, greatest_depth, total_size};
 ghost use Rattle.sx_arena.specs.Arena.{trees, tree_at, cell_tree, IsArena, IsCell, AreBelow, IsRead, IsHeld};
 
@@ -39,6 +39,21 @@ impl Arena {
         Arena {
             cells: IndexSet::new(alloc),
         }
+    }
+
+    /// How many terms there are.
+    pub fn len(&self) -> usize
+        ensures { result ≡ length (trees self.now) }
+    {
+        self.cells.len()
+    }
+
+    /// Drops the terms past the first so many.
+    pub fn cut(&mut self, length: usize)
+        ensures trees { trees self.new ≡ take length (trees self.old) }
+        ensures arena { IsArena self.old → IsArena self.new }
+    {
+        self.cells.truncate(length);
     }
 
     /// The number of the term with this cell.
