@@ -1,8 +1,8 @@
 -- Values of cells that refer to earlier cells.
 use Rattle.std.proofs.Common.{◌≡◌, ℕ, zero, suc, ◌+◌, ◌<◌, ◌≤◌, List, [], ◌∷◌, ◌++◌, length, get_or, refl, sym, ap, ◌∙◌, append_assoc, arith, subst}
-use Rattle.std.specs.Prelude.{take}
+use Rattle.std.specs.Prelude.{take, drop}
 use Rattle.std.proofs.Math.Seq.{take-append_seam}
-use Rattle.std.proofs.lemmas.List.{append-nil, get_or_append_left, length-append, length_push, get_or_at, take_all}
+use Rattle.std.proofs.lemmas.List.{append-nil, get_or_append_left, length-append, length_push, get_or_at, take_all, take-append-drop}
 use Rattle.sx_arena.specs.Grown.{Extends, grown_from, Fits}
 
 pub extends-same : {V : Type 0} (xs : List V) → Extends xs xs
@@ -19,6 +19,9 @@ extends-length xs ys (more, e) = let f = ap length e ∙ length-append xs more i
 
 pub extends-at : {V : Type 0} (xs ys : List V) → Extends xs ys → (i : ℕ) (d : V) → i < length xs → get_or ys i d ≡ get_or xs i d
 extends-at xs ys (more, e) i d h = ap (λ l. get_or l i d) e ∙ get_or_append_left xs more d i h
+
+pub first_terms : {V : Type 0} (n : ℕ) (xs : List V) → Extends (take n xs) xs
+first_terms n xs = (drop n xs, sym (take-append-drop n xs))
 
 -- what a list goes on from is its beginning
 pub take_extended : {V : Type 0} (xs ys : List V) (n : ℕ) → n ≡ length xs → Extends xs ys → take n ys ≡ xs

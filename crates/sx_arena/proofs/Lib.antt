@@ -14,3 +14,4 @@ pub mod Entering
 pub mod Exporting
 pub mod EnteredRows
 pub mod Ruled
+pub mod Kept

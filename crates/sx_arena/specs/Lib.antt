@@ -9,3 +9,4 @@ pub mod Places
 pub mod Pairs
 pub mod Facts
 pub mod Entered
+pub mod Keeping

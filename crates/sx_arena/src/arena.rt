@@ -92,7 +92,7 @@ impl Arena {
     }
 
     /// The sizes of the terms together.
-    fn size_over(&self, kids: &[usize]) -> u64
+    pub(crate) fn size_over(&self, kids: &[usize]) -> u64
         requires arena { IsArena self.now }
         requires kids { AreBelow (length (trees self.now)) kids.now }
         ensures { result ≡ min (total_size (forest (map (tree_at (trees self.now)) kids.now))) (2 ^ 64 - 1) }

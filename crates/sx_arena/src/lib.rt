@@ -7,6 +7,7 @@
 #![tactic(auto)]
 
 mod arena;
+mod arena_cut;
 mod binds;
 mod fact;
 mod input;
@@ -18,6 +19,7 @@ mod places;
 mod set;
 
 pub use arena::{Arena, Cell, Shape};
+pub use arena_cut::keep;
 pub use binds::{Bind, Binds};
 pub use fact::{Fact, copied, same_numbers};
 pub use input::{enter, enter_facts, enter_pairs, enter_places};
