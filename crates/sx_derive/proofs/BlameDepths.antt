@@ -18,7 +18,8 @@ use Rattle.sx_derive.specs.BlameTerms.{BlameIsShallow}
 use Rattle.sx_derive.specs.Laws.{StuckGoalIsShallow}
 use Rattle.sx_derive.proofs.Blamed.{none_reached, first_least, is_first}
 use Rattle.sx_derive.proofs.BlamedOnce.{first_same}
-use Rattle.sx_derive.proofs.Bounded.{limit_shallow, IsBoundedAnswer, events_bounded, shallow_outputs}
+use Rattle.sx_arena.proofs.Kept.{limit_shallow}
+use Rattle.sx_derive.proofs.Bounded.{IsBoundedAnswer, events_bounded, shallow_outputs}
 use Rattle.sx_derive.proofs.Quiet.{quiet_left, quiet_right, quiet_each, quiet_when, quiet_matched, quiet_apart, quiet_goal, quiet_rest}
 use Rattle.sx_derive.proofs.Walked.{goal_reached}
 

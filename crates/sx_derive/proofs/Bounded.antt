@@ -11,6 +11,7 @@ use Rattle.sx_derive.specs.Search.{EachGiven}
 use Rattle.sx_derive.specs.Laws.{AnswersAreBounded}
 use Rattle.sx_arena.proofs.Matchings.{MatchesAll, match_all-matches}
 use Rattle.sx_arena.proofs.Exact.{filled_agrees}
+use Rattle.sx_arena.proofs.Kept.{limit_shallow}
 use Rattle.sx_derive.proofs.Sound.{given-append, given-when, given-when_matched, given-then_each}
 
 -- a variable's value is no deeper than the instance
@@ -35,22 +36,6 @@ shallow_outputs [] ts h = tt
 shallow_outputs (b ∷ bs) [] h = tt
 shallow_outputs (true ∷ bs) (t ∷ ts) h = (h.0, shallow_outputs bs ts h.1)
 shallow_outputs (false ∷ bs) (t ∷ ts) h = shallow_outputs bs ts h.1
-
--- terms that pass no limit
-term_shallow : (b c : Bool) (t : Tree) (r : Option Cause) → first_cause (term_limit b c t) r ≡ None → (b ≡ false) × (r ≡ None)
-term_shallow true c t r e = cc
-term_shallow false true t r e = cc
-term_shallow false false t r e = (refl, e)
-
-pub limit_shallow : (ts : List Tree) → limit_passed ts ≡ None → AreShallow ts
-unfolding limit_passed
-limit_shallow [] e = tt
-limit_shallow (t ∷ ts) e =
-    let h = term_shallow (nat_lt 1000 (depth_of t)) (nat_lt 1000000 (size_of t)) t (limit_passed ts) e in
-    (not_lt (depth_of t) h.0, limit_shallow ts h.1)
-  where
-    not_lt : (n : ℕ) → nat_lt 1000 n ≡ false → n ≤ 1000
-    not_lt n f = grind (arith, f)
 
 -- the bindings of an assignment
 abbrev IsShallow : Assignment → Type 0

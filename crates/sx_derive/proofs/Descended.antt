@@ -33,7 +33,7 @@ use Rattle.sx_derive.specs.declared.descent.Reason.TheVariants.{Equal, Mismatch}
 use Rattle.sx_derive.specs.declared.descent.Spot.{Spot}
 use Rattle.sx_derive.specs.declared.store.Store.{Store}
 use Rattle.sx_derive.proofs.Asked.{facts_unique}
-use Rattle.sx_derive.proofs.Bounded.{limit_shallow}
+use Rattle.sx_arena.proofs.Kept.{limit_shallow}
 use Rattle.sx_derive.proofs.Descending.{descend_apart, descend_unequal, descend_below, descend_mismatch, descend_more}
 use Rattle.sx_derive.proofs.Premised.{stays}
 use Rattle.sx_derive.proofs.Quiet.{quiet_goal}

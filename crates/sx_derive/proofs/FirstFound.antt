@@ -11,13 +11,13 @@ use Rattle.sx_derive.specs.declared.store.Store.{Store}
 use Rattle.sx_derive.specs.declared.tasks.Ending.TheVariants.{Found, Passed, DepthSpent, Spent, Exhausted}
 use Rattle.sx_derive.specs.Handing.{answer_in}
 use Rattle.sx_derive.specs.Quiet.{IsQuiet, first_given, IsGivenIn, IsFirstFound}
-use Rattle.sx_derive.specs.Store.{IsStore, Grows, IsMark, IsCut, store_trees, store_envs, store_kids}
+use Rattle.sx_derive.specs.Store.{IsStore, Grows, IsMark, IsChainsCut, IsCut, store_trees, store_envs, store_kids}
 use Rattle.sx_derive.specs.Chains.{head_proof}
 use Rattle.sx_derive.specs.declared.store.Mark.{Mark}
 use Rattle.sx_arena.specs.Arena.{trees}
 use Rattle.sx_term.specs.Tree.{Tree}
 use Rattle.sx_derive.specs.Walked.{IsWalkedTo}
-use Rattle.sx_derive.proofs.Cut.{cut_grows}
+use Rattle.sx_derive.proofs.Cut.{chains_cut_grows, cut_grows}
 use Rattle.sx_derive.proofs.Quiet.{first_ending, quiet_walk}
 
 module _ (modes : Modes) (rules : List Rule) (old new : Store) (budget : ℕ) (es fs : List (Event Answer)) (e : es ≡ fs) (q : IsQuiet budget fs) where
@@ -38,16 +38,15 @@ module _ (modes : Modes) (rules : List Rule) (old new : Store) (budget : ℕ) (e
       go None f = refl
       go (Some x) f = cc
 
-  -- what is found stays where the chains are cut
-  module _ (m : Mark) (h : IsStore modes rules old) (k : IsMark old m) (last : Store) (c : IsCut m new last) where
-    given_last : (o : Option (Vec ℕ Global)) → Grows modes rules old new → IsGivenIn (store_trees new) (first_given fs) o → IsFirstFound modes rules old last fs o
-    given_last o g x = (cut_grows modes rules old new last m h k g c, subst (λ (ts : List Tree). IsGivenIn ts (first_given fs) o) (sym (ap trees c.arena)) x)
+  module _ (m : Mark) (h : IsStore modes rules old) (k : IsMark old m) (last : Store) where
+    -- what is found stays where the chains are cut
+    pub first_found : IsChainsCut m new last → (head : Head) (outs : Vec ℕ Global) → IsWalkedTo modes rules old new None budget es (Found head outs) → IsFirstFound modes rules old last fs (Some outs)
+    first_found c head outs w =
+        (chains_cut_grows modes rules old new last m h k w.0 c, subst (λ (ts : List Tree). IsGivenIn ts (first_given fs) (Some outs)) (sym (ap trees c.arena)) (given_outs head outs w))
 
-    pub first_found : (head : Head) (outs : Vec ℕ Global) → IsWalkedTo modes rules old new None budget es (Found head outs) → IsFirstFound modes rules old last fs (Some outs)
-    first_found head outs w = given_last (Some outs) w.0 (given_outs head outs w)
-
-    pub first_none : IsWalkedTo modes rules old new None budget es Exhausted → IsFirstFound modes rules old last fs None
-    first_none w = given_last None w.0 (given_none w)
+    -- where nothing is, nothing that was made is needed
+    pub first_none : IsCut m new last → IsWalkedTo modes rules old new None budget es Exhausted → IsFirstFound modes rules old last fs None
+    first_none c w = (cut_grows modes rules old new last m h k w.0 c, given_none w)
 
   pub first_passed : (l : Limit) → IsWalkedTo modes rules old new None budget es (Passed l) → ⊥
   first_passed l (g, (c, i, w)) = go (first_given fs) (sym w ∙ ends)

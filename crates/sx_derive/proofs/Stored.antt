@@ -26,6 +26,7 @@ grows_same modes rules s h = record {
   envs = extends-same (store_envs s);
   kids = extends-same (store_kids s);
   frames = extends-same (store_frames modes rules s);
+  bind_cells = extends-same s.binds.cells.items;
   kid_cells = extends-same s.kids.items;
   frame_cells = extends-same s.frames.items;
 }
@@ -37,14 +38,15 @@ grows_then modes rules a b c p q = record {
   envs = extends-then (store_envs a) (store_envs b) (store_envs c) p.envs q.envs;
   kids = extends-then (store_kids a) (store_kids b) (store_kids c) p.kids q.kids;
   frames = extends-then (store_frames modes rules a) (store_frames modes rules b) (store_frames modes rules c) p.frames q.frames;
+  bind_cells = extends-then a.binds.cells.items b.binds.cells.items c.binds.cells.items p.bind_cells q.bind_cells;
   kid_cells = extends-then a.kids.items b.kids.items c.kids.items p.kid_cells q.kid_cells;
   frame_cells = extends-then a.frames.items b.frames.items c.frames.items p.frame_cells q.frame_cells;
 }
 
 -- more terms or more bindings
 pub more_envs : (modes : Modes) (rules : List Rule) (s t : Store) → IsStore modes rules s → IsArena t.arena → IsBinds (trees t.arena) t.binds → Extends (store_trees s) (store_trees t) → Extends (store_envs s) (store_envs t) →
-    t.kids.items ≡ s.kids.items → t.frames.items ≡ s.frames.items → Grows modes rules s t
-more_envs modes rules s t h a b x y k f =
+    Extends s.binds.cells.items t.binds.cells.items → t.kids.items ≡ s.kids.items → t.frames.items ≡ s.frames.items → Grows modes rules s t
+more_envs modes rules s t h a b x y cells k f =
     let c = kids_stay (store_envs s) (store_envs t) y s.kids.items h.kids in
     let e : store_kids t ≡ store_kids s = ap (kids_of (store_envs t)) k ∙ c.0 in
     let z = extends-is (store_kids s) (store_kids t) e in
@@ -61,6 +63,7 @@ more_envs modes rules s t h a b x y k f =
       envs = y;
       kids = z;
       frames = extends-is (store_frames modes rules s) (store_frames modes rules t) g;
+      bind_cells = cells;
       kid_cells = extends-is s.kids.items t.kids.items k;
       frame_cells = extends-is s.frames.items t.frames.items f;
     }
@@ -70,13 +73,14 @@ pub grows_terms : (modes : Modes) (rules : List Rule) (s t : Store) → IsStore 
 grows_terms modes rules s t h a x b k f =
     let c = envs_stay (store_trees s) (store_trees t) x s.binds h.binds in
     more_envs modes rules s t h a (subst (λ (y : Binds). IsBinds (trees t.arena) y) (sym b) c.1) x
-    (extends-is (store_envs s) (store_envs t) (ap (envs (trees t.arena)) b ∙ c.0)) k f
+    (extends-is (store_envs s) (store_envs t) (ap (envs (trees t.arena)) b ∙ c.0))
+    (extends-is s.binds.cells.items t.binds.cells.items (ap (λ (y : Binds). y.cells.items) b)) k f
 
 pub grows_binds : (modes : Modes) (rules : List Rule) (s t : Store) → IsStore modes rules s → BindsGrow (trees s.arena) s.binds t.binds →
     t.arena ≡ s.arena → t.kids.items ≡ s.kids.items → t.frames.items ≡ s.frames.items → Grows modes rules s t
 grows_binds modes rules s t h b a k f =
     more_envs modes rules s t h (subst (λ (y : Arena). IsArena y) (sym a) h.arena) (subst (λ (y : Arena). IsBinds (trees y) t.binds) (sym a) b.binds)
-    (extends-is (store_trees s) (store_trees t) (ap trees a)) (subst (λ (y : Arena). Extends (store_envs s) (envs (trees y) t.binds)) (sym a) b.extends) k f
+    (extends-is (store_trees s) (store_trees t) (ap trees a)) (subst (λ (y : Arena). Extends (store_envs s) (envs (trees y) t.binds)) (sym a) b.extends) b.cells k f
 
 -- one more proof
 pub grows_kid : (modes : Modes) (rules : List Rule) (s t : Store) (c : Kid) → IsStore modes rules s → HeadFits (length (store_envs s)) (length s.kids.items) c.head → c.before ≤ length s.kids.items →
@@ -100,6 +104,7 @@ grows_kid modes rules s t c h p l a b k f =
         envs = y;
         kids = z;
         frames = extends-is (store_frames modes rules s) (store_frames modes rules t) (ap (frames_of modes rules (store_envs t) (store_kids t)) f ∙ d.0);
+        bind_cells = extends-is s.binds.cells.items t.binds.cells.items (ap (λ (x : Binds). x.cells.items) b);
         kid_cells = (c ∷ [], k);
         frame_cells = extends-is s.frames.items t.frames.items f;
       },
@@ -126,6 +131,7 @@ grows_frame modes rules s t c h p a b k f =
         envs = extends-is (store_envs s) (store_envs t) e;
         kids = extends-is (store_kids s) (store_kids t) m;
         frames = subst (λ (x : List (List _)). Extends (store_frames modes rules s) x) (sym n) o.1;
+        bind_cells = extends-is s.binds.cells.items t.binds.cells.items (ap (λ (x : Binds). x.cells.items) b);
         kid_cells = extends-is s.kids.items t.kids.items k;
         frame_cells = (c ∷ [], f);
       },

@@ -36,25 +36,35 @@ pub record IsStore (modes : Modes) (rules : List Rule) (s : Store) : Type 0 wher
   pub kids : AreKids (store_envs s) s.kids.items
   pub frames : AreFrames modes rules (store_envs s) (store_kids s) s.frames.items
 
--- the store goes on from the other: what was named before stands for the same, and proofs and frames stay where they are
+-- the store goes on from the other: what was named before stands for the same, and bindings, proofs and frames stay where they are
 pub record Grows (modes : Modes) (rules : List Rule) (old new : Store) : Type 0 where
   pub store : IsStore modes rules new
   pub trees : Extends (store_trees old) (store_trees new)
   pub envs : Extends (store_envs old) (store_envs new)
   pub kids : Extends (store_kids old) (store_kids new)
   pub frames : Extends (store_frames modes rules old) (store_frames modes rules new)
+  pub bind_cells : Extends old.binds.cells.items new.binds.cells.items
   pub kid_cells : Extends old.kids.items new.kids.items
   pub frame_cells : Extends old.frames.items new.frames.items
 
--- the chains of the store end at the mark
+-- the store ends at the mark
 pub record IsMark (s : Store) (m : Mark) : Type 0 where
+  pub terms : m.terms ≡ length (store_trees s)
   pub binds : m.binds ≡ length s.binds.cells.items
   pub kids : m.kids ≡ length s.kids.items
   pub frames : m.frames ≡ length s.frames.items
 
 -- the chains are cut at the mark, and the terms stay
-pub record IsCut (m : Mark) (old new : Store) : Type 0 where
+pub record IsChainsCut (m : Mark) (old new : Store) : Type 0 where
   pub arena : new.arena ≡ old.arena
+  pub binds : new.binds.cells.items ≡ take m.binds old.binds.cells.items
+  pub kids : new.kids.items ≡ take m.kids old.kids.items
+  pub frames : new.frames.items ≡ take m.frames old.frames.items
+
+-- the terms and the chains are cut at the mark
+pub record IsCut (m : Mark) (old new : Store) : Type 0 where
+  pub terms : store_trees new ≡ take m.terms (store_trees old)
+  pub arena : IsArena old.arena → IsArena new.arena
   pub binds : new.binds.cells.items ≡ take m.binds old.binds.cells.items
   pub kids : new.kids.items ≡ take m.kids old.kids.items
   pub frames : new.frames.items ≡ take m.frames old.frames.items

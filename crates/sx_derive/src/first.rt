@@ -45,10 +45,15 @@ pub(crate) fn first_answer(
     let tasks = first_task(alloc, form, terms, levels, mark)?;
     let wanted: Option<Vec<usize>> = None;
     let ending = walk_uncounted(alloc, rules, facts, pairs, store, &wanted, tasks, budget)?;
-    store.cut(mark);
     match ending {
-        Ending::Found { head: _, outputs } => Ok(Some(outputs)),
-        Ending::Exhausted => Ok(None),
+        Ending::Found { head: _, outputs } => {
+            store.cut_chains(mark);
+            Ok(Some(outputs))
+        }
+        Ending::Exhausted => {
+            store.cut(mark);
+            Ok(None)
+        }
         Ending::Passed(_) => unreachable!(),
         Ending::DepthSpent => unreachable!(),
         Ending::Spent => unreachable!(),

@@ -3,7 +3,7 @@
 ghost use Rattle.std.specs.Prelude.{◌≡◌, [], List};
 ghost use Rattle.sx_rules.specs.Rules.{Rule};
 ghost use Rattle.sx_rules.specs.Modes.{Modes};
-ghost use Rattle.sx_derive.specs.Store.{IsStore, IsMark, IsCut};
+ghost use Rattle.sx_derive.specs.Store.{IsStore, IsMark, IsChainsCut, IsCut};
 
 use crate::chains::{Kid, Waiting};
 use std::alloc::Global;
@@ -18,9 +18,10 @@ pub struct Store {
     pub(crate) frames: Vec<Waiting>,
 }
 
-/// Where the chains of a store end: numbers of bindings, proofs and frames.
+/// Where a store ends: numbers of terms, bindings, proofs and frames.
 #[derive(Clone, Copy)]
 pub struct Mark {
+    pub(crate) terms: usize,
     pub(crate) binds: usize,
     pub(crate) kids: usize,
     pub(crate) frames: usize,
@@ -39,23 +40,32 @@ impl Store {
         }
     }
 
-    /// Where the chains end.
+    /// Where the store ends.
     pub(crate) fn mark(&self) -> Mark
         ensures { IsMark self.now result }
     {
         Mark {
+            terms: self.arena.len(),
             binds: self.binds.cells.len(),
             kids: self.kids.len(),
             frames: self.frames.len(),
         }
     }
 
-    /// Drops what the chains have past the mark.
-    pub(crate) fn cut(&mut self, mark: Mark)
-        ensures { IsCut mark self.old self.new }
+    /// Drops what the chains have past the mark; the terms stay.
+    pub(crate) fn cut_chains(&mut self, mark: Mark)
+        ensures { IsChainsCut mark self.old self.new }
     {
         self.binds.cut(mark.binds);
         self.kids.truncate(mark.kids);
         self.frames.truncate(mark.frames);
+    }
+
+    /// Drops what the store has past the mark.
+    pub(crate) fn cut(&mut self, mark: Mark)
+        ensures { IsCut mark self.old self.new }
+    {
+        self.arena.cut(mark.terms);
+        self.cut_chains(mark);
     }
 }

@@ -9,7 +9,7 @@ pub returns-in-Found : goal.returns-in-Found
 returns-in-Found c = λ js a.
     first_found (modes_of c.args.rules.now) (rules_of c.args.rules.now) c.args.store.now c.walk_uncounted.new.store c.args.budget (events_left (modes_of c.args.rules.now) (rules_of c.args.rules.now) c.args.pairs.now js c.args.store.now c.in_ok-tasks.tasks.items) (events_in (modes_of c.args.rules.now) (rules_of c.args.rules.now) c.args.pairs.now js c.args.store.now c.args.levels c.args.form c.args.terms.items)
     (first_events (modes_of c.args.rules.now) (rules_of c.args.rules.now) c.args.pairs.now js c.args.store.now c.args.form c.args.terms c.args.levels c.mark-mark.result c.in_ok-tasks.tasks.items c.in_ok-tasks.ensures) (c.requires.quiet js a)
-    c.mark-mark.result c.requires.store c.mark-mark.ensures c.cut.new.self c.cut.ensures c.in-Found.head c.in-Found.outputs (rw c.in-Found.is at (c.in_ok-ending.ensures js a))
+    c.mark-mark.result c.requires.store c.mark-mark.ensures c.cut_chains.new.self c.cut_chains.ensures c.in-Found.head c.in-Found.outputs (rw c.in-Found.is at (c.in_ok-ending.ensures js a))
 
 pub returns-in-Exhausted : goal.returns-in-Exhausted
 returns-in-Exhausted c = λ js a.
