@@ -13,8 +13,6 @@ use Rattle.sx_arena.specs.declared.pairs.Pair.{Pair}
 use Rattle.sx_arena.specs.Arena.{tree_at, AreBelow}
 use Rattle.sx_arena.specs.Facts.{AreFacts}
 use Rattle.sx_arena.specs.Pairs.{ArePairs, pairs_of}
-use Rattle.sx_arena.proofs.Facts.{facts_stay}
-use Rattle.sx_arena.proofs.Parted.{pairs_stay}
 use Rattle.sx_replay.specs.declared.noted.Noted.{Noted}
 use Rattle.sx_replay.specs.declared.reader.Reader.{Reader}
 use Rattle.sx_replay.specs.declared.step.Step.{Step}
@@ -23,9 +21,9 @@ use Rattle.sx_replay.specs.declared.replay_error.ReplayError.{ReplayError}
 use Rattle.sx_replay.specs.declared.replay_error.ReplayError.TheVariants.{Memory, WrongAt, EndsEarly, LongList, TooDeep, TooBig, DeepList}
 use Rattle.sx_replay.specs.Limits.{nothing_noted}
 use Rattle.sx_replay.specs.Machine.{Frame, Move, clash, ends, asks, entry_move, open_at, ended, read}
-use Rattle.sx_replay.specs.Reader.{reader_trees, reader_envs, stack_on, stack, IsReader, GoesOn, hyps_in, goal_in, IsStep}
+use Rattle.sx_replay.specs.Reader.{reader_trees, reader_envs, base_trees, stack_on, stack, IsReader, GoesOn, hyps_in, goal_in, IsStep}
 use Rattle.sx_replay.specs.Following.{IsChecked, reading, StandsOpen, StandsWhole, StandsAt, StandsBefore, IsRefused}
-use Rattle.sx_replay.proofs.Readers.{stack_length, goes_same, goes_then}
+use Rattle.sx_replay.proofs.Readers.{stack_length, goes_same, goes_then, pairs_same, base_facts}
 
 pub get_any : (xs : List EntryOf) (i : ℕ) (d x : EntryOf) → i < length xs → get_or xs i d ≡ get_or xs i x
 get_any [] i d x l = absurd (omega arith)
@@ -72,7 +70,7 @@ module _ (modes : Modes) (rules : List Rule) (facts : List Fact) (pairs : List P
     pub grows : GoesOn rules old now
     pub below : AreBelow (length (reader_trees now)) inputs
     pub noted : now.noted ≡ nothing_noted
-    pub reads : (js : List Judgement) → AreFacts modes (reader_trees old) js facts →
+    pub reads : (js : List Judgement) → AreFacts modes (base_trees old) js facts →
         (d : ℕ) × (reading modes rules (hyps_in pairs old js) (goal_in old form terms) (take i (entries list)) ≡ open_at (goal_in now here inputs) (stack modes rules now) nothing_noted d) × (d ≤ 3000)
 
   pub following_first : IsReader rules old → AreBelow (length (reader_trees old)) terms → old.noted ≡ nothing_noted → old.waiting.items ≡ [] → Following old 0 form terms
@@ -83,14 +81,14 @@ module _ (modes : Modes) (rules : List Rule) (facts : List Fact) (pairs : List P
     reads = λ js a. (0, ap (λ (fs : List Frame). open_at (goal_in old form terms) fs nothing_noted 0) (sym (ap (stack_on modes rules (reader_envs old) []) w)), omega arith);
   }
 
-  pub followed_end : (now : Reader) (i here : ℕ) (inputs : List ℕ) → Following now i here inputs → length list ≤ i → (js : List Judgement) → AreFacts modes (reader_trees old) js facts →
+  pub followed_end : (now : Reader) (i here : ℕ) (inputs : List ℕ) → Following now i here inputs → length list ≤ i → (js : List Judgement) → AreFacts modes (base_trees old) js facts →
       StandsOpen modes rules (hyps_in pairs old js) (goal_in old form terms) (entries list)
   followed_end now i here inputs f l js a =
       let r = f.reads js a in
       (goal_in now here inputs, stack modes rules now, r.0, ap (reading modes rules (hyps_in pairs old js) (goal_in old form terms)) (sym (take_all list i l)) ∙ r.1, r.2)
 
-  module _ (now new : Reader) (i here level : ℕ) (inputs : List ℕ) (x : EntryOf) (step : Step) (hp : ArePairs (length (reader_trees old)) pairs) (f : Following now i here inputs) (l : i < length list) (e : x ≡ get_or list i x) (lv : level ≡ length now.waiting.items)
-      (h : (js : List Judgement) → AreFacts modes (reader_trees now) js facts → GoesOn rules now new × IsStep modes rules [] new ends step (entry_move modes (hyps_in pairs now js) rules (entry x) (goal_in now here inputs) (stack modes rules now) now.noted)) where
+  module _ (now new : Reader) (i here level : ℕ) (inputs : List ℕ) (x : EntryOf) (step : Step) (hp : ArePairs (length (base_trees old)) pairs) (f : Following now i here inputs) (l : i < length list) (e : x ≡ get_or list i x) (lv : level ≡ length now.waiting.items)
+      (h : (js : List Judgement) → AreFacts modes (base_trees now) js facts → GoesOn rules now new × IsStep modes rules [] new ends step (entry_move modes (hyps_in pairs now js) rules (entry x) (goal_in now here inputs) (stack modes rules now) now.noted)) where
     -- the move of the entry, and where reading stands after it
     pub record Entered (js : List Judgement) : Type 0 where
       pub grows : GoesOn rules now new
@@ -101,11 +99,11 @@ module _ (modes : Modes) (rules : List Rule) (facts : List Fact) (pairs : List P
       pub within : depth ≤ 3000
       pub after : reading modes rules (hyps_in pairs old js) (goal_in old form terms) (take (i + 1) (entries list)) ≡ read modes rules (hyps_in pairs old js) [] (max depth (level + 1)) move
 
-    pub entered : (js : List Judgement) → AreFacts modes (reader_trees old) js facts → Entered js
+    pub entered : (js : List Judgement) → AreFacts modes (base_trees old) js facts → Entered js
     entered js a =
         let r = f.reads js a in
-        let s = h js (facts_stay modes (reader_trees old) (reader_trees now) f.grows.trees js facts a) in
-        let q : pairs_of (reader_trees now) pairs ≡ pairs_of (reader_trees old) pairs = pairs_stay (reader_trees old) (reader_trees now) f.grows.trees pairs hp in
+        let s = h js (base_facts modes rules old now f.grows js facts a) in
+        let q : pairs_of (reader_trees now) pairs ≡ pairs_of (reader_trees old) pairs = pairs_same rules old now f.grows pairs hp in
         let n : length (stack modes rules now) ≡ level = (let z = stack_length modes rules (reader_envs now) [] now.waiting.items in omega arith) in
         let hyps = hyps_in pairs old js in
         let mv = entry_move modes (hyps_in pairs now js) rules (entry x) (goal_in now here inputs) (stack modes rules now) now.noted in
@@ -138,7 +136,7 @@ module _ (modes : Modes) (rules : List Rule) (facts : List Fact) (pairs : List P
           ),
         )
 
-    pub wrong_entry : step ≡ Clash → (number : ℕ) → number ≡ i + 1 → (js : List Judgement) → AreFacts modes (reader_trees old) js facts → IsRefused modes rules (hyps_in pairs old js) (goal_in old form terms) (entries list) (WrongAt number)
+    pub wrong_entry : step ≡ Clash → (number : ℕ) → number ≡ i + 1 → (js : List Judgement) → AreFacts modes (base_trees old) js facts → IsRefused modes rules (hyps_in pairs old js) (goal_in old form terms) (entries list) (WrongAt number)
     wrong_entry s number en js a =
         let t = entered js a in
         let c : t.move ≡ clash = subst (λ (y : Step). IsStep modes rules [] new ends y t.move) s t.is in
@@ -179,19 +177,19 @@ module _ (modes : Modes) (rules : List Rule) (facts : List Fact) (pairs : List P
         let w = t.within in
         (i + 1, new.noted, max t.depth (level + 1), stands_before js t, st, (omega arith), c.1, c.2)
 
-    pub done_refused : (outs : Vec ℕ Global) → step ≡ Done outs → (number : ℕ) → number ≡ i + 1 → (err : ReplayError) → IsChecked level new.noted number (Err err) → (js : List Judgement) → AreFacts modes (reader_trees old) js facts →
+    pub done_refused : (outs : Vec ℕ Global) → step ≡ Done outs → (number : ℕ) → number ≡ i + 1 → (err : ReplayError) → IsChecked level new.noted number (Err err) → (js : List Judgement) → AreFacts modes (base_trees old) js facts →
         IsRefused modes rules (hyps_in pairs old js) (goal_in old form terms) (entries list) err
     done_refused outs s number en err c js a =
         let t = entered js a in
         refused_at number en err c js t (inr (map (tree_at (reader_trees new)) outs.items, stands_done outs s js t))
 
-    pub asks_refused : (there : ℕ) (made : Vec ℕ Global) → step ≡ Asks there made → (number : ℕ) → number ≡ i + 1 → (err : ReplayError) → IsChecked level new.noted number (Err err) → (js : List Judgement) → AreFacts modes (reader_trees old) js facts →
+    pub asks_refused : (there : ℕ) (made : Vec ℕ Global) → step ≡ Asks there made → (number : ℕ) → number ≡ i + 1 → (err : ReplayError) → IsChecked level new.noted number (Err err) → (js : List Judgement) → AreFacts modes (base_trees old) js facts →
         IsRefused modes rules (hyps_in pairs old js) (goal_in old form terms) (entries list) err
     asks_refused there made s number en err c js a =
         let t = entered js a in
         refused_at number en err c js t (inl (goal_in new there made.items, stack modes rules new, stands_asks there made s js t))
 
-    pub long_list : (outs : Vec ℕ Global) → step ≡ Done outs → level < 3000 → new.noted ≡ nothing_noted → (number : ℕ) → number ≡ i + 2 → i + 1 < length list → (js : List Judgement) → AreFacts modes (reader_trees old) js facts →
+    pub long_list : (outs : Vec ℕ Global) → step ≡ Done outs → level < 3000 → new.noted ≡ nothing_noted → (number : ℕ) → number ≡ i + 2 → i + 1 < length list → (js : List Judgement) → AreFacts modes (base_trees old) js facts →
         IsRefused modes rules (hyps_in pairs old js) (goal_in old form terms) (entries list) (LongList number)
     long_list outs s lt nn number en more js a =
         let t = entered js a in
@@ -212,7 +210,7 @@ module _ (modes : Modes) (rules : List Rule) (facts : List Fact) (pairs : List P
           ),
         )
 
-    pub whole_list : (outs : Vec ℕ Global) → step ≡ Done outs → level < 3000 → new.noted ≡ nothing_noted → length list ≤ i + 1 → (js : List Judgement) → AreFacts modes (reader_trees old) js facts →
+    pub whole_list : (outs : Vec ℕ Global) → step ≡ Done outs → level < 3000 → new.noted ≡ nothing_noted → length list ≤ i + 1 → (js : List Judgement) → AreFacts modes (base_trees old) js facts →
         StandsWhole modes rules (hyps_in pairs old js) (goal_in old form terms) (entries list) (map (tree_at (reader_trees new)) outs.items)
     whole_list outs s lt nn le js a =
         let t = entered js a in
@@ -223,7 +221,7 @@ module _ (modes : Modes) (rules : List Rule) (facts : List Fact) (pairs : List P
           (omega arith),
         )
 
-    pub following_more : (there : ℕ) (made : Vec ℕ Global) → step ≡ Asks there made → level < 3000 → new.noted ≡ nothing_noted → (js : List Judgement) → AreFacts modes (reader_trees old) js facts → Following new (i + 1) there made.items
+    pub following_more : (there : ℕ) (made : Vec ℕ Global) → step ≡ Asks there made → level < 3000 → new.noted ≡ nothing_noted → (js : List Judgement) → AreFacts modes (base_trees old) js facts → Following new (i + 1) there made.items
     following_more there made s lt nn js0 a0 =
         let t0 = entered js0 a0 in
         let c = subst (λ (y : Step). IsStep modes rules [] new ends y t0.move) s t0.is in
@@ -237,7 +235,7 @@ module _ (modes : Modes) (rules : List Rule) (facts : List Fact) (pairs : List P
               (max t.depth (level + 1), stands_asks there made s js t ∙ ap (λ (y : Noted). open_at (goal_in new there made.items) (stack modes rules new) y (max t.depth (level + 1))) nn, (omega arith));
         }
 
-    pub done_below : (outs : Vec ℕ Global) → step ≡ Done outs → (js : List Judgement) → AreFacts modes (reader_trees old) js facts → AreBelow (length (reader_trees new)) outs.items
+    pub done_below : (outs : Vec ℕ Global) → step ≡ Done outs → (js : List Judgement) → AreFacts modes (base_trees old) js facts → AreBelow (length (reader_trees new)) outs.items
     done_below outs s js a =
         let t = entered js a in
         let c = subst (λ (y : Step). IsStep modes rules [] new ends y t.move) s t.is in

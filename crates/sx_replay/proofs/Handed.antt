@@ -2,30 +2,34 @@
 use Rattle.std.proofs.Common.{◌≡◌, ℕ, zero, suc, ◌+◌, ◌<◌, ◌≤◌, List, [], ◌∷◌, ◌++◌, map, drop, length, get_or, Option, Some, None, Vec, refl, sym, ap, ◌∙◌, arith, subst, length-take-le}
 use Rattle.std.specs.Prelude.{slice_get, take}
 use Rattle.std.specs.declared.alloc.Global.{Global}
-use Rattle.sx_term.specs.Tree.{Tree}
+use Rattle.sx_term.specs.Tree.{Tree, node, none}
 use Rattle.sx_rules.specs.declared.rule.Judgement.{Judgement as JudgementOf}
 use Rattle.sx_rules.specs.declared.rule.Premise.{Premise as PremiseOf}
 use Rattle.sx_rules.specs.declared.rule.Premise.TheVariants.{Holds}
 use Rattle.sx_rules.specs.Rules.{Judgement, Premise, holds, Rule}
 use Rattle.sx_rules.specs.Modes.{Modes, outputs_of}
-use Rattle.sx_arena.specs.Matching.{Assignment, match_all}
+use Rattle.sx_arena.specs.Matching.{Assignment, bind, match_all}
+use Rattle.sx_arena.specs.declared.arena.Arena.{Arena}
+use Rattle.sx_arena.specs.declared.binds.Bind.{Bind}
 use Rattle.sx_arena.specs.declared.binds.Binds.{Binds}
 use Rattle.sx_arena.specs.declared.pairs.Pair.{Pair}
 use Rattle.sx_arena.specs.Arena.{trees, tree_at, AreBelow}
-use Rattle.sx_arena.specs.Binds.{envs, env_at, IsBinds, BindsGrow}
-use Rattle.sx_arena.specs.Grown.{Extends}
-use Rattle.sx_arena.specs.Pairs.{ArePairs}
+use Rattle.sx_arena.specs.Binds.{envs, env_at, bind_step, BindFits, IsBinds, BindsGrow}
+use Rattle.sx_arena.specs.Grown.{Extends, grown_from, Fits}
+use Rattle.sx_arena.specs.Keeping.{AreKeptIn}
+use Rattle.sx_arena.specs.Pairs.{pairs_of, ArePairs}
 use Rattle.sx_arena.specs.Views.{premise_of, judgement_of}
-use Rattle.sx_arena.proofs.Parted.{pairs_stay}
+use Rattle.sx_arena.proofs.Growing.{first_terms, extends-at, extends-length}
+use Rattle.sx_arena.proofs.BindChains.{envs_stay}
 use Rattle.sx_replay.specs.declared.reader.Waiting.{Waiting}
 use Rattle.sx_replay.specs.declared.reader.Reader.{Reader}
 use Rattle.sx_replay.specs.declared.noted.Noted.{Noted}
 use Rattle.sx_replay.specs.declared.step.Step.{Step}
 use Rattle.sx_replay.specs.declared.step.Step.TheVariants.{Clash, Done, Asks}
 use Rattle.sx_replay.specs.Machine.{Frame, Move, ends, move_matched, premises_move, hand_on}
-use Rattle.sx_replay.specs.Reader.{reader_trees, reader_envs, frame_of, stack_on, stack, WaitsAt, AreWaiting, IsReader, Grows, GoesOn, hyps_in, IsStep, IsPremises, IsResumed, IsMoved}
-use Rattle.sx_replay.proofs.Readers.{envs_length, stack_one, stack_stays, stack_later, frame_is, frame_stays, grows_then, grows_binds, goes_same, goes_then, waiting_front}
-use Rattle.std.proofs.lemmas.List.{length_push}
+use Rattle.sx_replay.specs.Reader.{reader_trees, reader_envs, base_trees, frame_of, stack_on, stack, WaitsAt, AreWaiting, AreTo, AreKept, IsReader, Grows, GoesOn, hyps_in, IsStep, IsPremises, IsResumed, IsMoved}
+use Rattle.sx_replay.proofs.Readers.{envs_length, stack_one, stack_stays, stack_later, frame_is, frame_stays, grows_then, grows_binds, goes_same, goes_then, goes_grown, waiting_front, take_take, kept_front, kept_cut, base_pairs, reader_pairs, pairs_same}
+use Rattle.std.proofs.lemmas.List.{length_push, length-take, take-append-le}
 
 -- the rule and the premise of a rule that waits
 pub waits_at : (rules : List Rule) (n : ℕ) (c : Waiting) → WaitsAt rules n c → (rule : Rule) → slice_get rules c.rule ≡ Some rule → (j : Judgement) × (slice_get rule.premises c.premise ≡ Some (holds j))
@@ -67,10 +71,10 @@ module _ (modes : Modes) (rules : List Rule) (pairs : List Pair) (s : Reader) (c
       (frame_is modes rules (reader_envs s) j c rule (env_at (reader_envs s) c.env) found prem refl)
 
   abbrev pub bound_reader : Reader
-  bound_reader = record { arena = s.arena; binds = b; waiting = s.waiting; noted = s.noted }
+  bound_reader = record { arena = s.arena; binds = b; waiting = s.waiting; noted = s.noted; base = s.base }
 
   pub bound_grows : Grows rules s bound_reader
-  bound_grows = grows_binds rules s bound_reader h g refl refl
+  bound_grows = grows_binds rules s bound_reader h g refl refl refl
 
   pub resumed_none : match_all (outputs_of modes j) (map (tree_at (reader_trees s)) outs) (env_at (reader_envs s) c.env) ≡ None → IsResumed modes rules pairs s bound_reader c outs Clash
   resumed_none m = record { grows = bound_grows; is = λ js. handed_is js ∙ ap (made_of js) m }
@@ -109,70 +113,131 @@ pub record IsCutAt (old new : Binds) (c : Waiting) : Type 0 where
   pub items : new.cells.items ≡ take c.mark old.cells.items
   pub binds : (ts : List Tree) → IsBinds ts old → IsBinds ts new × Extends (envs ts new) (envs ts old)
 
--- the reader without the last rule that waits, and without what was bound since it began to wait
-abbrev pub popped : Reader → Vec Waiting Global → Binds → Reader
-popped now ws b = record { arena = now.arena; binds = b; waiting = ws; noted = now.noted }
-
-pub popped_reader : (rules : List Rule) (now : Reader) (ws : Vec Waiting Global) (c : Waiting) (b : Binds) → IsReader rules now → now.waiting.items ≡ ws.items ++ c ∷ [] → IsCutAt now.binds b c →
-    IsReader rules (popped now ws b) × WaitsAt rules (length b.cells.items) c
-popped_reader rules now ws c b h e k =
-    let f = waiting_front rules (length now.binds.cells.items) ws.items c (subst (λ (cs : List Waiting). AreWaiting rules (length now.binds.cells.items) cs) e h.waiting) in
-    let l : length b.cells.items ≡ c.mark = ap length k.items ∙ length-take-le c.mark now.binds.cells.items f.1.mark in (
-      record {
-        arena = h.arena;
-        binds = (k.binds (reader_trees now) h.binds).0;
-        waiting = subst (λ (n : ℕ). AreWaiting rules n ws.items) (sym l) f.0;
-      },
-      record { rule = f.1.rule; judgement = f.1.judgement; found = f.1.found; premise = f.1.premise; env = f.1.env; mark = (omega arith) },
+-- bindings to the first terms stand for the same among these alone
+binds_less : (ts : List Tree) (n : ℕ) (es : List Assignment) (bs : List Bind) → Fits (bind_step ts) (BindFits ts) es bs → AreTo n bs →
+    (grown_from (bind_step (take n ts)) es bs ≡ grown_from (bind_step ts) es bs) × Fits (bind_step (take n ts)) (BindFits (take n ts)) es bs
+binds_less ts n es [] h a = (refl, tt)
+binds_less ts n es (b ∷ bs) h a =
+    let us = take n ts in
+    let t = h.0.term in
+    let l = a.0 in
+    let m = length-take n ts in
+    let w : b.term < length us = omega arith in
+    let s : bind_step us es b ≡ bind_step ts es b = ap (λ (y : Tree). bind (env_at es b.before) b.variable y) (sym (extends-at us ts (first_terms n ts) b.term (node 0 none) w)) in
+    let r = binds_less ts n (es ++ bind_step ts es b ∷ []) bs h.1 a.1 in (
+      ap (λ (y : Assignment). grown_from (bind_step us) (es ++ y ∷ []) bs) s ∙ r.0,
+      (record { term = w; before = h.0.before }, subst (λ (y : Assignment). Fits (bind_step us) (BindFits us) (es ++ y ∷ []) bs) (sym s) r.1),
     )
 
-module _ (modes : Modes) (rules : List Rule) (pairs : List Pair) (old now new : Reader) (firsts outs : List ℕ) (ws : Vec Waiting Global) (c : Waiting) (b : Binds) (cut : IsCutAt now.binds b c)
-    (hp : ArePairs (length (reader_trees old)) pairs) (i : Handing modes rules pairs old now firsts outs) (e : now.waiting.items ≡ ws.items ++ c ∷ []) where
+-- the reader without the last rule that waits, and without what was made since it began to wait
+abbrev pub popped : Reader → Vec Waiting Global → Binds → Arena → Reader
+popped now ws b a = record { arena = a; binds = b; waiting = ws; noted = now.noted; base = now.base }
+
+module _ (rules : List Rule) (now : Reader) (ws : Vec Waiting Global) (c : Waiting) (b : Binds) (a : Arena) (outs kept : List ℕ)
+    (h : IsReader rules now) (e : now.waiting.items ≡ ws.items ++ c ∷ []) (k : IsCutAt now.binds b c) (x : AreKeptIn c.terms now.arena a outs kept) where
+  front_waits : AreWaiting rules c.mark ws.items × WaitsAt rules (length now.binds.cells.items) c
+  front_waits = waiting_front rules (length now.binds.cells.items) ws.items c (subst (λ (cs : List Waiting). AreWaiting rules (length now.binds.cells.items) cs) e h.waiting)
+
+  front_kept : AreKept now.base now.binds.cells.items ws.items × ((now.base ≤ c.terms) × AreTo c.terms (take c.mark now.binds.cells.items))
+  front_kept = kept_front now.base now.binds.cells.items ws.items c (subst (λ (cs : List Waiting). AreKept now.base now.binds.cells.items cs) e h.kept)
+
+  cells_length : length b.cells.items ≡ c.mark
+  cells_length = ap length k.items ∙ length-take-le c.mark now.binds.cells.items front_waits.1.mark
+
+  -- the bindings that are left
+  binds_left : (reader_envs (popped now ws b a) ≡ envs (reader_trees now) b) × IsBinds (trees a) b
+  binds_left =
+      let ts = reader_trees now in
+      let t = subst (λ (bs : List Bind). AreTo c.terms bs) (sym k.items) front_kept.1.1 in
+      let l = binds_less ts c.terms [] b.cells.items (k.binds ts h.binds).0 t in
+      let r = envs_stay (take c.terms ts) (trees a) x.kept b l.1 in
+      (r.0 ∙ l.0, r.1)
+
+  pub popped_reader : IsReader rules (popped now ws b a) × WaitsAt rules (length b.cells.items) c
+  popped_reader =
+      let f = front_waits in
+      let l = cells_length in (
+        record {
+          arena = x.arena;
+          binds = binds_left.1;
+          waiting = subst (λ (n : ℕ). AreWaiting rules n ws.items) (sym l) f.0;
+          base = (let m = extends-length (take c.terms (reader_trees now)) (trees a) x.kept in let n = length-take c.terms (reader_trees now) in let p = front_kept.1.0 in let q = h.base in omega arith);
+          kept = kept_cut rules now.base c.mark now.binds.cells.items b.cells.items k.items ws.items f.0 front_kept.0;
+        },
+        record { rule = f.1.rule; judgement = f.1.judgement; found = f.1.found; premise = f.1.premise; env = f.1.env; mark = (omega arith) },
+      )
+
+  pub popped_goes : GoesOn rules now (popped now ws b a)
+  popped_goes =
+      let ts = reader_trees now in
+      let n = length-take c.terms ts in
+      let p = front_kept.1.0 in
+      let q = h.base in
+      record {
+        reader = popped_reader.0;
+        base = refl;
+        trees = ap (take now.base) x.kept.1 ∙ take-append-le now.base (take c.terms ts) x.kept.0 (omega arith) ∙ take_take now.base c.terms ts p;
+      }
+
+  pub popped_envs : Extends (reader_envs (popped now ws b a)) (reader_envs now)
+  popped_envs = subst (λ (es : List Assignment). Extends es (reader_envs now)) (sym binds_left.0) (k.binds (reader_trees now) h.binds).1
+
+module _ (modes : Modes) (rules : List Rule) (pairs : List Pair) (old now new : Reader) (firsts outs kept : List ℕ) (ws : Vec Waiting Global) (c : Waiting) (b : Binds) (a : Arena) (cut : IsCutAt now.binds b c)
+    (hp : ArePairs (length (base_trees old)) pairs) (i : Handing modes rules pairs old now firsts outs) (e : now.waiting.items ≡ ws.items ++ c ∷ []) (x : AreKeptIn c.terms now.arena a outs kept) where
+  here : IsReader rules (popped now ws b a) × WaitsAt rules (length b.cells.items) c
+  here = popped_reader rules now ws c b a outs kept i.grows.reader e cut x
+
+  goes : GoesOn rules old (popped now ws b a)
+  goes = goes_then rules old now (popped now ws b a) i.grows (popped_goes rules now ws c b a outs kept i.grows.reader e cut x)
+
+  same_pairs : pairs_of (trees a) pairs ≡ pairs_of (reader_trees old) pairs
+  same_pairs = pairs_same rules old (popped now ws b a) goes pairs hp
+
+  pub pairs_here : ArePairs (length (trees a)) pairs
+  pairs_here = reader_pairs (popped now ws b a) pairs (base_pairs rules old (popped now ws b a) goes pairs hp)
+
   read_same : (js : List Judgement) → hand_on modes (hyps_in pairs old js) (stack modes rules old) (map (tree_at (reader_trees old)) firsts) old.noted
-      ≡ hand_on modes (hyps_in pairs now js) (frame_of modes rules (reader_envs (popped now ws b)) c ∷ stack modes rules (popped now ws b)) (map (tree_at (reader_trees now)) outs) now.noted
+      ≡ hand_on modes (hyps_in pairs (popped now ws b a) js) (frame_of modes rules (reader_envs (popped now ws b a)) c ∷ stack modes rules (popped now ws b a)) (map (tree_at (trees a)) kept) now.noted
   read_same js =
-      let q = pairs_stay (reader_trees old) (reader_trees now) i.grows.trees pairs hp in
-      let pr = popped_reader rules now ws c b i.grows.reader e cut in
-      let x : Extends (reader_envs (popped now ws b)) (reader_envs now) = (cut.binds (reader_trees now) i.grows.reader.binds).1 in
-      let n = envs_length (popped now ws b) in
+      let pr = here in
+      let y = popped_envs rules now ws c b a outs kept i.grows.reader e cut x in
+      let n = envs_length (popped now ws b a) in
       let en = pr.1.env in
       let mk = pr.1.mark in
-      let st : stack modes rules now ≡ frame_of modes rules (reader_envs (popped now ws b)) c ∷ stack modes rules (popped now ws b) =
+      let st : stack modes rules now ≡ frame_of modes rules (reader_envs (popped now ws b a)) c ∷ stack modes rules (popped now ws b a) =
       ap (stack_on modes rules (reader_envs now) []) e ∙ stack_one modes rules (reader_envs now) [] ws.items c
-      ∙ (λ k. frame_stays modes rules (reader_envs (popped now ws b)) (reader_envs now) c x (omega arith) k
-      ∷ stack_stays modes rules (reader_envs (popped now ws b)) (reader_envs now) (length b.cells.items) x (omega arith) [] ws.items pr.0.waiting k) in
-      i.same js ∙ (λ k. hand_on modes (record { judgements = js; pairs = sym q k }) (st k) (map (tree_at (reader_trees now)) outs) now.noted)
+      ∙ (λ k. frame_stays modes rules (reader_envs (popped now ws b a)) (reader_envs now) c y (omega arith) k
+      ∷ stack_stays modes rules (reader_envs (popped now ws b a)) (reader_envs now) (length b.cells.items) y (omega arith) [] ws.items pr.0.waiting k) in
+      i.same js ∙ (λ k. hand_on modes (record { judgements = js; pairs = sym same_pairs k }) (st k) (sym x.are k) now.noted)
 
-  grown : (step : Step) → IsResumed modes rules pairs (popped now ws b) new c outs step → GoesOn rules old new
-  grown step m = goes_then rules old now new i.grows (record { reader = m.grows.reader; trees = m.grows.trees })
+  grown : (step : Step) → IsResumed modes rules pairs (popped now ws b a) new c kept step → GoesOn rules old new
+  grown step m = goes_then rules old (popped now ws b a) new goes (goes_grown rules (popped now ws b a) new here.0 m.grows)
 
-  pub handing_more : (made : Vec ℕ Global) → IsResumed modes rules pairs (popped now ws b) new c outs (Done made) → Handing modes rules pairs old new firsts made.items
+  pub handing_more : (made : Vec ℕ Global) → IsResumed modes rules pairs (popped now ws b a) new c kept (Done made) → Handing modes rules pairs old new firsts made.items
   handing_more made m =
       let n = m.is [] in
-      let q = pairs_stay (reader_trees old) (reader_trees now) i.grows.trees pairs hp in
-      let pr = popped_reader rules now ws c b i.grows.reader e cut in
-      let st = stack_later modes rules (popped now ws b) new pr.0 m.grows.envs n.1 in
+      let st = stack_later modes rules (popped now ws b a) new here.0 m.grows.envs n.1 in
       record {
         grows = grown (Done made) m;
         below = n.0;
         same = λ js.
             let r = m.is js in
-            read_same js ∙ r.2 ∙ (λ k. hand_on modes (record { judgements = js; pairs = q k }) (sym st k) (map (tree_at (reader_trees new)) made.items) new.noted);
+            read_same js ∙ r.2 ∙ (λ k. hand_on modes (record { judgements = js; pairs = same_pairs k }) (sym st k) (map (tree_at (reader_trees new)) made.items) new.noted);
       }
 
   -- one rule less waits
-  pub fewer_wait : (made : Vec ℕ Global) → IsResumed modes rules pairs (popped now ws b) new c outs (Done made) → length new.waiting.items < length now.waiting.items
+  pub fewer_wait : (made : Vec ℕ Global) → IsResumed modes rules pairs (popped now ws b a) new c kept (Done made) → length new.waiting.items < length now.waiting.items
   fewer_wait made m =
       let n = m.is [] in
-      let a = ap length n.1 in
-      let b = ap length e ∙ length_push ws.items c in
+      let l = ap length n.1 in
+      let k = ap length e ∙ length_push ws.items c in
       omega arith
 
-  pub handed_stop : (step : Step) → ((o : Vec ℕ Global) → step ≡ Done o → ⊥) → IsResumed modes rules pairs (popped now ws b) new c outs step →
+  pub handed_stop : (step : Step) → ((o : Vec ℕ Global) → step ≡ Done o → ⊥) → IsResumed modes rules pairs (popped now ws b a) new c kept step →
       IsMoved modes rules pairs old new (λ hyps. hand_on modes hyps (stack modes rules old) (map (tree_at (reader_trees old)) firsts) old.noted) step
   handed_stop step n m = record {
     grows = grown step m;
     is = λ js. subst (λ (x : Move). IsStep modes rules [] new ends step x) (sym (read_same js))
-        (step_other modes rules ws.items [] new (hand_on modes (hyps_in pairs now js) (stack modes rules (popped now ws b))) ends step
-        (hand_on modes (hyps_in pairs now js) (frame_of modes rules (reader_envs (popped now ws b)) c ∷ stack modes rules (popped now ws b)) (map (tree_at (reader_trees now)) outs) now.noted) n (m.is js));
+        (step_other modes rules ws.items [] new (hand_on modes (hyps_in pairs (popped now ws b a) js) (stack modes rules (popped now ws b a))) ends step
+        (hand_on modes (hyps_in pairs (popped now ws b a) js) (frame_of modes rules (reader_envs (popped now ws b a)) c ∷ stack modes rules (popped now ws b a)) (map (tree_at (trees a)) kept) now.noted) n (m.is js));
   }

@@ -83,17 +83,17 @@ module _ (modes : Modes) (rules : List Rule) (pairs : List Pair) (old mid new : 
 
   pub apart_fails : (b : Bool) (t u : Tree) (rest : List Premise) → Reached modes rules pairs old rule env mid ps (apart t u ∷ rest) →
       IsTold mid.arena new.arena b (are_apart (record { judgements = []; pairs = pairs_of (reader_trees mid) pairs }) (instance (filled (env_at (reader_envs mid) env)) t) (instance (filled (env_at (reader_envs mid) env)) u)) →
-      b ≡ false → new.binds ≡ mid.binds → new.waiting.items ≡ mid.waiting.items → IsPremises modes rules pairs old new rule env ps Clash
-  apart_fails b t u rest a c f x y = record {
-    grows = grows_then rules old mid new a.grows (grows_terms rules mid new a.grows.reader c.arena c.extends x y);
+      b ≡ false → new.binds ≡ mid.binds → new.waiting.items ≡ mid.waiting.items → new.base ≡ mid.base → IsPremises modes rules pairs old new rule env ps Clash
+  apart_fails b t u rest a c f x y w = record {
+    grows = grows_then rules old mid new a.grows (grows_terms rules mid new a.grows.reader c.arena c.extends x y w);
     is = λ js next. apart_told b t u rest a c js next ∙ ap (λ v. move_when v (move_of modes rules pairs old rule env js next rest)) f;
   }
 
   pub apart_holds : (b : Bool) (t u : Tree) (rest : List Premise) → Reached modes rules pairs old rule env mid ps (apart t u ∷ rest) →
       IsTold mid.arena new.arena b (are_apart (record { judgements = []; pairs = pairs_of (reader_trees mid) pairs }) (instance (filled (env_at (reader_envs mid) env)) t) (instance (filled (env_at (reader_envs mid) env)) u)) →
-      b ≡ true → new.binds ≡ mid.binds → new.waiting.items ≡ mid.waiting.items → new.noted ≡ mid.noted → Reached modes rules pairs old rule env new ps rest
-  apart_holds b t u rest a c f x y z = record {
-    grows = grows_then rules old mid new a.grows (grows_terms rules mid new a.grows.reader c.arena c.extends x y);
+      b ≡ true → new.binds ≡ mid.binds → new.waiting.items ≡ mid.waiting.items → new.noted ≡ mid.noted → new.base ≡ mid.base → Reached modes rules pairs old rule env new ps rest
+  apart_holds b t u rest a c f x y z w = record {
+    grows = grows_then rules old mid new a.grows (grows_terms rules mid new a.grows.reader c.arena c.extends x y w);
     waiting = y ∙ a.waiting;
     noted = z ∙ a.noted;
     same = λ js next. apart_told b t u rest a c js next ∙ ap (λ v. move_when v (move_of modes rules pairs old rule env js next rest)) f;
@@ -106,7 +106,7 @@ module _ (modes : Modes) (rules : List Rule) (pairs : List Pair) (old mid new : 
       let s = env_later rules old mid a.grows env le in
       let w : new.waiting.items ≡ mid.waiting.items = ap (λ (v : Vec Waiting Global). v.items) m.waiting in
       record {
-        grows = grows_then rules old mid new a.grows (grows_terms rules mid new a.grows.reader m.held.arena m.held.extends m.binds w);
+        grows = grows_then rules old mid new a.grows (grows_terms rules mid new a.grows.reader m.held.arena m.held.extends m.binds w m.base);
         is = λ js next. (
           m.held.within,
           w ∙ a.waiting,
@@ -117,20 +117,20 @@ module _ (modes : Modes) (rules : List Rule) (pairs : List Pair) (old mid new : 
       }
 
   -- the goal of a premise
-  pub asked_is : IsReader rules old → (made : Reader) (j : Judgement) (k number mark : ℕ) (terms : Vec ℕ Global) → mark ≡ length made.binds.cells.items → Reached modes rules pairs old rule env mid ps (holds j ∷ drop (k + 1) rule.premises) →
+  pub asked_is : IsReader rules old → (made : Reader) (j : Judgement) (k number mark held : ℕ) (terms : Vec ℕ Global) → mark ≡ length made.binds.cells.items → held ≡ length (reader_trees made) → Reached modes rules pairs old rule env mid ps (holds j ∷ drop (k + 1) rule.premises) →
       slice_get rules number ≡ Some rule → slice_get rule.premises k ≡ Some (holds j) →
       IsMade mid made (places_made modes false (env_at (reader_envs mid) env) j) terms.items →
-      new.arena ≡ made.arena → new.binds ≡ made.binds → new.waiting.items ≡ made.waiting.items ++ record { rule = number; premise = k; env = env; mark = mark } ∷ [] → new.noted ≡ made.noted →
+      new.arena ≡ made.arena → new.binds ≡ made.binds → new.waiting.items ≡ made.waiting.items ++ record { rule = number; premise = k; env = env; mark = mark; terms = held } ∷ [] → new.noted ≡ made.noted → new.base ≡ made.base →
       IsPremises modes rules pairs old new rule env ps (Asks j.form terms)
-  asked_is ho made j k number mark terms me a found prem m ua ub uw un =
-      let c : Waiting = record { rule = number; premise = k; env = env; mark = mark } in
+  asked_is ho made j k number mark held terms me he a found prem m ua ub uw un uz =
+      let c : Waiting = record { rule = number; premise = k; env = env; mark = mark; terms = held } in
       let s = env_later rules old mid a.grows env le in
       let w : made.waiting.items ≡ mid.waiting.items = ap (λ (v : Vec Waiting Global). v.items) m.waiting in
-      let g = grows_then rules old mid made a.grows (grows_terms rules mid made a.grows.reader m.held.arena m.held.extends m.binds w) in
+      let g = grows_then rules old mid made a.grows (grows_terms rules mid made a.grows.reader m.held.arena m.held.extends m.binds w m.base) in
       let l = env_later rules old made g env le in
       let lo = l.0 in
       let at : WaitsAt rules (length made.binds.cells.items) c = record { rule = rule; judgement = j; found = found; premise = prem; env = (omega arith); mark = (omega arith) } in
-      let h = grows_waiting rules made new c g.reader at (omega arith) ua ub uw in
+      let h = grows_waiting rules made new c g.reader at (omega arith) he ua ub uw uz in
       let x = grows_then rules old made new g h in
       let n = env_later rules old new x env le in
       let env0 = env_at (reader_envs old) env in

@@ -1,22 +1,31 @@
 -- A reader grows by terms, bindings and rules that wait.
 use Rattle.std.proofs.Common.{◌≡◌, ℕ, zero, suc, ◌+◌, ◌≤◌, List, [], ◌∷◌, ◌++◌, drop, length, get_or, Some, refl, sym, ap, ◌∙◌, arith, subst}
-use Rattle.std.specs.Prelude.{slice_get}
+use Rattle.std.specs.Prelude.{slice_get, take}
+use Rattle.std.proofs.lemmas.List.{take-append-drop, take-append-le}
 use Rattle.std.proofs.lemmas.Option.{get_or_from_slice_get}
+use Rattle.sx_term.specs.Tree.{Tree}
 use Rattle.sx_rules.specs.Rules.{Judgement, holds, Rule}
 use Rattle.sx_rules.specs.Modes.{Modes, outputs_of}
 use Rattle.sx_rules.specs.Deep.{RuleIsShallow, RulesAreShallow}
 use Rattle.sx_arena.specs.Matching.{Assignment}
 use Rattle.sx_arena.specs.declared.arena.Arena.{Arena}
+use Rattle.sx_arena.specs.declared.binds.Bind.{Bind}
 use Rattle.sx_arena.specs.declared.binds.Binds.{Binds}
-use Rattle.sx_arena.specs.Grown.{Extends}
+use Rattle.sx_arena.specs.declared.fact.Fact.{Fact}
+use Rattle.sx_arena.specs.declared.pairs.Pair.{Pair}
+use Rattle.sx_arena.specs.Grown.{Extends, Fits}
 use Rattle.sx_arena.specs.Arena.{trees, IsArena}
-use Rattle.sx_arena.specs.Binds.{envs, env_at, bind_step, IsBinds, BindsGrow}
+use Rattle.sx_arena.specs.Binds.{envs, env_at, bind_step, BindFits, IsBinds, BindsGrow}
+use Rattle.sx_arena.specs.Facts.{AreFacts}
+use Rattle.sx_arena.specs.Pairs.{pairs_of, ArePairs}
 use Rattle.sx_arena.proofs.Growing.{extends-same, extends-is, extends-then, extends-length, grown-length}
 use Rattle.sx_arena.proofs.BindChains.{env_stays, envs_stay}
+use Rattle.sx_arena.proofs.Facts.{facts_stay}
+use Rattle.sx_arena.proofs.Parted.{pairs_more_terms, pairs_stay}
 use Rattle.sx_replay.specs.declared.reader.Waiting.{Waiting}
 use Rattle.sx_replay.specs.declared.reader.Reader.{Reader}
 use Rattle.sx_replay.specs.Machine.{Frame}
-use Rattle.sx_replay.specs.Reader.{reader_trees, reader_envs, patterns_of, no_rule, frame_of, stack_on, stack, WaitsAt, AreLater, AreWaiting, IsReader, Grows, GoesOn}
+use Rattle.sx_replay.specs.Reader.{reader_trees, reader_envs, base_trees, patterns_of, no_rule, frame_of, stack_on, stack, WaitsAt, AreLater, AreWaiting, AreTo, AreKept, IsReader, Grows, GoesOn}
 
 -- the number of chains
 pub envs_length : (r : Reader) → length (reader_envs r) ≡ length r.binds.cells.items
@@ -82,24 +91,96 @@ frame_is modes rules es j c rule env f g x =
     (λ i. record { rule = r i; rest = drop (c.premise + 1) (r i).premises; patterns = patterns_of modes (slice_get (r i).premises c.premise); env = x i })
     ∙ (λ i. record { rule = rule; rest = drop (c.premise + 1) rule.premises; patterns = p i; env = env })
 
+-- bindings to terms that are there
+pub binds_to : (ts : List Tree) (es : List Assignment) (bs : List Bind) → Fits (bind_step ts) (BindFits ts) es bs → AreTo (length ts) bs
+binds_to ts es [] h = tt
+binds_to ts es (b ∷ bs) h = (h.0.term, binds_to ts (es ++ bind_step ts es b ∷ []) bs h.1)
+
+pub to_take : (n m : ℕ) (bs : List Bind) → AreTo n bs → AreTo n (take m bs)
+to_take n zero [] h = tt
+to_take n (suc m) [] h = tt
+to_take n zero (b ∷ bs) h = tt
+to_take n (suc m) (b ∷ bs) h = (h.0, to_take n m bs h.1)
+
+pub take_take : {X : Type 0} (m n : ℕ) (xs : List X) → m ≤ n → take m (take n xs) ≡ take m xs
+take_take zero zero [] l = refl
+take_take zero (suc n) [] l = refl
+take_take (suc m) zero [] l = refl
+take_take (suc m) (suc n) [] l = refl
+take_take zero zero (x ∷ xs) l = refl
+take_take zero (suc n) (x ∷ xs) l = refl
+take_take (suc m) zero (x ∷ xs) l = absurd (omega arith)
+take_take (suc m) (suc n) (x ∷ xs) l = ap (λ ys. x ∷ ys) (take_take m n xs (omega arith))
+
+kept_by : (rules : List Rule) (base n : ℕ) (bs ds : List Bind) → ((m : ℕ) → m ≤ n → take m ds ≡ take m bs) → (cs : List Waiting) → AreWaiting rules n cs → AreKept base bs cs → AreKept base ds cs
+kept_by rules base n bs ds e [] w h = tt
+kept_by rules base n bs ds e (c ∷ cs) w h =
+    ((h.0.0, subst (λ (xs : List Bind). AreTo c.terms xs) (sym (e c.mark w.0.mark)) h.0.1), kept_by rules base n bs ds e cs w.1.1 h.1)
+
+-- more bindings, or fewer, but for those with which rules wait
+pub kept_more : (rules : List Rule) (base n : ℕ) (bs ds : List Bind) → Extends bs ds → n ≤ length bs → (cs : List Waiting) → AreWaiting rules n cs → AreKept base bs cs → AreKept base ds cs
+kept_more rules base n bs ds (more, e) l = kept_by rules base n bs ds (λ m k. ap (take m) e ∙ take-append-le m bs more (omega arith))
+
+pub kept_cut : (rules : List Rule) (base n : ℕ) (bs ds : List Bind) → ds ≡ take n bs → (cs : List Waiting) → AreWaiting rules n cs → AreKept base bs cs → AreKept base ds cs
+kept_cut rules base n bs ds e = kept_by rules base n bs ds (λ m k. ap (take m) e ∙ take_take m n bs k)
+
+pub kept_one : (base : ℕ) (bs : List Bind) (cs : List Waiting) (c : Waiting) → AreKept base bs cs → base ≤ c.terms → AreTo c.terms (take c.mark bs) → AreKept base bs (cs ++ c ∷ [])
+kept_one base bs [] c h l t = ((l, t), tt)
+kept_one base bs (x ∷ cs) c h l t = (h.0, kept_one base bs cs c h.1 l t)
+
+pub kept_front : (base : ℕ) (bs : List Bind) (cs : List Waiting) (c : Waiting) → AreKept base bs (cs ++ c ∷ []) → AreKept base bs cs × ((base ≤ c.terms) × AreTo c.terms (take c.mark bs))
+kept_front base bs [] c h = (tt, h.0)
+kept_front base bs (x ∷ cs) c h = let r = kept_front base bs cs c h.1 in ((h.0, r.0), r.1)
+
 pub grows_same : (rules : List Rule) (r : Reader) → IsReader rules r → Grows rules r r
-grows_same rules r h = record { reader = h; trees = extends-same (reader_trees r); envs = extends-same (reader_envs r) }
+grows_same rules r h = record { reader = h; base = refl; trees = extends-same (reader_trees r); envs = extends-same (reader_envs r) }
 
 pub grows_then : (rules : List Rule) (a b c : Reader) → Grows rules a b → Grows rules b c → Grows rules a c
 grows_then rules a b c p q = record {
   reader = q.reader;
+  base = q.base ∙ p.base;
   trees = extends-then (reader_trees a) (reader_trees b) (reader_trees c) p.trees q.trees;
   envs = extends-then (reader_envs a) (reader_envs b) (reader_envs c) p.envs q.envs;
 }
 
+-- the terms of the problem are the first terms
+pub base_extends : (r : Reader) → Extends (base_trees r) (reader_trees r)
+base_extends r = (drop r.base (reader_trees r), sym (take-append-drop r.base (reader_trees r)))
+
 pub goes_same : (rules : List Rule) (r : Reader) → IsReader rules r → GoesOn rules r r
-goes_same rules r h = record { reader = h; trees = extends-same (reader_trees r) }
+goes_same rules r h = record { reader = h; base = refl; trees = refl }
 
 pub goes_then : (rules : List Rule) (a b c : Reader) → GoesOn rules a b → GoesOn rules b c → GoesOn rules a c
-goes_then rules a b c p q = record { reader = q.reader; trees = extends-then (reader_trees a) (reader_trees b) (reader_trees c) p.trees q.trees }
+goes_then rules a b c p q = record { reader = q.reader; base = q.base ∙ p.base; trees = q.trees ∙ p.trees }
 
-pub goes_grown : (rules : List Rule) (a b : Reader) → Grows rules a b → GoesOn rules a b
-goes_grown rules a b g = record { reader = g.reader; trees = g.trees }
+pub goes_grown : (rules : List Rule) (a b : Reader) → IsReader rules a → Grows rules a b → GoesOn rules a b
+goes_grown rules a b h g =
+    let more = g.trees.0 in
+    record {
+      reader = g.reader;
+      base = g.base;
+      trees = (λ i. take (g.base i) (g.trees.1 i)) ∙ take-append-le a.base (reader_trees a) more h.base;
+    }
+
+-- so pairs of its terms stay
+pub base_pairs : (rules : List Rule) (a b : Reader) → GoesOn rules a b → (ps : List Pair) → ArePairs (length (base_trees a)) ps → ArePairs (length (base_trees b)) ps
+base_pairs rules a b g ps h = subst (λ (ts : List Tree). ArePairs (length ts) ps) (sym g.trees) h
+
+-- and its hypotheses
+pub base_facts : (modes : Modes) (rules : List Rule) (a b : Reader) → GoesOn rules a b → (js : List Judgement) (fs : List Fact) → AreFacts modes (base_trees a) js fs → AreFacts modes (base_trees b) js fs
+base_facts modes rules a b g js fs h = subst (λ (ts : List Tree). AreFacts modes ts js fs) (sym g.trees) h
+
+pub reader_facts : (modes : Modes) (r : Reader) (js : List Judgement) (fs : List Fact) → AreFacts modes (base_trees r) js fs → AreFacts modes (reader_trees r) js fs
+reader_facts modes r js fs h = facts_stay modes (base_trees r) (reader_trees r) (base_extends r) js fs h
+
+pub reader_pairs : (r : Reader) (ps : List Pair) → ArePairs (length (base_trees r)) ps → ArePairs (length (reader_trees r)) ps
+reader_pairs r ps h = pairs_more_terms (length (base_trees r)) (length (reader_trees r)) (extends-length (base_trees r) (reader_trees r) (base_extends r)) ps h
+
+pub pairs_same : (rules : List Rule) (a b : Reader) → GoesOn rules a b → (ps : List Pair) → ArePairs (length (base_trees a)) ps → pairs_of (reader_trees b) ps ≡ pairs_of (reader_trees a) ps
+pairs_same rules a b g ps h =
+    pairs_stay (base_trees b) (reader_trees b) (base_extends b) ps (base_pairs rules a b g ps h)
+    ∙ ap (λ (ts : List Tree). pairs_of ts ps) g.trees
+    ∙ sym (pairs_stay (base_trees a) (reader_trees a) (base_extends a) ps h)
 
 -- bindings that were there
 pub env_later : (rules : List Rule) (s t : Reader) → Grows rules s t → (env : ℕ) → env ≤ length s.binds.cells.items → (env ≤ length t.binds.cells.items) × (env_at (reader_envs t) env ≡ env_at (reader_envs s) env)
@@ -115,9 +196,15 @@ stack_later modes rules s t h x e =
     let a = envs_length s in
     ap (stack_on modes rules (reader_envs t) []) e ∙ stack_stays modes rules (reader_envs s) (reader_envs t) (length s.binds.cells.items) x (omega arith) [] s.waiting.items h.waiting
 
+kept_as : (s t : Reader) → t.binds.cells.items ≡ s.binds.cells.items → t.waiting.items ≡ s.waiting.items → t.base ≡ s.base → AreKept s.base s.binds.cells.items s.waiting.items → AreKept t.base t.binds.cells.items t.waiting.items
+kept_as s t b w z h =
+    subst (λ (n : ℕ). AreKept n t.binds.cells.items t.waiting.items) (sym z)
+    (subst (λ (bs : List Bind). AreKept s.base bs t.waiting.items) (sym b)
+    (subst (λ (cs : List Waiting). AreKept s.base s.binds.cells.items cs) (sym w) h))
+
 -- more terms
-pub grows_terms : (rules : List Rule) (s t : Reader) → IsReader rules s → IsArena t.arena → Extends (reader_trees s) (reader_trees t) → t.binds ≡ s.binds → t.waiting.items ≡ s.waiting.items → Grows rules s t
-grows_terms rules s t h a x b w =
+pub grows_terms : (rules : List Rule) (s t : Reader) → IsReader rules s → IsArena t.arena → Extends (reader_trees s) (reader_trees t) → t.binds ≡ s.binds → t.waiting.items ≡ s.waiting.items → t.base ≡ s.base → Grows rules s t
+grows_terms rules s t h a x b w z =
     let st = envs_stay (reader_trees s) (reader_trees t) x s.binds h.binds in
     let n : length t.binds.cells.items ≡ length s.binds.cells.items = ap (λ (y : Binds). length y.cells.items) b in
     record {
@@ -125,14 +212,17 @@ grows_terms rules s t h a x b w =
         arena = a;
         binds = subst (λ (y : Binds). IsBinds (reader_trees t) y) (sym b) st.1;
         waiting = subst (λ (cs : List Waiting). AreWaiting rules (length t.binds.cells.items) cs) (sym w) (waiting_later rules (length s.binds.cells.items) (length t.binds.cells.items) (omega arith) s.waiting.items h.waiting);
+        base = (let l = extends-length (reader_trees s) (reader_trees t) x in let k = h.base in omega arith);
+        kept = kept_as s t (ap (λ (y : Binds). y.cells.items) b) w z h.kept;
       };
+      base = z;
       trees = x;
       envs = extends-is (reader_envs s) (reader_envs t) (ap (envs (reader_trees t)) b ∙ st.0);
     }
 
 -- more bindings
-pub grows_binds : (rules : List Rule) (s t : Reader) → IsReader rules s → BindsGrow (trees s.arena) s.binds t.binds → t.arena ≡ s.arena → t.waiting.items ≡ s.waiting.items → Grows rules s t
-grows_binds rules s t h g a w =
+pub grows_binds : (rules : List Rule) (s t : Reader) → IsReader rules s → BindsGrow (trees s.arena) s.binds t.binds → t.arena ≡ s.arena → t.waiting.items ≡ s.waiting.items → t.base ≡ s.base → Grows rules s t
+grows_binds rules s t h g a w z =
     let m = envs_length s in
     let n = grown-length (bind_step (reader_trees s)) t.binds.cells.items in
     let x = extends-length (reader_envs s) (envs (reader_trees s) t.binds) g.extends in
@@ -141,15 +231,20 @@ grows_binds rules s t h g a w =
         arena = subst (λ (y : Arena). IsArena y) (sym a) h.arena;
         binds = subst (λ (y : Arena). IsBinds (trees y) t.binds) (sym a) g.binds;
         waiting = subst (λ (cs : List Waiting). AreWaiting rules (length t.binds.cells.items) cs) (sym w) (waiting_later rules (length s.binds.cells.items) (length t.binds.cells.items) (omega arith) s.waiting.items h.waiting);
+        base = (let l = ap (λ (y : Arena). length (trees y)) a in let k = h.base in omega arith);
+        kept = subst (λ (k : ℕ). AreKept k t.binds.cells.items t.waiting.items) (sym z)
+            (subst (λ (cs : List Waiting). AreKept s.base t.binds.cells.items cs) (sym w)
+            (kept_more rules s.base (length s.binds.cells.items) s.binds.cells.items t.binds.cells.items g.cells (omega arith) s.waiting.items h.waiting h.kept));
       };
+      base = z;
       trees = extends-is (reader_trees s) (reader_trees t) (ap trees a);
       envs = subst (λ (y : Arena). Extends (reader_envs s) (envs (trees y) t.binds)) (sym a) g.extends;
     }
 
 -- one rule more that waits
-pub grows_waiting : (rules : List Rule) (s t : Reader) (c : Waiting) → IsReader rules s → WaitsAt rules (length s.binds.cells.items) c → length s.binds.cells.items ≤ c.mark → t.arena ≡ s.arena → t.binds ≡ s.binds →
-    t.waiting.items ≡ s.waiting.items ++ c ∷ [] → Grows rules s t
-grows_waiting rules s t c h w l a b e =
+pub grows_waiting : (rules : List Rule) (s t : Reader) (c : Waiting) → IsReader rules s → WaitsAt rules (length s.binds.cells.items) c → length s.binds.cells.items ≤ c.mark → c.terms ≡ length (reader_trees s) → t.arena ≡ s.arena → t.binds ≡ s.binds →
+    t.waiting.items ≡ s.waiting.items ++ c ∷ [] → t.base ≡ s.base → Grows rules s t
+grows_waiting rules s t c h w l d a b e z =
     let n : length t.binds.cells.items ≡ length s.binds.cells.items = ap (λ (y : Binds). length y.cells.items) b in
     record {
       reader = record {
@@ -157,7 +252,14 @@ grows_waiting rules s t c h w l a b e =
         binds = subst (λ (y : Arena). IsBinds (trees y) t.binds) (sym a) (subst (λ (y : Binds). IsBinds (reader_trees s) y) (sym b) h.binds);
         waiting = subst (λ (cs : List Waiting). AreWaiting rules (length t.binds.cells.items) cs) (sym e)
             (waiting_later rules (length s.binds.cells.items) (length t.binds.cells.items) (omega arith) (s.waiting.items ++ c ∷ []) (waiting_one rules (length s.binds.cells.items) s.waiting.items c h.waiting w l));
+        base = (let k = ap (λ (y : Arena). length (trees y)) a in let m = h.base in omega arith);
+        kept = subst (λ (k : ℕ). AreKept k t.binds.cells.items t.waiting.items) (sym z)
+            (subst (λ (y : Binds). AreKept s.base y.cells.items t.waiting.items) (sym b)
+            (subst (λ (cs : List Waiting). AreKept s.base s.binds.cells.items cs) (sym e)
+            (kept_one s.base s.binds.cells.items s.waiting.items c h.kept (let m = h.base in omega arith)
+            (to_take c.terms c.mark s.binds.cells.items (subst (λ (k : ℕ). AreTo k s.binds.cells.items) (sym d) (binds_to (reader_trees s) [] s.binds.cells.items h.binds))))));
       };
+      base = z;
       trees = extends-is (reader_trees s) (reader_trees t) (ap trees a);
       envs = extends-is (reader_envs s) (reader_envs t) (λ i. envs (trees (a i)) (b i));
     }

@@ -1,6 +1,7 @@
 -- A problem in a new reader, and what is answered of it.
-use Rattle.std.proofs.Common.{◌≡◌, ℕ, List, [], map, length, ◌∙◌, sym, subst}
-use Rattle.std.specs.Prelude.{Result, Ok, Err, Vec}
+use Rattle.std.proofs.Common.{◌≡◌, ℕ, List, [], map, length, ◌∙◌, refl, sym, ap, arith, subst}
+use Rattle.std.specs.Prelude.{Result, Ok, Err, Vec, take}
+use Rattle.std.proofs.Math.Seq.{take-length}
 use Rattle.std.specs.declared.alloc.Global.{Global}
 use Rattle.sx_term.specs.Tree.{Tree}
 use Rattle.sx_term.specs.Term.{tree}
@@ -11,16 +12,19 @@ use Rattle.sx_rules.specs.Orders.{Entry}
 use Rattle.sx_arena.specs.declared.arena.Arena.{Arena}
 use Rattle.sx_arena.specs.Arena.{trees, tree_at}
 use Rattle.sx_arena.specs.Entered.{AreFactsIn, ArePairsIn}
+use Rattle.sx_arena.specs.Facts.{AreFacts}
+use Rattle.sx_arena.specs.Pairs.{ArePairs}
 use Rattle.sx_arena.specs.Places.{AreHeld}
 use Rattle.sx_arena.proofs.Facts.{facts_stay}
 use Rattle.sx_arena.proofs.Growing.{extends-then, extends-length}
 use Rattle.sx_arena.proofs.Parted.{pairs_more_terms, pairs_stay}
 use Rattle.sx_replay.specs.declared.reader.Reader.{Reader}
+use Rattle.sx_replay.specs.declared.reader.Waiting.{Waiting}
 use Rattle.sx_replay.specs.declared.replaying.Problem.{Problem}
 use Rattle.sx_replay.specs.declared.replay_error.ReplayError.{ReplayError}
 use Rattle.sx_replay.specs.Limits.{nothing_noted}
 use Rattle.sx_replay.specs.Fronts.{whole}
-use Rattle.sx_replay.specs.Reader.{reader_trees, IsReader, hyps_in, goal_in}
+use Rattle.sx_replay.specs.Reader.{reader_trees, base_trees, AreKept, IsReader, hyps_in, goal_in}
 use Rattle.sx_replay.specs.Problem.{IsProblem}
 use Rattle.sx_replay.specs.Following.{IsFollowed}
 use Rattle.sx_replay.specs.Replay.{IsWithin, IsReplayed}
@@ -29,18 +33,27 @@ use Rattle.sx_replay.proofs.Answered.{whole_within, refusal_is}
 
 pub problem_is : (modes : Modes) (rules : List Rule) (hyps : Hypotheses) (terms : List Tree) (s : Reader) (a b : Arena) (p : Problem) → IsReader rules s → s.waiting.items ≡ [] → s.noted ≡ nothing_noted →
     AreFactsIn modes s.arena a hyps.judgements p.facts.items → ArePairsIn a b hyps.pairs p.pairs.items → AreHeld b p.reader.arena p.terms.items terms →
-    p.reader.binds ≡ s.binds → p.reader.waiting.items ≡ s.waiting.items → p.reader.noted ≡ s.noted → IsProblem modes rules hyps terms p
-problem_is modes rules hyps terms s a b p h sw sn f q t eb ew en =
+    p.reader.binds ≡ s.binds → p.reader.waiting.items ≡ s.waiting.items → p.reader.noted ≡ s.noted → p.reader.base ≡ length (trees p.reader.arena) → IsProblem modes rules hyps terms p
+problem_is modes rules hyps terms s a b p h sw sn f q t eb ew en ez =
     let c = p.reader.arena in
     let xb = t.extends in
     let xa = extends-then (trees a) (trees b) (trees c) q.extends xb in
     let xs = extends-then (trees s.arena) (trees a) (trees c) f.extends xa in
+    let before : Reader = record { arena = c; binds = p.reader.binds; waiting = p.reader.waiting; noted = p.reader.noted; base = s.base } in
+    let g = (grows_terms rules s before h t.arena xs eb ew refl).reader in
+    let all : base_trees p.reader ≡ trees c = ap (λ (n : ℕ). take n (trees c)) ez ∙ take-length (trees c) in
     record {
-      reader = (grows_terms rules s p.reader h t.arena xs eb ew).reader;
+      reader = record {
+        arena = t.arena;
+        binds = g.binds;
+        waiting = g.waiting;
+        base = (omega arith);
+        kept = subst (λ (cs : List Waiting). AreKept p.reader.base p.reader.binds.cells.items cs) (sym (ew ∙ sw)) tt;
+      };
       none_waits = ew ∙ sw;
       noted = en ∙ sn;
-      facts = facts_stay modes (trees a) (trees c) xa hyps.judgements p.facts.items f.are;
-      pairs = pairs_more_terms (length (trees b)) (length (trees c)) (extends-length (trees b) (trees c) xb) p.pairs.items q.within;
+      facts = subst (λ (ts : List Tree). AreFacts modes ts hyps.judgements p.facts.items) (sym all) (facts_stay modes (trees a) (trees c) xa hyps.judgements p.facts.items f.are);
+      pairs = subst (λ (ts : List Tree). ArePairs (length ts) p.pairs.items) (sym all) (pairs_more_terms (length (trees b)) (length (trees c)) (extends-length (trees b) (trees c) xb) p.pairs.items q.within);
       pairs_are = pairs_stay (trees b) (trees c) xb p.pairs.items q.within ∙ q.are;
       terms_below = t.within;
       terms_are = t.are;

@@ -54,10 +54,10 @@ module _ (modes : Modes) (rules : List Rule) (pairs : List Pair) (s : Reader) (r
 
   module _ (same_form : rule.conclusion.form ≡ form) (b : Binds) (g : BindsGrow (trees s.arena) s.binds b) where
     abbrev pub bound_to : Reader
-    bound_to = record { arena = s.arena; binds = b; waiting = s.waiting; noted = s.noted }
+    bound_to = record { arena = s.arena; binds = b; waiting = s.waiting; noted = s.noted; base = s.base }
 
     pub bound_later : Grows rules s bound_to
-    bound_later = grows_binds rules s bound_to h g refl refl
+    bound_later = grows_binds rules s bound_to h g refl refl refl
 
     tried_is : (js : List Judgement) (m : Option Assignment) → match_all (inputs_of modes rule.conclusion) (map (tree_at (reader_trees s)) terms) unbound ≡ m → tried_as (hyps_in pairs s js) ≡ matched_as js m
     tried_is js m e =
@@ -65,7 +65,7 @@ module _ (modes : Modes) (rules : List Rule) (pairs : List Pair) (s : Reader) (r
         ∙ ap (matched_as js) e
 
     pub rule_none : match_all (inputs_of modes rule.conclusion) (map (tree_at (reader_trees s)) terms) unbound ≡ None → IsMoved modes rules pairs s bound_to tried_as Clash
-    rule_none m = record { grows = goes_grown rules s bound_to bound_later; is = λ js. tried_is js None m }
+    rule_none m = record { grows = goes_grown rules s bound_to h bound_later; is = λ js. tried_is js None m }
 
     module _ (hp : ArePairs (length (reader_trees s)) pairs) (v : Reader) (env : ℕ) (m : match_all (inputs_of modes rule.conclusion) (map (tree_at (reader_trees s)) terms) unbound ≡ Some (env_at (reader_envs bound_to) env)) (step : Step)
         (p : IsPremises modes rules pairs bound_to v rule env rule.premises step) where
@@ -83,7 +83,7 @@ module _ (modes : Modes) (rules : List Rule) (pairs : List Pair) (s : Reader) (r
 
       pub rule_stop : ((o : Vec ℕ Global) → step ≡ Done o → ⊥) → IsMoved modes rules pairs s v tried_as step
       rule_stop n = record {
-        grows = goes_grown rules s v grown;
+        grows = goes_grown rules s v h grown;
         is = λ js. step_other modes rules s.waiting.items [] v (hand_on modes (hyps_in pairs s js) (stack modes rules s)) ends step (tried_as (hyps_in pairs s js)) n (step_is js);
       }
 
@@ -104,7 +104,7 @@ module _ (modes : Modes) (rules : List Rule) (pairs : List Pair) (s : Reader) (r
       rule_handed outs e w last k =
           let d = rule_done outs e in
           record {
-            grows = goes_then rules s v w (goes_grown rules s v grown) k.grows;
+            grows = goes_then rules s v w (goes_grown rules s v h grown) k.grows;
             is = λ js. subst (λ (r : Move). IsStep modes rules [] w ends last r) (sym (d.1 js)) (k.is js);
           }
 

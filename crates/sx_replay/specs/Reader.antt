@@ -1,10 +1,11 @@
 -- What the checker keeps, as plain data, and how it grows.
-use Rattle.std.specs.Prelude.{◌≡◌, ℕ, ◌+◌, ◌≤◌, Bool, List, [], ◌∷◌, map, drop, length, get_or, slice_get, Option, Some, None}
+use Rattle.std.specs.Prelude.{◌≡◌, ℕ, ◌+◌, ◌<◌, ◌≤◌, Bool, List, [], ◌∷◌, map, take, drop, length, get_or, slice_get, Option, Some, None}
 use Rattle.sx_term.specs.Tree.{Tree}
 use Rattle.sx_rules.specs.Instances.{instance}
 use Rattle.sx_rules.specs.Rules.{Judgement, Premise, holds, apart, Rule, Hypotheses}
 use Rattle.sx_rules.specs.Modes.{Modes, outputs_of, Goal}
 use Rattle.sx_arena.specs.Matching.{Assignment, filled}
+use Rattle.sx_arena.specs.declared.binds.Bind.{Bind}
 use Rattle.sx_arena.specs.declared.pairs.Pair.{Pair}
 use Rattle.sx_arena.specs.Grown.{Extends}
 use Rattle.sx_arena.specs.Arena.{trees, tree_at, IsArena, AreBelow}
@@ -25,6 +26,10 @@ reader_trees r = trees r.arena
 
 abbrev pub reader_envs : Reader → List Assignment
 reader_envs r = envs (trees r.arena) r.binds
+
+-- the terms of the problem, which stay to the end
+abbrev pub base_trees : Reader → List Tree
+base_trees r = take r.base (trees r.arena)
 
 -- the frame that a waiting rule stands for
 abbrev pub patterns_of : Modes → Option Premise → List Tree
@@ -72,21 +77,35 @@ abbrev pub AreWaiting : List Rule → ℕ → List Waiting → Type 0
 AreWaiting rules n [] = Unit {0}
 AreWaiting rules n (c ∷ cs) = WaitsAt rules n c × (AreLater c.mark cs × AreWaiting rules n cs)
 
+-- the bindings are to the first terms, so many
+abbrev pub AreTo : ℕ → List Bind → Type 0
+AreTo n [] = Unit {0}
+AreTo n (b ∷ bs) = (b.term < n) × AreTo n bs
+
+-- where each rule began to wait the terms of the problem were there, and the bindings were to terms that were there
+abbrev pub AreKept : ℕ → List Bind → List Waiting → Type 0
+AreKept base bs [] = Unit {0}
+AreKept base bs (c ∷ cs) = ((base ≤ c.terms) × AreTo c.terms (take c.mark bs)) × AreKept base bs cs
+
 pub record IsReader (rules : List Rule) (r : Reader) : Type 0 where
   pub arena : IsArena r.arena
   pub binds : IsBinds (trees r.arena) r.binds
   pub waiting : AreWaiting rules (length r.binds.cells.items) r.waiting.items
+  pub base : r.base ≤ length (trees r.arena)
+  pub kept : AreKept r.base r.binds.cells.items r.waiting.items
 
 -- what was named before stands for the same
 pub record Grows (rules : List Rule) (old new : Reader) : Type 0 where
   pub reader : IsReader rules new
+  pub base : new.base ≡ old.base
   pub trees : Extends (reader_trees old) (reader_trees new)
   pub envs : Extends (reader_envs old) (reader_envs new)
 
--- the terms stay, and of the bindings those with which rules wait
+-- the terms of the problem stay, and all that with which rules wait
 pub record GoesOn (rules : List Rule) (old new : Reader) : Type 0 where
   pub reader : IsReader rules new
-  pub trees : Extends (reader_trees old) (reader_trees new)
+  pub base : new.base ≡ old.base
+  pub trees : base_trees new ≡ base_trees old
 
 -- the outputs of a judgement, or else its inputs, under bindings
 abbrev pub places_made : Modes → Bool → Assignment → Judgement → List Tree
@@ -97,6 +116,7 @@ pub record IsMade (old new : Reader) (ts : List Tree) (is : List ℕ) : Type 0 w
   pub held : AreHeld old.arena new.arena is ts
   pub binds : new.binds ≡ old.binds
   pub waiting : new.waiting ≡ old.waiting
+  pub base : new.base ≡ old.base
   pub noted : new.noted ≡ note old.noted ts
 
 -- the hypotheses, with the pairs by their numbers

@@ -10,7 +10,7 @@ ghost use Rattle.sx_arena.specs.Pairs.{ArePairs};
 ghost use Rattle.sx_arena.specs.Views.{rules_of, modes_of};
 ghost use Rattle.sx_replay.specs.Limits.{nothing_noted};
 ghost use Rattle.sx_replay.specs.Following.{IsChecked, IsFollowed};
-ghost use Rattle.sx_replay.specs.Reader.{IsReader, reader_trees, goal_in, hyps_in};
+ghost use Rattle.sx_replay.specs.Reader.{IsReader, reader_trees, base_trees, goal_in, hyps_in};
 
 use crate::entry::try_entry;
 use crate::noted::Noted;
@@ -63,12 +63,12 @@ pub fn follow(
     requires reader { IsReader (rules_of rules.now) reader.old }
     requires none { reader.old.waiting.items ≡ [] }
     requires noted { reader.old.noted ≡ nothing_noted }
-    requires pairs { ArePairs (length (reader_trees reader.old)) pairs.now }
+    requires pairs { ArePairs (length (base_trees reader.old)) pairs.now }
     requires terms { AreBelow (length (reader_trees reader.old)) terms.items }
-    requires facts { (js : List Judgement) × AreFacts (modes_of rules.now) (reader_trees reader.old) js facts.now }
+    requires facts { (js : List Judgement) × AreFacts (modes_of rules.now) (base_trees reader.old) js facts.now }
     ensures arena { IfOk result (λ outs. IsArena reader.new.arena) }
     ensures within { IfOk result (λ outs. AreBelow (length (reader_trees reader.new)) outs.items) }
-    ensures followed { (js : List Judgement) → AreFacts (modes_of rules.now) (reader_trees reader.old) js facts.now →
+    ensures followed { (js : List Judgement) → AreFacts (modes_of rules.now) (base_trees reader.old) js facts.now →
         IsFollowed (modes_of rules.now) (rules_of rules.now) (hyps_in pairs.now reader.old js) (goal_in reader.old form terms.items) (entries list.now) reader.new result }
 {
     let mut form = form;

@@ -6,13 +6,13 @@ ghost use Rattle.sx_arena.specs.Arena.{tree_at, AreBelow};
 ghost use Rattle.sx_arena.specs.Pairs.{ArePairs};
 ghost use Rattle.sx_arena.specs.Views.{rules_of, modes_of};
 ghost use Rattle.sx_replay.specs.Machine.{hand_on as handed};
-ghost use Rattle.sx_replay.specs.Reader.{IsReader, WaitsAt, IsResumed, IsMoved, reader_trees, stack};
+ghost use Rattle.sx_replay.specs.Reader.{IsReader, WaitsAt, IsResumed, IsMoved, reader_trees, base_trees, stack};
 
 use crate::premise_loop::premises;
 use crate::reader::{Reader, Waiting};
 use crate::step::Step;
 use std::alloc::Global;
-use sx_arena::{Pair, fit_places, roles, rule_at};
+use sx_arena::{Pair, fit_places, keep, roles, rule_at};
 use sx_rules::{Premise, RuleSet};
 use sx_term::NoMemory;
 
@@ -62,8 +62,8 @@ fn resume(
     }
 }
 
-/// What comes of outputs that are handed to the rules that wait, from the last one on. What was bound since a rule began to wait is
-/// dropped when it goes on.
+/// What comes of outputs that are handed to the rules that wait, from the last one on. What was made since a rule began to wait is
+/// dropped when it goes on, but for the outputs.
 pub fn hand_on(
     alloc: Global,
     rules: &RuleSet,
@@ -73,7 +73,7 @@ pub fn hand_on(
 ) -> Result<Step, NoMemory>
     requires shallow { RulesAreShallow (rules_of rules.now) }
     requires reader { IsReader (rules_of rules.now) reader.old }
-    requires pairs { ArePairs (length (reader_trees reader.old)) pairs.now }
+    requires pairs { ArePairs (length (base_trees reader.old)) pairs.now }
     requires outputs { AreBelow (length (reader_trees reader.old)) outputs.items }
     ensures { IfOk result (λ step. IsMoved (modes_of rules.now) (rules_of rules.now) pairs.now reader.old reader.new
         (λ hyps. handed (modes_of rules.now) hyps (stack (modes_of rules.now) (rules_of rules.now) reader.old) (map (tree_at (reader_trees reader.old)) outputs.items) reader.old.noted) step) }
@@ -81,6 +81,7 @@ pub fn hand_on(
     let mut outputs = outputs;
     while let Some(waiting) = reader.waiting.pop() {
         reader.binds.cut(waiting.mark);
+        outputs = keep(alloc, &mut reader.arena, waiting.terms, outputs)?;
         match resume(alloc, rules, pairs, reader, waiting, &outputs)? {
             Step::Done(made) => outputs = made,
             other => return Ok(other),

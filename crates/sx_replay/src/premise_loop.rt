@@ -49,11 +49,13 @@ pub fn premises(
             Premise::Holds(judgement) => {
                 let terms = make(alloc, rules, judgement, false, reader, env)?;
                 let mark = reader.mark();
+                let held = reader.arena.len();
                 reader.waiting.push(Waiting {
                     rule: number,
                     premise: k,
                     env,
                     mark,
+                    terms: held,
                 })?;
                 return Ok(Step::Asks {
                     form: judgement.form,

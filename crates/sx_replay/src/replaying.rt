@@ -64,6 +64,7 @@ fn enter_problem(
             return Err(e);
         }
     };
+    reader.base = reader.arena.len();
     Ok(Problem {
         reader,
         facts,

@@ -5,12 +5,10 @@ use Rattle.sx_rules.specs.Deep.{AreShallow}
 use Rattle.sx_arena.specs.Matching.{match_all, unbound}
 use Rattle.sx_arena.specs.Arena.{tree_at}
 use Rattle.sx_arena.specs.Views.{rules_of, modes_of, rule_of}
-use Rattle.sx_arena.proofs.Growing.{extends-length}
 use Rattle.sx_arena.proofs.Patterns.{ok_weaker}
-use Rattle.sx_arena.proofs.Parted.{pairs_more_terms}
 use Rattle.sx_replay.specs.Reader.{reader_trees}
-use Rattle.sx_replay.proofs.Readers.{shallow_rule}
-use Rattle.sx_replay.proofs.Tried.{bound_later, rule_none, rule_stop, rule_done, rule_handed}
+use Rattle.sx_replay.proofs.Readers.{shallow_rule, goes_grown, base_pairs, reader_pairs}
+use Rattle.sx_replay.proofs.Tried.{bound_to, bound_later, rule_none, rule_stop, rule_done, rule_handed}
 use Rattle.sx_replay.proofs.entry.try_rule.Goals as goal
 
 pub fit_places-requires-clause-shallow : goal.fit_places-requires-clause-shallow
@@ -30,14 +28,20 @@ hand_on-requires-clause-reader c = c.in_ok-other-in-Some.ensures.grows.reader
 
 pub hand_on-requires-clause-pairs : goal.hand_on-requires-clause-pairs
 hand_on-requires-clause-pairs c =
-    pairs_more_terms _ _ (extends-length _ _ c.in_ok-other-in-Some.ensures.grows.trees) _ c.requires.pairs
+    let s = c.args.reader.now in
+    let b = bound_to (modes_of c.args.rules.now) (rules_of c.args.rules.now) c.args.pairs.now s (rule_of c.args.rule.now) c.args.form c.args.terms.now c.requires.reader c.if-rule-form.false c.fit_places.new.binds c.in_ok-fit.ensures.grows in
+    let l = bound_later (modes_of c.args.rules.now) (rules_of c.args.rules.now) c.args.pairs.now s (rule_of c.args.rule.now) c.args.form c.args.terms.now c.requires.reader c.if-rule-form.false c.fit_places.new.binds c.in_ok-fit.ensures.grows in
+    base_pairs (rules_of c.args.rules.now) b c.premises.new.reader (goes_grown (rules_of c.args.rules.now) b c.premises.new.reader l.reader c.in_ok-other-in-Some.ensures.grows) c.args.pairs.now c.requires.pairs
+
+pub premises-requires-clause-pairs : goal.premises-requires-clause-pairs
+premises-requires-clause-pairs c = reader_pairs c.args.reader.now c.args.pairs.now c.requires.pairs
 
 pub hand_on-requires-clause-outputs : goal.hand_on-requires-clause-outputs
 hand_on-requires-clause-outputs c =
     let f = rw c.in-Some.is at c.in_ok-fit.ensures.fit in
     let s = c.args.reader.now in
     (rule_done (modes_of c.args.rules.now) (rules_of c.args.rules.now) c.args.pairs.now s (rule_of c.args.rule.now) c.args.form c.args.terms.now c.requires.reader c.if-rule-form.false c.fit_places.new.binds c.in_ok-fit.ensures.grows
-    c.requires.pairs c.premises.new.reader c.in-Some.env
+    (reader_pairs s c.args.pairs.now c.requires.pairs) c.premises.new.reader c.in-Some.env
     ((λ i. match_all (inputs (sym c.roles.ensures i) (map tree (sym c.deref.ensures.value i))) (map (tree_at (reader_trees s)) c.args.terms.now) unbound) ∙ f.1)
     c.in_ok-other-in-Some.other c.in_ok-other-in-Some.ensures c.in-Done.outputs c.in-Done.is).0
 
@@ -52,7 +56,7 @@ returns-in-Done c =
     let f = rw c.in-Some.is at c.in_ok-fit.ensures.fit in
     let s = c.args.reader.now in
     ok_weaker _ _ (λ step h. rule_handed (modes_of c.args.rules.now) (rules_of c.args.rules.now) c.args.pairs.now s (rule_of c.args.rule.now) c.args.form c.args.terms.now c.requires.reader c.if-rule-form.false c.fit_places.new.binds c.in_ok-fit.ensures.grows
-    c.requires.pairs c.premises.new.reader c.in-Some.env
+    (reader_pairs s c.args.pairs.now c.requires.pairs) c.premises.new.reader c.in-Some.env
     ((λ i. match_all (inputs (sym c.roles.ensures i) (map tree (sym c.deref.ensures.value i))) (map (tree_at (reader_trees s)) c.args.terms.now) unbound) ∙ f.1)
     c.in_ok-other-in-Some.other c.in_ok-other-in-Some.ensures c.in-Done.outputs c.in-Done.is c.hand_on.new.reader step h) c.hand_on.result c.hand_on.ensures
 
@@ -61,6 +65,6 @@ returns-in_default c =
     let f = rw c.in-Some.is at c.in_ok-fit.ensures.fit in
     let s = c.args.reader.now in
     rule_stop (modes_of c.args.rules.now) (rules_of c.args.rules.now) c.args.pairs.now s (rule_of c.args.rule.now) c.args.form c.args.terms.now c.requires.reader c.if-rule-form.false c.fit_places.new.binds c.in_ok-fit.ensures.grows
-    c.requires.pairs c.premises.new.reader c.in-Some.env
+    (reader_pairs s c.args.pairs.now c.requires.pairs) c.premises.new.reader c.in-Some.env
     ((λ i. match_all (inputs (sym c.roles.ensures i) (map tree (sym c.deref.ensures.value i))) (map (tree_at (reader_trees s)) c.args.terms.now) unbound) ∙ f.1)
     c.in_ok-other-in-Some.other c.in_ok-other-in-Some.ensures (λ o e. c.in_default.not-Done o e)

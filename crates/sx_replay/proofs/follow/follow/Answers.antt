@@ -1,25 +1,23 @@
 use Rattle.std.proofs.Common.{◌+◌, List, ℕ, refl, subst, arith}
 use Rattle.sx_rules.specs.Rules.{Judgement}
 use Rattle.sx_arena.specs.Views.{rules_of, modes_of}
-use Rattle.sx_arena.proofs.Facts.{facts_stay}
-use Rattle.sx_arena.proofs.Growing.{extends-length}
-use Rattle.sx_arena.proofs.Parted.{pairs_more_terms}
 use Rattle.sx_arena.specs.Facts.{AreFacts}
 use Rattle.sx_rules.specs.EntryView.{entry}
-use Rattle.sx_replay.specs.Reader.{reader_trees}
+use Rattle.sx_replay.specs.Reader.{base_trees}
+use Rattle.sx_replay.proofs.Readers.{base_pairs, base_facts}
 use Rattle.sx_replay.proofs.Followed.{IsStepped, followed_end, wrong_entry, done_refused, asks_refused, long_list, whole_list, following_more, done_below}
 use Rattle.sx_replay.proofs.follow.follow.Goals as goal
 
 pub try_entry-requires-clause-pairs : goal.try_entry-requires-clause-pairs
-try_entry-requires-clause-pairs c = pairs_more_terms _ _ (extends-length _ _ c.loop-i.invariant.grows.trees) _ c.requires.pairs
+try_entry-requires-clause-pairs c = base_pairs (rules_of c.args.rules.now) c.args.reader.now c.loop-i.reader c.loop-i.invariant.grows c.args.pairs.now c.requires.pairs
 
 pub try_entry-requires-clause-facts : goal.try_entry-requires-clause-facts
 try_entry-requires-clause-facts c =
-    (c.requires.facts.0, facts_stay (modes_of c.args.rules.now) (reader_trees c.args.reader.now) (reader_trees c.loop-i.reader) c.loop-i.invariant.grows.trees c.requires.facts.0 c.args.facts.now c.requires.facts.1)
+    (c.requires.facts.0, base_facts (modes_of c.args.rules.now) (rules_of c.args.rules.now) c.args.reader.now c.loop-i.reader c.loop-i.invariant.grows c.requires.facts.0 c.args.facts.now c.requires.facts.1)
 
 pub returns-in-Clash-clause-followed : goal.returns-in-Clash-clause-followed
 returns-in-Clash-clause-followed c =
-    let h = subst (λ (ts : List ℕ). (js : List Judgement) → AreFacts (modes_of c.args.rules.now) (reader_trees c.loop-i.reader) js c.args.facts.now →
+    let h = subst (λ (ts : List ℕ). (js : List Judgement) → AreFacts (modes_of c.args.rules.now) (base_trees c.loop-i.reader) js c.args.facts.now →
     IsStepped (modes_of c.args.rules.now) (rules_of c.args.rules.now) c.args.pairs.now c.loop-i.reader c.try_entry.new.reader c.loop-i.form ts js c.in_ok-try_entry.field-0 (entry c.entry_at-entry.result)) c.deref.ensures.value c.in_ok-try_entry.ensures in
     wrong_entry (modes_of c.args.rules.now) (rules_of c.args.rules.now) c.args.facts.now c.args.pairs.now c.args.reader.now c.args.form c.args.terms.items c.args.list.now
     c.loop-i.reader c.try_entry.new.reader c.loop-i.i c.loop-i.form c.len-level.result c.loop-i.terms.items c.entry_at-entry.result c.in_ok-try_entry.field-0 c.requires.pairs c.loop-i.invariant c.loop-i-test.true c.entry_at-entry.ensures (let k = c.loop-i.reader.waiting.ok in let z = c.len-level.ensures in omega arith) h
@@ -27,7 +25,7 @@ returns-in-Clash-clause-followed c =
 
 pub returns-in-Err-clause-followed : goal.returns-in-Err-clause-followed
 returns-in-Err-clause-followed c =
-    let h = subst (λ (ts : List ℕ). (js : List Judgement) → AreFacts (modes_of c.args.rules.now) (reader_trees c.loop-i.reader) js c.args.facts.now →
+    let h = subst (λ (ts : List ℕ). (js : List Judgement) → AreFacts (modes_of c.args.rules.now) (base_trees c.loop-i.reader) js c.args.facts.now →
     IsStepped (modes_of c.args.rules.now) (rules_of c.args.rules.now) c.args.pairs.now c.loop-i.reader c.try_entry.new.reader c.loop-i.form ts js c.in_ok-try_entry.field-0 (entry c.entry_at-entry.result)) c.deref.ensures.value c.in_ok-try_entry.ensures in
     done_refused (modes_of c.args.rules.now) (rules_of c.args.rules.now) c.args.facts.now c.args.pairs.now c.args.reader.now c.args.form c.args.terms.items c.args.list.now
     c.loop-i.reader c.try_entry.new.reader c.loop-i.i c.loop-i.form c.len-level.result c.loop-i.terms.items c.entry_at-entry.result c.in_ok-try_entry.field-0 c.requires.pairs c.loop-i.invariant c.loop-i-test.true c.entry_at-entry.ensures (let k = c.loop-i.reader.waiting.ok in let z = c.len-level.ensures in omega arith) h
@@ -35,7 +33,7 @@ returns-in-Err-clause-followed c =
 
 pub returns-then-i-list-clause-followed : goal.returns-then-i-list-clause-followed
 returns-then-i-list-clause-followed c =
-    let h = subst (λ (ts : List ℕ). (js : List Judgement) → AreFacts (modes_of c.args.rules.now) (reader_trees c.loop-i.reader) js c.args.facts.now →
+    let h = subst (λ (ts : List ℕ). (js : List Judgement) → AreFacts (modes_of c.args.rules.now) (base_trees c.loop-i.reader) js c.args.facts.now →
     IsStepped (modes_of c.args.rules.now) (rules_of c.args.rules.now) c.args.pairs.now c.loop-i.reader c.try_entry.new.reader c.loop-i.form ts js c.in_ok-try_entry.field-0 (entry c.entry_at-entry.result)) c.deref.ensures.value c.in_ok-try_entry.ensures in
     long_list (modes_of c.args.rules.now) (rules_of c.args.rules.now) c.args.facts.now c.args.pairs.now c.args.reader.now c.args.form c.args.terms.items c.args.list.now
     c.loop-i.reader c.try_entry.new.reader c.loop-i.i c.loop-i.form c.len-level.result c.loop-i.terms.items c.entry_at-entry.result c.in_ok-try_entry.field-0 c.requires.pairs c.loop-i.invariant c.loop-i-test.true c.entry_at-entry.ensures (let k = c.loop-i.reader.waiting.ok in let z = c.len-level.ensures in omega arith) h
@@ -43,12 +41,12 @@ returns-then-i-list-clause-followed c =
 
 pub returns-in-Done-clause-arena : goal.returns-in-Done-clause-arena
 returns-in-Done-clause-arena c =
-    let s = c.in_ok-try_entry.ensures c.requires.facts.0 (facts_stay (modes_of c.args.rules.now) (reader_trees c.args.reader.now) (reader_trees c.loop-i.reader) c.loop-i.invariant.grows.trees c.requires.facts.0 c.args.facts.now c.requires.facts.1) in
+    let s = c.in_ok-try_entry.ensures c.requires.facts.0 (base_facts (modes_of c.args.rules.now) (rules_of c.args.rules.now) c.args.reader.now c.loop-i.reader c.loop-i.invariant.grows c.requires.facts.0 c.args.facts.now c.requires.facts.1) in
     s.0.reader.arena
 
 pub returns-in-Done-clause-within : goal.returns-in-Done-clause-within
 returns-in-Done-clause-within c =
-    let h = subst (λ (ts : List ℕ). (js : List Judgement) → AreFacts (modes_of c.args.rules.now) (reader_trees c.loop-i.reader) js c.args.facts.now →
+    let h = subst (λ (ts : List ℕ). (js : List Judgement) → AreFacts (modes_of c.args.rules.now) (base_trees c.loop-i.reader) js c.args.facts.now →
     IsStepped (modes_of c.args.rules.now) (rules_of c.args.rules.now) c.args.pairs.now c.loop-i.reader c.try_entry.new.reader c.loop-i.form ts js c.in_ok-try_entry.field-0 (entry c.entry_at-entry.result)) c.deref.ensures.value c.in_ok-try_entry.ensures in
     done_below (modes_of c.args.rules.now) (rules_of c.args.rules.now) c.args.facts.now c.args.pairs.now c.args.reader.now c.args.form c.args.terms.items c.args.list.now
     c.loop-i.reader c.try_entry.new.reader c.loop-i.i c.loop-i.form c.len-level.result c.loop-i.terms.items c.entry_at-entry.result c.in_ok-try_entry.field-0 c.requires.pairs c.loop-i.invariant c.loop-i-test.true c.entry_at-entry.ensures (let k = c.loop-i.reader.waiting.ok in let z = c.len-level.ensures in omega arith) h
@@ -56,7 +54,7 @@ returns-in-Done-clause-within c =
 
 pub returns-in-Done-clause-followed : goal.returns-in-Done-clause-followed
 returns-in-Done-clause-followed c =
-    let h = subst (λ (ts : List ℕ). (js : List Judgement) → AreFacts (modes_of c.args.rules.now) (reader_trees c.loop-i.reader) js c.args.facts.now →
+    let h = subst (λ (ts : List ℕ). (js : List Judgement) → AreFacts (modes_of c.args.rules.now) (base_trees c.loop-i.reader) js c.args.facts.now →
     IsStepped (modes_of c.args.rules.now) (rules_of c.args.rules.now) c.args.pairs.now c.loop-i.reader c.try_entry.new.reader c.loop-i.form ts js c.in_ok-try_entry.field-0 (entry c.entry_at-entry.result)) c.deref.ensures.value c.in_ok-try_entry.ensures in
     whole_list (modes_of c.args.rules.now) (rules_of c.args.rules.now) c.args.facts.now c.args.pairs.now c.args.reader.now c.args.form c.args.terms.items c.args.list.now
     c.loop-i.reader c.try_entry.new.reader c.loop-i.i c.loop-i.form c.len-level.result c.loop-i.terms.items c.entry_at-entry.result c.in_ok-try_entry.field-0 c.requires.pairs c.loop-i.invariant c.loop-i-test.true c.entry_at-entry.ensures (let k = c.loop-i.reader.waiting.ok in let z = c.len-level.ensures in omega arith) h
@@ -64,7 +62,7 @@ returns-in-Done-clause-followed c =
 
 pub returns-in-Err-checked-clause-followed : goal.returns-in-Err-checked-clause-followed
 returns-in-Err-checked-clause-followed c =
-    let h = subst (λ (ts : List ℕ). (js : List Judgement) → AreFacts (modes_of c.args.rules.now) (reader_trees c.loop-i.reader) js c.args.facts.now →
+    let h = subst (λ (ts : List ℕ). (js : List Judgement) → AreFacts (modes_of c.args.rules.now) (base_trees c.loop-i.reader) js c.args.facts.now →
     IsStepped (modes_of c.args.rules.now) (rules_of c.args.rules.now) c.args.pairs.now c.loop-i.reader c.try_entry.new.reader c.loop-i.form ts js c.in_ok-try_entry.field-0 (entry c.entry_at-entry.result)) c.deref.ensures.value c.in_ok-try_entry.ensures in
     asks_refused (modes_of c.args.rules.now) (rules_of c.args.rules.now) c.args.facts.now c.args.pairs.now c.args.reader.now c.args.form c.args.terms.items c.args.list.now
     c.loop-i.reader c.try_entry.new.reader c.loop-i.i c.loop-i.form c.len-level.result c.loop-i.terms.items c.entry_at-entry.result c.in_ok-try_entry.field-0 c.requires.pairs c.loop-i.invariant c.loop-i-test.true c.entry_at-entry.ensures (let k = c.loop-i.reader.waiting.ok in let z = c.len-level.ensures in omega arith) h
@@ -72,7 +70,7 @@ returns-in-Err-checked-clause-followed c =
 
 pub loop-i-preserved : goal.loop-i-preserved
 loop-i-preserved c =
-    let h = subst (λ (ts : List ℕ). (js : List Judgement) → AreFacts (modes_of c.args.rules.now) (reader_trees c.loop-i.reader) js c.args.facts.now →
+    let h = subst (λ (ts : List ℕ). (js : List Judgement) → AreFacts (modes_of c.args.rules.now) (base_trees c.loop-i.reader) js c.args.facts.now →
     IsStepped (modes_of c.args.rules.now) (rules_of c.args.rules.now) c.args.pairs.now c.loop-i.reader c.try_entry.new.reader c.loop-i.form ts js c.in_ok-try_entry.field-0 (entry c.entry_at-entry.result)) c.deref.ensures.value c.in_ok-try_entry.ensures in
     following_more (modes_of c.args.rules.now) (rules_of c.args.rules.now) c.args.facts.now c.args.pairs.now c.args.reader.now c.args.form c.args.terms.items c.args.list.now
     c.loop-i.reader c.try_entry.new.reader c.loop-i.i c.loop-i.form c.len-level.result c.loop-i.terms.items c.entry_at-entry.result c.in_ok-try_entry.field-0 c.requires.pairs c.loop-i.invariant c.loop-i-test.true c.entry_at-entry.ensures (let k = c.loop-i.reader.waiting.ok in let z = c.len-level.ensures in omega arith) h

@@ -1,42 +1,59 @@
-use Rattle.std.proofs.Common.{subst, sym}
+use Rattle.std.proofs.Common.{ℕ, List, length, subst, sym}
+use Rattle.sx_arena.specs.Arena.{trees, AreBelow}
 use Rattle.sx_arena.specs.Views.{rules_of, modes_of}
-use Rattle.sx_arena.proofs.Growing.{extends-length}
-use Rattle.sx_arena.proofs.Parted.{pairs_more_terms}
 use Rattle.sx_replay.specs.Reader.{IsResumed}
-use Rattle.sx_replay.proofs.Handed.{Handing, popped, popped_reader, handing_more, fewer_wait, handed_stop}
+use Rattle.sx_replay.specs.declared.step.Step.TheVariants.{Done}
+use Rattle.sx_replay.proofs.Handed.{popped, popped_reader, pairs_here, handing_more, fewer_wait, handed_stop}
 use Rattle.sx_replay.proofs.handing.hand_on.Goals as goal
 
-pub resume-requires-clause-reader : goal.resume-requires-clause-reader
-resume-requires-clause-reader c = (popped_reader _ c.loop-waiting.reader c.pop.new.self c.in-Some.waiting c.cut.new.self c.loop-waiting.invariant.grows.reader c.in-Some.ensures.items (record { items = c.cut.ensures.items; binds = c.cut.ensures.binds })).0
+pub keep-requires-clause-numbers : goal.keep-requires-clause-numbers
+keep-requires-clause-numbers c = c.loop-waiting.invariant.below
 
-pub resume-requires-clause-pairs : goal.resume-requires-clause-pairs
-resume-requires-clause-pairs c = pairs_more_terms _ _ (extends-length _ _ c.loop-waiting.invariant.grows.trees) _ c.requires.pairs
+pub resume-requires-clause-reader : goal.resume-requires-clause-reader
+resume-requires-clause-reader c =
+    (popped_reader (rules_of c.args.rules.now) c.loop-waiting.reader c.pop.new.self c.in-Some.waiting c.cut.new.self c.keep.new.arena c.loop-waiting.outputs.items c.in_ok-outputs.outputs.items
+    c.loop-waiting.invariant.grows.reader c.in-Some.ensures.items (record { items = c.cut.ensures.items; binds = c.cut.ensures.binds }) c.in_ok-outputs.ensures).0
 
 pub resume-requires-clause-waits : goal.resume-requires-clause-waits
-resume-requires-clause-waits c = (popped_reader _ c.loop-waiting.reader c.pop.new.self c.in-Some.waiting c.cut.new.self c.loop-waiting.invariant.grows.reader c.in-Some.ensures.items (record { items = c.cut.ensures.items; binds = c.cut.ensures.binds })).1
+resume-requires-clause-waits c =
+    (popped_reader (rules_of c.args.rules.now) c.loop-waiting.reader c.pop.new.self c.in-Some.waiting c.cut.new.self c.keep.new.arena c.loop-waiting.outputs.items c.in_ok-outputs.outputs.items
+    c.loop-waiting.invariant.grows.reader c.in-Some.ensures.items (record { items = c.cut.ensures.items; binds = c.cut.ensures.binds }) c.in_ok-outputs.ensures).1
+
+pub resume-requires-clause-pairs : goal.resume-requires-clause-pairs
+resume-requires-clause-pairs c =
+    let m = modes_of c.args.rules.now in
+    let rs = rules_of c.args.rules.now in
+    pairs_here m rs c.args.pairs.now c.args.reader.now c.loop-waiting.reader c.loop-waiting.reader c.args.outputs.items c.loop-waiting.outputs.items c.in_ok-outputs.outputs.items c.pop.new.self c.in-Some.waiting c.cut.new.self c.keep.new.arena (record { items = c.cut.ensures.items; binds = c.cut.ensures.binds })
+    c.requires.pairs c.loop-waiting.invariant c.in-Some.ensures.items c.in_ok-outputs.ensures
+
+pub resume-requires-clause-outputs : goal.resume-requires-clause-outputs
+resume-requires-clause-outputs c = subst (λ (os : List ℕ). AreBelow (length (trees c.keep.new.arena)) os) (sym c.deref.ensures.value) c.in_ok-outputs.ensures.within
 
 pub loop-waiting-smaller : goal.loop-waiting-smaller
 loop-waiting-smaller c =
     let m = modes_of c.args.rules.now in
     let rs = rules_of c.args.rules.now in
-    let p = popped c.loop-waiting.reader c.pop.new.self c.cut.new.self in
-    let r = subst (IsResumed m rs c.args.pairs.now p c.resume.new.reader c.in-Some.waiting c.deref.result.now) c.in-Done.is c.in_ok-other.ensures in
-    fewer_wait m rs c.args.pairs.now c.args.reader.now c.loop-waiting.reader c.resume.new.reader c.args.outputs.items c.deref.result.now c.pop.new.self c.in-Some.waiting c.cut.new.self (record { items = c.cut.ensures.items; binds = c.cut.ensures.binds }) c.requires.pairs
-    (subst (λ outs. Handing m rs c.args.pairs.now c.args.reader.now c.loop-waiting.reader c.args.outputs.items outs) (sym c.deref.ensures.value) c.loop-waiting.invariant) c.in-Some.ensures.items c.in-Done.made r
+    let p = popped c.loop-waiting.reader c.pop.new.self c.cut.new.self c.keep.new.arena in
+    let r = subst (λ (os : List ℕ). IsResumed m rs c.args.pairs.now p c.resume.new.reader c.in-Some.waiting os (Done c.in-Done.made)) c.deref.ensures.value
+    (subst (IsResumed m rs c.args.pairs.now p c.resume.new.reader c.in-Some.waiting c.deref.result.now) c.in-Done.is c.in_ok-other.ensures) in
+    fewer_wait m rs c.args.pairs.now c.args.reader.now c.loop-waiting.reader c.resume.new.reader c.args.outputs.items c.loop-waiting.outputs.items c.in_ok-outputs.outputs.items c.pop.new.self c.in-Some.waiting c.cut.new.self c.keep.new.arena (record { items = c.cut.ensures.items; binds = c.cut.ensures.binds })
+    c.requires.pairs c.loop-waiting.invariant c.in-Some.ensures.items c.in_ok-outputs.ensures c.in-Done.made r
 
 pub loop-waiting-preserved : goal.loop-waiting-preserved
 loop-waiting-preserved c =
     let m = modes_of c.args.rules.now in
     let rs = rules_of c.args.rules.now in
-    let p = popped c.loop-waiting.reader c.pop.new.self c.cut.new.self in
-    let r = subst (IsResumed m rs c.args.pairs.now p c.resume.new.reader c.in-Some.waiting c.deref.result.now) c.in-Done.is c.in_ok-other.ensures in
-    handing_more m rs c.args.pairs.now c.args.reader.now c.loop-waiting.reader c.resume.new.reader c.args.outputs.items c.deref.result.now c.pop.new.self c.in-Some.waiting c.cut.new.self (record { items = c.cut.ensures.items; binds = c.cut.ensures.binds }) c.requires.pairs
-    (subst (λ outs. Handing m rs c.args.pairs.now c.args.reader.now c.loop-waiting.reader c.args.outputs.items outs) (sym c.deref.ensures.value) c.loop-waiting.invariant) c.in-Some.ensures.items c.in-Done.made r
+    let p = popped c.loop-waiting.reader c.pop.new.self c.cut.new.self c.keep.new.arena in
+    let r = subst (λ (os : List ℕ). IsResumed m rs c.args.pairs.now p c.resume.new.reader c.in-Some.waiting os (Done c.in-Done.made)) c.deref.ensures.value
+    (subst (IsResumed m rs c.args.pairs.now p c.resume.new.reader c.in-Some.waiting c.deref.result.now) c.in-Done.is c.in_ok-other.ensures) in
+    handing_more m rs c.args.pairs.now c.args.reader.now c.loop-waiting.reader c.resume.new.reader c.args.outputs.items c.loop-waiting.outputs.items c.in_ok-outputs.outputs.items c.pop.new.self c.in-Some.waiting c.cut.new.self c.keep.new.arena (record { items = c.cut.ensures.items; binds = c.cut.ensures.binds })
+    c.requires.pairs c.loop-waiting.invariant c.in-Some.ensures.items c.in_ok-outputs.ensures c.in-Done.made r
 
 pub returns-in_default-2 : goal.returns-in_default-2
 returns-in_default-2 c =
     let m = modes_of c.args.rules.now in
     let rs = rules_of c.args.rules.now in
-    handed_stop m rs c.args.pairs.now c.args.reader.now c.loop-waiting.reader c.resume.new.reader c.args.outputs.items c.deref.result.now c.pop.new.self c.in-Some.waiting c.cut.new.self (record { items = c.cut.ensures.items; binds = c.cut.ensures.binds }) c.requires.pairs
-    (subst (λ outs. Handing m rs c.args.pairs.now c.args.reader.now c.loop-waiting.reader c.args.outputs.items outs) (sym c.deref.ensures.value) c.loop-waiting.invariant) c.in-Some.ensures.items
-    c.in_ok-other.other (λ o e. c.in_default-2.not-Done o e) c.in_ok-other.ensures
+    let p = popped c.loop-waiting.reader c.pop.new.self c.cut.new.self c.keep.new.arena in
+    handed_stop m rs c.args.pairs.now c.args.reader.now c.loop-waiting.reader c.resume.new.reader c.args.outputs.items c.loop-waiting.outputs.items c.in_ok-outputs.outputs.items c.pop.new.self c.in-Some.waiting c.cut.new.self c.keep.new.arena (record { items = c.cut.ensures.items; binds = c.cut.ensures.binds })
+    c.requires.pairs c.loop-waiting.invariant c.in-Some.ensures.items c.in_ok-outputs.ensures
+    c.in_ok-other.other (λ o e. c.in_default-2.not-Done o e) (subst (λ (os : List ℕ). IsResumed m rs c.args.pairs.now p c.resume.new.reader c.in-Some.waiting os c.in_ok-other.other) c.deref.ensures.value c.in_ok-other.ensures)

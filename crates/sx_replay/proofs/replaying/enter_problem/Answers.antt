@@ -16,4 +16,4 @@ returns c =
     (c.new-reader.ensures.reader (rules_of c.args.rules.now)) c.new-reader.ensures.none c.new-reader.ensures.noted
     (subst (λ js. AreFactsIn (modes_of c.args.rules.now) c.new-reader.result.arena c.enter_facts.new.arena (map judgement_of js) c.in-Ok.facts.items) c.deref.ensures.value c.in-Ok.ensures)
     (subst (λ ps. ArePairsIn c.enter_facts.new.arena c.enter_pairs.new.arena (map pair ps) c.in-Ok-enter_pairs.pairs.items) c.deref-2.ensures.value c.in-Ok-enter_pairs.ensures)
-    (held_as _ _ _ _ _ (ap (map tree) c.deref-3.ensures.value) c.in-Ok-enter_places.ensures) refl refl refl
+    (held_as _ _ _ _ _ (ap (map tree) c.deref-3.ensures.value) c.in-Ok-enter_places.ensures) refl refl refl c.len.ensures
