@@ -159,6 +159,20 @@ def growing(width, steps):
     return text + "goal walk %s (5) (5)\n" % goal
 
 
+def made(width, levels):
+    """A tree with so many levels, each right part of which is gone through with a term of its own, longer by so many nodes; each has an end."""
+    large = "?0"
+    for _ in range(width):
+        large = "(2 %s (3))" % large
+    goal = "(0)"
+    for _ in range(levels):
+        goal = "(1 %s %s)" % (goal, goal)
+    return ("sxcore 1\nsort Tree typed\nsort Exp plain\ncon leaf Tree\ncon fork Tree Tree Tree\ncon both Exp Exp Exp\ncon nil Exp\n"
+            "form walk in:Exp sub:Tree out:Exp\nrule Leaf Exp\nthen walk ?0 (0) (3)\nend\n"
+            "rule Fork Exp Tree Tree Exp Exp\nif walk (2 (3) ?0) ?1 ?3\nif walk %s ?2 ?4\nthen walk ?0 (1 ?1 ?2) (3)\nend\n"
+            "goal walk (3) %s\n" % (large, goal))
+
+
 # ---- modules
 
 
@@ -289,5 +303,7 @@ def workloads():
         yield core("%s: 500 binders, 500,000 and 1,000,000 tries" % command, command, lookups(499, 495), lookups(499, 990))
     for command in ["build", "verify"]:
         yield core("%s: 8,191 and 16,383 entries" % command, command, pairs(12), pairs(13))
+    for command in ["build", "verify"]:
+        yield core("%s: 8,191 and 16,383 entries, terms of 75 nodes" % command, command, made(75, 12), made(75, 13))
     yield core("a stuck goal under 495 and 990 pairs", "build", deep_blame(450, 495), deep_blame(900, 990), ("", ""))
     yield core("a walk of 1,000,000 tries, terms of 75 and 150 nodes", "build", growing(75, 25), growing(150, 25), ("more than", "more than"))
