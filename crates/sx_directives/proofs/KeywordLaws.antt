@@ -9,7 +9,7 @@ use Rattle.sx_directives.specs.declared.row_error.RowError.{RowError}
 use Rattle.sx_directives.specs.declared.directive.Directive.{Directive}
 use Rattle.sx_directives.specs.declared.directive.Directive.TheVariants.{Prod as ProdRead, Var as VarRead}
 use Rattle.sx_directives.specs.declared.keyword.Keyword.{Keyword}
-use Rattle.sx_directives.specs.declared.keyword.Keyword.TheVariants.{Language, Sort, Prod, Var, Form, Main, Rule, Bar, End}
+use Rattle.sx_directives.specs.declared.keyword.Keyword.TheVariants.{Language, Sort, Prod, Var, Form, Main, Rule, Bar, End, Extension, Use, Plain, To}
 use Rattle.sx_directives.proofs.SpellingLaws.{none_of}
 
 pub tail_same : (a b : List ℕ) (x y : List (List ℕ)) → a ∷ x ≡ b ∷ y → x ≡ y
@@ -18,20 +18,26 @@ tail_same a b x y e = cc
 pub head_same : (a b : List ℕ) (x y : List (List ℕ)) → a ∷ x ≡ b ∷ y → a ≡ b
 head_same a b x y e = cc
 
--- a word is told by its first byte
-told : ℕ → Keyword
-told n =
+-- a word is told by its first two bytes
+told : ℕ → ℕ → Keyword
+told n m =
     if n == 108 then Language
     else if n == 115 then Sort
-    else if n == 112 then Prod
+    else if n == 112 then (if m == 108 then Plain else Prod)
     else if n == 118 then Var
     else if n == 102 then Form
     else if n == 109 then Main
     else if n == 114 then Rule
     else if n == 45 then Bar
-    else End
+    else if n == 117 then Use
+    else if n == 116 then To
+    else (if m == 120 then Extension else End)
 
-told_is : (k : Keyword) → told (get_or (keyword_text k) 0 0) ≡ k
+-- the word that a text tells
+abbrev told_by : List ℕ → Keyword
+told_by text = told (get_or text 0 0) (get_or text 1 0)
+
+told_is : (k : Keyword) → told_by (keyword_text k) ≡ k
 unfolding told
 told_is Language = refl
 told_is Sort = refl
@@ -42,11 +48,15 @@ told_is Main = refl
 told_is Rule = refl
 told_is Bar = refl
 told_is End = refl
+told_is Extension = refl
+told_is Use = refl
+told_is Plain = refl
+told_is To = refl
 
 pub one_keyword : (k l : Keyword) (x y : List (List ℕ)) → keyword_text k ∷ x ≡ keyword_text l ∷ y → (k ≡ l) × (x ≡ y)
 one_keyword k l x y e =
     let same : keyword_text k ≡ keyword_text l = head_same (keyword_text k) (keyword_text l) x y e in
-    (sym (told_is k) ∙ ap (λ (t : List ℕ). told (get_or t 0 0)) same ∙ told_is l, tail_same (keyword_text k) (keyword_text l) x y e)
+    (sym (told_is k) ∙ ap told_by same ∙ told_is l, tail_same (keyword_text k) (keyword_text l) x y e)
 
 -- ---- directives
 

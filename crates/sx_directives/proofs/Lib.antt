@@ -2,3 +2,4 @@ mod PartLaws
 mod SpellingLaws
 mod RowLaws
 mod KeywordLaws
+pub mod BodyLaws

@@ -1,4 +1,4 @@
--- The rows of a language file.
+-- The rows of language and extension files.
 use Rattle.std.proofs.Common.{◌≡◌, ℕ, ◌-◌, ◌≤◌, List, [], ◌∷◌, length, take, drop, sym, ap, subst, ◌∙◌, arith, Option}
 use Rattle.std.specs.Borrow.{Bor}
 use Rattle.std.proofs.lemmas.List.{take_all}
@@ -6,15 +6,21 @@ use Rattle.sx_grammar.specs.Parts.{Line}
 use Rattle.sx_grammar.specs.declared.sort_line.SortLine.{SortLine}
 use Rattle.sx_grammar.specs.declared.symbol.Symbol.{Symbol}
 use Rattle.sx_directives.specs.Parts.{texts}
-use Rattle.sx_directives.specs.Spelling.{NoneIs, Spells, SpellsForm, EachSpelled}
-use Rattle.sx_directives.specs.Rows.{AreBrackets, IsSortRow, IsProdRow, IsFormRow}
+use Rattle.sx_directives.specs.Spelling.{NoneIs, IsVariable, Spells, SpellsForm, EachSpelled}
+use Rattle.sx_directives.specs.Rows.{AreBrackets, IsSortRow, IsProdRow, IsFormRow, IsPlainRow}
 use Rattle.sx_directives.specs.declared.row_error.RowError.{RowError}
 use Rattle.sx_directives.specs.declared.rows.FormLine.{FormLine}
+use Rattle.sx_directives.specs.declared.rows.PlainLine.{PlainLine}
 use Rattle.sx_directives.specs.declared.spelled.FormSymbol.{FormSymbol}
 use Rattle.sx_directives.proofs.SpellingLaws.{none_of}
 
 tail_same : (a b : List ℕ) (x y : List (List ℕ)) → a ∷ x ≡ b ∷ y → x ≡ y
 tail_same a b x y e = cc
+
+-- what follows the first part
+one_off : (parts : List (Bor (List ℕ))) (a : List ℕ) (rest : List (List ℕ)) → 1 ≤ length parts → texts parts ≡ a ∷ rest → rest ≡ texts (take (length parts - 1) (drop 1 parts))
+one_off [] a rest le e = absurd (omega arith)
+one_off (p ∷ parts) a rest le e = sym (tail_same p.now a (texts parts) rest e) ∙ ap texts (sym (take_all (length (p ∷ parts) - 1) parts (omega arith)))
 
 -- what follows the first two parts
 two_off : (parts : List (Bor (List ℕ))) (a b : List ℕ) (rest : List (List ℕ)) → 2 ≤ length parts → texts parts ≡ a ∷ b ∷ rest → rest ≡ texts (take (length parts - 2) (drop 2 parts))
@@ -52,3 +58,9 @@ symbols_in parts le y h = (y.symbols, subst (λ x. EachSpelled Spells x y.symbol
 
 pub no_symbols : (parts : List (Bor (List ℕ))) (e : RowError) → 4 ≤ length parts → NoneIs (EachSpelled Spells (texts (take (length parts - 4) (drop 4 parts)))) e → NoneIs (IsProdRow (texts parts)) e
 no_symbols parts e le n = none_of (EachSpelled Spells (texts (take (length parts - 4) (drop 4 parts)))) (IsProdRow (texts parts)) e (symbols_in parts le) n
+
+names_in : (parts : List (Bor (List ℕ))) → 1 ≤ length parts → (y : PlainLine) → IsPlainRow (texts parts) y → (x : List (List ℕ)) × EachSpelled IsVariable (texts (take (length parts - 1) (drop 1 parts))) x
+names_in parts le y h = (y.names.items, subst (λ x. EachSpelled IsVariable x y.names.items) (one_off parts _ h.names le h.parts_are) h.names_are)
+
+pub no_names : (parts : List (Bor (List ℕ))) (e : RowError) → 1 ≤ length parts → NoneIs (EachSpelled IsVariable (texts (take (length parts - 1) (drop 1 parts)))) e → NoneIs (IsPlainRow (texts parts)) e
+no_names parts e le n = none_of (EachSpelled IsVariable (texts (take (length parts - 1) (drop 1 parts)))) (IsPlainRow (texts parts)) e (names_in parts le) n

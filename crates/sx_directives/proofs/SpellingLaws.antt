@@ -11,7 +11,7 @@ use Rattle.std.proofs.lemmas.Bool.Decides.{nat_tests}
 use Rattle.sx_lines.specs.Words.{is_name, is_name_byte, after, number_within}
 use Rattle.sx_lines.proofs.WordLaws.{after_front, front_of}
 use Rattle.sx_lines.proofs.Utf8Laws.{name_utf8}
-use Rattle.sx_directives.specs.Spelling.{NoneIs, IsName, IsNamed, IsTextOf, NoAt, NotLexical, SpellsSort, IsLevelled, IsQuoted, Spells, EachSpelled}
+use Rattle.sx_directives.specs.Spelling.{NoneIs, IsModuleName, IsModuleNamed, IsName, IsNamed, IsTextOf, NoAt, NotLexical, SpellsSort, IsLevelled, IsQuoted, Spells, EachSpelled}
 use Rattle.sx_directives.specs.Parts.{texts}
 use Rattle.sx_grammar.specs.declared.symbol.Symbol.{Symbol}
 use Rattle.sx_grammar.specs.declared.symbol.Symbol.TheVariants.{Lit, Lex as LexSymbol, Part}
@@ -34,6 +34,10 @@ after_cases front text (Some r) e = front_of front text r.now (sym e)
 pub named_text : (part : List ℕ) (r : Result (List ℕ) RowError) → is_name true part ≡ true → MatchResult r (IsTextOf part) (NoneIs (IsTextOf part)) → MatchResult r (IsNamed part) (NoneIs (IsNamed part))
 named_text part (Ok text) e h = (h.0, subst IsName h.0 e)
 named_text part (Err x) e h = none_of (IsTextOf part) (IsNamed part) x (λ name n. (name, (n.0, name_utf8 true name n.1))) h
+
+pub module_text : (part : List ℕ) (r : Result (List ℕ) RowError) → is_name false part ≡ true → MatchResult r (IsTextOf part) (NoneIs (IsTextOf part)) → MatchResult r (IsModuleNamed part) (NoneIs (IsModuleNamed part))
+module_text part (Ok text) e h = (h.0, subst IsModuleName h.0 e)
+module_text part (Err x) e h = none_of (IsTextOf part) (IsModuleNamed part) x (λ name n. (name, (n.0, name_utf8 false name n.1))) h
 
 -- ---- the sign before a level
 

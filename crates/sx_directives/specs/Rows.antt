@@ -1,19 +1,25 @@
--- The lines of a language file as a table: the word that begins a line, and the parts that follow it.
-use Rattle.std.specs.Prelude.{◌≡◌, ℕ, Bool, true, false, List, [], ◌∷◌, Option, Some, None, Result, Ok, Err, codes}
+-- The lines of language and extension files as a table: the word that begins a line, and the parts that follow it.
+use Rattle.std.specs.Prelude.{◌≡◌, ℕ, ◌+◌, Bool, true, false, IsTrue, List, [], ◌∷◌, ◌++◌, length, Option, Some, None, Result, Ok, Err, codes}
+use Rattle.std.specs.List.{repeat}
+use Rattle.std.specs.Str.{IsUtf8}
+use Rattle.sx_lines.specs.Bytes.{is_blank}
 use Rattle.sx_lines.specs.Words.{number_within}
 use Rattle.sx_grammar.specs.Parts.{Line, line}
 use Rattle.sx_grammar.specs.declared.sort_line.SortLine.{SortLine}
-use Rattle.sx_directives.specs.Parts.{parts_of}
-use Rattle.sx_directives.specs.Spelling.{IsName, IsStem, NotLexical, IsQuoted, Spells, SpellsForm, EachSpelled}
+use Rattle.sx_directives.specs.Parts.{AllBlank, parts_of}
+use Rattle.sx_directives.specs.Spelling.{IsModuleName, IsName, IsStem, IsVariable, NotLexical, IsQuoted, Spells, SpellsForm, EachSpelled}
+use Rattle.sx_directives.specs.declared.file_kind.FileKind.{FileKind}
+use Rattle.sx_directives.specs.declared.file_kind.FileKind.TheVariants as files
 use Rattle.sx_directives.specs.declared.keyword.Keyword.{Keyword}
-use Rattle.sx_directives.specs.declared.keyword.Keyword.TheVariants.{Language, Sort, Prod, Var, Form, Main, Rule, Bar, End}
+use Rattle.sx_directives.specs.declared.keyword.Keyword.TheVariants.{Language, Sort, Prod, Var, Form, Main, Rule, Bar, End, Extension, Use, Plain, To}
 use Rattle.sx_directives.specs.declared.row_error.RowError.{RowError}
 use Rattle.sx_directives.specs.declared.row_error.RowError.TheVariants.{Memory, Shape}
 use Rattle.sx_directives.specs.declared.row.Row.{Row}
-use Rattle.sx_directives.specs.declared.row.Row.TheVariants.{Language as LanguageRow, Sort as SortRow, Prod as ProdRow, Var as VarRow, Form as FormRow, Main as MainRow, Rule as RuleRow, Bar as BarRow, End as EndRow}
+use Rattle.sx_directives.specs.declared.row.Row.TheVariants.{Language as LanguageRow, Sort as SortRow, Prod as ProdRow, Var as VarRow, Form as FormRow, Main as MainRow, Rule as RuleRow, Bar as BarRow, End as EndRow, Extension as ExtensionRow, Use as UseRow, Plain as PlainRow, To as ToRow}
 use Rattle.sx_directives.specs.declared.rows.VarLine.{VarLine}
 use Rattle.sx_directives.specs.declared.rows.FormLine.{FormLine}
 use Rattle.sx_directives.specs.declared.rows.MainLine.{MainLine}
+use Rattle.sx_directives.specs.declared.rows.PlainLine.{PlainLine}
 use Rattle.sx_directives.specs.declared.directive.Directive.{Directive}
 use Rattle.sx_directives.specs.declared.directive.Directive.TheVariants.{Prod as ProdRead, Var as VarRead}
 
@@ -28,6 +34,22 @@ keyword_text Main = codes "main"
 keyword_text Rule = codes "rule"
 keyword_text Bar = codes "---"
 keyword_text End = codes "end"
+keyword_text Extension = codes "extension"
+keyword_text Use = codes "use"
+keyword_text Plain = codes "plain"
+keyword_text To = codes "to"
+
+-- The word begins lines of files of this kind: `extension`, `use`, `plain` and `to` are none of language files, and `sort`, `form` and `main` are
+-- none of extension files.
+abbrev pub is_word_of : FileKind → Keyword → Bool
+is_word_of files.Language Extension = false
+is_word_of files.Language Use = false
+is_word_of files.Language Plain = false
+is_word_of files.Language To = false
+is_word_of files.Extension Sort = false
+is_word_of files.Extension Form = false
+is_word_of files.Extension Main = false
+is_word_of kind word = true
 
 -- `typed` or `plain`
 abbrev pub kind_text : Bool → List ℕ
@@ -83,6 +105,39 @@ pub record IsNameRow (parts : List (List ℕ)) (name : List ℕ) : Type 0 where
   pub parts_are : parts ≡ name ∷ []
   pub named : IsName name
 
+-- `NAME`, the name of a module
+pub record IsModuleRow (parts : List (List ℕ)) (name : List ℕ) : Type 0 where
+  pub parts_are : parts ≡ name ∷ []
+  pub named : IsModuleName name
+
+-- `LABEL VAR..`
+pub record IsPlainRow (parts : List (List ℕ)) (p : PlainLine) : Type 0 where
+  pub names : List (List ℕ)
+  pub parts_are : parts ≡ p.label ∷ names
+  pub label : IsName p.label
+  pub names_are : EachSpelled IsVariable names p.names.items
+
+-- a blank stands first
+abbrev pub BeginsBlank : List ℕ → Type 0
+BeginsBlank [] = ⊥
+BeginsBlank (b ∷ text) = is_blank b ≡ true
+
+-- after blanks, `to` and one more blank at least, the rest of the line begins at this place, with that blank
+pub record IsCut (text : List ℕ) (at : ℕ) (rest : List ℕ) : Type 0 where
+  pub blanks : List ℕ
+  pub text_is : text ≡ blanks ++ (codes "to" ++ rest)
+  pub blank : AllBlank blanks
+  pub begins : BeginsBlank rest
+  pub at_is : at ≡ length blanks + 2
+
+-- the body of a `to` line at its place in the line, with spaces in place of what stands before it
+abbrev pub IsBody : List ℕ → List ℕ → Type 0
+IsBody text body = (at : ℕ) × (rest : List ℕ) × IsCut text at rest × (body ≡ repeat at (codes " ") ++ rest)
+
+-- the body, as a text
+abbrev pub IsBodyText : List ℕ → List ℕ → Type 0
+IsBodyText text body = IsBody text body × IsUtf8 body
+
 -- the parts are those of this `prod` or `var` line
 abbrev pub IsDirectiveOf : List (List ℕ) → Directive → Type 0
 IsDirectiveOf parts (ProdRead p) = (rest : List (List ℕ)) × (parts ≡ keyword_text Prod ∷ rest) × IsProdRow rest (line p)
@@ -103,37 +158,55 @@ word_of (MainRow m) = Main
 word_of (RuleRow name) = Rule
 word_of BarRow = Bar
 word_of EndRow = End
+word_of (ExtensionRow name) = Extension
+word_of (UseRow name) = Use
+word_of (PlainRow p) = Plain
+word_of (ToRow body) = To
 
--- what follows the word of a row
-abbrev pub Follows : List (List ℕ) → Row → Type 0
-Follows parts (LanguageRow name) = IsNameRow parts name
-Follows parts (SortRow s) = IsSortRow parts s
-Follows parts (ProdRow p) = IsProdRow parts (line p)
-Follows parts (VarRow v) = IsVarRow parts v
-Follows parts (FormRow f) = IsFormRow parts f
-Follows parts (MainRow m) = IsMainRow parts m
-Follows parts (RuleRow name) = IsNameRow parts name
-Follows parts BarRow = parts ≡ []
-Follows parts EndRow = parts ≡ []
+-- what follows the word of a row in its line, whose parts after the word are these
+abbrev pub Follows : List ℕ → List (List ℕ) → Row → Type 0
+Follows text parts (LanguageRow name) = IsNameRow parts name
+Follows text parts (SortRow s) = IsSortRow parts s
+Follows text parts (ProdRow p) = IsProdRow parts (line p)
+Follows text parts (VarRow v) = IsVarRow parts v
+Follows text parts (FormRow f) = IsFormRow parts f
+Follows text parts (MainRow m) = IsMainRow parts m
+Follows text parts (RuleRow name) = IsNameRow parts name
+Follows text parts BarRow = parts ≡ []
+Follows text parts EndRow = parts ≡ []
+Follows text parts (ExtensionRow name) = IsModuleRow parts name
+Follows text parts (UseRow name) = IsModuleRow parts name
+Follows text parts (PlainRow p) = IsPlainRow parts p
+Follows text parts (ToRow body) = IsBodyText text body
 
--- the parts are this word and those of the row
-pub record IsRowOf (k : Keyword) (parts : List (List ℕ)) (r : Row) : Type 0 where
+-- the line, whose parts after the word are these, is that of the row
+pub record IsRowOf (k : Keyword) (text : List ℕ) (parts : List (List ℕ)) (r : Row) : Type 0 where
   pub word : k ≡ word_of r
-  pub follows : Follows parts r
+  pub follows : Follows text parts r
 
--- the parts are those of this row
-pub record IsRow (parts : List (List ℕ)) (r : Row) : Type 0 where
+-- a `to` line has a body
+abbrev pub HasBody : Keyword → List ℕ → Type 0
+HasBody To text = (body : List ℕ) × IsBody text body
+HasBody word text = Unit {0}
+
+-- a line with this word is one of files of this kind
+abbrev pub IsLineOf : FileKind → Keyword → List ℕ → Type 0
+IsLineOf kind word text = IsTrue (is_word_of kind word) × HasBody word text
+
+-- in a file of this kind the line is that of this row
+pub record IsRow (kind : FileKind) (text : List ℕ) (r : Row) : Type 0 where
   pub rest : List (List ℕ)
-  pub parts_are : parts ≡ keyword_text (word_of r) ∷ rest
-  pub follows : Follows rest r
+  pub parts_are : parts_of text ≡ keyword_text (word_of r) ∷ rest
+  pub word : IsTrue (is_word_of kind (word_of r))
+  pub follows : Follows text rest r
 
--- the parts begin with a word of the table
-abbrev pub HasWord : List (List ℕ) → Type 0
-HasWord parts = (k : Keyword) × (rest : List (List ℕ)) × (parts ≡ keyword_text k ∷ rest)
+-- in a file of this kind the line begins with a word of the table
+abbrev pub HasWord : FileKind → List ℕ → Type 0
+HasWord kind text = (k : Keyword) × (rest : List (List ℕ)) × (parts_of text ≡ keyword_text k ∷ rest) × IsLineOf kind k text
 
 -- what reading a line answers: its row, none where it begins with no word of the table, or that its parts are not as stated
-abbrev pub IsRowRead : List (List ℕ) → Result (Option Row) RowError → Type 0
-IsRowRead parts (Ok None) = HasWord parts → ⊥
-IsRowRead parts (Ok (Some r)) = IsRow parts r
-IsRowRead parts (Err Memory) = Unit {0}
-IsRowRead parts (Err Shape) = HasWord parts × ((r : Row) → IsRow parts r → ⊥)
+abbrev pub IsRowRead : FileKind → List ℕ → Result (Option Row) RowError → Type 0
+IsRowRead kind text (Ok None) = HasWord kind text → ⊥
+IsRowRead kind text (Ok (Some r)) = IsRow kind text r
+IsRowRead kind text (Err Memory) = Unit {0}
+IsRowRead kind text (Err Shape) = HasWord kind text × ((r : Row) → IsRow kind text r → ⊥)

@@ -1,7 +1,7 @@
 -- How names, literals, sorts and symbols are spelled in a part of a line.
 use Rattle.std.specs.Prelude.{◌≡◌, ◌≢◌, ℕ, ◌==◌, Bool, true, false, IsTrue, ◌⊎◌, List, [], ◌∷◌, ◌++◌, Some, codes, if◌then◌else◌}
 use Rattle.std.specs.List.{list_all, AllByRecursion}
-use Rattle.std.specs.Char.{is_ascii_alphabetic}
+use Rattle.std.specs.Char.{is_ascii_alphabetic, is_ascii_digit}
 use Rattle.std.specs.Str.{IsUtf8}
 use Rattle.sx_term.specs.declared.lex_kind.LexKind.{LexKind}
 use Rattle.sx_term.specs.declared.lex_kind.LexKind.TheVariants.{Id, Num, Str}
@@ -30,6 +30,10 @@ NoneIs {A} Is Shape = (x : A) → Is x → ⊥
 abbrev pub IsName : List ℕ → Type 0
 IsName name = IsTrue (is_name true name)
 
+-- a letter, then letters, digits or `_`, at most 64 bytes
+abbrev pub IsModuleName : List ℕ → Type 0
+IsModuleName name = IsTrue (is_name false name)
+
 -- a name of letters alone
 abbrev pub IsStem : List ℕ → Type 0
 IsStem stem = IsName stem × IsTrue (list_all is_ascii_alphabetic stem)
@@ -38,6 +42,10 @@ IsStem stem = IsName stem × IsTrue (list_all is_ascii_alphabetic stem)
 abbrev pub IsNamed : List ℕ → List ℕ → Type 0
 IsNamed part name = (part ≡ name) × IsName name
 
+-- the part is this name of a module
+abbrev pub IsModuleNamed : List ℕ → List ℕ → Type 0
+IsModuleNamed part name = (part ≡ name) × IsModuleName name
+
 -- the part is this stem
 abbrev pub IsStemOf : List ℕ → List ℕ → Type 0
 IsStemOf part stem = (part ≡ stem) × IsStem stem
@@ -45,6 +53,14 @@ IsStemOf part stem = (part ≡ stem) × IsStem stem
 -- the bytes are this text
 abbrev pub IsTextOf : List ℕ → List ℕ → Type 0
 IsTextOf bytes text = (bytes ≡ text) × IsUtf8 text
+
+-- without the ASCII digits at its end the name is not empty
+abbrev pub HasStem : List ℕ → Type 0
+HasStem name = list_all is_ascii_digit name ≡ false
+
+-- the part is the name of this variable, without `~`
+abbrev pub IsVariable : List ℕ → List ℕ → Type 0
+IsVariable part name = IsTextOf part name × HasStem name
 
 -- ---- literals
 

@@ -1,10 +1,13 @@
-//! The words that begin the lines of a language file.
+//! The words that begin the lines of language and extension files.
 
 ghost use Rattle.std.specs.Prelude.{◌≡◌, MatchOption};
+ghost use Rattle.sx_directives.specs.Rows as spec;
 ghost use Rattle.sx_directives.specs.Rows.{keyword_text};
 ghost use Rattle.sx_directives.specs.declared.keyword.Keyword.{Keyword as KeywordOf};
 
-/// A word that begins a line of a language file.
+use crate::file_kind::FileKind;
+
+/// A word that begins a line of a language file or of an extension file.
 #[derive(Clone, Copy, PartialEq, Eq, Debug)]
 pub(crate) enum Keyword {
     Language,
@@ -16,6 +19,25 @@ pub(crate) enum Keyword {
     Rule,
     Bar,
     End,
+    Extension,
+    Use,
+    Plain,
+    To,
+}
+
+/// Whether the word begins lines of files of this kind.
+pub(crate) fn is_word_of(kind: FileKind, keyword: Keyword) -> bool
+    ensures { result ≡ spec.is_word_of kind keyword }
+{
+    match kind {
+        FileKind::Language => !matches!(
+            keyword,
+            Keyword::Extension | Keyword::Use | Keyword::Plain | Keyword::To
+        ),
+        FileKind::Extension => {
+            !matches!(keyword, Keyword::Sort | Keyword::Form | Keyword::Main)
+        }
+    }
 }
 
 /// The word that a part is, where it is one that begins a line.
@@ -48,6 +70,18 @@ pub(crate) fn keyword_of(part: &[u8]) -> Option<Keyword>
     }
     if part == b"end".as_slice() {
         return Some(Keyword::End);
+    }
+    if part == b"extension".as_slice() {
+        return Some(Keyword::Extension);
+    }
+    if part == b"use".as_slice() {
+        return Some(Keyword::Use);
+    }
+    if part == b"plain".as_slice() {
+        return Some(Keyword::Plain);
+    }
+    if part == b"to".as_slice() {
+        return Some(Keyword::To);
     }
     None
 }

@@ -1,10 +1,10 @@
-//! Names, stems and quoted literals.
+//! Names, stems, variables and quoted literals.
 
 ghost use Rattle.std.specs.Prelude.{◌≡◌, MatchResult};
 ghost use Rattle.std.specs.List.{list_all};
 ghost use Rattle.std.specs.Char as char;
 ghost use Rattle.sx_directives.specs.Spelling as spec;
-ghost use Rattle.sx_directives.specs.Spelling.{IsNamed, IsStemOf, IsQuoted, IsTextOf, NoneIs};
+ghost use Rattle.sx_directives.specs.Spelling.{IsModuleNamed, IsNamed, IsStemOf, IsQuoted, IsTextOf, IsVariable, NoneIs};
 
 use crate::row_error::RowError;
 use std::alloc::Global;
@@ -21,7 +21,7 @@ fn text_error(e: TextError) -> RowError
 }
 
 /// The text with these bytes.
-fn text_of(alloc: Global, bytes: &[u8]) -> Result<Text, RowError>
+pub(crate) fn text_of(alloc: Global, bytes: &[u8]) -> Result<Text, RowError>
     ensures { MatchResult result (IsTextOf bytes.now) (NoneIs (IsTextOf bytes.now)) }
 {
     match Text::make(alloc, bytes) {
@@ -35,6 +35,16 @@ pub(crate) fn name_of(alloc: Global, part: &[u8]) -> Result<Text, RowError>
     ensures { MatchResult result (IsNamed part.now) (NoneIs (IsNamed part.now)) }
 {
     if !is_name(true, part) {
+        return Err(RowError::Shape);
+    }
+    text_of(alloc, part)
+}
+
+/// The name of a module that a part is.
+pub(crate) fn module_name_of(alloc: Global, part: &[u8]) -> Result<Text, RowError>
+    ensures { MatchResult result (IsModuleNamed part.now) (NoneIs (IsModuleNamed part.now)) }
+{
+    if !is_name(false, part) {
         return Err(RowError::Shape);
     }
     text_of(alloc, part)
@@ -55,6 +65,23 @@ pub(crate) fn stem_of(alloc: Global, part: &[u8]) -> Result<Text, RowError>
         return Err(RowError::Shape);
     }
     name_of(alloc, part)
+}
+
+/// Whether each byte is an ASCII digit.
+fn are_digits(text: &[u8]) -> bool
+    ensures { result ≡ list_all char.is_ascii_digit text.now }
+{
+    text.iter().all(|c| c.is_ascii_digit())
+}
+
+/// The variable that a part is, without its `~`.
+pub(crate) fn variable_of(alloc: Global, part: &[u8]) -> Result<Text, RowError>
+    ensures { MatchResult result (IsVariable part.now) (NoneIs (IsVariable part.now)) }
+{
+    if are_digits(part) {
+        return Err(RowError::Shape);
+    }
+    text_of(alloc, part)
 }
 
 /// Whether the byte is no quote.

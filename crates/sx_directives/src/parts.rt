@@ -15,7 +15,7 @@ pub fn is_blank(c: u8) -> bool
 }
 
 /// How many blanks stand at the front.
-fn blanks_len(text: &[u8]) -> usize
+pub(crate) fn blanks_len(text: &[u8]) -> usize
     ensures { IsBlankFront text.now result }
 {
     for (at, b) in text.iter().enumerate() {

@@ -1,17 +1,21 @@
 //! Reading one line without a grammar.
 
-ghost use Rattle.std.specs.Prelude.{◌≡◌, List, ℕ, [], ◌∷◌, MatchOption, MatchResult};
-ghost use Rattle.sx_directives.specs.Parts.{parts_of, texts};
+ghost use Rattle.std.specs.Prelude.{◌≡◌, ◌↔◌, IsTrue, List, ℕ, [], ◌∷◌, MatchOption, MatchResult};
+ghost use Rattle.sx_directives.specs.Parts.{texts};
 ghost use Rattle.sx_directives.specs.Spelling.{NoneIs};
-ghost use Rattle.sx_directives.specs.Rows.{keyword_text, IsDirective, IsDirectiveOf, IsRowOf, IsRowRead};
+ghost use Rattle.sx_directives.specs.Rows.{keyword_text, IsDirective, IsDirectiveOf, IsLineOf, IsRowOf, IsRowRead};
 ghost use Rattle.sx_directives.specs.declared.keyword.Keyword.{Keyword as KeywordOf};
 
+use crate::body::{body_of, has_body};
 use crate::directive::Directive;
-use crate::keyword::{Keyword, keyword_of};
+use crate::file_kind::FileKind;
+use crate::keyword::{Keyword, is_word_of, keyword_of};
 use crate::parts::split_parts;
 use crate::row::Row;
 use crate::row_error::RowError;
-use crate::row_reading::{read_form, read_main, read_name, read_prod, read_sort, read_var};
+use crate::row_reading::{
+    read_form, read_main, read_module_name, read_name, read_plain, read_prod, read_sort, read_var,
+};
 use std::alloc::Global;
 
 /// The word that begins the line with these parts, and the parts after it.
@@ -71,9 +75,14 @@ fn alone(parts: &[&[u8]], row: Row) -> Result<Row, RowError>
     Err(RowError::Shape)
 }
 
-/// The row of a word with the parts after it.
-fn row_of(alloc: Global, keyword: Keyword, parts: &[&[u8]]) -> Result<Row, RowError>
-    ensures { MatchResult result (IsRowOf keyword (texts parts.now)) (NoneIs (IsRowOf keyword (texts parts.now))) }
+/// The row of a word with the parts after it, in this line.
+fn row_of(
+    alloc: Global,
+    keyword: Keyword,
+    parts: &[&[u8]],
+    line: &[u8],
+) -> Result<Row, RowError>
+    ensures { MatchResult result (IsRowOf keyword line.now (texts parts.now)) (NoneIs (IsRowOf keyword line.now (texts parts.now))) }
 {
     match keyword {
         Keyword::Language => match read_name(alloc, parts) {
@@ -106,20 +115,51 @@ fn row_of(alloc: Global, keyword: Keyword, parts: &[&[u8]]) -> Result<Row, RowEr
         },
         Keyword::Bar => alone(parts, Row::Bar),
         Keyword::End => alone(parts, Row::End),
+        Keyword::Extension => match read_module_name(alloc, parts) {
+            Ok(name) => Ok(Row::Extension(name)),
+            Err(e) => Err(e),
+        },
+        Keyword::Use => match read_module_name(alloc, parts) {
+            Ok(name) => Ok(Row::Use(name)),
+            Err(e) => Err(e),
+        },
+        Keyword::Plain => match read_plain(alloc, parts) {
+            Ok(plain) => Ok(Row::Plain(plain)),
+            Err(e) => Err(e),
+        },
+        Keyword::To => match body_of(alloc, line) {
+            Ok(body) => Ok(Row::To(body)),
+            Err(e) => Err(e),
+        },
     }
 }
 
-/// What a line of a language file states: `None` exactly where its first part is no word that begins such a line, and `Shape`
-/// exactly where it is one and the parts after it are not as stated.
-pub fn read_row(alloc: Global, line: &[u8]) -> Result<Option<Row>, RowError>
-    ensures { IsRowRead (parts_of line.now) result }
+/// Whether the line, which begins with the word, is one of files of this kind: `to` has a body.
+fn is_line_of(kind: FileKind, keyword: Keyword, line: &[u8]) -> bool
+    ensures { IsTrue result ↔ IsLineOf kind keyword line.now }
+{
+    match keyword {
+        Keyword::To => is_word_of(kind, keyword) && has_body(line),
+        _ => is_word_of(kind, keyword),
+    }
+}
+
+/// What a line of a file of this kind states: `None` exactly where its first part is no word that begins such a line, or it is `to` and no body
+/// follows it, and `Shape` exactly where it is such a line and the parts after its word are not as stated.
+pub fn read_row(alloc: Global, kind: FileKind, line: &[u8]) -> Result<Option<Row>, RowError>
+    ensures { IsRowRead kind line.now result }
 {
     let parts = split_parts(alloc, line)?;
     match split_keyword(&parts) {
-        Some((keyword, rest)) => match row_of(alloc, keyword, rest) {
-            Ok(row) => Ok(Some(row)),
-            Err(e) => Err(e),
-        },
+        Some((keyword, rest)) => {
+            if !is_line_of(kind, keyword, line) {
+                return Ok(None);
+            }
+            match row_of(alloc, keyword, rest, line) {
+                Ok(row) => Ok(Some(row)),
+                Err(e) => Err(e),
+            }
+        }
         None => Ok(None),
     }
 }

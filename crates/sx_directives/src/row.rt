@@ -1,10 +1,10 @@
-//! A line of a language file as it is read.
+//! A line of a language file or of an extension file as it is read.
 
-use crate::rows::{FormLine, MainLine, VarLine};
+use crate::rows::{FormLine, MainLine, PlainLine, VarLine};
 use sx_grammar::{Production, SortLine};
 use sx_term::Text;
 
-/// What a line of a language file states.
+/// What a line of a language file or of an extension file states.
 #[derive(Drop)]
 pub enum Row {
     /// `language NAME`
@@ -25,4 +25,12 @@ pub enum Row {
     Bar,
     /// `end`
     End,
+    /// `extension NAME`
+    Extension(Text),
+    /// `use NAME`
+    Use(Text),
+    /// `plain LABEL VAR..`
+    Plain(PlainLine),
+    /// `to` and a body: the body at its place in the line, with spaces in place of what stands before it
+    To(Text),
 }

@@ -5,13 +5,14 @@ ghost use Rattle.sx_lines.specs.Words.{number_within};
 ghost use Rattle.sx_grammar.specs.Parts.{line};
 ghost use Rattle.sx_directives.specs.Parts.{texts};
 ghost use Rattle.sx_directives.specs.Spelling.{NoneIs};
-ghost use Rattle.sx_directives.specs.Rows.{kind_text, AreBrackets, IsSortRow, IsProdRow, IsVarRow, IsFormRow, IsMainRow, IsNameRow};
+ghost use Rattle.sx_directives.specs.Rows.{kind_text, AreBrackets, IsSortRow, IsProdRow, IsVarRow, IsFormRow, IsMainRow, IsModuleRow, IsNameRow, IsPlainRow};
 
-use crate::names::{literal_of, name_of, stem_of};
+use crate::names::{literal_of, module_name_of, name_of, stem_of};
 use crate::row_error::RowError;
-use crate::rows::{FormLine, MainLine, VarLine};
+use crate::rows::{FormLine, MainLine, PlainLine, VarLine};
 use crate::sorts::sort_name_of;
 use crate::symbols::{form_symbols_of, symbols_of};
+use crate::variables::variables_of;
 use std::alloc::Global;
 use sx_grammar::{Production, SortLine};
 use sx_lines::number_within;
@@ -49,6 +50,32 @@ pub(crate) fn read_name(alloc: Global, parts: &[&[u8]]) -> Result<Text, RowError
     match parts {
         [name] => name_of(alloc, *name),
         _ => Err(RowError::Shape),
+    }
+}
+
+/// Reads `NAME`, the name of a module.
+pub(crate) fn read_module_name(alloc: Global, parts: &[&[u8]]) -> Result<Text, RowError>
+    ensures { MatchResult result (IsModuleRow (texts parts.now)) (NoneIs (IsModuleRow (texts parts.now))) }
+{
+    match parts {
+        [name] => module_name_of(alloc, *name),
+        _ => Err(RowError::Shape),
+    }
+}
+
+/// Reads `LABEL VAR..`.
+pub(crate) fn read_plain(alloc: Global, parts: &[&[u8]]) -> Result<PlainLine, RowError>
+    ensures { MatchResult result (IsPlainRow (texts parts.now)) (NoneIs (IsPlainRow (texts parts.now))) }
+{
+    match parts {
+        [label, names @ ..] => {
+            let label = name_of(alloc, *label)?;
+            match variables_of(alloc, names) {
+                Ok(names) => Ok(PlainLine { label, names }),
+                Err(e) => Err(e),
+            }
+        }
+        [] => Err(RowError::Shape),
     }
 }
 

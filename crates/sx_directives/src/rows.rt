@@ -1,4 +1,4 @@
-//! What lines of a language file state.
+//! What lines of a language file or of an extension file state.
 
 use crate::spelled::FormSymbol;
 use sx_term::Text;
@@ -23,4 +23,11 @@ pub struct MainLine {
     pub form: Text,
     pub empty: Text,
     pub add: Text,
+}
+
+/// The label of a production with a plain body, and the names of the variables that stand for its parts, without `~`.
+#[derive(Drop)]
+pub struct PlainLine {
+    pub label: Text,
+    pub names: Vec<Text>,
 }

@@ -44,7 +44,7 @@ pub(crate) fn symbols_of(alloc: Global, parts: &[&[u8]]) -> Result<Vec<Symbol>, 
 }
 
 /// What follows the front in a part that begins with it.
-fn after_front<'a>(part: &'a [u8], front: &[u8]) -> Option<&'a [u8]>
+pub(crate) fn after_front<'a>(part: &'a [u8], front: &[u8]) -> Option<&'a [u8]>
     ensures { MatchOption result ((rest : List ℕ) → part.entry.now ≡ front.now ++ rest → ⊥) (λ rest. part.entry.now ≡ front.now ++ rest.now) }
 {
     after(part, front)

@@ -1,10 +1,10 @@
 -- What is declared before a line and after it.
 use Rattle.std.proofs.Common.{◌≡◌, ℕ, List, [], ◌∷◌, sym, ap, subst, ◌∙◌, inl, inr, append_assoc, append-nil}
 use Rattle.sx_lines.specs.Lines.{Lines, over, line}
-use Rattle.sx_directives.specs.Parts.{parts_of}
+use Rattle.sx_directives.specs.declared.file_kind.FileKind.TheVariants as files
 use Rattle.sx_directives.specs.Rows.{IsRow}
 use Rattle.sx_directives.specs.declared.row.Row.{Row}
-use Rattle.sx_directives.specs.declared.row.Row.TheVariants.{Language, Sort, Prod, Var, Form, Main, Rule, Bar, End}
+use Rattle.sx_directives.specs.declared.row.Row.TheVariants.{Language, Sort, Prod, Var, Form, Main, Rule, End}
 use Rattle.sx_outline.specs.Declarations.{Declared, form, nothing, declare}
 use Rattle.sx_outline.specs.Known.{Declares, GoesOn}
 use Rattle.sx_outline.specs.Stages.{RuleData, Stage, at_start, at_declarations, at_rules, at_premises, at_conclusion, at_end, State, Steps, StepsAt, MayStandAt, after}
@@ -21,7 +21,6 @@ front_same d all e = record {
 }
 
 front_before : (d : Declared) (row : Row) (all : Declared) → IsFront (declare d row) all → IsFront d all
-front_before d (Language name) all h = h
 front_before d (Sort s) all h = record { more = h.more; forms = h.forms; vars = h.vars }
 front_before d (Prod p) all h = record { more = h.more; forms = h.forms; vars = h.vars }
 front_before d (Var v) all h = record {
@@ -35,20 +34,11 @@ front_before d (Form f) all h = record {
   vars = h.vars;
 }
 front_before d (Main m) all h = record { more = h.more; forms = h.forms; vars = h.vars }
-front_before d (Rule name) all h = h
-front_before d Bar all h = h
-front_before d End all h = h
+front_before d _ all h = h
 
 front_goes : (d : Declared) (row : Row) (all : Declared) (Next : Declared → Type 0) → ((next : Declared) → Next next → IsFront next all) → GoesOn d row all Next → IsFront d all
 front_goes d (Rule name) all Next f h = front_same d all h
-front_goes d (Language name) all Next f h = front_before d (Language name) all (f (declare d (Language name)) h)
-front_goes d (Sort s) all Next f h = front_before d (Sort s) all (f (declare d (Sort s)) h)
-front_goes d (Prod p) all Next f h = front_before d (Prod p) all (f (declare d (Prod p)) h)
-front_goes d (Var v) all Next f h = front_before d (Var v) all (f (declare d (Var v)) h)
-front_goes d (Form g) all Next f h = front_before d (Form g) all (f (declare d (Form g)) h)
-front_goes d (Main m) all Next f h = front_before d (Main m) all (f (declare d (Main m)) h)
-front_goes d Bar all Next f h = front_before d Bar all (f (declare d Bar) h)
-front_goes d End all Next f h = front_before d End all (f (declare d End) h)
+front_goes d row all Next f h = front_before d row all (f (declare d row) h)
 
 front_of : (d : Declared) (lines : Lines) (all : Declared) → Declares d lines all → IsFront d all
 front_of d (over n) all h = front_same d all h
@@ -64,9 +54,9 @@ ahead_front (at_conclusion b) d lines all h = front_same d all (sym h)
 ahead_front (at_end r) d lines all h = front_same d all (sym h)
 
 -- the row of the line is this one
-goes_from : (d : Declared) (row : Row) (n : ℕ) (text after : List ℕ) (more : Lines) (all : Declared) → IsRow (parts_of text) row → Declares d (line n text after more) all
+goes_from : (d : Declared) (row : Row) (n : ℕ) (text after : List ℕ) (more : Lines) (all : Declared) → IsRow files.Language text row → Declares d (line n text after more) all
     → GoesOn d row all (λ next. Declares next more all)
-goes_from d row n text after more all is (inl h) = same_goes d h.0 row all (λ next. Declares next more all) (same_row (parts_of text) h.0 row h.1 is) h.2
+goes_from d row n text after more all is (inl h) = same_goes d h.0 row all (λ next. Declares next more all) (same_row files.Language text h.0 row h.1 is) h.2
 goes_from d row n text after more all is (inr h) = absurd (h.0 row is)
 
 -- where a row leads
@@ -82,9 +72,7 @@ among_declarations d rules n (Var v) more all stands h = h
 among_declarations d rules n (Form f) more all stands h = h
 among_declarations d rules n (Main m) more all stands h = h
 among_declarations d rules n (Rule name) more all stands h = sym h
-among_declarations d rules n (Language name) more all stands h = absurd stands
-among_declarations d rules n Bar more all stands h = absurd stands
-among_declarations d rules n End more all stands h = absurd stands
+among_declarations d rules n _ more all stands h = absurd stands
 
 between_rules : (d : Declared) (rules : List RuleData) (n : ℕ) (row : Row) (more : Lines) (all : Declared) → MayStandAt at_rules d.mains row → d ≡ all
     → let t : State = after (record { stage = at_rules; declared = d; rules = rules }) n row in IsAhead t.stage t.declared more all

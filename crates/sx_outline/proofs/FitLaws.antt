@@ -5,14 +5,16 @@ use Rattle.std.specs.List.{AllByRecursion}
 use Rattle.std.proofs.lemmas.List.{length-append, map-append}
 use Rattle.std.proofs.lemmas.List.Elements.{Contains-push_cases}
 use Rattle.sx_lines.specs.Lines.{Lines, over, line, lines_from}
+use Rattle.sx_directives.specs.declared.file_kind.FileKind.TheVariants as files
 use Rattle.sx_directives.specs.Parts as directives
 use Rattle.sx_directives.specs.Spelling.{NotLexical}
 use Rattle.sx_directives.specs.Rows.{IsRow}
 use Rattle.sx_grammar.specs.declared.sort_line.SortLine.{SortLine}
 use Rattle.sx_directives.specs.declared.rows.VarLine.{VarLine}
 use Rattle.sx_directives.specs.declared.rows.MainLine.{MainLine}
+use Rattle.sx_directives.specs.declared.file_kind.FileKind.{FileKind}
 use Rattle.sx_directives.specs.declared.row.Row.{Row}
-use Rattle.sx_directives.specs.declared.row.Row.TheVariants.{Language, Sort, Prod, Var, Form, Main, Rule, Bar, End}
+use Rattle.sx_directives.specs.declared.row.Row.TheVariants.{Sort, Prod, Var, Form, Main, Rule, End}
 use Rattle.sx_outline.specs.declared.outline.Outline.{Outline}
 use Rattle.sx_outline.specs.declared.outline_error.OutlineError.{OutlineError}
 use Rattle.sx_outline.specs.Declarations.{Declared, FormData, form, nothing, declare}
@@ -72,9 +74,8 @@ pub record AreFitting (known d : Declared) : Type 0 where
   pub places : AllByRecursion (λ f. AllByRecursion (SymbolFits known) f.symbols) d.forms
   pub subjects : AllByRecursion (λ f. HasOneSubject f.symbols) d.forms
 
-fitting_row : (known d : Declared) (parts : List (List ℕ)) (row : Row) → IsRow parts row → Fits known d row → AreFitting known d → AreFitting known (declare d row)
-fitting_row known d parts (Language name) is fits h = h
-fitting_row known d parts (Sort s) is fits h = record {
+fitting_row : (kind : FileKind) (known d : Declared) (text : List ℕ) (row : Row) → IsRow kind text row → Fits known d row → AreFitting known d → AreFitting known (declare d row)
+fitting_row kind known d text (Sort s) is fits h = record {
   sorts = all_push (λ (s : SortLine). NotLexical s.name) d.sorts s h.sorts is.follows.lexical;
   stems_once = h.stems_once;
   vars = h.vars;
@@ -82,8 +83,8 @@ fitting_row known d parts (Sort s) is fits h = record {
   places = h.places;
   subjects = h.subjects;
 }
-fitting_row known d parts (Prod p) is fits h = record { sorts = h.sorts; stems_once = h.stems_once; vars = h.vars; forms_once = h.forms_once; places = h.places; subjects = h.subjects }
-fitting_row known d parts (Var v) is fits h = record {
+fitting_row kind known d text (Prod p) is fits h = record { sorts = h.sorts; stems_once = h.stems_once; vars = h.vars; forms_once = h.forms_once; places = h.places; subjects = h.subjects }
+fitting_row kind known d text (Var v) is fits h = record {
   sorts = h.sorts;
   stems_once = subst AreDistinct (sym (map-append (λ (v : VarLine). v.stem) d.vars (v ∷ []))) (distinct_push (stems d) v.stem h.stems_once fits.0);
   vars = all_push (λ (v : VarLine). IsKnownSort known v.sort) d.vars v h.vars fits.1;
@@ -91,7 +92,7 @@ fitting_row known d parts (Var v) is fits h = record {
   places = h.places;
   subjects = h.subjects;
 }
-fitting_row known d parts (Form f) is fits h = record {
+fitting_row kind known d text (Form f) is fits h = record {
   sorts = h.sorts;
   stems_once = h.stems_once;
   vars = h.vars;
@@ -99,10 +100,8 @@ fitting_row known d parts (Form f) is fits h = record {
   places = all_push (λ (f : FormData). AllByRecursion (SymbolFits known) f.symbols) d.forms (form f) h.places fits.1;
   subjects = all_push (λ (f : FormData). HasOneSubject f.symbols) d.forms (form f) h.subjects fits.2;
 }
-fitting_row known d parts (Main m) is fits h = record { sorts = h.sorts; stems_once = h.stems_once; vars = h.vars; forms_once = h.forms_once; places = h.places; subjects = h.subjects }
-fitting_row known d parts (Rule name) is fits h = h
-fitting_row known d parts Bar is fits h = h
-fitting_row known d parts End is fits h = h
+fitting_row kind known d text (Main m) is fits h = record { sorts = h.sorts; stems_once = h.stems_once; vars = h.vars; forms_once = h.forms_once; places = h.places; subjects = h.subjects }
+fitting_row kind known d text _ is fits h = h
 
 -- ---- the lines of rules
 
@@ -132,12 +131,12 @@ pub record IsKeptRow (size : ℕ) (known d : Declared) (left : ℕ) : Type 0 whe
   pub good : AreGood d
   pub fitting : AreFitting known d
 
-kept_row : (size : ℕ) (known d : Declared) (text : List ℕ) (left all : ℕ) (row : Row) → IsRow (directives.parts_of text) row → Fits known d row → all ≡ length text + left
+kept_row : (size : ℕ) (known d : Declared) (text : List ℕ) (left all : ℕ) (row : Row) → IsRow files.Language text row → Fits known d row → all ≡ length text + left
     → weight d + all ≤ size → AreGood d → AreFitting known d → IsKeptRow size known (declare d row) left
 kept_row size known d text left all row is fits e weighs good fitting =
-    let w = row_weighs d (directives.parts_of text) row is in
+    let w = row_weighs files.Language d text row is in
     let few : length (directives.parts_of text) ≤ length text = parts_few text in
-    record { weighs = omega arith; good = row_good d (directives.parts_of text) row is good; fitting = fitting_row known d (directives.parts_of text) row is fits fitting }
+    record { weighs = omega arith; good = row_good files.Language d text row is good; fitting = fitting_row files.Language known d text row is fits fitting }
 
 -- the stage and the rules after a line
 abbrev pub HasShort : ℕ → ℕ → State → Type 0

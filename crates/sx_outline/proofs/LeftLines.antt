@@ -1,7 +1,7 @@
 -- What the lines are that are left of a file with an outline.
 use Rattle.std.proofs.Common.{◌≡◌, ℕ, List, [], ◌∷◌, ◌++◌}
 use Rattle.std.specs.List.{AllByRecursion}
-use Rattle.sx_directives.specs.Parts.{parts_of}
+use Rattle.sx_directives.specs.declared.file_kind.FileKind.TheVariants as files
 use Rattle.sx_directives.specs.Rows.{IsRow}
 use Rattle.sx_directives.specs.declared.row.Row.TheVariants.{Language, End}
 use Rattle.sx_outline.specs.Declarations.{Declared}
@@ -35,7 +35,7 @@ pub record LeftPremises (b : Begun) (front : List Numbered) (r : RuleData) : Typ
   pub front_is : front ≡ premises ++ bar ∷ r.conclusion ∷ last ∷ []
   pub plain : AllByRecursion (λ l. IsBar l.text → ⊥) premises
   pub divides : IsBar bar.text
-  pub ends : IsRow (parts_of last.text) End
+  pub ends : IsRow files.Language last.text End
   pub number : b.number ≡ r.number
   pub name : b.name ≡ r.name
   pub premises_are : r.premises ≡ b.premises ++ premises
@@ -43,7 +43,7 @@ pub record LeftPremises (b : Begun) (front : List Numbered) (r : RuleData) : Typ
 pub record LeftConclusion (b : Begun) (front : List Numbered) (r : RuleData) : Type 0 where
   pub last : Numbered
   pub front_is : front ≡ r.conclusion ∷ last ∷ []
-  pub ends : IsRow (parts_of last.text) End
+  pub ends : IsRow files.Language last.text End
   pub number : b.number ≡ r.number
   pub name : b.name ≡ r.name
   pub premises_are : r.premises ≡ b.premises
@@ -51,7 +51,7 @@ pub record LeftConclusion (b : Begun) (front : List Numbered) (r : RuleData) : T
 pub record LeftEnd (given : RuleData) (front : List Numbered) (r : RuleData) : Type 0 where
   pub last : Numbered
   pub front_is : front ≡ last ∷ []
-  pub ends : IsRow (parts_of last.text) End
+  pub ends : IsRow files.Language last.text End
   pub is : given ≡ r
 
 -- among the declarations: the lines of more declarations and of rules
@@ -69,7 +69,7 @@ pub record IsFile (known : Declared) (name : List ℕ) (d : Declared) (rules : L
   pub first : Numbered
   pub others : List Numbered
   pub lines_are : lines ≡ first ∷ others
-  pub named : IsRow (parts_of first.text) (Language name)
+  pub named : IsRow files.Language first.text (Language name)
   pub rest : IsRestOfFile known d rules o others
 
 abbrev pub IsLeft : Declared → List ℕ → Stage → Declared → List RuleData → OutlineData → List Numbered → Type 0

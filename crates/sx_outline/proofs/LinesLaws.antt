@@ -2,10 +2,10 @@
 use Rattle.std.proofs.Common.{◌≡◌, ℕ, List, [], ◌∷◌, ◌++◌, Ok, refl, sym, ap, subst, ◌∙◌, inl, inr, append_assoc, append-nil}
 use Rattle.std.specs.List.{AllByRecursion}
 use Rattle.sx_lines.specs.Lines.{Lines, over, line, lines_from}
-use Rattle.sx_directives.specs.Parts.{parts_of}
+use Rattle.sx_directives.specs.declared.file_kind.FileKind.TheVariants as files
 use Rattle.sx_directives.specs.Rows.{IsRow}
 use Rattle.sx_directives.specs.declared.row.Row.{Row}
-use Rattle.sx_directives.specs.declared.row.Row.TheVariants.{Language, Sort, Prod, Var, Form, Main, Rule, Bar, End}
+use Rattle.sx_directives.specs.declared.row.Row.TheVariants.{Sort, Prod, Var, Form, Main, Rule, End}
 use Rattle.sx_outline.specs.Declarations.{Declared, nothing, declare}
 use Rattle.sx_outline.specs.Fitting.{Fits}
 use Rattle.sx_outline.specs.Known.{kept_lines}
@@ -40,7 +40,7 @@ none_left known name (at_end r) d rules o n ahead whole e = absurd whole
 -- ---- one more line in front
 
 -- the first line of a rule
-begun_rule : (known d : Declared) (rules : List RuleData) (o : OutlineData) (n : ℕ) (text name : List ℕ) (lines : List Numbered) → IsRow (parts_of text) (Rule name)
+begun_rule : (known d : Declared) (rules : List RuleData) (o : OutlineData) (n : ℕ) (text name : List ℕ) (lines : List Numbered) → IsRow files.Language text (Rule name)
     → IsInRule (LeftPremises (record { number = n; name = name; premises = [] })) known d rules o lines → IsRest known d rules o (record { number = n; text = text } ∷ lines)
 begun_rule known d rules o n text name lines spelled h =
     let l : Numbered = record { number = n; text = text } in
@@ -58,7 +58,7 @@ begun_rule known d rules o n text name lines spelled h =
           last = h.left.last;
           lines_are = ap (λ (x : List Numbered). l ∷ x) (h.left.front_is ∙ ap (λ (x : List Numbered). x ++ h.left.bar ∷ h.rule.conclusion ∷ h.left.last ∷ []) (sym h.left.premises_are));
           number = h.left.number;
-          begins = subst (λ (x : List ℕ). IsRow (parts_of text) (Rule x)) h.left.name spelled;
+          begins = subst (λ (x : List ℕ). IsRow files.Language text (Rule x)) h.left.name spelled;
           premises = subst (λ (x : List Numbered). AllByRecursion (λ l. IsBar l.text → ⊥) x) (sym h.left.premises_are) h.left.plain;
           divides = h.left.divides;
           ends = h.left.ends;
@@ -68,7 +68,7 @@ begun_rule known d rules o n text name lines spelled h =
     }
 
 -- a declaration
-declared_more : (known d : Declared) (rules : List RuleData) (o : OutlineData) (l : Numbered) (row : Row) (lines : List Numbered) → IsRow (parts_of l.text) row → IsDeclaring row → Fits known d row
+declared_more : (known d : Declared) (rules : List RuleData) (o : OutlineData) (l : Numbered) (row : Row) (lines : List Numbered) → IsRow files.Language l.text row → IsDeclaring row → Fits known d row
     → IsRestOfFile known (declare d row) rules o lines → IsRestOfFile known d rules o (l ∷ lines)
 declared_more known d rules o l row lines spelled declaring fits h = record {
   declarations = l ∷ h.declarations;
@@ -81,7 +81,7 @@ declared_more known d rules o l row lines spelled declaring fits h = record {
 }
 
 declarations_row : (known : Declared) (name : List ℕ) (d : Declared) (rules : List RuleData) (o : OutlineData) (n : ℕ) (text : List ℕ) (row : Row) (lines : List Numbered)
-    → IsRow (parts_of text) row → Fits known d row → MayStandAt at_declarations d.mains row
+    → IsRow files.Language text row → Fits known d row → MayStandAt at_declarations d.mains row
     → LeftAt known name o lines (after (record { stage = at_declarations; declared = d; rules = rules }) n row) → IsRestOfFile known d rules o (record { number = n; text = text } ∷ lines)
 declarations_row known name d rules o n text (Sort s) lines spelled fits stands h = declared_more known d rules o (record { number = n; text = text }) (Sort s) lines spelled tt fits h
 declarations_row known name d rules o n text (Prod p) lines spelled fits stands h = declared_more known d rules o (record { number = n; text = text }) (Prod p) lines spelled tt fits h
@@ -91,18 +91,16 @@ declarations_row known name d rules o n text (Main m) lines spelled fits stands 
 declarations_row known name d rules o n text (Rule given) lines spelled fits stands h =
     let rest = begun_rule known d rules o n text given lines spelled h in
     record { declarations = []; rule_lines = record { number = n; text = text } ∷ lines; lines_are = refl; declared = rest.declared; more = rest.more; rules_are = rest.rules_are; are = rest.are }
-declarations_row known name d rules o n text (Language given) lines spelled fits stands h = absurd stands
-declarations_row known name d rules o n text Bar lines spelled fits stands h = absurd stands
-declarations_row known name d rules o n text End lines spelled fits stands h = absurd stands
+declarations_row known name d rules o n text _ lines spelled fits stands h = absurd stands
 
 rules_row : (known : Declared) (name : List ℕ) (d : Declared) (rules : List RuleData) (o : OutlineData) (n : ℕ) (text : List ℕ) (row : Row) (lines : List Numbered)
-    → IsRow (parts_of text) row → MayStandAt at_rules d.mains row → LeftAt known name o lines (after (record { stage = at_rules; declared = d; rules = rules }) n row)
+    → IsRow files.Language text row → MayStandAt at_rules d.mains row → LeftAt known name o lines (after (record { stage = at_rules; declared = d; rules = rules }) n row)
     → IsRest known d rules o (record { number = n; text = text } ∷ lines)
 rules_row known name d rules o n text (Rule given) lines spelled stands h = begun_rule known d rules o n text given lines spelled h
 rules_row known name d rules o n text _ lines spelled stands h = absurd stands
 
 end_row : (known : Declared) (name : List ℕ) (r : RuleData) (d : Declared) (rules : List RuleData) (o : OutlineData) (n : ℕ) (text : List ℕ) (row : Row) (lines : List Numbered)
-    → IsRow (parts_of text) row → MayStandAt (at_end r) d.mains row → LeftAt known name o lines (after (record { stage = at_end r; declared = d; rules = rules }) n row)
+    → IsRow files.Language text row → MayStandAt (at_end r) d.mains row → LeftAt known name o lines (after (record { stage = at_end r; declared = d; rules = rules }) n row)
     → IsInRule (LeftEnd r) known d rules o (record { number = n; text = text } ∷ lines)
 end_row known name r d rules o n text End lines spelled stands h =
     let l : Numbered = record { number = n; text = text } in

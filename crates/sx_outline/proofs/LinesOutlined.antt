@@ -4,11 +4,11 @@ use Rattle.std.specs.List.{AllByRecursion}
 use Rattle.std.specs.Str.{IsUtf8}
 use Rattle.std.proofs.lemmas.List.{length-append}
 use Rattle.sx_lines.specs.Lines.{Lines, over, line, lines_from}
-use Rattle.sx_directives.specs.Parts.{parts_of}
+use Rattle.sx_directives.specs.declared.file_kind.FileKind.TheVariants as files
 use Rattle.sx_directives.specs.Rows.{IsRow}
 use Rattle.sx_directives.specs.declared.rows.MainLine.{MainLine}
 use Rattle.sx_directives.specs.declared.row.Row.{Row}
-use Rattle.sx_directives.specs.declared.row.Row.TheVariants.{Language, Sort, Prod, Var, Form, Main, Rule, Bar, End}
+use Rattle.sx_directives.specs.declared.row.Row.TheVariants.{Language, Sort, Prod, Var, Form, Main, Rule, End}
 use Rattle.sx_outline.specs.Declarations.{Declared, nothing, declare}
 use Rattle.sx_outline.specs.Fitting.{Fits, IsMainOf}
 use Rattle.sx_outline.specs.Known.{Declares, GoesOn, kept_lines}
@@ -78,14 +78,14 @@ record LeadsOn (known : Declared) (name : List ℕ) (at : Stage) (d : Declared) 
 -- the first line of a rule
 begin_rule : (known d : Declared) (rules : List RuleData) (o : OutlineData) (n : ℕ) (text : List ℕ) (lines : List Numbered) (more : List RuleData) → d ≡ known → o.rules ≡ rules ++ more
     → AreRules (record { number = n; text = text } ∷ lines) more
-    → (given : List ℕ) × IsRow (parts_of text) (Rule given) × IsInRule (LeftPremises (record { number = n; name = given; premises = [] })) known d rules o lines
+    → (given : List ℕ) × IsRow files.Language text (Rule given) × IsInRule (LeftPremises (record { number = n; name = given; premises = [] })) known d rules o lines
 begin_rule known d rules o n text lines [] e are h = absurd (none_first (record { number = n; text = text }) lines (sym h))
 begin_rule known d rules o n text lines (r ∷ more) e are (front, back, parts, rule, others) =
     let l : Numbered = record { number = n; text = text } in
     let whole : l ∷ lines ≡ rule.first ∷ (r.premises ++ rule.bar ∷ r.conclusion ∷ rule.last ∷ []) ++ back = parts ∙ ap (λ (x : List Numbered). x ++ back) rule.lines_are in
     let first : l ≡ rule.first = head_same l rule.first lines ((r.premises ++ rule.bar ∷ r.conclusion ∷ rule.last ∷ []) ++ back) whole in (
       r.name,
-      subst (λ (x : Numbered). IsRow (parts_of x.text) (Rule r.name)) (sym first) rule.begins,
+      subst (λ (x : Numbered). IsRow files.Language x.text (Rule r.name)) (sym first) rule.begins,
       record {
         rule = r;
         front = r.premises ++ rule.bar ∷ r.conclusion ∷ rule.last ∷ [];
@@ -110,7 +110,7 @@ begin_rule known d rules o n text lines (r ∷ more) e are (front, back, parts, 
       },
     )
 
-good_rule : (known : Declared) (at : Stage) (d : Declared) (rules : List RuleData) (text given : List ℕ) → IsRow (parts_of text) (Rule given) → MayStandAt at d.mains (Rule given)
+good_rule : (known : Declared) (at : Stage) (d : Declared) (rules : List RuleData) (text given : List ℕ) → IsRow files.Language text (Rule given) → MayStandAt at d.mains (Rule given)
     → IsGoodRow known (record { stage = at; declared = d; rules = rules }) text (Rule given)
 good_rule known at d rules text given spelled stands = record { spelled = spelled; fits = tt; stands = stands; main = tt }
 
@@ -136,10 +136,7 @@ mains_stay known d all (l ∷ lines) (Form f, spelled, declaring, fits, h) = mai
 mains_stay known d all (l ∷ lines) (Main m, spelled, declaring, fits, h) =
     let k = mains_stay known (declare d (Main m)) all lines h in
     (m ∷ k.0, k.1 ∙ append_assoc d.mains (m ∷ []) k.0)
-mains_stay known d all (l ∷ lines) (Language given, spelled, declaring, fits, h) = absurd declaring
-mains_stay known d all (l ∷ lines) (Rule given, spelled, declaring, fits, h) = absurd declaring
-mains_stay known d all (l ∷ lines) (Bar, spelled, declaring, fits, h) = absurd declaring
-mains_stay known d all (l ∷ lines) (End, spelled, declaring, fits, h) = absurd declaring
+mains_stay known d all (l ∷ lines) (_, spelled, declaring, fits, h) = absurd declaring
 
 one_main : (before more : List MainLine) (m n : MainLine) → n ∷ [] ≡ before ++ m ∷ more → (before ≡ []) × (n ≡ m)
 one_main [] more m n e = (refl, first_same e)
@@ -154,7 +151,7 @@ one_main (b ∷ before) more m n e =
 -- ---- declarations
 
 declared_leads : (known : Declared) (name : List ℕ) (d : Declared) (rules : List RuleData) (o : OutlineData) (l : MainLine) → known.mains ≡ l ∷ [] → IsMainOf known l o.main
-    → (n : ℕ) (text : List ℕ) (row : Row) (declarations rule_lines lines : List Numbered) (more : List RuleData) → lines ≡ declarations ++ rule_lines → IsRow (parts_of text) row → IsDeclaring row
+    → (n : ℕ) (text : List ℕ) (row : Row) (declarations rule_lines lines : List Numbered) (more : List RuleData) → lines ≡ declarations ++ rule_lines → IsRow files.Language text row → IsDeclaring row
     → Fits known d row → AreDeclarations known (declare d row) declarations known → o.rules ≡ rules ++ more → AreRules rule_lines more → LeadsOn known name at_declarations d rules o n text lines
 declared_leads known name d rules o l mains main n text (Sort s) declarations rule_lines lines more e spelled declaring fits h are rest = record {
   next = after (record { stage = at_declarations; declared = d; rules = rules }) n (Sort s);
@@ -184,10 +181,7 @@ declared_leads known name d rules o l mains main n text (Main m) declarations ru
       steps = (Main m, record { spelled = spelled; fits = fits; stands = one.0; main = (o.main, subst (λ x. IsMainOf known x o.main) one.1 main) }, refl);
       left = record { declarations = declarations; rule_lines = rule_lines; lines_are = e; declared = h; more = more; rules_are = are; are = rest };
     }
-declared_leads known name d rules o l mains main n text (Language given) declarations rule_lines lines more e spelled declaring fits h are rest = absurd declaring
-declared_leads known name d rules o l mains main n text (Rule given) declarations rule_lines lines more e spelled declaring fits h are rest = absurd declaring
-declared_leads known name d rules o l mains main n text Bar declarations rule_lines lines more e spelled declaring fits h are rest = absurd declaring
-declared_leads known name d rules o l mains main n text End declarations rule_lines lines more e spelled declaring fits h are rest = absurd declaring
+declared_leads known name d rules o l mains main n text _ declarations rule_lines lines more e spelled declaring fits h are rest = absurd declaring
 
 declarations_lead : (known : Declared) (name : List ℕ) (d : Declared) (rules : List RuleData) (o : OutlineData) (l : MainLine) → known.mains ≡ l ∷ [] → IsMainOf known l o.main
     → (n : ℕ) (text : List ℕ) (declarations rule_lines lines : List Numbered) (more : List RuleData) → record { number = n; text = text } ∷ lines ≡ declarations ++ rule_lines
@@ -203,13 +197,13 @@ declarations_lead known name d rules o l mains main n text (first ∷ declaratio
     let here : Numbered = record { number = n; text = text } in
     let same : here ≡ first = head_same here first lines (declarations ++ rule_lines) e in
     declared_leads known name d rules o l mains main n text row declarations rule_lines lines more (tail_same here first lines (declarations ++ rule_lines) e)
-    (subst (λ (x : Numbered). IsRow (parts_of x.text) row) (sym same) spelled) declaring fits h are rest
+    (subst (λ (x : Numbered). IsRow files.Language x.text row) (sym same) spelled) declaring fits h are rest
 
 -- ---- the lines of a rule
 
 premises_lead : (known : Declared) (name : List ℕ) (b : Begun) (d : Declared) (rules : List RuleData) (o : OutlineData) (n : ℕ) (text : List ℕ) (lines : List Numbered)
     (r : RuleData) (bar last : Numbered) (premises back : List Numbered) (more : List RuleData) → record { number = n; text = text } ∷ lines ≡ (premises ++ bar ∷ r.conclusion ∷ last ∷ []) ++ back
-    → AllByRecursion (λ l. IsBar l.text → ⊥) premises → IsBar bar.text → IsRow (parts_of last.text) End → b.number ≡ r.number → b.name ≡ r.name → r.premises ≡ b.premises ++ premises
+    → AllByRecursion (λ l. IsBar l.text → ⊥) premises → IsBar bar.text → IsRow files.Language last.text End → b.number ≡ r.number → b.name ≡ r.name → r.premises ≡ b.premises ++ premises
     → d ≡ known → o.rules ≡ rules ++ r ∷ more → AreRules back more → LeadsOn known name (at_premises b) d rules o n text lines
 premises_lead known name b d rules o n text lines r bar last [] back more e plain divides ends number named premises_are declared are rest =
     let here : Numbered = record { number = n; text = text } in
@@ -300,7 +294,7 @@ end_leads known name r d rules o n text lines h =
     let same : here ≡ h.left.last = head_same here h.left.last lines h.back e in
     record {
       next = after (record { stage = at_end r; declared = d; rules = rules }) n End;
-      steps = (End, record { spelled = subst (λ (x : Numbered). IsRow (parts_of x.text) End) (sym same) h.left.ends; fits = tt; stands = tt; main = tt }, refl);
+      steps = (End, record { spelled = subst (λ (x : Numbered). IsRow files.Language x.text End) (sym same) h.left.ends; fits = tt; stands = tt; main = tt }, refl);
       left = record {
         declared = h.declared;
         more = h.more;
@@ -315,7 +309,7 @@ leads_on known name at_start d rules o l mains main n text lines h =
     let here : Numbered = record { number = n; text = text } in
     record {
       next = to (record { stage = at_start; declared = d; rules = rules }) at_declarations;
-      steps = (subst (λ (x : Numbered). IsRow (parts_of x.text) (Language name)) (sym (head_same here h.first lines h.others h.lines_are)) h.named, refl);
+      steps = (subst (λ (x : Numbered). IsRow files.Language x.text (Language name)) (sym (head_same here h.first lines h.others h.lines_are)) h.named, refl);
       left = subst (IsRestOfFile known d rules o) (sym (tail_same here h.first lines h.others h.lines_are)) h.rest;
     }
 leads_on known name at_declarations d rules o l mains main n text lines h =
@@ -345,7 +339,7 @@ declares_rules known d (line n text after more) (r ∷ rules) e (front, back, pa
     let l : Numbered = record { number = n; text = text } in
     let same : l ≡ rule.first =
     head_same l rule.first (numbered_lines more) ((r.premises ++ rule.bar ∷ r.conclusion ∷ rule.last ∷ []) ++ back) (parts ∙ ap (λ (x : List Numbered). x ++ back) rule.lines_are) in
-    inl (Rule r.name, subst (λ (x : Numbered). IsRow (parts_of x.text) (Rule r.name)) (sym same) rule.begins, sym e)
+    inl (Rule r.name, subst (λ (x : Numbered). IsRow files.Language x.text (Rule r.name)) (sym same) rule.begins, sym e)
 
 goes_on : (d : Declared) (row : Row) (all : Declared) (Next : Declared → Type 0) → IsDeclaring row → Next (declare d row) → GoesOn d row all Next
 goes_on d (Sort s) all Next declaring h = h
@@ -353,10 +347,7 @@ goes_on d (Prod p) all Next declaring h = h
 goes_on d (Var v) all Next declaring h = h
 goes_on d (Form f) all Next declaring h = h
 goes_on d (Main m) all Next declaring h = h
-goes_on d (Language given) all Next declaring h = absurd declaring
-goes_on d (Rule given) all Next declaring h = absurd declaring
-goes_on d Bar all Next declaring h = absurd declaring
-goes_on d End all Next declaring h = absurd declaring
+goes_on d _ all Next declaring h = absurd declaring
 
 declares_of : (known d : Declared) (left : Lines) (declarations rule_lines : List Numbered) (rules : List RuleData) → numbered_lines left ≡ declarations ++ rule_lines
     → AreDeclarations known d declarations known → AreRules rule_lines rules → Declares d left known
@@ -367,13 +358,13 @@ declares_of known d (line n text after more) (first ∷ declarations) rule_lines
     let same : here ≡ first = head_same here first (numbered_lines more) (declarations ++ rule_lines) e in
     inl (
       row,
-      subst (λ (x : Numbered). IsRow (parts_of x.text) row) (sym same) spelled,
+      subst (λ (x : Numbered). IsRow files.Language x.text row) (sym same) spelled,
       goes_on d row known (λ next. Declares next more known) declaring
           (declares_of known (declare d row) more declarations rule_lines rules (tail_same here first (numbered_lines more) (declarations ++ rule_lines) e) h rest),
     )
 
 declares_file : (known : Declared) (name : List ℕ) (left : Lines) (first : Numbered) (declarations rule_lines : List Numbered) (rules : List RuleData)
-    → numbered_lines left ≡ first ∷ declarations ++ rule_lines → IsRow (parts_of first.text) (Language name) → AreDeclarations known nothing declarations known → AreRules rule_lines rules
+    → numbered_lines left ≡ first ∷ declarations ++ rule_lines → IsRow files.Language first.text (Language name) → AreDeclarations known nothing declarations known → AreRules rule_lines rules
     → Declares nothing left known
 declares_file known name (over n) first declarations rule_lines rules e named h rest = absurd (none_first first (declarations ++ rule_lines) e)
 declares_file known name (line n text after more) first declarations rule_lines rules e named h rest =
@@ -381,7 +372,7 @@ declares_file known name (line n text after more) first declarations rule_lines 
     let same : here ≡ first = head_same here first (numbered_lines more) (declarations ++ rule_lines) e in
     inl (
       Language name,
-      subst (λ (x : Numbered). IsRow (parts_of x.text) (Language name)) (sym same) named,
+      subst (λ (x : Numbered). IsRow files.Language x.text (Language name)) (sym same) named,
       declares_of known nothing more declarations rule_lines rules (tail_same here first (numbered_lines more) (declarations ++ rule_lines) e) h rest,
     )
 

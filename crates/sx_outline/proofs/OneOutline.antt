@@ -2,11 +2,11 @@
 use Rattle.std.proofs.Common.{◌≡◌, ◌≢◌, ℕ, List, [], ◌∷◌, Result, Ok, Err, refl, sym, ap, subst, ◌∙◌, inl, inr}
 use Rattle.sx_lines.specs.Lines.{Lines, over, line, lines_from}
 use Rattle.sx_grammar.specs.Parts.{labels, number_of}
-use Rattle.sx_directives.specs.Parts as directives
+use Rattle.sx_directives.specs.declared.file_kind.FileKind.TheVariants as files
 use Rattle.sx_directives.specs.Rows.{IsRow, HasWord}
 use Rattle.sx_directives.specs.declared.rows.MainLine.{MainLine}
 use Rattle.sx_directives.specs.declared.row.Row.{Row}
-use Rattle.sx_directives.specs.declared.row.Row.TheVariants.{Language, Sort, Prod, Var, Form, Main, Rule, Bar, End}
+use Rattle.sx_directives.specs.declared.row.Row.TheVariants.{Language, Sort, Prod, Var, Form, Main, Rule, Bar, End, Extension, Use, Plain, To}
 use Rattle.sx_lines.specs.declared.kind.Kind.{Kind}
 use Rattle.sx_lines.specs.declared.kind.Kind.TheVariants.{Head, Directive, Shape, Order, Unfinished, Main as NoMain, Variable}
 use Rattle.sx_outline.specs.declared.main_form.MainForm.{MainForm}
@@ -25,20 +25,13 @@ use Rattle.sx_outline.proofs.SameLaws.{has_word, same_declare, same_stands, same
 goes_once : (d : Declared) (row : Row) (a b : Declared) (NextA NextB : Declared → Type 0) → ((next : Declared) → NextA next → NextB next → a ≡ b)
     → GoesOn d row a NextA → GoesOn d row b NextB → a ≡ b
 goes_once d (Rule name) a b NextA NextB f h k = h ∙ sym k
-goes_once d (Language name) a b NextA NextB f h k = f (declare d (Language name)) h k
-goes_once d (Sort s) a b NextA NextB f h k = f (declare d (Sort s)) h k
-goes_once d (Prod p) a b NextA NextB f h k = f (declare d (Prod p)) h k
-goes_once d (Var v) a b NextA NextB f h k = f (declare d (Var v)) h k
-goes_once d (Form g) a b NextA NextB f h k = f (declare d (Form g)) h k
-goes_once d (Main m) a b NextA NextB f h k = f (declare d (Main m)) h k
-goes_once d Bar a b NextA NextB f h k = f (declare d Bar) h k
-goes_once d End a b NextA NextB f h k = f (declare d End) h k
+goes_once d row a b NextA NextB f h k = f (declare d row) h k
 
 one_known : (d : Declared) (left : Lines) (a b : Declared) → Declares d left a → Declares d left b → a ≡ b
 one_known d (over n) a b h k = h ∙ sym k
 one_known d (line n text after more) a b (inl h) (inl k) =
     goes_once d k.0 a b (λ next. Declares next more a) (λ next. Declares next more b) (λ next x y. one_known next more a b x y)
-    (same_goes d h.0 k.0 a (λ next. Declares next more a) (same_row (directives.parts_of text) h.0 k.0 h.1 k.1) h.2) k.2
+    (same_goes d h.0 k.0 a (λ next. Declares next more a) (same_row files.Language text h.0 k.0 h.1 k.1) h.2) k.2
 one_known d (line n text after more) a b (inl h) (inr k) = absurd (k.0 h.0 h.1)
 one_known d (line n text after more) a b (inr h) (inl k) = absurd (h.0 k.0 k.1)
 one_known d (line n text after more) a b (inr h) (inr k) = one_known d more a b h.1 k.1
@@ -59,10 +52,14 @@ same_after s n (Main a) (Main b) e = ap (declared_with s) (same_declare s.declar
 same_after s n (Rule a) (Rule b) e = ap (λ x. after s n (Rule x)) e
 same_after s n Bar Bar e = refl
 same_after s n End End e = refl
+same_after s n (Extension a) (Extension b) e = refl
+same_after s n (Use a) (Use b) e = refl
+same_after s n (Plain a) (Plain b) e = refl
+same_after s n (To a) (To b) e = refl
 same_after s n _ _ e = absurd e
 
 one_by_row : (known : Declared) (s : State) (n : ℕ) (text : List ℕ) (t u : State) → StepsByRow known s n text t → StepsByRow known s n text u → t ≡ u
-one_by_row known s n text t u (r, good, e) (q, fine, f) = e ∙ same_after s n r q (same_row (directives.parts_of text) r q good.spelled fine.spelled) ∙ sym f
+one_by_row known s n text t u (r, good, e) (q, fine, f) = e ∙ same_after s n r q (same_row files.Language text r q good.spelled fine.spelled) ∙ sym f
 
 one_step : (at : Stage) (known : Declared) (name : List ℕ) (s : State) (n : ℕ) (text : List ℕ) (t u : State) → StepsAt at known name s n text t → StepsAt at known name s n text u → t ≡ u
 one_step at_start known name s n text t u h k = h.1 ∙ sym k.1
@@ -92,16 +89,16 @@ good_or_bad known name s n text t Head steps bad =
     bad.1 h.0
 good_or_bad known name s n text t Directive steps bad =
     let h = due_row s.stage known name s n text t bad.0 steps in
-    bad.1 (has_word (directives.parts_of text) h.0 h.1.spelled)
+    bad.1 (has_word files.Language text h.0 h.1.spelled)
 good_or_bad known name s n text t Shape steps bad =
     let h = due_row s.stage known name s n text t bad.0 steps in
     bad.2 h.0 h.1.spelled h.1.fits
 good_or_bad known name s n text t Order steps bad =
     let h = due_row s.stage known name s n text t bad.0 steps in
-    bad.4 (same_stands s.stage s.declared.mains h.0 bad.1 (same_row (directives.parts_of text) h.0 bad.1 h.1.spelled bad.2) h.1.stands)
+    bad.4 (same_stands s.stage s.declared.mains h.0 bad.1 (same_row files.Language text h.0 bad.1 h.1.spelled bad.2) h.1.stands)
 good_or_bad known name s n text t NoMain steps bad =
     let h = due_row s.stage known name s n text t bad.0 steps in
-    let main = same_main known h.0 (Main bad.1) (same_row (directives.parts_of text) h.0 (Main bad.1) h.1.spelled bad.2) h.1.main in
+    let main = same_main known h.0 (Main bad.1) (same_row files.Language text h.0 (Main bad.1) h.1.spelled bad.2) h.1.main in
     bad.4 main.0 main.1
 good_or_bad known name s n text t Unfinished steps bad = absurd bad
 good_or_bad known name s n text t Variable steps bad = absurd bad
@@ -109,12 +106,12 @@ good_or_bad known name s n text t Variable steps bad = absurd bad
 not_due : (at : Stage) → at ≡ at_start → IsDue at → ⊥
 not_due at e due = subst IsDue e due
 
-unread_word : (text : List ℕ) (row : Row) → (HasWord (directives.parts_of text) → ⊥) → IsRow (directives.parts_of text) row → ⊥
-unread_word text row n is = n (has_word (directives.parts_of text) row is)
+unread_word : (text : List ℕ) (row : Row) → (HasWord files.Language text → ⊥) → IsRow files.Language text row → ⊥
+unread_word text row n is = n (has_word files.Language text row is)
 
 -- the main line may stand there, so another row of it may too
-may_stand : (s : State) (text : List ℕ) (row : Row) (m : MainLine) → IsRow (directives.parts_of text) row → (MayStand s row → ⊥) → IsRow (directives.parts_of text) (Main m) → MayStand s (Main m) → ⊥
-may_stand s text row m is n main stands = n (same_stands s.stage s.declared.mains (Main m) row (same_row (directives.parts_of text) (Main m) row main is) stands)
+may_stand : (s : State) (text : List ℕ) (row : Row) (m : MainLine) → IsRow files.Language text row → (MayStand s row → ⊥) → IsRow files.Language text (Main m) → MayStand s (Main m) → ⊥
+may_stand s text row m is n main stands = n (same_stands s.stage s.declared.mains (Main m) row (same_row files.Language text (Main m) row main is) stands)
 
 -- a line is bad in one way
 one_kind : (known : Declared) (name : List ℕ) (s : State) (text : List ℕ) (k l : Kind) → IsBad known name s text k → IsBad known name s text l → k ≡ l

@@ -6,7 +6,7 @@ use Rattle.sx_lines.specs.Lines.{Lines, over, line, lines_from, ends_here}
 use Rattle.sx_lines.specs.Lines as lines
 use Rattle.sx_directives.specs.Parts.{parts_of, begun, with_byte}
 use Rattle.sx_directives.specs.declared.row.Row.{Row}
-use Rattle.sx_directives.specs.declared.row.Row.TheVariants.{Language, Sort, Prod, Var, Form, Main, Rule, Bar, End}
+use Rattle.sx_directives.specs.declared.row.Row.TheVariants.{Sort, Prod, Var, Form, Main, Rule, End}
 use Rattle.sx_lines.specs.declared.kind.Kind.{Kind}
 use Rattle.sx_outline.specs.declared.outline_error.OutlineError.{OutlineError}
 use Rattle.sx_outline.specs.declared.outline_error.OutlineError.TheVariants.{Notation}
@@ -44,15 +44,14 @@ ended_declared (at_end r) d rules s e = e
 
 -- what is declared after a row
 pub after_declared : (s : State) (n : ℕ) (row : Row) → (after s n row).declared ≡ declare s.declared row
-after_declared s n (Language name) = refl
 after_declared s n (Sort x) = refl
 after_declared s n (Prod p) = refl
 after_declared s n (Var v) = refl
 after_declared s n (Form f) = refl
 after_declared s n (Main m) = refl
 after_declared s n (Rule name) = refl
-after_declared s n Bar = refl
 after_declared s n End = ended_declared s.stage s.declared s.rules s refl
+after_declared s n _ = refl
 
 -- ---- the bytes of lines
 

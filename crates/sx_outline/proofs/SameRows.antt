@@ -1,17 +1,20 @@
 -- A line spells one row.
-use Rattle.std.proofs.Common.{◌≡◌, ℕ, Bool, true, false, List, [], ◌∷◌, get_or, Option, Some, None, refl, sym, ap, subst, ◌∙◌, arith}
+use Rattle.std.proofs.Common.{◌≡◌, ℕ, ◌+◌, ◌*◌, Bool, true, false, List, [], ◌∷◌, get_or, Option, Some, None, refl, sym, ap, subst, ◌∙◌, arith}
 use Rattle.std.specs.Prelude.{codes}
 use Rattle.sx_lines.specs.Words.{number_within}
 use Rattle.sx_grammar.specs.Parts.{Line, line}
 use Rattle.sx_grammar.specs.declared.sort_line.SortLine.{SortLine}
-use Rattle.sx_directives.specs.Spelling.{Spells, SpellsForm, EachSpelled}
-use Rattle.sx_directives.specs.Rows.{IsRow, IsNameRow, IsSortRow, IsProdRow, IsVarRow, IsFormRow, IsMainRow, AreBrackets, Follows, keyword_text, kind_text, word_of}
+use Rattle.sx_directives.specs.Spelling.{IsVariable, Spells, SpellsForm, EachSpelled}
+use Rattle.sx_directives.specs.Rows.{IsRow, IsNameRow, IsSortRow, IsProdRow, IsVarRow, IsFormRow, IsMainRow, IsModuleRow, IsPlainRow, AreBrackets, Follows, keyword_text, kind_text, word_of}
 use Rattle.sx_directives.specs.declared.rows.VarLine.{VarLine}
 use Rattle.sx_directives.specs.declared.rows.FormLine.{FormLine}
 use Rattle.sx_directives.specs.declared.rows.MainLine.{MainLine}
+use Rattle.sx_directives.specs.declared.rows.PlainLine.{PlainLine}
+use Rattle.sx_directives.specs.declared.file_kind.FileKind.{FileKind}
 use Rattle.sx_directives.specs.declared.row.Row.{Row}
-use Rattle.sx_directives.specs.declared.row.Row.TheVariants.{Language, Sort, Prod, Var, Form, Main, Rule, Bar, End}
+use Rattle.sx_directives.specs.declared.row.Row.TheVariants.{Language, Sort, Prod, Var, Form, Main, Rule, Bar, End, Extension, Use, Plain, To}
 use Rattle.sx_outline.specs.Declarations.{FormData, form}
+use Rattle.sx_directives.proofs.BodyLaws.{one_body}
 use Rattle.sx_outline.proofs.SpelledOnce.{one_quoted, one_symbol, one_form_symbol, each_same}
 
 -- the rows state the same
@@ -25,6 +28,10 @@ SameRow (Main m) (Main n) = m ≡ n
 SameRow (Rule n) (Rule m) = n ≡ m
 SameRow Bar Bar = Unit {0}
 SameRow End End = Unit {0}
+SameRow (Extension n) (Extension m) = n ≡ m
+SameRow (Use n) (Use m) = n ≡ m
+SameRow (Plain p) (Plain q) = (p.label ≡ q.label) × (p.names.items ≡ q.names.items)
+SameRow (To n) (To m) = n ≡ m
 SameRow _ _ = ⊥
 
 -- ---- words
@@ -34,10 +41,6 @@ tail_same a b x y e = cc
 
 head_same : (a b : List ℕ) (x y : List (List ℕ)) → a ∷ x ≡ b ∷ y → a ≡ b
 head_same a b x y e = cc
-
--- the first byte of a row's word, which tells the word
-abbrev told : Row → ℕ
-told r = get_or (keyword_text (word_of r)) 0 0
 
 -- ---- the parts after a word
 
@@ -128,25 +131,49 @@ same_main rest m n h k =
     let three : m.add ∷ [] ≡ n.add ∷ [] = tail_same m.empty n.empty (m.add ∷ []) (n.add ∷ []) two in
     main_is m n (head_same m.form n.form (m.empty ∷ m.add ∷ []) (n.empty ∷ n.add ∷ []) one) (head_same m.empty n.empty (m.add ∷ []) (n.add ∷ []) two) (head_same m.add n.add [] [] three)
 
+same_module : (rest : List (List ℕ)) (n m : List ℕ) → IsModuleRow rest n → IsModuleRow rest m → n ≡ m
+same_module rest n m h k = head_same n m [] [] (sym h.parts_are ∙ k.parts_are)
+
+-- a part is one variable
+one_variable : (part n m : List ℕ) → IsVariable part n → IsVariable part m → n ≡ m
+one_variable part n m h k = sym h.0.0 ∙ k.0.0
+
+same_plain : (rest : List (List ℕ)) (p q : PlainLine) → IsPlainRow rest p → IsPlainRow rest q → (p.label ≡ q.label) × (p.names.items ≡ q.names.items)
+same_plain rest p q h k =
+    let all : p.label ∷ h.names ≡ q.label ∷ k.names = sym h.parts_are ∙ k.parts_are in
+    let names : h.names ≡ k.names = tail_same p.label q.label h.names k.names all in
+    (
+      head_same p.label q.label h.names k.names all,
+      each_same IsVariable one_variable h.names p.names.items q.names.items h.names_are (subst (λ (z : List (List ℕ)). EachSpelled IsVariable z q.names.items) (sym names) k.names_are),
+    )
+
 -- ---- rows
 
--- rows of one word with the same parts state the same
-same_follows : (rest : List (List ℕ)) (r s : Row) → told r ≡ told s → Follows rest r → Follows rest s → SameRow r s
-same_follows rest (Language n) (Language m) e h k = same_name rest n m h k
-same_follows rest (Sort s) (Sort t) e h k = same_sort rest s t h k
-same_follows rest (Prod p) (Prod q) e h k = same_prod rest (line p) (line q) h k
-same_follows rest (Var v) (Var w) e h k = same_var rest v w h k
-same_follows rest (Form f) (Form g) e h k = same_form rest f g h k
-same_follows rest (Main m) (Main n) e h k = same_main rest m n h k
-same_follows rest (Rule n) (Rule m) e h k = same_name rest n m h k
-same_follows rest Bar Bar e h k = tt
-same_follows rest End End e h k = tt
-same_follows rest r s e h k = absurd (omega (arith, e))
+-- the first two bytes of a row's word, which tell the word
+abbrev told : Row → ℕ
+told r = get_or (keyword_text (word_of r)) 0 0 * 256 + get_or (keyword_text (word_of r)) 1 0
 
--- two rows of the same parts state the same
-pub same_row : (parts : List (List ℕ)) (r s : Row) → IsRow parts r → IsRow parts s → SameRow r s
-same_row parts r s h k =
+-- rows of one line with one word state the same
+same_follows : (text : List ℕ) (rest : List (List ℕ)) (r s : Row) → told r ≡ told s → Follows text rest r → Follows text rest s → SameRow r s
+same_follows text rest (Language n) (Language m) e h k = same_name rest n m h k
+same_follows text rest (Sort s) (Sort t) e h k = same_sort rest s t h k
+same_follows text rest (Prod p) (Prod q) e h k = same_prod rest (line p) (line q) h k
+same_follows text rest (Var v) (Var w) e h k = same_var rest v w h k
+same_follows text rest (Form f) (Form g) e h k = same_form rest f g h k
+same_follows text rest (Main m) (Main n) e h k = same_main rest m n h k
+same_follows text rest (Rule n) (Rule m) e h k = same_name rest n m h k
+same_follows text rest Bar Bar e h k = tt
+same_follows text rest End End e h k = tt
+same_follows text rest (Extension n) (Extension m) e h k = same_module rest n m h k
+same_follows text rest (Use n) (Use m) e h k = same_module rest n m h k
+same_follows text rest (Plain p) (Plain q) e h k = same_plain rest p q h k
+same_follows text rest (To n) (To m) e h k = one_body text n m h.0 k.0
+same_follows text rest r s e h k = absurd (omega (arith, e))
+
+-- two rows of the same line state the same
+pub same_row : (kind : FileKind) (text : List ℕ) (r s : Row) → IsRow kind text r → IsRow kind text s → SameRow r s
+same_row kind text r s h k =
     let all : keyword_text (word_of r) ∷ h.rest ≡ keyword_text (word_of s) ∷ k.rest = sym h.parts_are ∙ k.parts_are in
     let same : keyword_text (word_of r) ≡ keyword_text (word_of s) = head_same (keyword_text (word_of r)) (keyword_text (word_of s)) h.rest k.rest all in
     let rest : h.rest ≡ k.rest = tail_same (keyword_text (word_of r)) (keyword_text (word_of s)) h.rest k.rest all in
-    same_follows h.rest r s (ap (λ (t : List ℕ). get_or t 0 0) same) h.follows (subst (λ (z : List (List ℕ)). Follows z s) (sym rest) k.follows)
+    same_follows text h.rest r s (ap (λ (t : List ℕ). get_or t 0 0 * 256 + get_or t 1 0) same) h.follows (subst (λ (z : List (List ℕ)). Follows text z s) (sym rest) k.follows)

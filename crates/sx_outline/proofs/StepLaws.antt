@@ -2,6 +2,8 @@
 use Rattle.std.proofs.Common.{◌≡◌, ℕ, Bool, IsTrue, ◌↔◌, List, [], ◌∷◌, length, take, Option, Some, None, Result, Ok, Err, refl, sym, ap, subst, ◌∙◌, inl, inr}
 use Rattle.std.specs.Prelude.{codes}
 use Rattle.std.proofs.Math.Seq.{take-append_seam}
+use Rattle.sx_directives.specs.declared.file_kind.FileKind.{FileKind}
+use Rattle.sx_directives.specs.declared.file_kind.FileKind.TheVariants as files
 use Rattle.sx_directives.specs.Parts.{parts_of}
 use Rattle.sx_directives.specs.Rows.{IsRow, IsRowRead, HasWord}
 use Rattle.sx_directives.specs.declared.row.Row.{Row}
@@ -23,26 +25,27 @@ use Rattle.sx_outline.proofs.SameRows.{same_row}
 use Rattle.sx_outline.proofs.SameLaws.{has_word, same_fits}
 
 -- the line that is just `---` spells a row
-pub bar_row : (parts : List (List ℕ)) → parts ≡ codes "---" ∷ [] → IsRow parts Bar
-bar_row parts e = record { rest = []; parts_are = e; follows = refl }
+pub bar_row : (kind : FileKind) (text : List ℕ) → parts_of text ≡ codes "---" ∷ [] → IsRow kind text Bar
+bar_row files.Language text e = record { rest = []; parts_are = e; word = refl; follows = refl }
+bar_row files.Extension text e = record { rest = []; parts_are = e; word = refl; follows = refl }
 
-pub bar_word : (parts : List (List ℕ)) → parts ≡ codes "---" ∷ [] → HasWord parts
-bar_word parts e = has_word parts Bar (bar_row parts e)
+pub bar_word : (kind : FileKind) (text : List ℕ) → parts_of text ≡ codes "---" ∷ [] → HasWord kind text
+bar_word kind text e = has_word kind text Bar (bar_row kind text e)
 
 -- a first line that spells another row, or none
-pub other_head : (name : List ℕ) (number : ℕ) (text : List ℕ) (e : OutlineError) → e ≡ Notation number Head → (IsRow (parts_of text) (Language name) → ⊥) → IsHeadRefused name number text e
+pub other_head : (name : List ℕ) (number : ℕ) (text : List ℕ) (e : OutlineError) → e ≡ Notation number Head → (IsRow files.Language text (Language name) → ⊥) → IsHeadRefused name number text e
 other_head name number text e is n = subst (IsHeadRefused name number text) (sym is) (refl, n)
 
 -- ---- what was read
 
-pub row_in : (parts : List (List ℕ)) (o : Option Row) (row : Row) → o ≡ Some row → IsRowRead parts (Ok o) → IsRow parts row
-row_in parts o row e h = subst (λ x. IsRowRead parts (Ok x)) e h
+pub row_in : (kind : FileKind) (text : List ℕ) (o : Option Row) (row : Row) → o ≡ Some row → IsRowRead kind text (Ok o) → IsRow kind text row
+row_in kind text o row e h = subst (λ x. IsRowRead kind text (Ok x)) e h
 
-pub none_in : (parts : List (List ℕ)) (o : Option Row) → o ≡ None → IsRowRead parts (Ok o) → HasWord parts → ⊥
-none_in parts o e h = subst (λ x. IsRowRead parts (Ok x)) e h
+pub none_in : (kind : FileKind) (text : List ℕ) (o : Option Row) → o ≡ None → IsRowRead kind text (Ok o) → HasWord kind text → ⊥
+none_in kind text o e h = subst (λ x. IsRowRead kind text (Ok x)) e h
 
-pub shape_in : (parts : List (List ℕ)) (e : RowError) → e ≡ BadRow → IsRowRead parts (Err e) → HasWord parts × ((row : Row) → IsRow parts row → ⊥)
-shape_in parts e is h = subst (λ x. IsRowRead parts (Err x)) is h
+pub shape_in : (kind : FileKind) (text : List ℕ) (e : RowError) → e ≡ BadRow → IsRowRead kind text (Err e) → HasWord kind text × ((row : Row) → IsRow kind text row → ⊥)
+shape_in kind text e is h = subst (λ x. IsRowRead kind text (Err x)) is h
 
 -- ---- lines where a row is due
 
@@ -58,19 +61,19 @@ due_of : (known : Declared) (r : Reader) (s : State) → IsDue (stage r.stage) �
 due_of known r s due is = subst IsDue is.stage_is due
 
 pub unfit_row : (known : Declared) (name : List ℕ) (r : Reader) (s : State) (number : ℕ) (text : List ℕ) (row : Row) (e : OutlineError) → e ≡ Notation number Shape
-    → IsDue (stage r.stage) → IsReader known r s → IsRow (parts_of text) row → (Fits known s.declared row → ⊥) → IsLineRefused known name s number text e
+    → IsDue (stage r.stage) → IsReader known r s → IsRow files.Language text row → (Fits known s.declared row → ⊥) → IsLineRefused known name s number text e
 unfit_row known name r s number text row e is due reader spelled n =
     subst (IsLineRefused known name s number text) (sym is) (
       refl,
       (
         due_of known r s due reader,
-        has_word (parts_of text) row spelled,
-        λ other spells fits. n (same_fits known s.declared other row (same_row (parts_of text) other row spells spelled) fits),
+        has_word files.Language text row spelled,
+        λ other spells fits. n (same_fits known s.declared other row (same_row files.Language text other row spells spelled) fits),
       ),
     )
 
 pub no_row : (known : Declared) (name : List ℕ) (r : Reader) (s : State) (number : ℕ) (text : List ℕ) (e : OutlineError) → e ≡ Notation number Shape
-    → IsDue (stage r.stage) → IsReader known r s → HasWord (parts_of text) × ((row : Row) → IsRow (parts_of text) row → ⊥) → IsLineRefused known name s number text e
+    → IsDue (stage r.stage) → IsReader known r s → HasWord files.Language text × ((row : Row) → IsRow files.Language text row → ⊥) → IsLineRefused known name s number text e
 no_row known name r s number text e is due reader n =
     subst (IsLineRefused known name s number text) (sym is)
     (refl, (due_of known r s due reader, n.0, λ row spells fits. n.1 row spells))
@@ -83,19 +86,19 @@ due_steps (at_premises b) known name s number text t due h = absurd due
 due_steps (at_conclusion b) known name s number text t due h = absurd due
 due_steps (at_end r) known name s number text t due h = h
 
-row_refused : (known : Declared) (name : List ℕ) (s : State) (number : ℕ) (text : List ℕ) (row : Row) (e : OutlineError) → IsDue s.stage → IsRow (parts_of text) row → Fits known s.declared row
+row_refused : (known : Declared) (name : List ℕ) (s : State) (number : ℕ) (text : List ℕ) (row : Row) (e : OutlineError) → IsDue s.stage → IsRow files.Language text row → Fits known s.declared row
     → IsRowRefused known s number row e → IsLineRefused known name s number text e
 row_refused known name s number text row Memory due spelled fits h = tt
 row_refused known name s number text row (NotUtf8 place) due spelled fits h = absurd h
 row_refused known name s number text row (Notation l Order) due spelled fits h = (h.0, (due, row, spelled, fits, h.1))
-row_refused known name s number text row (Notation l NoMain) due spelled fits h = (h.0, (due, h.1, subst (IsRow (parts_of text)) h.2 spelled, subst (λ x. MayStand s x) h.2 h.3, h.4))
+row_refused known name s number text row (Notation l NoMain) due spelled fits h = (h.0, (due, h.1, subst (IsRow files.Language text) h.2 spelled, subst (λ x. MayStand s x) h.2 h.3, h.4))
 row_refused known name s number text row (Notation l Head) due spelled fits h = absurd h
 row_refused known name s number text row (Notation l Directive) due spelled fits h = absurd h
 row_refused known name s number text row (Notation l Shape) due spelled fits h = absurd h
 row_refused known name s number text row (Notation l Unfinished) due spelled fits h = absurd h
 row_refused known name s number text row (Notation l Variable) due spelled fits h = absurd h
 
-pub row_taken : (known : Declared) (name : List ℕ) (r : Reader) (number : ℕ) (text : List ℕ) (row : Row) (result : Result Reader OutlineError) → IsDue (stage r.stage) → IsRow (parts_of text) row
+pub row_taken : (known : Declared) (name : List ℕ) (r : Reader) (number : ℕ) (text : List ℕ) (row : Row) (result : Result Reader OutlineError) → IsDue (stage r.stage) → IsRow files.Language text row
     → ((s : State) → IsReader known r s → IsFront s.declared known → Fits known s.declared row) → IsRowTaken known r number row result → IsLineRead known name r number text result
 row_taken known name r number text row (Ok next) due spelled fits taken = λ s reader front.
     let h = taken s reader in (
@@ -126,7 +129,7 @@ steps_at : (known : Declared) (name : List ℕ) (r : Reader) (s : State) (at : S
     → StepsAt at known name s number text t → StepsAt s.stage known name s number text t
 steps_at known name r s at number text t e reader h = subst (λ x. StepsAt x known name s number text t) (sym e ∙ reader.stage_is) h
 
-pub started : (known : Declared) (name : List ℕ) (r : Reader) (s : State) (number : ℕ) (text : List ℕ) (next : StageOf) → r.stage ≡ stages.Start → IsRow (parts_of text) (Language name) → next ≡ stages.Declarations
+pub started : (known : Declared) (name : List ℕ) (r : Reader) (s : State) (number : ℕ) (text : List ℕ) (next : StageOf) → r.stage ≡ stages.Start → IsRow files.Language text (Language name) → next ≡ stages.Declarations
     → IsReader known r s → (t : State) × StepsAt s.stage known name s number text t × IsReader known (with_stage r next) t
 started known name r s number text next is head e reader = (
   to s at_declarations,

@@ -10,13 +10,15 @@ use Rattle.sx_grammar.specs.Tables.{HasGoodLevels}
 use Rattle.sx_grammar.specs.declared.sort_line.SortLine.{SortLine}
 use Rattle.sx_grammar.specs.declared.symbol.Symbol.{Symbol}
 use Rattle.sx_grammar.specs.declared.symbol.Symbol.TheVariants.{Lit, Lex, Part}
+use Rattle.sx_directives.specs.Parts as directives
 use Rattle.sx_directives.specs.Spelling.{IsName, Spells, SpellsSort, SpellsForm, EachSpelled}
 use Rattle.sx_directives.specs.Rows.{IsRow, IsSortRow, IsProdRow, AreBrackets}
 use Rattle.sx_directives.specs.declared.spelled.SpelledSort.TheVariants.{Lex as Lexical, Named}
 use Rattle.sx_directives.specs.declared.spelled.FormSymbol.{FormSymbol}
 use Rattle.sx_directives.specs.declared.spelled.FormSymbol.TheVariants.{Lit as FormLit, Place}
+use Rattle.sx_directives.specs.declared.file_kind.FileKind.{FileKind}
 use Rattle.sx_directives.specs.declared.row.Row.{Row}
-use Rattle.sx_directives.specs.declared.row.Row.TheVariants.{Language, Sort, Prod, Var, Form, Main, Rule, Bar, End}
+use Rattle.sx_directives.specs.declared.row.Row.TheVariants.{Sort, Prod, Var, Form, Main}
 use Rattle.sx_outline.specs.Declarations.{Declared, FormData, form, declare, parts_of}
 use Rattle.sx_outline.specs.Sized.{HaveGoodLevels, HasName}
 
@@ -125,33 +127,30 @@ form_weighs d parts f symbols are h =
     omega arith
 
 -- a row declares no more than it has parts
-pub row_weighs : (d : Declared) (parts : List (List ℕ)) (row : Row) → IsRow parts row → weight (declare d row) ≤ weight d + length parts
-row_weighs d parts (Language name) h = omega arith
-row_weighs d parts (Sort s) h =
-    let e : length parts ≡ suc (length h.rest) = ap length h.parts_are in
+pub row_weighs : (kind : FileKind) (d : Declared) (text : List ℕ) (row : Row) → IsRow kind text row → weight (declare d row) ≤ weight d + length (directives.parts_of text)
+row_weighs kind d text (Sort s) h =
+    let e : length (directives.parts_of text) ≡ suc (length h.rest) = ap length h.parts_are in
     let k = sort_weighs d h.rest s h.follows in
     omega arith
-row_weighs d parts (Prod p) h =
-    let e : length parts ≡ suc (length h.rest) = ap length h.parts_are in
+row_weighs kind d text (Prod p) h =
+    let e : length (directives.parts_of text) ≡ suc (length h.rest) = ap length h.parts_are in
     let k = prod_weighs d h.rest (line p) h.follows in
     omega arith
-row_weighs d parts (Var v) h =
-    let e : length parts ≡ suc (length h.rest) = ap length h.parts_are in
+row_weighs kind d text (Var v) h =
+    let e : length (directives.parts_of text) ≡ suc (length h.rest) = ap length h.parts_are in
     let a = pushed d.vars v in
     let w = weight_is d in
     let x = weight_is (declare d (Var v)) in
     omega arith
-row_weighs d parts (Form f) h =
-    let e : length parts ≡ suc (length h.rest) = ap length h.parts_are in
+row_weighs kind d text (Form f) h =
+    let e : length (directives.parts_of text) ≡ suc (length h.rest) = ap length h.parts_are in
     let k = form_weighs d h.rest (form f) h.follows.symbols h.follows.parts_are h.follows.symbols_are in
     omega arith
-row_weighs d parts (Main m) h =
+row_weighs kind d text (Main m) h =
     let w = weight_is d in
     let x = weight_is (declare d (Main m)) in
     omega arith
-row_weighs d parts (Rule name) h = omega arith
-row_weighs d parts Bar h = omega arith
-row_weighs d parts End h = omega arith
+row_weighs kind d text _ h = omega arith
 
 -- ---- levels
 
@@ -203,19 +202,16 @@ good_each R P f (p ∷ parts) (s ∷ symbols) h = (f p s h.0, good_each R P f pa
 good_line : (parts : List (List ℕ)) (p : Line) → IsProdRow parts p → IsGoodLine p
 good_line parts p h = (at_most h.level p.level h.level_is, good_each Spells IsGoodSymbol good_symbol h.symbols p.symbols h.symbols_are)
 
-pub row_good : (d : Declared) (parts : List (List ℕ)) (row : Row) → IsRow parts row → AreGood d → AreGood (declare d row)
-row_good d parts (Language name) h g = g
-row_good d parts (Sort s) h g = record { lines = g.lines; forms = g.forms }
-row_good d parts (Prod p) h g = record { lines = all_push IsGoodLine d.productions (line p) g.lines (good_line h.rest (line p) h.follows); forms = g.forms }
-row_good d parts (Var v) h g = record { lines = g.lines; forms = g.forms }
-row_good d parts (Form f) h g = record {
+pub row_good : (kind : FileKind) (d : Declared) (text : List ℕ) (row : Row) → IsRow kind text row → AreGood d → AreGood (declare d row)
+row_good kind d text (Sort s) h g = record { lines = g.lines; forms = g.forms }
+row_good kind d text (Prod p) h g = record { lines = all_push IsGoodLine d.productions (line p) g.lines (good_line h.rest (line p) h.follows); forms = g.forms }
+row_good kind d text (Var v) h g = record { lines = g.lines; forms = g.forms }
+row_good kind d text (Form f) h g = record {
   lines = g.lines;
   forms = all_push IsGoodForm d.forms (form f) g.forms (good_each SpellsForm IsGoodPlace good_place h.follows.symbols f.symbols.items h.follows.symbols_are);
 }
-row_good d parts (Main m) h g = record { lines = g.lines; forms = g.forms }
-row_good d parts (Rule name) h g = g
-row_good d parts Bar h g = g
-row_good d parts End h g = g
+row_good kind d text (Main m) h g = record { lines = g.lines; forms = g.forms }
+row_good kind d text _ h g = g
 
 pub good_levels : (d : Declared) → AreGood d → HasGoodLevels (parts_of d)
 good_levels d g = record {

@@ -7,7 +7,7 @@ use Rattle.sx_directives.specs.declared.rows.FormLine.{FormLine}
 use Rattle.sx_directives.specs.declared.rows.MainLine.{MainLine}
 use Rattle.sx_directives.specs.declared.spelled.FormSymbol.{FormSymbol}
 use Rattle.sx_directives.specs.declared.row.Row.{Row}
-use Rattle.sx_directives.specs.declared.row.Row.TheVariants.{Language, Sort, Prod, Var, Form, Main, Rule, Bar, End}
+use Rattle.sx_directives.specs.declared.row.Row.TheVariants.{Sort, Prod, Var, Form, Main}
 
 -- a form as plain data
 pub record FormData : Type 0 where
@@ -37,10 +37,7 @@ declare d (Prod p) = record { sorts = d.sorts; productions = d.productions ++ li
 declare d (Var v) = record { sorts = d.sorts; productions = d.productions; vars = d.vars ++ v ∷ []; forms = d.forms; mains = d.mains }
 declare d (Form f) = record { sorts = d.sorts; productions = d.productions; vars = d.vars; forms = d.forms ++ form f ∷ []; mains = d.mains }
 declare d (Main m) = record { sorts = d.sorts; productions = d.productions; vars = d.vars; forms = d.forms; mains = d.mains ++ m ∷ [] }
-declare d (Language name) = d
-declare d (Rule name) = d
-declare d Bar = d
-declare d End = d
+declare d _ = d
 
 -- the parts of the grammar
 abbrev pub parts_of : Declared → Parts

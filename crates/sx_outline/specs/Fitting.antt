@@ -18,7 +18,7 @@ use Rattle.sx_directives.specs.declared.spelled.FormSymbol.{FormSymbol}
 use Rattle.sx_directives.specs.declared.spelled.FormSymbol.TheVariants.{Lit as FormLit, Place}
 use Rattle.sx_directives.specs.declared.rows.MainLine.{MainLine}
 use Rattle.sx_directives.specs.declared.row.Row.{Row}
-use Rattle.sx_directives.specs.declared.row.Row.TheVariants.{Language, Sort, Prod, Var, Form, Main, Rule, Bar, End}
+use Rattle.sx_directives.specs.declared.row.Row.TheVariants.{Var, Form}
 use Rattle.sx_outline.specs.declared.main_form.MainForm.{MainForm}
 use Rattle.sx_outline.specs.Declarations.{Declared, FormData, parts_of}
 
@@ -71,16 +71,10 @@ HasOneSubject symbols = length (sorts_at Sub symbols) ≤ 1
 -- Among what the whole file declares, and after the lines before it, the row is as it should be. Names that stand twice are left to the
 -- grammar and to the rule set where these refuse them.
 abbrev pub Fits : (known before : Declared) → Row → Type 0
-Fits known before (Sort s) = Unit {0}
 Fits known before (Var v) = (Contains (stems before) v.stem → ⊥) × IsKnownSort known v.sort
 Fits known before (Form f) =
     (Contains (form_names before) f.name → ⊥) × AllByRecursion (SymbolFits known) f.symbols.items × HasOneSubject f.symbols.items
-Fits known before (Language name) = Unit {0}
-Fits known before (Prod p) = Unit {0}
-Fits known before (Main m) = Unit {0}
-Fits known before (Rule name) = Unit {0}
-Fits known before Bar = Unit {0}
-Fits known before End = Unit {0}
+Fits known before _ = Unit {0}
 
 -- what a part of a production is: a lexeme of a kind, or of a sort at any level
 pub data Kid : Type 0 where

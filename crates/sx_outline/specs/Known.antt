@@ -2,6 +2,7 @@
 use Rattle.std.specs.Prelude.{◌≡◌, ℕ, ◌⊎◌, Bool, true, List, [], ◌∷◌, codes, is_some, if◌then◌else◌}
 use Rattle.sx_lines.specs.Lines.{Lines, over, line}
 use Rattle.sx_lines.specs.Words.{after}
+use Rattle.sx_directives.specs.declared.file_kind.FileKind.TheVariants as files
 use Rattle.sx_directives.specs.Parts.{parts_of}
 use Rattle.sx_directives.specs.Rows.{IsRow}
 use Rattle.sx_directives.specs.declared.row.Row.{Row}
@@ -27,5 +28,5 @@ GoesOn d row all Next = Next (declare d row)
 abbrev pub Declares : Declared → Lines → Declared → Type 0
 Declares d (over n) all = all ≡ d
 Declares d (line n text after more) all =
-    ((row : Row) × IsRow (parts_of text) row × GoesOn d row all (λ next. Declares next more all))
-    ⊎ (((row : Row) → IsRow (parts_of text) row → ⊥) × Declares d more all)
+    ((row : Row) × IsRow files.Language text row × GoesOn d row all (λ next. Declares next more all))
+    ⊎ (((row : Row) → IsRow files.Language text row → ⊥) × Declares d more all)

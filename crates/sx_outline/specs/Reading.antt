@@ -1,7 +1,7 @@
 -- The reader of a language file and the state that it stands for.
 use Rattle.std.specs.Prelude.{◌≡◌, ℕ, ◌+◌, ◌≤◌, ◌<◌, ◌^◌, ◌⊎◌, List, [], ◌∷◌, ◌++◌, map, length, Option, Some, None, Result, Ok, Err, MatchResult}
 use Rattle.sx_lines.specs.Lines.{Lines}
-use Rattle.sx_directives.specs.Parts.{parts_of}
+use Rattle.sx_directives.specs.declared.file_kind.FileKind.TheVariants as files
 use Rattle.sx_directives.specs.Rows.{IsRow}
 use Rattle.sx_directives.specs.declared.rows.MainLine.{MainLine}
 use Rattle.sx_directives.specs.declared.row.Row.{Row}
@@ -101,7 +101,7 @@ IsLineRead known name r number text result = (s : State) → IsReader known r s 
 abbrev pub IsHeadRefused : List ℕ → ℕ → List ℕ → OutlineError → Type 0
 IsHeadRefused name number text Memory = Unit {0}
 IsHeadRefused name number text (NotUtf8 place) = ⊥
-IsHeadRefused name number text (Notation l Head) = (l ≡ number) × (IsRow (parts_of text) (Language name) → ⊥)
+IsHeadRefused name number text (Notation l Head) = (l ≡ number) × (IsRow files.Language text (Language name) → ⊥)
 IsHeadRefused name number text (Notation l _) = ⊥
 
 -- a rule that has begun, after one more line

@@ -1,5 +1,6 @@
 -- The stages of the reading of a language file, and its steps.
 use Rattle.std.specs.Prelude.{◌≡◌, ℕ, ◌⊎◌, List, [], ◌∷◌, ◌++◌, map, codes}
+use Rattle.sx_directives.specs.declared.file_kind.FileKind.TheVariants as files
 use Rattle.sx_directives.specs.Parts.{parts_of}
 use Rattle.sx_directives.specs.Rows.{IsRow, HasWord}
 use Rattle.sx_directives.specs.declared.rows.MainLine.{MainLine}
@@ -89,7 +90,7 @@ HasMain known _ = Unit {0}
 
 -- the line spells the row, which fits and may stand there, and is of a main form where it is a main line
 pub record IsGoodRow (known : Declared) (s : State) (text : List ℕ) (row : Row) : Type 0 where
-  pub spelled : IsRow (parts_of text) row
+  pub spelled : IsRow files.Language text row
   pub fits : Fits known s.declared row
   pub stands : MayStand s row
   pub main : HasMain known row
@@ -127,7 +128,7 @@ StepsByRow known s number text t = (row : Row) × IsGoodRow known s text row × 
 
 -- at this stage the line with this number and text leads from one state to the other
 abbrev pub StepsAt : Stage → Declared → List ℕ → State → ℕ → List ℕ → State → Type 0
-StepsAt at_start known name s number text t = IsRow (parts_of text) (Language name) × (t ≡ at s at_declarations)
+StepsAt at_start known name s number text t = IsRow files.Language text (Language name) × (t ≡ at s at_declarations)
 StepsAt at_declarations known name s number text t = StepsByRow known s number text t
 StepsAt at_rules known name s number text t = StepsByRow known s number text t
 StepsAt (at_premises b) known name s number text t =
@@ -142,12 +143,12 @@ Steps known name s number text t = StepsAt s.stage known name s number text t
 
 -- what is bad about a line
 abbrev pub IsBad : (known : Declared) (name : List ℕ) (s : State) (text : List ℕ) → Kind → Type 0
-IsBad known name s text Head = (s.stage ≡ at_start) × (IsRow (parts_of text) (Language name) → ⊥)
-IsBad known name s text Directive = IsDue s.stage × (HasWord (parts_of text) → ⊥)
+IsBad known name s text Head = (s.stage ≡ at_start) × (IsRow files.Language text (Language name) → ⊥)
+IsBad known name s text Directive = IsDue s.stage × (HasWord files.Language text → ⊥)
 IsBad known name s text Shape =
-    IsDue s.stage × HasWord (parts_of text) × ((row : Row) → IsRow (parts_of text) row → Fits known s.declared row → ⊥)
-IsBad known name s text Order = IsDue s.stage × (row : Row) × IsRow (parts_of text) row × Fits known s.declared row × (MayStand s row → ⊥)
+    IsDue s.stage × HasWord files.Language text × ((row : Row) → IsRow files.Language text row → Fits known s.declared row → ⊥)
+IsBad known name s text Order = IsDue s.stage × (row : Row) × IsRow files.Language text row × Fits known s.declared row × (MayStand s row → ⊥)
 IsBad known name s text NoMain =
-    IsDue s.stage × (m : MainLine) × IsRow (parts_of text) (Main m) × MayStand s (Main m) × ((main : MainForm) → IsMainOf known m main → ⊥)
+    IsDue s.stage × (m : MainLine) × IsRow files.Language text (Main m) × MayStand s (Main m) × ((main : MainForm) → IsMainOf known m main → ⊥)
 IsBad known name s text Unfinished = ⊥
 IsBad known name s text Variable = ⊥

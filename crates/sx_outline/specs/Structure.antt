@@ -2,7 +2,7 @@
 use Rattle.std.specs.Prelude.{◌≡◌, ℕ, List, [], ◌∷◌, ◌++◌}
 use Rattle.std.specs.List.{AllByRecursion}
 use Rattle.sx_lines.specs.Lines.{Lines, over, line}
-use Rattle.sx_directives.specs.Parts.{parts_of}
+use Rattle.sx_directives.specs.declared.file_kind.FileKind.TheVariants as files
 use Rattle.sx_directives.specs.Rows.{IsRow}
 use Rattle.sx_directives.specs.declared.rows.MainLine.{MainLine}
 use Rattle.sx_directives.specs.declared.row.Row.{Row}
@@ -30,7 +30,7 @@ IsDeclaring _ = ⊥
 abbrev pub AreDeclarations : (known before : Declared) → List Numbered → Declared → Type 0
 AreDeclarations known before [] all = before ≡ all
 AreDeclarations known before (l ∷ lines) all =
-    (row : Row) × IsRow (parts_of l.text) row × IsDeclaring row × Fits known before row × AreDeclarations known (declare before row) lines all
+    (row : Row) × IsRow files.Language l.text row × IsDeclaring row × Fits known before row × AreDeclarations known (declare before row) lines all
 
 -- `rule NAME`, the premises, of which none is just `---`, then `---`, the conclusion, and `end`
 pub record AreRuleLines (lines : List Numbered) (r : RuleData) : Type 0 where
@@ -39,10 +39,10 @@ pub record AreRuleLines (lines : List Numbered) (r : RuleData) : Type 0 where
   pub last : Numbered
   pub lines_are : lines ≡ first ∷ r.premises ++ bar ∷ r.conclusion ∷ last ∷ []
   pub number : first.number ≡ r.number
-  pub begins : IsRow (parts_of first.text) (Rule r.name)
+  pub begins : IsRow files.Language first.text (Rule r.name)
   pub premises : AllByRecursion (λ l. IsBar l.text → ⊥) r.premises
   pub divides : IsBar bar.text
-  pub ends : IsRow (parts_of last.text) End
+  pub ends : IsRow files.Language last.text End
 
 -- the lines of one rule after the other
 abbrev pub AreRules : List Numbered → List RuleData → Type 0
@@ -55,7 +55,7 @@ pub record AreOutlineLines (name : List ℕ) (lines : List Numbered) (o : Outlin
   pub declarations : List Numbered
   pub rules : List Numbered
   pub lines_are : lines ≡ first ∷ declarations ++ rules
-  pub named : IsRow (parts_of first.text) (Language name)
+  pub named : IsRow files.Language first.text (Language name)
   pub main_line : MainLine
   pub declared : AreDeclarations (declared_by o main_line) nothing declarations (declared_by o main_line)
   pub main : IsMainOf (declared_by o main_line) main_line o.main

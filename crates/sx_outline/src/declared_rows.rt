@@ -47,6 +47,10 @@ impl DeclaredRows {
             Row::Rule(_name) => {}
             Row::Bar => {}
             Row::End => {}
+            Row::Extension(_name) => {}
+            Row::Use(_name) => {}
+            Row::Plain(_plain) => {}
+            Row::To(_body) => {}
         }
         Ok(())
     }

@@ -11,7 +11,7 @@ use crate::declared_rows::DeclaredRows;
 use crate::kept::next_kept_line;
 use crate::known::Known;
 use std::alloc::Global;
-use sx_directives::{Row, RowError, read_row};
+use sx_directives::{FileKind, Row, RowError, read_row};
 use sx_lines::Rest;
 use sx_term::NoMemory;
 
@@ -40,7 +40,7 @@ fn take_line(alloc: Global, rows: &mut DeclaredRows, text: &[u8]) -> Result<bool
     ensures taken { IfOk result (λ ends. TakesLine (declared_in rows.old) text.now ends (declared_in rows.new)) }
     ensures grows { OnOk result (Grows (declared_in rows.old) (declared_in rows.new)) }
 {
-    match read_row(alloc, text) {
+    match read_row(alloc, FileKind::Language, text) {
         Ok(Some(row)) => take_row(rows, row),
         Ok(None) => Ok(false),
         Err(RowError::Shape) => Ok(false),

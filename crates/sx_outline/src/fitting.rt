@@ -114,7 +114,11 @@ impl Known {
             | Row::Main(_)
             | Row::Rule(_)
             | Row::Bar
-            | Row::End => true,
+            | Row::End
+            | Row::Extension(_)
+            | Row::Use(_)
+            | Row::Plain(_)
+            | Row::To(_) => true,
         }
     }
 }

@@ -2,6 +2,7 @@
 
 ghost use Rattle.std.specs.Prelude.{◌≡◌, ◌↔◌, List, ℕ, IsTrue, IfOk, MatchResult};
 ghost use Rattle.std.specs.Str.{IsUtf8};
+ghost use Rattle.sx_directives.specs.declared.file_kind.FileKind.TheVariants as files;
 ghost use Rattle.sx_directives.specs.Parts.{parts_of};
 ghost use Rattle.sx_directives.specs.Rows.{IsRow};
 ghost use Rattle.sx_directives.specs.declared.row.Row.TheVariants as rows;
@@ -16,7 +17,7 @@ use crate::reader::Reader;
 use crate::rule_lines::{RuleLine, RuleLines};
 use crate::stage::{Begun, Stage};
 use std::alloc::Global;
-use sx_directives::{Row, RowError, read_row};
+use sx_directives::{FileKind, Row, RowError, read_row};
 use sx_lines::Kind;
 use sx_term::{NoMemory, Text, TextError};
 
@@ -47,7 +48,7 @@ fn is_bar_row(row: Row) -> bool
 fn is_bar(alloc: Global, text: &[u8]) -> Result<bool, NoMemory>
     ensures { IfOk result (λ b. IsTrue b ↔ IsBar text.now) }
 {
-    match read_row(alloc, text) {
+    match read_row(alloc, FileKind::Language, text) {
         Ok(Some(row)) => Ok(is_bar_row(row)),
         Ok(None) => Ok(false),
         Err(RowError::Shape) => Ok(false),
@@ -79,9 +80,9 @@ fn is_head(name: &Text, row: &Row) -> bool
 
 /// Reads the first line.
 fn first_line(alloc: Global, name: &Text, number: u32, text: &[u8]) -> Result<(), OutlineError>
-    ensures { MatchResult result (λ _. IsRow (parts_of text.now) (rows.Language name.now)) (λ e. IsHeadRefused name.now number text.now e) }
+    ensures { MatchResult result (λ _. IsRow files.Language text.now (rows.Language name.now)) (λ e. IsHeadRefused name.now number text.now e) }
 {
-    match read_row(alloc, text) {
+    match read_row(alloc, FileKind::Language, text) {
         Ok(Some(row)) => {
             let is_head = is_head(name, &row);
             drop(row);
@@ -176,7 +177,7 @@ fn row_line(
     ensures read { (name : List ℕ) → IsLineRead (view.known known.now) name reader number text.now result }
     ensures grows { IfOk result (GrowsByOne reader) }
 {
-    match read_row(alloc, text) {
+    match read_row(alloc, FileKind::Language, text) {
         Ok(Some(row)) => {
             if !known.fits(reader.forms, reader.vars, &row) {
                 drop(row);

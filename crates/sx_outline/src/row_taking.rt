@@ -219,6 +219,26 @@ impl Reader {
                 drop(self);
                 Err(out_of_order(number))
             }
+            Row::Extension(name) => {
+                drop(name);
+                drop(self);
+                Err(out_of_order(number))
+            }
+            Row::Use(name) => {
+                drop(name);
+                drop(self);
+                Err(out_of_order(number))
+            }
+            Row::Plain(plain) => {
+                drop(plain);
+                drop(self);
+                Err(out_of_order(number))
+            }
+            Row::To(body) => {
+                drop(body);
+                drop(self);
+                Err(out_of_order(number))
+            }
         }
     }
 }

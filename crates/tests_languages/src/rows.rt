@@ -1,10 +1,10 @@
-//! Lines of language files that are read, and lines that are refused.
+//! Lines of language and extension files that are read, and lines that are refused.
 
 use std::alloc::Global;
 use std::test::*;
 use sx_directives::{
-    Directive, FormLine, FormSymbol, Row, RowError, SpelledSort, lexical_kind, read_directive,
-    read_row,
+    Directive, FileKind, FormLine, FormSymbol, PlainLine, Row, RowError, SpelledSort, lexical_kind,
+    read_directive, read_row,
 };
 use sx_grammar::{Production, SortLine, Symbol};
 use sx_term::{LexKind, Role};
@@ -22,9 +22,9 @@ enum Told {
     Memory,
 }
 
-/// What comes of the line.
-fn reading(alloc: Global, line: &[u8]) -> Told {
-    let read = read_row(alloc, line);
+/// What comes of the line in a file of this kind.
+fn reading(alloc: Global, kind: FileKind, line: &[u8]) -> Told {
+    let read = read_row(alloc, kind, line);
     let answer = match &read {
         Ok(Some(_)) => Told::Row,
         Ok(None) => Told::NoRow,
@@ -35,19 +35,36 @@ fn reading(alloc: Global, line: &[u8]) -> Told {
     answer
 }
 
-/// Whether the line begins with a word of the table, and its parts are not as stated.
+/// Whether the line of a language file begins with a word of the table, and its parts are not as
+/// stated.
 fn is_bad(rt: &HostRuntime, line: &[u8]) -> bool {
-    reading(rt.alloc(), line) == Told::BadShape
+    reading(rt.alloc(), FileKind::Language, line) == Told::BadShape
 }
 
-/// Whether the line is read.
+/// Whether the line of a language file is read.
 fn is_row(rt: &HostRuntime, line: &[u8]) -> bool {
-    reading(rt.alloc(), line) == Told::Row
+    reading(rt.alloc(), FileKind::Language, line) == Told::Row
 }
 
-/// Whether the line begins with no word of the table.
+/// Whether the line of a language file begins with no word of the table.
 fn is_no_row(rt: &HostRuntime, line: &[u8]) -> bool {
-    reading(rt.alloc(), line) == Told::NoRow
+    reading(rt.alloc(), FileKind::Language, line) == Told::NoRow
+}
+
+/// Whether the line of an extension file begins with a word of the table, and its parts are not as
+/// stated.
+fn is_bad_in_extension(rt: &HostRuntime, line: &[u8]) -> bool {
+    reading(rt.alloc(), FileKind::Extension, line) == Told::BadShape
+}
+
+/// Whether the line of an extension file is read.
+fn is_row_in_extension(rt: &HostRuntime, line: &[u8]) -> bool {
+    reading(rt.alloc(), FileKind::Extension, line) == Told::Row
+}
+
+/// Whether the line of an extension file begins with no word of the table.
+fn is_no_row_in_extension(rt: &HostRuntime, line: &[u8]) -> bool {
+    reading(rt.alloc(), FileKind::Extension, line) == Told::NoRow
 }
 
 /// Whether the symbols are two parts with a literal, an identifier and one more part between them.
@@ -75,7 +92,7 @@ fn is_bind(p: &Production) -> bool {
 #[test]
 fn a_production(rt: HostRuntime) {
     let line = b"  prod bind  Env 10 : Env@10 \":\" id id@5 Ty\t\r".as_slice();
-    let read = read_row(rt.alloc(), line);
+    let read = read_row(rt.alloc(), FileKind::Language, line);
     let is_read = match &read {
         Ok(Some(Row::Prod(p))) => is_bind(p),
         _ => false,
@@ -96,7 +113,8 @@ fn is_in_brackets(s: &SortLine) -> bool {
 
 #[test]
 fn a_sort_with_brackets(rt: HostRuntime) {
-    let read = read_row(rt.alloc(), b"sort Exp typed \"(\" \")\"");
+    let line = b"sort Exp typed \"(\" \")\"".as_slice();
+    let read = read_row(rt.alloc(), FileKind::Language, line);
     let is_read = match &read {
         Ok(Some(Row::Sort(s))) => is_in_brackets(s),
         _ => false,
@@ -136,10 +154,8 @@ fn is_typing(form: &FormLine) -> bool {
 
 #[test]
 fn a_form(rt: HostRuntime) {
-    let read = read_row(
-        rt.alloc(),
-        b"form typing : in:Env \"|-\" sub:Exp@2 \":\" out:id",
-    );
+    let line = b"form typing : in:Env \"|-\" sub:Exp@2 \":\" out:id".as_slice();
+    let read = read_row(rt.alloc(), FileKind::Language, line);
     let is_read = match &read {
         Ok(Some(Row::Form(form))) => is_typing(form),
         _ => false,
@@ -159,8 +175,67 @@ fn other_rows(rt: HostRuntime) {
         is_no_row(&rt, b""),
         is_no_row(&rt, b"sorts Exp typed"),
         is_no_row(&rt, b"use Let"),
+        is_no_row(&rt, b"extension Let"),
+        is_no_row(&rt, b"plain let x e"),
+        is_no_row(&rt, b"to (~x)"),
     ];
-    assert_eq!(rt; hold, [true; 8]);
+    assert_eq!(rt; hold, [true; 11]);
+}
+
+#[test]
+fn rows_of_extensions(rt: HostRuntime) {
+    let hold = [
+        is_row_in_extension(&rt, b"extension Let"),
+        is_row_in_extension(&rt, b"language Lam-2"),
+        is_row_in_extension(&rt, b" use  Let\t"),
+        is_row_in_extension(&rt, b"prod let Exp 0 : id"),
+        is_row_in_extension(&rt, b"plain none"),
+        is_row_in_extension(&rt, b"to "),
+        is_no_row_in_extension(&rt, b"to"),
+        is_no_row_in_extension(&rt, b"sort Exp typed"),
+        is_no_row_in_extension(&rt, b"form f :"),
+        is_no_row_in_extension(&rt, b"main f a b"),
+        is_bad_in_extension(&rt, b"use Lam-2"),
+        is_bad_in_extension(&rt, b"use Let Let"),
+        is_bad_in_extension(&rt, b"extension Lam-2"),
+        is_bad_in_extension(&rt, b"plain"),
+        is_bad_in_extension(&rt, b"plain let 12"),
+    ];
+    assert_eq!(rt; hold, [true; 15]);
+}
+
+/// Whether it is a plain line for `let` with the variables `x` and `e1`.
+fn is_plain_let(plain: &PlainLine) -> bool {
+    match plain.names.as_slice() {
+        [first, second] => {
+            plain.label.bytes() == b"let".as_slice()
+                && first.bytes() == b"x".as_slice()
+                && second.bytes() == b"e1".as_slice()
+        }
+        _ => false,
+    }
+}
+
+#[test]
+fn a_plain_line(rt: HostRuntime) {
+    let read = read_row(rt.alloc(), FileKind::Extension, b"plain let x e1");
+    let is_read = match &read {
+        Ok(Some(Row::Plain(plain))) => is_plain_let(plain),
+        _ => false,
+    };
+    drop(read);
+    assert!(rt; is_read);
+}
+
+#[test]
+fn a_body(rt: HostRuntime) {
+    let read = read_row(rt.alloc(), FileKind::Extension, b"\tto  ~e // a");
+    let is_read = match &read {
+        Ok(Some(Row::To(body))) => body.bytes() == b"     ~e // a".as_slice(),
+        _ => false,
+    };
+    drop(read);
+    assert!(rt; is_read);
 }
 
 #[test]

@@ -4,7 +4,7 @@ use crate::refusals::read;
 use crate::samples::SUMS;
 use std::alloc::Global;
 use std::test::*;
-use sx_directives::{FormLine, Row, read_row};
+use sx_directives::{FileKind, FormLine, Row, read_row};
 use sx_grammar::{Grammar, GrammarParts};
 use sx_notation::{forms_of, rule_parts};
 use sx_rules::{Form, Place};
@@ -24,7 +24,7 @@ fn form_alone(alloc: Global, row: Row) -> Result<Vec<FormLine>, NoMemory> {
 
 /// The form that the line spells, alone.
 fn form_line(alloc: Global, line: &[u8]) -> Result<Vec<FormLine>, NoMemory> {
-    match read_row(alloc, line) {
+    match read_row(alloc, FileKind::Language, line) {
         Ok(Some(row)) => form_alone(alloc, row),
         Ok(None) => Err(NoMemory::Memory),
         Err(_) => Err(NoMemory::Memory),
