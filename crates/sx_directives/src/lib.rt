@@ -23,7 +23,7 @@ mod variables;
 
 pub use directive::Directive;
 pub use file_kind::FileKind;
-pub use parts::is_blank;
+pub use parts::{is_blank, next_part};
 pub use reading::{read_directive, read_row};
 pub use row::Row;
 pub use row_error::RowError;

@@ -39,7 +39,7 @@ fn part_len(text: &[u8]) -> usize
 }
 
 /// The first part of a text, and what is left after it.
-fn next_part(text: &[u8]) -> Option<(&[u8], &[u8])>
+pub fn next_part(text: &[u8]) -> Option<(&[u8], &[u8])>
     ensures parts { MatchOption result (parts_of text.now ≡ []) (λ x. parts_of text.now ≡ x.0.now ∷ parts_of x.1.now) }
     ensures shorter { IfSome result (λ x. length x.1.now < length text.now) }
 {

@@ -17,3 +17,5 @@ pub mod LeftLines
 pub mod LinesLaws
 pub mod LinesOutlined
 pub mod OneOutline
+mod HeaderLaws
+mod OneHeader

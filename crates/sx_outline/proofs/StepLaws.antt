@@ -19,7 +19,7 @@ use Rattle.sx_outline.specs.declared.stage.Stage.{Stage as StageOf}
 use Rattle.sx_outline.specs.declared.stage.Stage.TheVariants as stages
 use Rattle.sx_outline.specs.Declarations.{Declared}
 use Rattle.sx_outline.specs.Fitting.{Fits}
-use Rattle.sx_outline.specs.Stages.{Stage, at_start, at_declarations, at_rules, at_premises, at_conclusion, at_end, concluded, State, MayStand, IsDue, StepsAt, StepsByRow, with_premise, after, at as to}
+use Rattle.sx_outline.specs.Stages.{Stage, at_start, at_declarations, at_rules, at_premises, at_conclusion, at_end, concluded, head_row, State, MayStand, IsDue, StepsAt, StepsByRow, with_premise, after, at as to}
 use Rattle.sx_outline.specs.Reading.{stage, begun, IsReader, IsMainRead, IsFront, IsRowRefused, IsRowTaken, IsLineRefused, IsLineRead, IsHeadRefused, AddsPremise}
 use Rattle.sx_outline.proofs.SameRows.{same_row}
 use Rattle.sx_outline.proofs.SameLaws.{has_word, same_fits}
@@ -33,8 +33,8 @@ pub bar_word : (kind : FileKind) (text : List ℕ) → parts_of text ≡ codes "
 bar_word kind text e = has_word kind text Bar (bar_row kind text e)
 
 -- a first line that spells another row, or none
-pub other_head : (name : List ℕ) (number : ℕ) (text : List ℕ) (e : OutlineError) → e ≡ Notation number Head → (IsRow files.Language text (Language name) → ⊥) → IsHeadRefused name number text e
-other_head name number text e is n = subst (IsHeadRefused name number text) (sym is) (refl, n)
+pub other_head : (kind : FileKind) (name : List ℕ) (number : ℕ) (text : List ℕ) (e : OutlineError) → e ≡ Notation number Head → (IsRow kind text (head_row kind name) → ⊥) → IsHeadRefused kind name number text e
+other_head kind name number text e is n = subst (IsHeadRefused kind name number text) (sym is) (refl, n)
 
 -- ---- what was read
 

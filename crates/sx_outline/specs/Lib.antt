@@ -8,5 +8,7 @@ pub mod Stages
 pub mod Outlined
 pub mod Sized
 pub mod Reading
+pub mod Headers
+pub mod HeaderReading
 pub mod Structure
 pub mod Laws

@@ -1,11 +1,11 @@
 -- The reader of a language file and the state that it stands for.
 use Rattle.std.specs.Prelude.{◌≡◌, ℕ, ◌+◌, ◌≤◌, ◌<◌, ◌^◌, ◌⊎◌, List, [], ◌∷◌, ◌++◌, map, length, Option, Some, None, Result, Ok, Err, MatchResult}
 use Rattle.sx_lines.specs.Lines.{Lines}
-use Rattle.sx_directives.specs.declared.file_kind.FileKind.TheVariants as files
+use Rattle.sx_directives.specs.declared.file_kind.FileKind.{FileKind}
 use Rattle.sx_directives.specs.Rows.{IsRow}
 use Rattle.sx_directives.specs.declared.rows.MainLine.{MainLine}
 use Rattle.sx_directives.specs.declared.row.Row.{Row}
-use Rattle.sx_directives.specs.declared.row.Row.TheVariants.{Language, Sort, Prod, Var, Form, Main}
+use Rattle.sx_directives.specs.declared.row.Row.TheVariants.{Sort, Prod, Var, Form, Main}
 use Rattle.sx_lines.specs.declared.kind.Kind.TheVariants.{Head, Order, Main as NoMain}
 use Rattle.sx_outline.specs.declared.main_form.MainForm.{MainForm}
 use Rattle.sx_outline.specs.declared.outline.Outline.{Outline}
@@ -18,7 +18,7 @@ use Rattle.sx_outline.specs.declared.reader.Reader.{Reader}
 use Rattle.sx_outline.specs.Declarations.{Declared}
 use Rattle.sx_outline.specs.Fitting.{IsMainOf}
 use Rattle.sx_outline.specs.Known.{Declares}
-use Rattle.sx_outline.specs.Stages.{numbered, rule_data, Begun, Stage, at_start, at_declarations, at_rules, at_premises, at_conclusion, at_end, State, start, MayStand, HasMain, Steps, IsBad, IsBar, with_premise, after}
+use Rattle.sx_outline.specs.Stages.{numbered, rule_data, Begun, Stage, at_start, at_declarations, at_rules, at_premises, at_conclusion, at_end, head_row, State, start, MayStand, HasMain, Steps, IsBad, IsBar, with_premise, after}
 use Rattle.sx_outline.specs.Outlined.{outline, IsEnd, IsOutcome}
 
 -- a rule that has begun, as plain data
@@ -98,11 +98,11 @@ IsLineRead known name r number text result = (s : State) → IsReader known r s 
     MatchResult result (λ next. (t : State) × Steps known name s number text t × IsReader known next t) (λ e. IsLineRefused known name s number text e)
 
 -- what is bad about a first line
-abbrev pub IsHeadRefused : List ℕ → ℕ → List ℕ → OutlineError → Type 0
-IsHeadRefused name number text Memory = Unit {0}
-IsHeadRefused name number text (NotUtf8 place) = ⊥
-IsHeadRefused name number text (Notation l Head) = (l ≡ number) × (IsRow files.Language text (Language name) → ⊥)
-IsHeadRefused name number text (Notation l _) = ⊥
+abbrev pub IsHeadRefused : FileKind → List ℕ → ℕ → List ℕ → OutlineError → Type 0
+IsHeadRefused kind name number text Memory = Unit {0}
+IsHeadRefused kind name number text (NotUtf8 place) = ⊥
+IsHeadRefused kind name number text (Notation l Head) = (l ≡ number) × (IsRow kind text (head_row kind name) → ⊥)
+IsHeadRefused kind name number text (Notation l _) = ⊥
 
 -- a rule that has begun, after one more line
 abbrev pub AddsPremise : Begun → ℕ → List ℕ → Stage → Type 0

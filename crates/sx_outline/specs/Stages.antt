@@ -1,11 +1,12 @@
 -- The stages of the reading of a language file, and its steps.
 use Rattle.std.specs.Prelude.{◌≡◌, ℕ, ◌⊎◌, List, [], ◌∷◌, ◌++◌, map, codes}
+use Rattle.sx_directives.specs.declared.file_kind.FileKind.{FileKind}
 use Rattle.sx_directives.specs.declared.file_kind.FileKind.TheVariants as files
 use Rattle.sx_directives.specs.Parts.{parts_of}
 use Rattle.sx_directives.specs.Rows.{IsRow, HasWord}
 use Rattle.sx_directives.specs.declared.rows.MainLine.{MainLine}
 use Rattle.sx_directives.specs.declared.row.Row.{Row}
-use Rattle.sx_directives.specs.declared.row.Row.TheVariants.{Language, Sort, Prod, Var, Form, Main, Rule, End}
+use Rattle.sx_directives.specs.declared.row.Row.TheVariants.{Language, Sort, Prod, Var, Form, Main, Rule, End, Extension}
 use Rattle.sx_lines.specs.declared.kind.Kind.{Kind}
 use Rattle.sx_lines.specs.declared.kind.Kind.TheVariants.{Head, Directive, Shape, Order, Unfinished, Main as NoMain, Variable}
 use Rattle.sx_outline.specs.declared.main_form.MainForm.{MainForm}
@@ -49,6 +50,11 @@ pub data Stage : Type 0 where
   at_premises : Begun → Stage
   at_conclusion : Begun → Stage
   at_end : RuleData → Stage
+
+-- the first row of the file of this kind with this name
+abbrev pub head_row : FileKind → List ℕ → Row
+head_row files.Language name = Language name
+head_row files.Extension name = Extension name
 
 -- what has been read: where the reading stands, what was declared, and the rules
 pub record State : Type 0 where

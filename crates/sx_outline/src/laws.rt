@@ -1,6 +1,6 @@
-//! What holds of language files.
+//! What holds of language and extension files.
 
-ghost use Rattle.sx_outline.specs.Laws.{OutlinesHaveLines, LinesHaveOutlines, OneOutlineAnswer};
+ghost use Rattle.sx_outline.specs.Laws.{OutlinesHaveLines, LinesHaveOutlines, OneHeaderAnswer, OneOutlineAnswer};
 
 /// The lines that a file with an outline keeps are the first line, those of the declarations, and those of the rules.
 pub fn outlines_have_lines()
@@ -15,4 +15,9 @@ pub fn lines_have_outlines()
 /// Two answers for the bytes of a language file agree, out of memory aside.
 pub fn one_outline_answer()
     ensures { OneOutlineAnswer }
+{}
+
+/// Two headers of the bytes of an extension file agree, out of memory aside.
+pub fn one_extension_header()
+    ensures { OneHeaderAnswer }
 {}

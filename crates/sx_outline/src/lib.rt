@@ -1,10 +1,15 @@
-//! Language files, read line by line without a grammar.
+//! Language files and the first lines of extension files, read line by line without a grammar.
 #![tactic(auto)]
 
 mod declared_rows;
+mod extension_header;
 mod finish;
 mod first_pass;
 mod fitting;
+mod head;
+mod header_lines;
+mod header_reading;
+mod header_uses;
 mod kept;
 mod kids;
 mod known;
@@ -20,10 +25,15 @@ mod reader;
 mod role_places;
 mod row_taking;
 mod rule_lines;
+mod spelled_row;
 mod stage;
 mod tables;
 
-pub use laws::{lines_have_outlines, one_outline_answer, outlines_have_lines};
+pub use extension_header::ExtensionHeader;
+pub use header_reading::read_extension_header;
+pub use laws::{
+    lines_have_outlines, one_extension_header, one_outline_answer, outlines_have_lines,
+};
 pub use main_form::MainForm;
 pub use outline::Outline;
 pub use outline_error::OutlineError;

@@ -1,20 +1,19 @@
 //! Reading the next line of a language file.
 
-ghost use Rattle.std.specs.Prelude.{◌≡◌, ◌↔◌, List, ℕ, IsTrue, IfOk, MatchResult};
+ghost use Rattle.std.specs.Prelude.{◌≡◌, ◌↔◌, List, ℕ, IsTrue, IfOk};
 ghost use Rattle.std.specs.Str.{IsUtf8};
-ghost use Rattle.sx_directives.specs.declared.file_kind.FileKind.TheVariants as files;
-ghost use Rattle.sx_directives.specs.Parts.{parts_of};
-ghost use Rattle.sx_directives.specs.Rows.{IsRow};
 ghost use Rattle.sx_directives.specs.declared.row.Row.TheVariants as rows;
 ghost use Rattle.sx_outline.specs.Declarations.{Declared};
 ghost use Rattle.sx_outline.specs.Stages.{IsDue, IsBar, at_end, at_premises, concluded, numbered, with_premise};
-ghost use Rattle.sx_outline.specs.Reading.{IsCounted, GrowsByOne, IsLineRead, IsHeadRefused, AddsPremise, begun as begun_of, stage as stage_of};
+ghost use Rattle.sx_outline.specs.Reading.{IsCounted, GrowsByOne, IsLineRead, AddsPremise, begun as begun_of, stage as stage_of};
 ghost use Rattle.sx_outline.specs.View as view;
 
+use crate::head::first_line;
 use crate::known::Known;
 use crate::outline_error::{OutlineError, bad_line};
 use crate::reader::Reader;
 use crate::rule_lines::{RuleLine, RuleLines};
+use crate::spelled_row::spelled_row;
 use crate::stage::{Begun, Stage};
 use std::alloc::Global;
 use sx_directives::{FileKind, Row, RowError, read_row};
@@ -48,11 +47,9 @@ fn is_bar_row(row: Row) -> bool
 fn is_bar(alloc: Global, text: &[u8]) -> Result<bool, NoMemory>
     ensures { IfOk result (λ b. IsTrue b ↔ IsBar text.now) }
 {
-    match read_row(alloc, FileKind::Language, text) {
-        Ok(Some(row)) => Ok(is_bar_row(row)),
-        Ok(None) => Ok(false),
-        Err(RowError::Shape) => Ok(false),
-        Err(RowError::Memory) => Err(NoMemory::Memory),
+    match spelled_row(alloc, FileKind::Language, text)? {
+        Some(row) => Ok(is_bar_row(row)),
+        None => Ok(false),
     }
 }
 
@@ -65,35 +62,6 @@ fn rule_line(alloc: Global, number: u32, text: &[u8]) -> Result<RuleLine, NoMemo
         Ok(text) => Ok(RuleLine { number, text }),
         Err(TextError::Memory) => Err(NoMemory::Memory),
         Err(TextError::NotUtf8(_)) => unreachable!(),
-    }
-}
-
-/// Whether the row is the first one of the file of the language with this name.
-fn is_head(name: &Text, row: &Row) -> bool
-    ensures { IsTrue result ↔ (row.now ≡ rows.Language name.now) }
-{
-    match row {
-        Row::Language(given) => given.same(name),
-        _ => false,
-    }
-}
-
-/// Reads the first line.
-fn first_line(alloc: Global, name: &Text, number: u32, text: &[u8]) -> Result<(), OutlineError>
-    ensures { MatchResult result (λ _. IsRow files.Language text.now (rows.Language name.now)) (λ e. IsHeadRefused name.now number text.now e) }
-{
-    match read_row(alloc, FileKind::Language, text) {
-        Ok(Some(row)) => {
-            let is_head = is_head(name, &row);
-            drop(row);
-            if is_head {
-                return Ok(());
-            }
-            Err(bad_line(number, Kind::Head))
-        }
-        Ok(None) => Err(bad_line(number, Kind::Head)),
-        Err(RowError::Shape) => Err(bad_line(number, Kind::Head)),
-        Err(RowError::Memory) => Err(OutlineError::Memory),
     }
 }
 
@@ -222,7 +190,7 @@ fn other_line(
         rules,
     } = reader;
     let stage = match stage {
-        Stage::Start => match first_line(alloc, name, number, text) {
+        Stage::Start => match first_line(alloc, FileKind::Language, name, number, text) {
             Ok(()) => Stage::Declarations,
             Err(e) => {
                 drop(rules);

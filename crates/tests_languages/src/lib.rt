@@ -7,6 +7,8 @@ mod bad_languages;
 #[cfg(test)]
 mod bad_lines;
 #[cfg(test)]
+mod extension_headers;
+#[cfg(test)]
 mod goals_printed;
 #[cfg(test)]
 mod languages;

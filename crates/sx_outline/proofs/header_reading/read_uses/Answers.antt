@@ -1,0 +1,25 @@
+use Rattle.std.proofs.Common.{List, ℕ, sym, subst}
+use Rattle.std.specs.Prelude.{Ok}
+use Rattle.sx_lines.specs.Left.{left}
+use Rattle.sx_outline.specs.Known.{kept_lines}
+use Rattle.sx_outline.specs.HeaderReading.{AreUsesRead}
+use Rattle.sx_outline.proofs.HeaderLaws.{using_more, using_ends, using_refused}
+use Rattle.sx_outline.proofs.header_reading.read_uses.Goals as goal
+
+pub lines-preserved : goal.lines-preserved
+lines-preserved c = (
+  c.in-Ok-true.ensures.found,
+  using_more (kept_lines (left c.args.rest)) (kept_lines (left c.lines.left)) (kept_lines (left c.in-Ok.more)) c.lines.uses.names.items c.use_line.new.uses.names.items
+  c.in-Ok.line.number c.in-Ok.line.text.now c.in-Ok.more.bytes.now c.in-Ok-true.field-0 c.lines.invariant.1 c.in-Ok.ensures.first c.in-Ok-true.ensures.read c.in-Ok-true.field-0-test,
+)
+
+pub returns-in-Ok-false : goal.returns-in-Ok-false
+returns-in-Ok-false c =
+    subst (λ (x : List (List ℕ)). AreUsesRead (kept_lines (left c.args.rest)) (Ok x)) (sym c.into_names.ensures)
+    (using_ends (kept_lines (left c.args.rest)) (kept_lines (left c.lines.left)) (kept_lines (left c.in-Ok.more)) c.lines.uses.names.items c.use_line.new.uses.names.items
+    c.in-Ok.line.number c.in-Ok.line.text.now c.in-Ok.more.bytes.now c.in-Ok-false.field-0 c.lines.invariant.1 c.in-Ok.ensures.first c.in-Ok-false.ensures.read c.in-Ok-false.field-0-test)
+
+pub returns-in-Err-use_line : goal.returns-in-Err-use_line
+returns-in-Err-use_line c =
+    using_refused (kept_lines (left c.args.rest)) (kept_lines (left c.lines.left)) (kept_lines (left c.in-Ok.more)) c.lines.uses.names.items
+    c.in-Ok.line.number c.in-Ok.line.text.now c.in-Ok.more.bytes.now c.in-Err-use_line.e c.lines.invariant.1 c.in-Ok.ensures.first c.in-Err-use_line.ensures.read
