@@ -39,8 +39,8 @@ keyword_text Use = codes "use"
 keyword_text Plain = codes "plain"
 keyword_text To = codes "to"
 
--- The word begins lines of files of this kind: `extension`, `use`, `plain` and `to` are none of language files, and `sort`, `form` and `main` are
--- none of extension files.
+-- The word begins lines of files of this kind: `extension`, `use`, `plain` and `to` are none of language files, and `sort`,
+-- `form` and `main` are none of extension files.
 abbrev pub is_word_of : FileKind → Keyword → Bool
 is_word_of files.Language Extension = false
 is_word_of files.Language Use = false

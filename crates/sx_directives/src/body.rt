@@ -22,8 +22,8 @@ fn begins_blank(text: &[u8]) -> bool
     }
 }
 
-/// How many bytes stand before the body of a `to` line, and the body. `None` comes exactly where the line is none: where `to` is not its first
-/// part, or no byte follows it.
+/// How many bytes stand before the body of a `to` line, and the body. `None` comes exactly where the line is none: where `to`
+/// is not its first part, or no byte follows it.
 fn split_body<'a>(line: &'a [u8]) -> Option<(usize, &'a [u8])>
     ensures { MatchOption result ((body : List ℕ) → IsBody line.entry.now body → ⊥) (λ x. IsCut line.entry.now x.0 x.1.now) }
 {

@@ -144,8 +144,8 @@ fn is_line_of(kind: FileKind, keyword: Keyword, line: &[u8]) -> bool
     }
 }
 
-/// What a line of a file of this kind states: `None` exactly where its first part is no word that begins such a line, or it is `to` and no body
-/// follows it, and `Shape` exactly where it is such a line and the parts after its word are not as stated.
+/// What a line of a file of this kind states: `None` exactly where its first part is no word that begins such a line, or it is
+/// `to` and no body follows it, and `Shape` exactly where it is such a line and the parts after its word are not as stated.
 pub fn read_row(alloc: Global, kind: FileKind, line: &[u8]) -> Result<Option<Row>, RowError>
     ensures { IsRowRead kind line.now result }
 {

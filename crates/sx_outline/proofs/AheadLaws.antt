@@ -4,7 +4,7 @@ use Rattle.sx_lines.specs.Lines.{Lines, over, line}
 use Rattle.sx_directives.specs.declared.file_kind.FileKind.TheVariants as files
 use Rattle.sx_directives.specs.Rows.{IsRow}
 use Rattle.sx_directives.specs.declared.row.Row.{Row}
-use Rattle.sx_directives.specs.declared.row.Row.TheVariants.{Language, Sort, Prod, Var, Form, Main, Rule, End}
+use Rattle.sx_directives.specs.declared.row.Row.TheVariants.{Language, Sort, Prod, Var, Form, Main, Rule, End, To}
 use Rattle.sx_outline.specs.Declarations.{Declared, form, nothing, declare}
 use Rattle.sx_outline.specs.Known.{Declares, GoesOn}
 use Rattle.sx_outline.specs.Stages.{RuleData, Stage, at_start, at_declarations, at_rules, at_premises, at_conclusion, at_end, State, Steps, StepsAt, MayStandAt, after}
@@ -82,6 +82,7 @@ between_rules d rules n _ more all stands h = absurd stands
 after_conclusion : (d : Declared) (rules : List RuleData) (r : RuleData) (n : ℕ) (row : Row) (more : Lines) (all : Declared) → MayStandAt (at_end r) d.mains row → d ≡ all
     → let t : State = after (record { stage = at_end r; declared = d; rules = rules }) n row in IsAhead t.stage t.declared more all
 after_conclusion d rules r n End more all stands h = h
+after_conclusion d rules r n (To body) more all stands h = h
 after_conclusion d rules r n _ more all stands h = absurd stands
 
 abbrev Ahead : State → Lines → Declared → Type 0

@@ -1,20 +1,21 @@
 -- The rows of an outline fit, and it is no larger than its file.
-use Rattle.std.proofs.Common.{◌≡◌, ℕ, suc, ◌+◌, ◌≤◌, List, [], ◌∷◌, ◌++◌, length, Result, Ok, Err, sym, ap, subst, ◌∙◌, inl, inr, arith}
+use Rattle.std.proofs.Common.{◌≡◌, ℕ, suc, ◌+◌, ◌≤◌, List, [], ◌∷◌, ◌++◌, length, IsTrue, None, Result, Ok, Err, refl, sym, ap, subst, ◌∙◌, inl, inr, arith}
 use Rattle.std.specs.Prelude.{Contains, IfOk, ◌⊎◌}
 use Rattle.std.specs.List.{AllByRecursion}
 use Rattle.std.proofs.lemmas.List.{length-append, map-append}
 use Rattle.std.proofs.lemmas.List.Elements.{Contains-push_cases}
+use Rattle.std.proofs.lemmas.Bool.{false≢true}
 use Rattle.sx_lines.specs.Lines.{Lines, over, line, lines_from}
 use Rattle.sx_directives.specs.declared.file_kind.FileKind.TheVariants as files
 use Rattle.sx_directives.specs.Parts as directives
 use Rattle.sx_directives.specs.Spelling.{NotLexical}
-use Rattle.sx_directives.specs.Rows.{IsRow}
+use Rattle.sx_directives.specs.Rows.{IsRow, is_word_of, word_of}
 use Rattle.sx_grammar.specs.declared.sort_line.SortLine.{SortLine}
 use Rattle.sx_directives.specs.declared.rows.VarLine.{VarLine}
 use Rattle.sx_directives.specs.declared.rows.MainLine.{MainLine}
 use Rattle.sx_directives.specs.declared.file_kind.FileKind.{FileKind}
 use Rattle.sx_directives.specs.declared.row.Row.{Row}
-use Rattle.sx_directives.specs.declared.row.Row.TheVariants.{Sort, Prod, Var, Form, Main, Rule, End}
+use Rattle.sx_directives.specs.declared.row.Row.TheVariants.{Sort, Prod, Var, Form, Main, Rule, End, To}
 use Rattle.sx_outline.specs.declared.outline.Outline.{Outline}
 use Rattle.sx_outline.specs.declared.outline_error.OutlineError.{OutlineError}
 use Rattle.sx_outline.specs.Declarations.{Declared, FormData, form, nothing, declare}
@@ -26,7 +27,7 @@ use Rattle.sx_outline.specs.Sized.{HasShortLines, IsSized, AreDistinct, IsFit}
 use Rattle.sx_outline.specs.Reading.{IsAhead}
 use Rattle.sx_outline.proofs.AheadLaws.{ahead_next, whole_known}
 use Rattle.sx_outline.proofs.OutcomeLaws.{IsLast, last_of, after_declared, bytes_in, bytes_line, AreFull, kept_full, kept_bytes, parts_few}
-use Rattle.sx_outline.proofs.WeightLaws.{all_push, weight, weight_is, row_weighs, AreGood, row_good, good_levels, good_places, good_names}
+use Rattle.sx_outline.proofs.WeightLaws.{all_push, all_weaker, weight, weight_is, row_weighs, AreGood, row_good, good_levels, good_places, good_names}
 
 -- ---- what each row keeps of what is declared
 
@@ -108,11 +109,15 @@ fitting_row kind known d text _ is fits h = h
 abbrev pub AreShort : ℕ → List Numbered → Type 0
 AreShort size texts = AllByRecursion (λ l. length l.text ≤ size) texts
 
+-- the lines are short, and there is no body
+abbrev pub IsShortRule : ℕ → RuleData → Type 0
+IsShortRule size r = HasShortLines size r × (r.body ≡ None)
+
 -- where so many bytes are left
 abbrev pub IsShortStage : ℕ → ℕ → Stage → Type 0
 IsShortStage size left (at_premises b) = (length b.premises + left ≤ size) × AreShort size b.premises
 IsShortStage size left (at_conclusion b) = (length b.premises + left ≤ size) × AreShort size b.premises
-IsShortStage size left (at_end r) = HasShortLines size r
+IsShortStage size left (at_end r) = IsShortRule size r
 IsShortStage size left _ = Unit {0}
 
 -- what holds of a state where these lines are left of a file of so many bytes
@@ -122,7 +127,7 @@ pub record IsKept (size : ℕ) (known : Declared) (s : State) (left : Lines) : T
   pub good : AreGood s.declared
   pub fitting : AreFitting known s.declared
   pub stage : IsShortStage size (bytes_in left) s.stage
-  pub rules : AllByRecursion (HasShortLines size) s.rules
+  pub rules : AllByRecursion (IsShortRule size) s.rules
   pub ahead : IsAhead s.stage s.declared left known
 
 -- what is kept of what is declared
@@ -140,19 +145,20 @@ kept_row size known d text left all row is fits e weighs good fitting =
 
 -- the stage and the rules after a line
 abbrev pub HasShort : ℕ → ℕ → State → Type 0
-HasShort size left t = IsShortStage size left t.stage × AllByRecursion (HasShortLines size) t.rules
+HasShort size left t = IsShortStage size left t.stage × AllByRecursion (IsShortRule size) t.rules
 
-short_row : (size left : ℕ) (at : Stage) (d : Declared) (rules : List RuleData) (n : ℕ) (row : Row) → MayStandAt at d.mains row → left ≤ size → IsShortStage size left at
-    → AllByRecursion (HasShortLines size) rules → HasShort size left (after (record { stage = at; declared = d; rules = rules }) n row)
-short_row size left at_declarations d rules n (Sort x) stands le short h = (tt, h)
-short_row size left at_declarations d rules n (Prod x) stands le short h = (tt, h)
-short_row size left at_declarations d rules n (Var x) stands le short h = (tt, h)
-short_row size left at_declarations d rules n (Form x) stands le short h = (tt, h)
-short_row size left at_declarations d rules n (Main x) stands le short h = (tt, h)
-short_row size left at_declarations d rules n (Rule name) stands le short h = ((omega arith, tt), h)
-short_row size left at_rules d rules n (Rule name) stands le short h = ((omega arith, tt), h)
-short_row size left (at_end r) d rules n End stands le short h = (tt, all_push (HasShortLines size) rules r h short)
-short_row size left _ d rules n row stands le short h = absurd stands
+short_row : (size left : ℕ) (at : Stage) (d : Declared) (rules : List RuleData) (n : ℕ) (row : Row) → IsTrue (is_word_of files.Language (word_of row)) → MayStandAt at d.mains row → left ≤ size → IsShortStage size left at
+    → AllByRecursion (IsShortRule size) rules → HasShort size left (after (record { stage = at; declared = d; rules = rules }) n row)
+short_row size left at_declarations d rules n (Sort x) word stands le short h = (tt, h)
+short_row size left at_declarations d rules n (Prod x) word stands le short h = (tt, h)
+short_row size left at_declarations d rules n (Var x) word stands le short h = (tt, h)
+short_row size left at_declarations d rules n (Form x) word stands le short h = (tt, h)
+short_row size left at_declarations d rules n (Main x) word stands le short h = (tt, h)
+short_row size left at_declarations d rules n (Rule name) word stands le short h = ((omega arith, tt), h)
+short_row size left at_rules d rules n (Rule name) word stands le short h = ((omega arith, tt), h)
+short_row size left (at_end r) d rules n End word stands le short h = (tt, all_push (IsShortRule size) rules r h short)
+short_row size left (at_end r) d rules n (To body) word stands le short h = absurd (false≢true word)
+short_row size left _ d rules n row word stands le short h = absurd stands
 
 row_left : (size left all : ℕ) (text : List ℕ) (at : Stage) → all ≡ length text + left → IsShortStage size all at → IsShortStage size left at
 row_left size left all text at_start e h = tt
@@ -166,12 +172,12 @@ pushed : (xs : List Numbered) (x : Numbered) → length (xs ++ x ∷ []) ≡ len
 pushed xs x = length-append xs (x ∷ [])
 
 short_steps : (size left all : ℕ) (at : Stage) (known : Declared) (name : List ℕ) (d : Declared) (rules : List RuleData) (n : ℕ) (text : List ℕ) (t : State) → 1 ≤ length text → all ≡ length text + left → all ≤ size
-    → IsShortStage size all at → AllByRecursion (HasShortLines size) rules → StepsAt at known name (record { stage = at; declared = d; rules = rules }) n text t → HasShort size left t
+    → IsShortStage size all at → AllByRecursion (IsShortRule size) rules → StepsAt at known name (record { stage = at; declared = d; rules = rules }) n text t → HasShort size left t
 short_steps size left all at_start known name d rules n text t one e le short h steps = subst (HasShort size left) (sym steps.1) (tt, h)
 short_steps size left all at_declarations known name d rules n text t one e le short h (row, good, is) =
-    subst (HasShort size left) (sym is) (short_row size left at_declarations d rules n row good.stands (omega arith) tt h)
+    subst (HasShort size left) (sym is) (short_row size left at_declarations d rules n row good.spelled.word good.stands (omega arith) tt h)
 short_steps size left all at_rules known name d rules n text t one e le short h (row, good, is) =
-    subst (HasShort size left) (sym is) (short_row size left at_rules d rules n row good.stands (omega arith) tt h)
+    subst (HasShort size left) (sym is) (short_row size left at_rules d rules n row good.spelled.word good.stands (omega arith) tt h)
 short_steps size left all (at_premises b) known name d rules n text t one e le short h (inl steps) =
     subst (HasShort size left) (sym steps.1) (row_left size left all text (at_conclusion b) e short, h)
 short_steps size left all (at_premises b) known name d rules n text t one e le short h (inr steps) =
@@ -180,9 +186,9 @@ short_steps size left all (at_premises b) known name d rules n text t one e le s
     subst (HasShort size left) (sym steps.1) ((omega arith, all_push (λ (l : Numbered). length l.text ≤ size) b.premises (record { number = n; text = text }) short.1 (omega arith)), h)
 short_steps size left all (at_conclusion b) known name d rules n text t one e le short h steps =
     let k : length b.premises + all ≤ size = short.0 in
-    subst (HasShort size left) (sym steps) ((omega arith, short.1, omega arith), h)
+    subst (HasShort size left) (sym steps) (((omega arith, short.1, omega arith), refl), h)
 short_steps size left all (at_end r) known name d rules n text t one e le short h (row, good, is) =
-    subst (HasShort size left) (sym is) (short_row size left (at_end r) d rules n row good.stands (omega arith) short h)
+    subst (HasShort size left) (sym is) (short_row size left (at_end r) d rules n row good.spelled.word good.stands (omega arith) short h)
 
 kept_on : (size : ℕ) (known : Declared) (name : List ℕ) (s : State) (n : ℕ) (text after : List ℕ) (more : Lines) (t : State) → Steps known name s n text t
     → IsKept size known s (line n text after more) → IsKept size known t more
@@ -246,7 +252,7 @@ sized_outline name bytes o h =
       many = omega arith;
       levels = good_levels d good;
       asked = good_places o.forms good.forms;
-      lines = subst (AllByRecursion (HasShortLines (length bytes))) last.is.rules last.holds.rules;
+      lines = subst (AllByRecursion (HasShortLines (length bytes))) last.is.rules (all_weaker (IsShortRule (length bytes)) (HasShortLines (length bytes)) (λ r h. h.0) last.state.rules last.holds.rules);
     }
 
 pub fit_outline : (name bytes : List ℕ) (o : OutlineData) → IsReadAs name bytes (Ok o) → IsFit o
@@ -267,6 +273,8 @@ fit_outline name bytes o h =
       places = fitting.places;
       named = good_names o.forms good.forms;
       subjects = fitting.subjects;
+      bodies = subst (AllByRecursion (λ (r : RuleData). r.body ≡ None)) last.is.rules
+          (all_weaker (IsShortRule (length bytes)) (λ (r : RuleData). r.body ≡ None) (λ r h. h.1) last.state.rules last.holds.rules);
     }
 
 pub sized_answer : (name bytes : List ℕ) (result : Result Outline OutlineError) → IsOutlined name bytes result → IfOk result (λ o. IsSized (length bytes) (outline o))

@@ -1,5 +1,5 @@
 -- What the lines are that are left of a file with an outline.
-use Rattle.std.proofs.Common.{◌≡◌, ℕ, List, [], ◌∷◌, ◌++◌}
+use Rattle.std.proofs.Common.{◌≡◌, ℕ, List, [], ◌∷◌, ◌++◌, None}
 use Rattle.std.specs.List.{AllByRecursion}
 use Rattle.sx_directives.specs.declared.file_kind.FileKind.TheVariants as files
 use Rattle.sx_directives.specs.Rows.{IsRow}
@@ -39,6 +39,7 @@ pub record LeftPremises (b : Begun) (front : List Numbered) (r : RuleData) : Typ
   pub number : b.number ≡ r.number
   pub name : b.name ≡ r.name
   pub premises_are : r.premises ≡ b.premises ++ premises
+  pub body : r.body ≡ None
 
 pub record LeftConclusion (b : Begun) (front : List Numbered) (r : RuleData) : Type 0 where
   pub last : Numbered
@@ -47,6 +48,7 @@ pub record LeftConclusion (b : Begun) (front : List Numbered) (r : RuleData) : T
   pub number : b.number ≡ r.number
   pub name : b.name ≡ r.name
   pub premises_are : r.premises ≡ b.premises
+  pub body : r.body ≡ None
 
 pub record LeftEnd (given : RuleData) (front : List Numbered) (r : RuleData) : Type 0 where
   pub last : Numbered

@@ -2,10 +2,11 @@
 use Rattle.std.proofs.Common.{◌≡◌, ℕ, List, [], ◌∷◌, ◌++◌, Ok, refl, sym, ap, subst, ◌∙◌, inl, inr, append_assoc, append-nil}
 use Rattle.std.specs.List.{AllByRecursion}
 use Rattle.sx_lines.specs.Lines.{Lines, over, line, lines_from}
+use Rattle.std.proofs.lemmas.Bool.{false≢true}
 use Rattle.sx_directives.specs.declared.file_kind.FileKind.TheVariants as files
 use Rattle.sx_directives.specs.Rows.{IsRow}
 use Rattle.sx_directives.specs.declared.row.Row.{Row}
-use Rattle.sx_directives.specs.declared.row.Row.TheVariants.{Sort, Prod, Var, Form, Main, Rule, End}
+use Rattle.sx_directives.specs.declared.row.Row.TheVariants.{Sort, Prod, Var, Form, Main, Rule, End, To}
 use Rattle.sx_outline.specs.Declarations.{Declared, nothing, declare}
 use Rattle.sx_outline.specs.Fitting.{Fits}
 use Rattle.sx_outline.specs.Known.{kept_lines}
@@ -62,6 +63,7 @@ begun_rule known d rules o n text name lines spelled h =
           premises = subst (λ (x : List Numbered). AllByRecursion (λ l. IsBar l.text → ⊥) x) (sym h.left.premises_are) h.left.plain;
           divides = h.left.divides;
           ends = h.left.ends;
+          body = h.left.body;
         },
         h.are,
       );
@@ -115,6 +117,7 @@ end_row known name r d rules o n text End lines spelled stands h =
       rules_are = h.rules_are ∙ append_assoc rules (r ∷ []) h.more;
       are = h.are;
     }
+end_row known name r d rules o n text (To body) lines spelled stands h = absurd (false≢true spelled.word)
 end_row known name r d rules o n text _ lines spelled stands h = absurd stands
 
 -- a line of a rule after its first
@@ -144,6 +147,7 @@ left_bar b l is front r h = record {
   number = h.number;
   name = h.name;
   premises_are = h.premises_are ∙ sym (append-nil b.premises);
+  body = h.body;
 }
 
 left_premise : (b : Begun) (l : Numbered) → (IsBar l.text → ⊥) → (front : List Numbered) (r : RuleData) → LeftPremises (with_premise b l) front r → LeftPremises b (l ∷ front) r
@@ -158,6 +162,7 @@ left_premise b l is front r h = record {
   number = h.number;
   name = h.name;
   premises_are = h.premises_are ∙ append_assoc b.premises (l ∷ []) h.premises;
+  body = h.body;
 }
 
 left_conclusion : (b : Begun) (l : Numbered) (front : List Numbered) (r : RuleData) → LeftEnd (concluded b l) front r → LeftConclusion b (l ∷ front) r
@@ -168,6 +173,7 @@ left_conclusion b l front r h = record {
   number = ap (λ (x : RuleData). x.number) h.is;
   name = ap (λ (x : RuleData). x.name) h.is;
   premises_are = sym (ap (λ (x : RuleData). x.premises) h.is);
+  body = sym (ap (λ (x : RuleData). x.body) h.is);
 }
 
 left_before : (known : Declared) (name : List ℕ) (at : Stage) (d : Declared) (rules : List RuleData) (o : OutlineData) (n : ℕ) (text : List ℕ) (lines : List Numbered) (t : State)

@@ -1,5 +1,5 @@
 -- Lines that are those of an outline state it.
-use Rattle.std.proofs.Common.{◌≡◌, ℕ, List, [], ◌∷◌, ◌++◌, length, Ok, refl, sym, ap, subst, ◌∙◌, inl, inr, append_assoc, append-nil, arith}
+use Rattle.std.proofs.Common.{◌≡◌, ℕ, List, [], ◌∷◌, ◌++◌, length, None, Ok, refl, sym, ap, subst, ◌∙◌, inl, inr, append_assoc, append-nil, arith}
 use Rattle.std.specs.List.{AllByRecursion}
 use Rattle.std.specs.Str.{IsUtf8}
 use Rattle.std.proofs.lemmas.List.{length-append}
@@ -102,6 +102,7 @@ begin_rule known d rules o n text lines (r ∷ more) e are (front, back, parts, 
           number = ap (λ (x : Numbered). x.number) first ∙ rule.number;
           name = refl;
           premises_are = refl;
+          body = rule.body;
         };
         declared = e;
         more = more;
@@ -203,9 +204,9 @@ declarations_lead known name d rules o l mains main n text (first ∷ declaratio
 
 premises_lead : (known : Declared) (name : List ℕ) (b : Begun) (d : Declared) (rules : List RuleData) (o : OutlineData) (n : ℕ) (text : List ℕ) (lines : List Numbered)
     (r : RuleData) (bar last : Numbered) (premises back : List Numbered) (more : List RuleData) → record { number = n; text = text } ∷ lines ≡ (premises ++ bar ∷ r.conclusion ∷ last ∷ []) ++ back
-    → AllByRecursion (λ l. IsBar l.text → ⊥) premises → IsBar bar.text → IsRow files.Language last.text End → b.number ≡ r.number → b.name ≡ r.name → r.premises ≡ b.premises ++ premises
+    → AllByRecursion (λ l. IsBar l.text → ⊥) premises → IsBar bar.text → IsRow files.Language last.text End → b.number ≡ r.number → b.name ≡ r.name → r.premises ≡ b.premises ++ premises → r.body ≡ None
     → d ≡ known → o.rules ≡ rules ++ r ∷ more → AreRules back more → LeadsOn known name (at_premises b) d rules o n text lines
-premises_lead known name b d rules o n text lines r bar last [] back more e plain divides ends number named premises_are declared are rest =
+premises_lead known name b d rules o n text lines r bar last [] back more e plain divides ends number named premises_are body declared are rest =
     let here : Numbered = record { number = n; text = text } in
     let same : here ≡ bar = head_same here bar lines (r.conclusion ∷ last ∷ back) e in
     record {
@@ -216,14 +217,14 @@ premises_lead known name b d rules o n text lines r bar last [] back more e plai
         front = r.conclusion ∷ last ∷ [];
         back = back;
         lines_are = tail_same here bar lines (r.conclusion ∷ last ∷ back) e;
-        left = record { last = last; front_is = refl; ends = ends; number = number; name = named; premises_are = premises_are ∙ append-nil b.premises };
+        left = record { last = last; front_is = refl; ends = ends; number = number; name = named; premises_are = premises_are ∙ append-nil b.premises; body = body };
         declared = declared;
         more = more;
         rules_are = are;
         are = rest;
       };
     }
-premises_lead known name b d rules o n text lines r bar last (p ∷ premises) back more e plain divides ends number named premises_are declared are rest =
+premises_lead known name b d rules o n text lines r bar last (p ∷ premises) back more e plain divides ends number named premises_are body declared are rest =
     let here : Numbered = record { number = n; text = text } in
     let same : here ≡ p = head_same here p lines ((premises ++ bar ∷ r.conclusion ∷ last ∷ []) ++ back) e in
     record {
@@ -245,6 +246,7 @@ premises_lead known name b d rules o n text lines r bar last (p ∷ premises) ba
           number = number;
           name = named;
           premises_are = premises_are ∙ sym (append_assoc b.premises (p ∷ []) premises) ∙ ap (λ (x : Numbered). (b.premises ++ x ∷ []) ++ premises) (sym same);
+          body = body;
         };
         declared = declared;
         more = more;
@@ -253,12 +255,9 @@ premises_lead known name b d rules o n text lines r bar last (p ∷ premises) ba
       };
     }
 
-same_rule : (b : Begun) (l : Numbered) (r : RuleData) → b.number ≡ r.number → b.name ≡ r.name → r.premises ≡ b.premises → l ≡ r.conclusion → concluded b l ≡ r
-same_rule b l r number named premises conclusion =
-    ap (λ (x : ℕ). let all : RuleData = record { number = x; name = b.name; premises = b.premises; conclusion = l } in all) number
-    ∙ ap (λ (x : List ℕ). let all : RuleData = record { number = r.number; name = x; premises = b.premises; conclusion = l } in all) named
-    ∙ ap (λ (x : List Numbered). let all : RuleData = record { number = r.number; name = r.name; premises = x; conclusion = l } in all) (sym premises)
-    ∙ ap (λ (x : Numbered). let all : RuleData = record { number = r.number; name = r.name; premises = r.premises; conclusion = x } in all) conclusion
+same_rule : (b : Begun) (l : Numbered) (r : RuleData) → b.number ≡ r.number → b.name ≡ r.name → r.premises ≡ b.premises → l ≡ r.conclusion → r.body ≡ None → concluded b l ≡ r
+same_rule b l r number named premises conclusion body =
+    λ i. record { number = number i; name = named i; premises = sym premises i; conclusion = conclusion i; body = sym body i }
 
 conclusion_leads : (known : Declared) (name : List ℕ) (b : Begun) (d : Declared) (rules : List RuleData) (o : OutlineData) (n : ℕ) (text : List ℕ) (lines : List Numbered)
     → IsInRule (LeftConclusion b) known d rules o (record { number = n; text = text } ∷ lines) → LeadsOn known name (at_conclusion b) d rules o n text lines
@@ -277,7 +276,7 @@ conclusion_leads known name b d rules o n text lines h =
           last = h.left.last;
           front_is = refl;
           ends = h.left.ends;
-          is = same_rule b here h.rule h.left.number h.left.name h.left.premises_are (head_same here h.rule.conclusion lines (h.left.last ∷ h.back) e);
+          is = same_rule b here h.rule h.left.number h.left.name h.left.premises_are (head_same here h.rule.conclusion lines (h.left.last ∷ h.back) e) h.left.body;
         };
         declared = h.declared;
         more = h.more;
@@ -317,7 +316,7 @@ leads_on known name at_declarations d rules o l mains main n text lines h =
 leads_on known name at_rules d rules o l mains main n text lines h = rules_lead known name d rules o n text lines h
 leads_on known name (at_premises b) d rules o l mains main n text lines h =
     premises_lead known name b d rules o n text lines h.rule h.left.bar h.left.last h.left.premises h.back h.more (h.lines_are ∙ ap (λ (x : List Numbered). x ++ h.back) h.left.front_is)
-    h.left.plain h.left.divides h.left.ends h.left.number h.left.name h.left.premises_are h.declared h.rules_are h.are
+    h.left.plain h.left.divides h.left.ends h.left.number h.left.name h.left.premises_are h.left.body h.declared h.rules_are h.are
 leads_on known name (at_conclusion b) d rules o l mains main n text lines h = conclusion_leads known name b d rules o n text lines h
 leads_on known name (at_end r) d rules o l mains main n text lines h = end_leads known name r d rules o n text lines h
 

@@ -55,7 +55,7 @@ same_after s n End End e = refl
 same_after s n (Extension a) (Extension b) e = refl
 same_after s n (Use a) (Use b) e = refl
 same_after s n (Plain a) (Plain b) e = refl
-same_after s n (To a) (To b) e = refl
+same_after s n (To a) (To b) e = ap (λ x. after s n (To x)) e
 same_after s n _ _ e = absurd e
 
 one_by_row : (known : Declared) (s : State) (n : ℕ) (text : List ℕ) (t u : State) → StepsByRow known s n text t → StepsByRow known s n text u → t ≡ u

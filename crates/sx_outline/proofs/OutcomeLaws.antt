@@ -6,13 +6,13 @@ use Rattle.sx_lines.specs.Lines.{Lines, over, line, lines_from, ends_here}
 use Rattle.sx_lines.specs.Lines as lines
 use Rattle.sx_directives.specs.Parts.{parts_of, begun, with_byte}
 use Rattle.sx_directives.specs.declared.row.Row.{Row}
-use Rattle.sx_directives.specs.declared.row.Row.TheVariants.{Sort, Prod, Var, Form, Main, Rule, End}
+use Rattle.sx_directives.specs.declared.row.Row.TheVariants.{Sort, Prod, Var, Form, Main, Rule, End, To}
 use Rattle.sx_lines.specs.declared.kind.Kind.{Kind}
 use Rattle.sx_outline.specs.declared.outline_error.OutlineError.{OutlineError}
 use Rattle.sx_outline.specs.declared.outline_error.OutlineError.TheVariants.{Notation}
 use Rattle.sx_outline.specs.Declarations.{Declared, declare}
 use Rattle.sx_outline.specs.Known.{kept_lines, is_dropped}
-use Rattle.sx_outline.specs.Stages.{Stage, at_start, at_declarations, at_rules, at_premises, at_conclusion, at_end, RuleData, State, Steps, after, ended}
+use Rattle.sx_outline.specs.Stages.{Stage, at_start, at_declarations, at_rules, at_premises, at_conclusion, at_end, Numbered, RuleData, State, Steps, after, bodied, ended}
 use Rattle.sx_outline.specs.Outlined.{OutlineData, IsOutcome, IsOutlineOf, IsWhole}
 
 -- the last state, of which this holds
@@ -42,6 +42,14 @@ ended_declared (at_premises b) d rules s e = e
 ended_declared (at_conclusion b) d rules s e = e
 ended_declared (at_end r) d rules s e = e
 
+bodied_declared : (at : Stage) (l : Numbered) (d : Declared) (s : State) → s.declared ≡ d → (bodied s at l).declared ≡ d
+bodied_declared at_start l d s e = e
+bodied_declared at_declarations l d s e = e
+bodied_declared at_rules l d s e = e
+bodied_declared (at_premises b) l d s e = e
+bodied_declared (at_conclusion b) l d s e = e
+bodied_declared (at_end r) l d s e = e
+
 -- what is declared after a row
 pub after_declared : (s : State) (n : ℕ) (row : Row) → (after s n row).declared ≡ declare s.declared row
 after_declared s n (Sort x) = refl
@@ -51,6 +59,7 @@ after_declared s n (Form f) = refl
 after_declared s n (Main m) = refl
 after_declared s n (Rule name) = refl
 after_declared s n End = ended_declared s.stage s.declared s.rules s refl
+after_declared s n (To body) = bodied_declared s.stage (record { number = n; text = body }) s.declared s refl
 after_declared s n _ = refl
 
 -- ---- the bytes of lines

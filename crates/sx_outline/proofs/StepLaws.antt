@@ -7,7 +7,8 @@ use Rattle.sx_directives.specs.declared.file_kind.FileKind.TheVariants as files
 use Rattle.sx_directives.specs.Parts.{parts_of}
 use Rattle.sx_directives.specs.Rows.{IsRow, IsRowRead, HasWord}
 use Rattle.sx_directives.specs.declared.row.Row.{Row}
-use Rattle.sx_directives.specs.declared.row.Row.TheVariants.{Language, Bar}
+use Rattle.sx_directives.specs.declared.rows.MainLine.{MainLine}
+use Rattle.sx_directives.specs.declared.row.Row.TheVariants.{Language, Bar, To}
 use Rattle.sx_directives.specs.declared.row_error.RowError.{RowError}
 use Rattle.sx_directives.specs.declared.row_error.RowError.TheVariants.{Shape as BadRow}
 use Rattle.sx_lines.specs.declared.kind.Kind.TheVariants.{Head, Directive, Shape, Order, Unfinished, Main as NoMain, Variable}
@@ -19,7 +20,7 @@ use Rattle.sx_outline.specs.declared.stage.Stage.{Stage as StageOf}
 use Rattle.sx_outline.specs.declared.stage.Stage.TheVariants as stages
 use Rattle.sx_outline.specs.Declarations.{Declared}
 use Rattle.sx_outline.specs.Fitting.{Fits}
-use Rattle.sx_outline.specs.Stages.{Stage, at_start, at_declarations, at_rules, at_premises, at_conclusion, at_end, concluded, head_row, State, MayStand, IsDue, StepsAt, StepsByRow, with_premise, after, at as to}
+use Rattle.sx_outline.specs.Stages.{Numbered, RuleData, with_body, bodied, MayStandAt, Stage, at_start, at_declarations, at_rules, at_premises, at_conclusion, at_end, concluded, head_row, State, MayStand, IsDue, StepsAt, StepsByRow, with_premise, after, at as to}
 use Rattle.sx_outline.specs.Reading.{stage, begun, IsReader, IsMainRead, IsFront, IsRowRefused, IsRowTaken, IsLineRefused, IsLineRead, IsHeadRefused, AddsPremise}
 use Rattle.sx_outline.proofs.SameRows.{same_row}
 use Rattle.sx_outline.proofs.SameLaws.{has_word, same_fits}
@@ -152,3 +153,21 @@ pub conclusion_read : (known : Declared) (name : List ℕ) (r : Reader) (s : Sta
 conclusion_read known name r s number text b next is h reader =
     let t : State = to s (at_end (concluded (begun b) (record { number = number; text = text }))) in
     (t, steps_at known name r s (at_conclusion (begun b)) number text t (ap stage is) reader refl, moved known r s t next h refl refl reader)
+
+-- ---- bodies
+
+pub body_taken : (known : Declared) (r : Reader) (number : ℕ) (body : List ℕ) (next : StageOf)
+    → (rule : RuleData) × (stage r.stage ≡ at_end rule) × (rule.body ≡ None) × (stage next ≡ at_end (with_body rule (record { number = number; text = body })))
+    → IsRowTaken known r number (To body) (Ok (with_stage r next))
+body_taken known r number body next w = λ s reader.
+    let l : Numbered = record { number = number; text = body } in
+    let e : s.stage ≡ at_end w.0 = sym reader.stage_is ∙ w.1 in (
+      subst (λ x. MayStandAt x s.declared.mains (To body)) (sym e) w.2,
+      tt,
+      subst (IsReader known (with_stage r next)) (sym (ap (λ x. bodied s x l) e)) (moved known r s (to s (at_end (with_body w.0 l))) next w.3 refl refl reader),
+    )
+
+pub body_refused : (known : Declared) (r : Reader) (number : ℕ) (body : List ℕ) (x : OutlineError) → x ≡ Notation number Order
+    → ((mains : List MainLine) (given : List ℕ) → MayStandAt (stage r.stage) mains (To given) → ⊥) → IsRowTaken known r number (To body) (Err x)
+body_refused known r number body x is n = λ s reader.
+    subst (IsRowRefused known s number (To body)) (sym is) (refl, λ stands. n s.declared.mains body (subst (λ x. MayStandAt x s.declared.mains (To body)) (sym reader.stage_is) stands))

@@ -5,7 +5,7 @@ use Rattle.sx_directives.specs.declared.file_kind.FileKind.{FileKind}
 use Rattle.sx_directives.specs.Rows.{IsRow}
 use Rattle.sx_directives.specs.declared.rows.MainLine.{MainLine}
 use Rattle.sx_directives.specs.declared.row.Row.{Row}
-use Rattle.sx_directives.specs.declared.row.Row.TheVariants.{Sort, Prod, Var, Form, Main}
+use Rattle.sx_directives.specs.declared.row.Row.TheVariants.{Sort, Prod, Var, Form, Main, To}
 use Rattle.sx_lines.specs.declared.kind.Kind.TheVariants.{Head, Order, Main as NoMain}
 use Rattle.sx_outline.specs.declared.main_form.MainForm.{MainForm}
 use Rattle.sx_outline.specs.declared.outline.Outline.{Outline}
@@ -18,7 +18,7 @@ use Rattle.sx_outline.specs.declared.reader.Reader.{Reader}
 use Rattle.sx_outline.specs.Declarations.{Declared}
 use Rattle.sx_outline.specs.Fitting.{IsMainOf}
 use Rattle.sx_outline.specs.Known.{Declares}
-use Rattle.sx_outline.specs.Stages.{numbered, rule_data, Begun, Stage, at_start, at_declarations, at_rules, at_premises, at_conclusion, at_end, head_row, State, start, MayStand, HasMain, Steps, IsBad, IsBar, with_premise, after}
+use Rattle.sx_outline.specs.Stages.{Numbered, RuleData, numbered, rule_data, with_body, MayStandAt, Begun, Stage, at_start, at_declarations, at_rules, at_premises, at_conclusion, at_end, head_row, State, start, MayStand, HasMain, Steps, IsBad, IsBar, with_premise, after}
 use Rattle.sx_outline.specs.Outlined.{outline, IsEnd, IsOutcome}
 
 -- a rule that has begun, as plain data
@@ -71,6 +71,11 @@ IsDeclaration forms vars (Prod x) = (forms ≡ 0) × (vars ≡ 0)
 IsDeclaration forms vars (Var x) = (forms ≡ 0) × (vars ≡ 1)
 IsDeclaration forms vars (Form x) = (forms ≡ 1) × (vars ≡ 0)
 IsDeclaration forms vars _ = ⊥
+
+-- a rule without a body has this one then, and elsewhere none may stand
+abbrev pub IsBodyTaken : Stage → Numbered → Option StageOf → Type 0
+IsBodyTaken old line None = (mains : List MainLine) (body : List ℕ) → MayStandAt old mains (To body) → ⊥
+IsBodyTaken old line (Some next) = (r : RuleData) × (old ≡ at_end r) × (r.body ≡ None) × (stage next ≡ at_end (with_body r line))
 
 -- why a row that fits is not taken
 abbrev pub IsRowRefused : Declared → State → ℕ → Row → OutlineError → Type 0

@@ -1,5 +1,5 @@
 -- What holds of each outline.
-use Rattle.std.specs.Prelude.{ℕ, ◌+◌, ◌≤◌, List, [], ◌∷◌, length, flat_map, Contains}
+use Rattle.std.specs.Prelude.{◌≡◌, ℕ, ◌+◌, ◌≤◌, List, [], ◌∷◌, None, length, flat_map, Contains}
 use Rattle.std.specs.List.{AllByRecursion}
 use Rattle.sx_grammar.specs.Parts.{literals}
 use Rattle.sx_grammar.specs.Tables.{HasGoodLevels}
@@ -42,7 +42,7 @@ HasName (Lit text) = Unit {0}
 HasName (Place role (Lex kind)) = Unit {0}
 HasName (Place role (Named sort least)) = IsName sort
 
--- the rows of the outline fit what it declares, and its main form is one
+-- the rows of the outline fit what it declares, its main form is one, and its rules have no bodies
 pub record IsFit (o : OutlineData) : Type 0 where
   pub line : MainLine
   pub main : IsMainOf (declared_by o line) line o.main
@@ -53,3 +53,4 @@ pub record IsFit (o : OutlineData) : Type 0 where
   pub places : AllByRecursion (λ f. AllByRecursion (SymbolFits (declared_by o line)) f.symbols) o.forms
   pub named : AllByRecursion (λ f. AllByRecursion HasName f.symbols) o.forms
   pub subjects : AllByRecursion (λ f. HasOneSubject f.symbols) o.forms
+  pub bodies : AllByRecursion (λ r. r.body ≡ None) o.rules

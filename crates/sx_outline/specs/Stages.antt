@@ -1,12 +1,12 @@
 -- The stages of the reading of a language file, and its steps.
-use Rattle.std.specs.Prelude.{◌≡◌, ℕ, ◌⊎◌, List, [], ◌∷◌, ◌++◌, map, codes}
+use Rattle.std.specs.Prelude.{◌≡◌, ℕ, ◌⊎◌, List, [], ◌∷◌, ◌++◌, Option, Some, None, map, option_map, codes}
 use Rattle.sx_directives.specs.declared.file_kind.FileKind.{FileKind}
 use Rattle.sx_directives.specs.declared.file_kind.FileKind.TheVariants as files
 use Rattle.sx_directives.specs.Parts.{parts_of}
 use Rattle.sx_directives.specs.Rows.{IsRow, HasWord}
 use Rattle.sx_directives.specs.declared.rows.MainLine.{MainLine}
 use Rattle.sx_directives.specs.declared.row.Row.{Row}
-use Rattle.sx_directives.specs.declared.row.Row.TheVariants.{Language, Sort, Prod, Var, Form, Main, Rule, End, Extension}
+use Rattle.sx_directives.specs.declared.row.Row.TheVariants.{Language, Sort, Prod, Var, Form, Main, Rule, End, Extension, To}
 use Rattle.sx_lines.specs.declared.kind.Kind.{Kind}
 use Rattle.sx_lines.specs.declared.kind.Kind.TheVariants.{Head, Directive, Shape, Order, Unfinished, Main as NoMain, Variable}
 use Rattle.sx_outline.specs.declared.main_form.MainForm.{MainForm}
@@ -20,12 +20,13 @@ pub record Numbered : Type 0 where
   pub number : ℕ
   pub text : List ℕ
 
--- a rule: the number of its first line, its name, its premises and its conclusion
+-- a rule: the number of its first line, its name, its premises, its conclusion, and its body, if it has one
 pub record RuleData : Type 0 where
   pub number : ℕ
   pub name : List ℕ
   pub premises : List Numbered
   pub conclusion : Numbered
+  pub body : Option Numbered
 
 -- a line of a rule as plain data
 abbrev pub numbered : RuleLine → Numbered
@@ -33,7 +34,8 @@ numbered l = record { number = l.number; text = l.text }
 
 -- a rule as plain data
 abbrev pub rule_data : RuleLines → RuleData
-rule_data r = record { number = r.number; name = r.name; premises = map numbered r.premises.items; conclusion = numbered r.conclusion }
+rule_data r =
+    record { number = r.number; name = r.name; premises = map numbered r.premises.items; conclusion = numbered r.conclusion; body = option_map numbered r.body }
 
 -- a rule that has begun
 pub record Begun : Type 0 where
@@ -83,6 +85,7 @@ MayStandAt at_declarations mains (Main x) = mains ≡ []
 MayStandAt at_declarations mains (Rule x) = Unit {0}
 MayStandAt at_rules mains (Rule x) = Unit {0}
 MayStandAt (at_end r) mains End = Unit {0}
+MayStandAt (at_end r) mains (To body) = r.body ≡ None
 MayStandAt _ mains row = ⊥
 
 -- the row may stand next
@@ -110,10 +113,20 @@ abbrev pub ended : State → Stage → State
 ended s (at_end r) = record { stage = at_rules; declared = s.declared; rules = s.rules ++ r ∷ [] }
 ended s _ = s
 
--- after a row: a rule has begun or is ended, or more is declared
+-- a rule with its body
+abbrev pub with_body : RuleData → Numbered → RuleData
+with_body r line = record { number = r.number; name = r.name; premises = r.premises; conclusion = r.conclusion; body = Some line }
+
+-- the rule has this body, if it has its conclusion
+abbrev pub bodied : State → Stage → Numbered → State
+bodied s (at_end r) line = at s (at_end (with_body r line))
+bodied s _ line = s
+
+-- after a row: a rule has begun, has its body or is ended, or more is declared
 abbrev pub after : State → ℕ → Row → State
 after s number (Rule name) = at s (at_premises (record { number = number; name = name; premises = [] }))
 after s number End = ended s s.stage
+after s number (To body) = bodied s s.stage (record { number = number; text = body })
 after s number row = record { stage = s.stage; declared = declare s.declared row; rules = s.rules }
 
 -- the only part of the line is `---`
@@ -124,9 +137,9 @@ IsBar text = parts_of text ≡ codes "---" ∷ []
 abbrev pub with_premise : Begun → Numbered → Begun
 with_premise b line = record { number = b.number; name = b.name; premises = b.premises ++ line ∷ [] }
 
--- a rule with its conclusion
+-- a rule with its conclusion, and without a body so far
 abbrev pub concluded : Begun → Numbered → RuleData
-concluded b line = record { number = b.number; name = b.name; premises = b.premises; conclusion = line }
+concluded b line = record { number = b.number; name = b.name; premises = b.premises; conclusion = line; body = None }
 
 -- a line where a row is due leads from one state to the other
 abbrev pub StepsByRow : Declared → State → ℕ → List ℕ → State → Type 0

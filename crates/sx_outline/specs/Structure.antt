@@ -1,5 +1,5 @@
 -- The lines of a language file with an outline, one after the other.
-use Rattle.std.specs.Prelude.{◌≡◌, ℕ, List, [], ◌∷◌, ◌++◌}
+use Rattle.std.specs.Prelude.{◌≡◌, ℕ, List, [], ◌∷◌, ◌++◌, None}
 use Rattle.std.specs.List.{AllByRecursion}
 use Rattle.sx_lines.specs.Lines.{Lines, over, line}
 use Rattle.sx_directives.specs.declared.file_kind.FileKind.TheVariants as files
@@ -32,7 +32,7 @@ AreDeclarations known before [] all = before ≡ all
 AreDeclarations known before (l ∷ lines) all =
     (row : Row) × IsRow files.Language l.text row × IsDeclaring row × Fits known before row × AreDeclarations known (declare before row) lines all
 
--- `rule NAME`, the premises, of which none is just `---`, then `---`, the conclusion, and `end`
+-- `rule NAME`, the premises, of which none is just `---`, then `---`, the conclusion, and `end`; there is no body
 pub record AreRuleLines (lines : List Numbered) (r : RuleData) : Type 0 where
   pub first : Numbered
   pub bar : Numbered
@@ -43,6 +43,7 @@ pub record AreRuleLines (lines : List Numbered) (r : RuleData) : Type 0 where
   pub premises : AllByRecursion (λ l. IsBar l.text → ⊥) r.premises
   pub divides : IsBar bar.text
   pub ends : IsRow files.Language last.text End
+  pub body : r.body ≡ None
 
 -- the lines of one rule after the other
 abbrev pub AreRules : List Numbered → List RuleData → Type 0

@@ -76,11 +76,11 @@ fn read_lines(alloc: Global, name: &Text, bytes: &[u8]) -> Result<ExtensionHeade
     }
 }
 
-/// What the first lines of the file of the extension with this name state: its language and the extensions that it uses. The header ends before
-/// the first line after the second whose first part is not `use`. It is refused where the bytes are not UTF-8, and else at its first bad line: `Head` for a
-/// first line that is not `extension NAME`, for a second that is no `language` line, and at 1 more than the number of lines where one of the two is missing;
-/// `Shape` for a `use` line that is not as stated or names again what one before it names. The file has fewer than 2^32 - 1 bytes, so that the number of
-/// a line fits.
+/// What the first lines of the file of the extension with this name state: its language and the extensions that it uses. The
+/// header ends before the first line after the second whose first part is not `use`. It is refused where the bytes are not UTF-8,
+/// and else at its first bad line: `Head` for a first line that is not `extension NAME`, for a second that is no `language` line,
+/// and at 1 more than the number of lines where one of the two is missing; `Shape` for a `use` line that is not as stated or names
+/// again what one before it names. The file has fewer than 2^32 - 1 bytes, so that the number of a line fits.
 pub fn read_extension_header(
     alloc: Global,
     name: &Text,

@@ -123,6 +123,7 @@ fn conclusion_line(alloc: Global, begun: Begun, number: u32, text: &[u8]) -> Res
                 name,
                 premises,
                 conclusion,
+                body: None,
             }))
         }
         Err(e) => {

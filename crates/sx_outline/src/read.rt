@@ -63,7 +63,7 @@ fn read_lines(
 }
 
 /// What a file of the language with this name states line by line: the parts of its grammar, its stems of metavariables, its forms, its
-/// main form, and the lines of its rules. It is refused where the bytes are not UTF-8, and else at its first bad line. The file has fewer
+/// main form, and the lines of its rules, which have no bodies. It is refused where the bytes are not UTF-8, and else at its first bad line. The file has fewer
 /// than 2^32 - 1 bytes, so that the number of a line fits.
 pub fn read_outline(alloc: Global, name: &Text, bytes: &[u8]) -> Result<Outline, OutlineError>
     requires { length bytes.now + 1 < 2 ^ 32 }

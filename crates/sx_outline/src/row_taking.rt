@@ -6,12 +6,13 @@ ghost use Rattle.sx_directives.specs.declared.row.Row.TheVariants as rows;
 ghost use Rattle.sx_lines.specs.declared.kind.Kind.TheVariants as kinds;
 ghost use Rattle.sx_outline.specs.declared.outline_error.OutlineError.TheVariants as errors;
 ghost use Rattle.sx_outline.specs.Declarations.{Declared};
-ghost use Rattle.sx_outline.specs.Reading.{IsCounted, GrowsByOne, IsDeclaration, IsRowTaken};
+ghost use Rattle.sx_outline.specs.Reading.{IsBodyTaken, IsCounted, GrowsByOne, IsDeclaration, IsRowTaken, stage as stage_of};
 ghost use Rattle.sx_outline.specs.View as view;
 
 use crate::known::Known;
 use crate::outline_error::{OutlineError, bad_line};
 use crate::reader::Reader;
+use crate::rule_lines::{RuleLine, RuleLines};
 use crate::stage::{Begun, Stage};
 use std::alloc::Global;
 use sx_directives::{MainLine, Row};
@@ -23,6 +24,34 @@ fn out_of_order(number: u32) -> OutlineError
     ensures { result ≡ errors.Notation number kinds.Order }
 {
     bad_line(number, Kind::Order)
+}
+
+/// The stage with this body, where a rule has its conclusion and no body.
+fn with_body(stage: Stage, number: u32, body: Text) -> Option<Stage>
+    ensures { IsBodyTaken (stage_of stage) (record { number = number; text = body }) result }
+{
+    match stage {
+        Stage::End(rule) => {
+            let RuleLines {
+                number: first,
+                name,
+                premises,
+                conclusion,
+                body: given,
+            } = rule;
+            match given {
+                None => Some(Stage::End(RuleLines {
+                    number: first,
+                    name,
+                    premises,
+                    conclusion,
+                    body: Some(RuleLine { number, text: body }),
+                })),
+                Some(_) => None,
+            }
+        }
+        _ => None,
+    }
 }
 
 impl Reader {
@@ -178,6 +207,33 @@ impl Reader {
         }
     }
 
+    /// Takes the body of a rule.
+    fn take_body(self, number: u32, body: Text) -> Result<Reader, OutlineError>
+        ensures taken { (known : Declared) → IsRowTaken known self number (rows.To body) result }
+        ensures grows { IfOk result (GrowsByOne self) }
+    {
+        let Reader {
+            stage,
+            forms,
+            vars,
+            main,
+            rules,
+        } = self;
+        match with_body(stage, number, body) {
+            Some(stage) => Ok(Reader {
+                stage,
+                forms,
+                vars,
+                main,
+                rules,
+            }),
+            None => {
+                drop(rules);
+                Err(out_of_order(number))
+            }
+        }
+    }
+
     /// Takes a row that fits.
     pub(crate) fn take_row(
         self,
@@ -234,11 +290,7 @@ impl Reader {
                 drop(self);
                 Err(out_of_order(number))
             }
-            Row::To(body) => {
-                drop(body);
-                drop(self);
-                Err(out_of_order(number))
-            }
+            Row::To(body) => self.take_body(number, body),
         }
     }
 }

@@ -2,12 +2,12 @@
 
 use sx_term::Text;
 
-/// A premise or a conclusion as it stands in its file.
+/// A premise, a conclusion or a body as it stands in its file.
 #[derive(Drop)]
 pub struct RuleLine {
     /// The number of the line, from 1.
     pub number: u32,
-    /// Its bytes.
+    /// Its bytes; those of a body with spaces in place of what stands before it.
     pub text: Text,
 }
 
@@ -19,4 +19,6 @@ pub struct RuleLines {
     pub name: Text,
     pub premises: Vec<RuleLine>,
     pub conclusion: RuleLine,
+    /// The body that a `to` line of an extension file states; a rule of a language file has none.
+    pub body: Option<RuleLine>,
 }
