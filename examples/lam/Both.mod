@@ -1,0 +1,5 @@
+module Both
+language Lam
+use Pair
+---
+\ p : Pair Int Str . p

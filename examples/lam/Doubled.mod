@@ -1,0 +1,5 @@
+module Doubled
+language Lam
+use Twice
+---
+twice ( "ab" ++ "c" )

@@ -1,0 +1,5 @@
+module Fourfold
+language Lam
+use Quad
+---
+\ s : Str . quad s

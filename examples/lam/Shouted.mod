@@ -1,0 +1,5 @@
+module Shouted
+language Lam
+use Loud
+---
+loud 1
