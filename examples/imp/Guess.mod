@@ -1,0 +1,9 @@
+module Guess
+language Imp
+use Unless
+use Repeat
+---
+var n := 0 ;
+repeat n := n + 1 until 10 < n + n ;
+unless n < 10 do n := 0
+return n

@@ -1,0 +1,9 @@
+module Sorted
+language Imp
+use Swap
+use Unless
+---
+var a := 3 ;
+var b := 2 ;
+unless a < b do swap a and b by c
+return a < b
