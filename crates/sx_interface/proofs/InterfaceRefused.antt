@@ -7,14 +7,19 @@ use Rattle.sx_interface.specs.declared.error.HeaderError.TheVariants.{Memory, No
 use Rattle.sx_interface.specs.declared.interfaces.Interface.{Interface}
 use Rattle.sx_interface.specs.InterfaceView.{interface_view}
 use Rattle.sx_interface.specs.Reading.{AnswersVersion, line_of}
-use Rattle.sx_lines.specs.Lines.{Lines, over, line, lines_from, texts}
+use Rattle.sx_lines.specs.Lines.{Lines, line, lines_from, texts}
 use Rattle.sx_lines.specs.FirstBad.{IsFirstBad}
 use Rattle.sx_lines.specs.Words.{after, is_name}
 use Rattle.sx_lines.proofs.SteadyLaws.{FirstRefused, Readable, ReadableAfter, readable_line, readable_next, readable_end, step_line, step_next, step_rows, step_end, first_bad}
-use Rattle.sx_lines.proofs.TakeLaws.{the_line-takes, distinct_rows-takes}
-use Rattle.sx_interface.specs.Interfaces.{Mark, mark_text, mark_after, digest_after, interface_of, other_version}
+use Rattle.sx_lines.proofs.TakeLaws.{the_line-takes, next_line-takes, distinct_rows-takes}
+use Rattle.sx_interface.specs.declared.version.Version as versions
+use Rattle.sx_interface.specs.declared.version.Version.TheVariants.{One, Two}
+use Rattle.sx_interface.specs.Interfaces.{Mark, InterfaceParts, mark_text, mark_after, digest_after, version_of, use_after, interface_of, other_version}
 use Rattle.sx_interface.specs.Stated.{IsDigest, IsMark, StatesInterface}
-use Rattle.sx_interface.proofs.InterfaceLaws.{made, from_signature, from_signed, from_imports, from_base, from_language, from_module, from_first, interface_again, interface_found, mark_after-again, digest_after-again}
+use Rattle.sx_interface.proofs.MarkTexts.{mark_after-again, digest_after-again}
+use Rattle.sx_interface.proofs.VersionLaws.{first_text, version_again}
+use Rattle.sx_interface.proofs.InterfaceSteps.{made, from_stated, from_signature, from_signed, from_imports, from_base, from_uses, from_language, from_module, from_version}
+use Rattle.sx_interface.proofs.InterfaceLaws.{interface_again, interface_found}
 
 -- ---- lines that are read after each step
 
@@ -50,47 +55,97 @@ no_import : mark_after (codes "import ") (codes "---") ≡ None
 unfolding mark_after after
 no_import = refl
 
-signed : (name : List ℕ) (language : Mark × Lines) (base : List ℕ × Lines) (imports : List Mark × Lines) → Readable (from_signed name language base imports)
-signed name language base imports = readable_next Some (λ s l. from_signature name language base imports (s, l)) [] [] refl (readable_end (made name language base imports ([], over 0)))
+no_use : (version : versions.Version) → use_after version (codes "base " ++ encode_lower zeros) ≡ None
+unfolding mark_after after
+no_use One = refl
+no_use Two = refl
 
-ended : (name : List ℕ) (language : Mark × Lines) (base : List ℕ × Lines) (imports : List Mark) → ReadableAfter (mark_after (codes "import ")) (λ l. from_imports name language base (imports, l))
-ended name language base imports =
-    let r = signed name language base (imports, over 0) in
+ended : (version : versions.Version) (make : List ℕ → List ℕ → InterfaceParts) (s : List ℕ) → Readable (λ l. from_signature version make (s, l))
+ended One make s = readable_end (make s s)
+ended Two make s = readable_next Some (λ t l. from_stated (make s) (t, l)) [] [] refl (readable_end (make s []))
+
+signed : (version : versions.Version) (make : List ℕ → List ℕ → InterfaceParts) → Readable (from_signed version make)
+signed version make = readable_next Some (λ s l. from_signature version make (s, l)) [] [] refl (ended version make [])
+
+imported : (version : versions.Version) (make : List ℕ → List ℕ → InterfaceParts) → ReadableAfter (mark_after (codes "import ")) (from_imports version make)
+imported version make =
+    let r = signed version make in
     record { lines = line 0 (codes "---") [] r.lines; unread = no_import; value = r.value; is = rw (the_line-takes (codes "---") (line 0 (codes "---") [] r.lines) r.lines (refl, refl)) r.is }
 
-imported : (name : List ℕ) (language : Mark × Lines) (base : List ℕ) → Readable (λ l. from_base name language (base, l))
-imported name language base =
-    let r = ended name language (base, over 0) [] in
+based : (version : versions.Version) (make : List Mark → List ℕ → List ℕ → InterfaceParts) → Readable (from_base version make)
+based version make =
+    let r = imported version (make []) in
     record { lines = r.lines; value = r.value; is = rw (distinct_rows-takes (λ (m : Mark). m.name) (mark_after (codes "import ")) [] r.lines r.lines [] [] refl tt tt r.unread) r.is }
 
-based : (name : List ℕ) (language : Mark) → Readable (λ l. from_language name (language, l))
-based name language =
-    readable_next (digest_after (codes "base ")) (λ d l. from_base name (language, over 0) (d, l)) (codes "base " ++ encode_lower zeros) zeros (digest_after-again (codes "base ") zeros zeros_digest) (imported name (language, over 0) zeros)
+used : (version : versions.Version) (make : List ℕ → List Mark → List ℕ → List ℕ → InterfaceParts) → ReadableAfter (use_after version) (from_uses version make)
+used version make =
+    let r = based version (make zeros) in
+    let row = codes "base " ++ encode_lower zeros in
+    let all = line 0 row [] r.lines in
+    record {
+      lines = all;
+      unread = no_use version;
+      value = r.value;
+      is = rw (next_line-takes (digest_after (codes "base ")) all r.lines row zeros (refl, refl) (digest_after-again (codes "base ") zeros zeros_digest)) r.is;
+    }
 
-named : (name : List ℕ) → Readable (from_module name)
-named name = readable_next (mark_after (codes "language ")) (λ m l. from_language name (m, l)) (codes "language " ++ mark_text some_mark) some_mark (mark_after-again (codes "language ") some_mark some_mark-is) (based name some_mark)
+spoken : (version : versions.Version) (make : List Mark → List ℕ → List Mark → List ℕ → List ℕ → InterfaceParts) → Readable (from_language version make)
+spoken version make =
+    let r = used version (make []) in
+    record { lines = r.lines; value = r.value; is = rw (distinct_rows-takes (λ (m : Mark). m.name) (use_after version) [] r.lines r.lines [] [] refl tt tt r.unread) r.is }
 
-pub interface_first : (name : List ℕ) (lines : Lines) (k : ℕ) → interface_of name lines ≡ Err k → FirstRefused (interface_of name) lines k
+named : (version : versions.Version) (make : Mark → List Mark → List ℕ → List Mark → List ℕ → List ℕ → InterfaceParts) → Readable (from_module version make)
+named version make =
+    readable_next (mark_after (codes "language ")) (λ m l. from_language version (make m) l) (codes "language " ++ mark_text some_mark) some_mark (mark_after-again (codes "language ") some_mark some_mark-is) (spoken version (make some_mark))
+
+headed : (name : List ℕ) (version : versions.Version) → Readable (from_version name version)
+headed name version = readable_line (codes "module " ++ name) (from_module version (made name)) (named version (made name))
+
+-- ---- each step
+
+end_first : (version : versions.Version) (make : List ℕ → List ℕ → InterfaceParts) (s : List ℕ) (l : Lines) (k : ℕ) → from_signature version make (s, l) ≡ Err k → FirstRefused (λ x. from_signature version make (s, x)) l k
+end_first One make s l k e = step_end (make s s) l k e
+end_first Two make s l k e =
+    step_next Some (λ t x. from_stated (make s) (t, x)) l k [] [] refl (λ t. readable_end (make s t))
+    (λ t x h. step_end (make s t) x k h) e
+
+signed_first : (version : versions.Version) (make : List ℕ → List ℕ → InterfaceParts) (l : Lines) (k : ℕ) → from_signed version make l ≡ Err k → FirstRefused (from_signed version make) l k
+signed_first version make l k e =
+    step_next Some (λ s x. from_signature version make (s, x)) l k [] [] refl (ended version make)
+    (λ s x h. end_first version make s x k h) e
+
+base_first : (version : versions.Version) (make : List Mark → List ℕ → List ℕ → InterfaceParts) (l : Lines) (k : ℕ) → from_base version make l ≡ Err k → FirstRefused (from_base version make) l k
+base_first version make l k e =
+    step_rows (λ (m : Mark). m.name) (mark_after (codes "import ")) (λ ms x. from_imports version (make ms) x) l k (λ ms. imported version (make ms))
+    (λ ms x h. step_line (codes "---") (from_signed version (make ms)) x k (signed version (make ms)) (λ y i. signed_first version (make ms) y k i) h) e
+
+language_first : (version : versions.Version) (make : List Mark → List ℕ → List Mark → List ℕ → List ℕ → InterfaceParts) (l : Lines) (k : ℕ) → from_language version make l ≡ Err k → FirstRefused (from_language version make) l k
+language_first version make l k e =
+    step_rows (λ (m : Mark). m.name) (use_after version) (λ us x. from_uses version (make us) x) l k (λ us. used version (make us))
+    (λ us x h. step_next (digest_after (codes "base ")) (λ d y. from_base version (make us d) y) x k (codes "base " ++ encode_lower zeros) zeros (digest_after-again (codes "base ") zeros zeros_digest) (λ d. based version (make us d))
+    (λ d y i. base_first version (make us d) y k i) h) e
+
+version_first : (name : List ℕ) (version : versions.Version) (l : Lines) (k : ℕ) → from_version name version l ≡ Err k → FirstRefused (from_version name version) l k
+version_first name version l k e =
+    step_line (codes "module " ++ name) (from_module version (made name)) l k (named version (made name))
+    (λ x h. step_next (mark_after (codes "language ")) (λ m y. from_language version (made name m) y) x k (codes "language " ++ mark_text some_mark) some_mark (mark_after-again (codes "language ") some_mark some_mark-is) (λ m. spoken version (made name m))
+    (λ m y i. language_first version (made name m) y k i) h) e
+
+interface_first : (name : List ℕ) (lines : Lines) (k : ℕ) → interface_of name lines ≡ Err k → FirstRefused (interface_of name) lines k
 unfolding interface_of
 interface_first name lines k e =
-    step_line (codes "sxint 1") (from_first name) lines k (readable_line (codes "module " ++ name) (from_module name) (named name))
-    (λ l1 e1. step_line (codes "module " ++ name) (from_module name) l1 k (named name)
-    (λ l2 e2. step_next (mark_after (codes "language ")) (λ m l. from_language name (m, l)) l2 k (codes "language " ++ mark_text some_mark) some_mark (mark_after-again (codes "language ") some_mark some_mark-is) (λ m. based name m)
-    (λ language l3 e3. step_next (digest_after (codes "base ")) (λ d l. from_base name (language, l3) (d, l)) l3 k (codes "base " ++ encode_lower zeros) zeros (digest_after-again (codes "base ") zeros zeros_digest) (λ d. imported name (language, l3) d)
-    (λ base l4 e4. step_rows (λ (m : Mark). m.name) (mark_after (codes "import ")) (λ ms l. from_imports name (language, l3) (base, l4) (ms, l)) l4 k (λ ms. ended name (language, l3) (base, l4) ms)
-    (λ imports l5 e5. step_line (codes "---") (from_signed name (language, l3) (base, l4) (imports, l5)) l5 k (signed name (language, l3) (base, l4) (imports, l5))
-    (λ l6 e6. step_next Some (λ s l. from_signature name (language, l3) (base, l4) (imports, l5) (s, l)) l6 k [] [] refl (λ s. readable_end (made name (language, l3) (base, l4) (imports, l5) (s, over 0)))
-    (λ signature l7 e7. step_end (made name (language, l3) (base, l4) (imports, l5) (signature, l7)) l7 k e7) e6) e5) e4) e3) e2) e1) e
+    step_next version_of (λ v l. from_version name v l) lines k (first_text Two) Two (version_again Two) (headed name)
+    (λ v l h. version_first name v l k h) e
 
 -- the line that is refused is the first bad one
 pub interface_bad : (name : List ℕ) (lines : Lines) (k : ℕ) → interface_of name lines ≡ Err k → IsFirstBad (λ l. StatesInterface name (texts l)) lines k
 interface_bad name lines k e = first_bad (λ l. StatesInterface name (texts l)) (interface_of name) (interface_again name) (interface_found name) lines k (interface_first name lines k e)
 
-answer_bad : (bytes name : List ℕ) (lines : Lines) (version : Option ℕ) (r : Result Interface HeaderError) → AnswersVersion bytes version interface_view r (interface_of name lines) → IfErr r (λ e. IfSome (line_of e) (IsFirstBad (λ l. StatesInterface name (texts l)) lines))
-answer_bad bytes name lines version (Ok it) h = tt
-answer_bad bytes name lines version (Err Memory) h = tt
-answer_bad bytes name lines version (Err (NotUtf8 place)) h = tt
-answer_bad bytes name lines version (Err (Version n)) h = tt
+answer_bad : (bytes name : List ℕ) (lines : Lines) (number : Option ℕ) (r : Result Interface HeaderError) → AnswersVersion bytes number interface_view r (interface_of name lines) → IfErr r (λ e. IfSome (line_of e) (IsFirstBad (λ l. StatesInterface name (texts l)) lines))
+answer_bad bytes name lines number (Ok it) h = tt
+answer_bad bytes name lines number (Err Memory) h = tt
+answer_bad bytes name lines number (Err (NotUtf8 place)) h = tt
+answer_bad bytes name lines number (Err (Version n)) h = tt
 answer_bad bytes name lines None (Err (Header n)) h = interface_bad name lines n h.1
 answer_bad bytes name lines (Some v) (Err (Header n)) h = absurd h
 

@@ -3,6 +3,7 @@ use Rattle.std.specs.Prelude.{ℕ, List, map}
 use Rattle.std.specs.Borrow.{Bor}
 use Rattle.sx_interface.specs.declared.interfaces.Interface as code
 use Rattle.sx_interface.specs.declared.interfaces.ImportMark as mark
+use Rattle.sx_interface.specs.declared.interface_reading.Rows.{Rows}
 use Rattle.sx_interface.specs.declared.marks.Digest.{Digest}
 use Rattle.sx_interface.specs.Interfaces.{Mark, InterfaceParts}
 
@@ -19,15 +20,25 @@ abbrev pub pair_view : Bor (List ℕ) × Digest → Mark
 pair_view p = record { name = p.0.now; digest = p.1.bytes }
 
 -- what the rows of an interface say, under the module's name
-abbrev pub rows_view : List ℕ → Mark → List ℕ → List Mark → List ℕ → InterfaceParts
-rows_view name language base imports signature = record { name = name; language = language; base = base; imports = imports; signature = signature }
+abbrev pub rows_view : List ℕ → Rows → (uses imports : List Mark) → InterfaceParts
+rows_view name rows uses imports = record {
+  name = name;
+  language = record { name = rows.language.now; digest = rows.language_digest.bytes };
+  uses = uses;
+  base = rows.base_digest.bytes;
+  imports = imports;
+  signature = rows.signature.now;
+  stated = rows.stated.now;
+}
 
 -- an interface without where it lies in memory
 abbrev pub interface_view : code.Interface → InterfaceParts
 interface_view it = record {
   name = it.«module»;
   language = record { name = it.language; digest = it.language_digest.bytes };
+  uses = marks_view it.uses.items;
   base = it.base_digest.bytes;
   imports = marks_view it.imports.items;
   signature = it.signature;
+  stated = it.stated;
 }

@@ -1,5 +1,6 @@
--- The interface of a module, version 1.
-use Rattle.std.specs.Prelude.{ℕ, ◌^◌, ◌-◌, ◌==◌, false, List, [], ◌∷◌, ◌++◌, map, codes, Option, Some, None, option_and_then, Result, Ok, if◌then◌else◌}
+-- The interface of a module, in its two versions.
+use Rattle.std.specs.Prelude.{ℕ, ◌^◌, ◌-◌, ◌==◌, ◌||◌, false, List, [], ◌∷◌, ◌++◌, map, codes, Option, Some, None, option_and_then, Result, Ok, if◌then◌else◌}
+use Rattle.std.specs.Str.{bytes_eq}
 use Rattle.hex.specs.Hex.{encode_lower}
 use Rattle.sx_lines.specs.Bytes.{space}
 use Rattle.sx_lines.specs.Lines.{Lines, over, line}
@@ -7,37 +8,56 @@ use Rattle.sx_lines.specs.Words.{after, is_name, number_within}
 use Rattle.sx_lines.specs.Reading.{◌>>=◌, the_line, next_line, no_line}
 use Rattle.sx_lines.specs.Rows.{distinct_rows, word_of}
 use Rattle.sx_interface.specs.Digests.{digest_of}
+use Rattle.sx_interface.specs.declared.version.Version.{Version}
+use Rattle.sx_interface.specs.declared.version.Version.TheVariants.{One, Two}
 
 -- a name with a digest
 pub record Mark : Type 0 where
   pub name : List ℕ
   pub digest : List ℕ
 
--- an interface without where it lies in memory
+-- an interface without where it lies in memory: the signature in base syntax, and as it is stated
+-- in the syntax of the extensions that it uses
 pub record InterfaceParts : Type 0 where
   pub name : List ℕ
   pub language : Mark
+  pub uses : List Mark
   pub base : List ℕ
   pub imports : List Mark
   pub signature : List ℕ
+  pub stated : List ℕ
 
 -- a name, a blank and the digits of a digest
 abbrev pub mark_text : Mark → List ℕ
 mark_text m = m.name ++ space ∷ encode_lower m.digest
 
--- the lines of the imports
-abbrev pub import_lines : List Mark → List (List ℕ)
-import_lines marks = map (λ m. codes "import " ++ mark_text m) marks
+-- a row for each mark
+abbrev pub mark_lines : List ℕ → List Mark → List (List ℕ)
+mark_lines front marks = map (λ m. front ++ mark_text m) marks
 
--- the lines of an interface
+-- the lines of an interface in version 1
+abbrev pub first_lines : InterfaceParts → List (List ℕ)
+first_lines it =
+    codes "sxint 1" ∷ (codes "module " ++ it.name) ∷ (codes "language " ++ mark_text it.language)
+    ∷ (codes "base " ++ encode_lower it.base)
+    ∷ (mark_lines (codes "import ") it.imports ++ codes "---" ∷ it.signature ∷ [])
+
+-- the lines of an interface in version 2
 abbrev pub interface_lines : InterfaceParts → List (List ℕ)
 interface_lines it =
-    codes "sxint 1" ∷ (codes "module " ++ it.name) ∷ (codes "language " ++ mark_text it.language) ∷ (codes "base " ++ encode_lower it.base)
-    ∷ (import_lines it.imports ++ codes "---" ∷ it.signature ∷ [])
+    codes "sxint 2" ∷ (codes "module " ++ it.name) ∷ (codes "language " ++ mark_text it.language)
+    ∷ (mark_lines (codes "use ") it.uses ++ (codes "base " ++ encode_lower it.base)
+    ∷ (mark_lines (codes "import ") it.imports ++ codes "---" ∷ it.signature ∷ it.stated ∷ []))
+
+-- the lines of an interface in a version
+abbrev pub lines_in : Version → InterfaceParts → List (List ℕ)
+lines_in One it = first_lines it
+lines_in Two it = interface_lines it
 
 -- the mark with this name, where the name is one and there is a digest
 abbrev pub mark_if : List ℕ → Option (List ℕ) → Option Mark
-mark_if name (Some digest) = if is_name false name then Some (record { name = name; digest = digest }) else None
+mark_if name (Some digest) =
+    if is_name false name then Some (record { name = name; digest = digest }) else None
 mark_if name None = None
 
 -- the mark that a text states
@@ -52,24 +72,53 @@ mark_after front text = option_and_then mark_of (after front text)
 unfoldable pub digest_after : List ℕ → List ℕ → Option (List ℕ)
 digest_after front text = option_and_then digest_of (after front text)
 
--- The interface that the lines of its file state, or the number of the first line that is not as defined.
+-- the version that a first line names
+abbrev pub version_of : List ℕ → Option Version
+version_of text =
+    if bytes_eq text (codes "sxint 1") then Some One
+    else if bytes_eq text (codes "sxint 2") then Some Two else None
+
+-- the mark that a `use` line states, in a version that has them
+abbrev pub use_after : Version → List ℕ → Option Mark
+use_after One = λ text. None
+use_after Two = mark_after (codes "use ")
+
+-- the stated signature, which in version 1 is the signature, and the lines after it
+abbrev pub stated_of : Version → List ℕ × Lines → Result (List ℕ × Lines) ℕ
+stated_of One signature = Ok signature
+stated_of Two signature = next_line Some signature.1
+
+-- The interface that the lines of its file state, or the number of the first line that is not as
+-- defined.
 unfoldable pub interface_of : List ℕ → Lines → Result InterfaceParts ℕ
 interface_of name lines = do
-  first ← the_line (codes "sxint 1") lines
-  rest ← the_line (codes "module " ++ name) first
+  version ← next_line version_of lines
+  rest ← the_line (codes "module " ++ name) version.1
   language ← next_line (mark_after (codes "language ")) rest
-  base ← next_line (digest_after (codes "base ")) language.1
+  uses ← distinct_rows (λ m. m.name) (use_after version.0) [] language.1
+  base ← next_line (digest_after (codes "base ")) uses.1
   imports ← distinct_rows (λ m. m.name) (mark_after (codes "import ")) [] base.1
   signed ← the_line (codes "---") imports.1
   signature ← next_line Some signed
-  end ← no_line signature.1
-  Ok (record { name = name; language = language.0; base = base.0; imports = imports.0; signature = signature.0 })
+  stated ← stated_of version.0 signature
+  end ← no_line stated.1
+  Ok (record {
+    name = name;
+    language = language.0;
+    uses = uses.0;
+    base = base.0;
+    imports = imports.0;
+    signature = signature.0;
+    stated = stated.0;
+  })
 
--- the number, unless it is 1
-abbrev pub not_one : ℕ → Option ℕ
-not_one n = if n == 1 then None else Some n
+-- the number, unless it is that of a version
+abbrev pub unless_known : ℕ → Option ℕ
+unless_known n = if n == 1 || n == 2 then None else Some n
 
 -- the number of another version, where the first line names one
 unfoldable pub other_version : Lines → Option ℕ
 other_version (over n) = None
-other_version (line n text rest more) = option_and_then (λ digits. option_and_then not_one (number_within (2 ^ 64 - 1) digits)) (after (codes "sxint ") text)
+other_version (line n text rest more) =
+    option_and_then (λ digits. option_and_then unless_known (number_within (2 ^ 64 - 1) digits))
+    (after (codes "sxint ") text)

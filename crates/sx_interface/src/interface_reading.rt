@@ -1,32 +1,83 @@
 //! Reading interfaces.
 
-ghost use Rattle.std.specs.Prelude.{◌≡◌, ℕ, ◌+◌, ◌^◌, ◌<◌, [], ◌∷◌, ◌++◌, List, length, codes, option_map, true, false, Ok, None, IfOk, IfErr, IfSome};
+ghost use Rattle.std.specs.Prelude.{◌≡◌, ℕ, ◌+◌, ◌^◌, ◌<◌, [], ◌++◌, length, codes, option_map, true, false, Ok, None, IfOk, IfErr, IfSome};
+ghost use Rattle.std.specs.Str.{IsUtf8};
 ghost use Rattle.sx_lines.specs.FirstBad.{IsFirstBad};
 ghost use Rattle.sx_lines.specs.Words.{is_name};
-ghost use Rattle.sx_lines.specs.Lines.{texts, IsLineText};
-ghost use Rattle.sx_interface.specs.Interfaces.{InterfaceParts, interface_lines};
-ghost use Rattle.sx_interface.specs.Stated.{IsInterface, StatesInterface};
-ghost use Rattle.sx_lines.specs.Reading.{written};
-ghost use Rattle.std.specs.Str.{IsUtf8};
+ghost use Rattle.sx_lines.specs.Lines.{texts, lines_from, IsLineText};
 ghost use Rattle.sx_lines.specs.Left.{left};
-ghost use Rattle.sx_lines.specs.Lines.{lines_from};
-ghost use Rattle.sx_lines.specs.Reading.{Gives, the_line, next_line, no_line};
+ghost use Rattle.sx_lines.specs.Reading.{Gives, the_line, next_line, no_line, written};
 ghost use Rattle.sx_lines.specs.Rows.{distinct_rows};
 ghost use Rattle.sx_interface.specs.Interfaces as spec;
-ghost use Rattle.sx_interface.specs.Interfaces.{Mark};
-ghost use Rattle.sx_interface.specs.InterfaceView.{marks_view, pair_view, rows_view, interface_view};
+ghost use Rattle.sx_interface.specs.Interfaces.{InterfaceParts, interface_lines};
+ghost use Rattle.sx_interface.specs.Stated.{IsInterface, StatesInterface};
+ghost use Rattle.sx_interface.specs.InterfaceView.{marks_view, rows_view, interface_view};
 ghost use Rattle.sx_interface.specs.declared.error.HeaderError.TheVariants.{Memory};
 ghost use Rattle.sx_interface.specs.Reading.{Refuses, RefusesText, IsText, AnswersVersion, line_of};
 
 use crate::error::HeaderError;
 use crate::interfaces::{ImportMark, Interface};
+use crate::mark_rows::{language_row, mark_rows};
 use crate::marks::{Digest, read_digest};
-use crate::names::Names;
 use crate::rows::is_row;
 use crate::texts::name_text;
+use crate::version::Version;
 use std::alloc::Global;
-use sx_lines::{Rest, after, is_name, number_within, split_word};
+use sx_lines::{Rest, after, number_within};
 use sx_term::{NoMemory, Text};
+
+/// What the rows of an interface state besides the marks.
+#[derive(Clone, Copy)]
+struct Rows<'a> {
+    language: &'a [u8],
+    language_digest: Digest,
+    base_digest: Digest,
+    signature: &'a [u8],
+    stated: &'a [u8],
+}
+
+/// The marks of an interface.
+#[derive(Drop)]
+struct Marks {
+    uses: Vec<ImportMark>,
+    imports: Vec<ImportMark>,
+}
+
+/// The texts of an interface.
+#[derive(Drop)]
+struct Texts {
+    module: Text,
+    language: Text,
+    signature: Text,
+    stated: Text,
+}
+
+/// The version that a first line names.
+fn version_of(text: &[u8]) -> Option<Version>
+    ensures { result ≡ spec.version_of text.now }
+{
+    if text == b"sxint 1".as_slice() {
+        return Some(Version::One);
+    }
+    if text == b"sxint 2".as_slice() {
+        return Some(Version::Two);
+    }
+    None
+}
+
+/// The version in the first line, and what is left after it.
+#[tactic(auto, unfolding(sx_lines::specs::Reading::next_line))]
+fn version_row<'a>(rest: Rest<'a>) -> Result<(Version, Rest<'a>), HeaderError>
+    ensures line { Gives (λ x. (x.0, left x.1)) Refuses result
+        (next_line spec.version_of (left rest.entry)) }
+    ensures utf8 { IsUtf8 rest.entry.bytes.now → IfOk result (λ x. IsUtf8 x.1.bytes.now) }
+{
+    let (line, more) = rest.next()?;
+    match version_of(line.text) {
+        Some(version) => Ok((version, more)),
+        None => Err(HeaderError::Header(line.number)),
+    }
+}
 
 /// What is left after the line with this text.
 #[tactic(auto, unfolding(sx_lines::specs::Reading::the_line))]
@@ -44,7 +95,8 @@ fn exact_line<'a>(text: &[u8], rest: Rest<'a>) -> Result<Rest<'a>, HeaderError>
 /// What is left after the line `module` and the name.
 #[tactic(auto, unfolding(sx_lines::specs::Reading::the_line))]
 fn module_line<'a>(name: &[u8], rest: Rest<'a>) -> Result<Rest<'a>, HeaderError>
-    ensures line { Gives left Refuses result (the_line (codes "module " ++ name.now) (left rest.entry)) }
+    ensures line { Gives left Refuses result (the_line (codes "module " ++ name.now)
+        (left rest.entry)) }
     ensures utf8 { IsUtf8 rest.entry.bytes.now → IfOk result (λ x. IsUtf8 x.bytes.now) }
 {
     let (line, more) = rest.next()?;
@@ -52,50 +104,6 @@ fn module_line<'a>(name: &[u8], rest: Rest<'a>) -> Result<Rest<'a>, HeaderError>
         return Err(HeaderError::Header(line.number));
     }
     Ok(more)
-}
-
-/// The name and the digest that a text states.
-#[tactic(auto, unfolding(crate::specs::Interfaces::mark_of))]
-fn mark_of(text: &[u8]) -> Option<(&[u8], Digest)>
-    ensures value { option_map pair_view result ≡ spec.mark_of text.entry.now }
-    ensures named { IfSome result (λ mark. is_name false mark.0.now ≡ true) }
-{
-    let (name, digits) = split_word(text);
-    match read_digest(digits) {
-        Some(digest) => {
-            if !is_name(false, name) {
-                return None;
-            }
-            Some((name, digest))
-        }
-        None => None,
-    }
-}
-
-/// The name and the digest in a row with this front.
-#[tactic(auto, unfolding(crate::specs::Interfaces::mark_after))]
-fn mark_after<'a>(text: &'a [u8], front: &[u8]) -> Option<(&'a [u8], Digest)>
-    ensures value { option_map pair_view result ≡ spec.mark_after front.now text.entry.now }
-    ensures named { IfSome result (λ mark. is_name false mark.0.now ≡ true) }
-{
-    match after(text, front) {
-        Some(mark) => mark_of(mark),
-        None => None,
-    }
-}
-
-/// The name and the digest in the next row, and what is left after it.
-#[tactic(auto, unfolding(sx_lines::specs::Reading::next_line))]
-fn language_row<'a>(rest: Rest<'a>) -> Result<((&'a [u8], Digest), Rest<'a>), HeaderError>
-    ensures line { Gives (λ x. (pair_view x.0, left x.1)) Refuses result (next_line (spec.mark_after (codes "language ")) (left rest.entry)) }
-    ensures named { IfOk result (λ x. is_name false x.0.0.now ≡ true) }
-    ensures utf8 { IsUtf8 rest.entry.bytes.now → IfOk result (λ x. IsUtf8 x.1.bytes.now) }
-{
-    let (line, more) = rest.next()?;
-    match mark_after(line.text, b"language ") {
-        Some(mark) => Ok((mark, more)),
-        None => Err(HeaderError::Header(line.number)),
-    }
 }
 
 /// The digest in a row with this front.
@@ -112,7 +120,8 @@ fn digest_after(text: &[u8], front: &[u8]) -> Option<Digest>
 /// The digest in the next row, and what is left after it.
 #[tactic(auto, unfolding(sx_lines::specs::Reading::next_line))]
 fn base_row<'a>(rest: Rest<'a>) -> Result<(Digest, Rest<'a>), HeaderError>
-    ensures line { Gives (λ x. (x.0.bytes, left x.1)) Refuses result (next_line (spec.digest_after (codes "base ")) (left rest.entry)) }
+    ensures line { Gives (λ x. (x.0.bytes, left x.1)) Refuses result
+        (next_line (spec.digest_after (codes "base ")) (left rest.entry)) }
     ensures utf8 { IsUtf8 rest.entry.bytes.now → IfOk result (λ x. IsUtf8 x.1.bytes.now) }
 {
     let (line, more) = rest.next()?;
@@ -122,63 +131,53 @@ fn base_row<'a>(rest: Rest<'a>) -> Result<(Digest, Rest<'a>), HeaderError>
     }
 }
 
-/// Appends the marks in the next rows, of whose names none was seen, and answers what is left after them.
-fn add_rows<'a>(
+/// Appends the marks in the `use` rows, which version 1 does not have, and answers what is left
+/// after them.
+fn use_rows<'a>(
     alloc: Global,
+    version: Version,
     rest: Rest<'a>,
-    seen: &mut Names,
-    marks: &mut Vec<ImportMark>,
+    uses: &mut Vec<ImportMark>,
 ) -> Result<Rest<'a>, HeaderError>
-    requires seen { seen.old ≡ [] }
-    requires marks { marks.old.items ≡ [] }
-    ensures rows { Gives (λ x. (marks_view marks.new.items, left x)) Refuses result
-        (distinct_rows (λ m. m.name) (spec.mark_after (codes "import ")) [] (left rest.entry)) }
+    requires { uses.old.items ≡ [] }
+    ensures rows { Gives (λ x. (marks_view uses.new.items, left x)) Refuses result
+        (distinct_rows (λ m. m.name) (spec.use_after version) [] (left rest.entry)) }
     ensures utf8 { IsUtf8 rest.entry.bytes.now → IfOk result (λ x. IsUtf8 x.bytes.now) }
 {
-    let mut rest = rest;
-    'rows: while let Ok((line, more)) = rest.next() {
-        match mark_after(line.text, b"import ") {
-            Some((name, digest)) => {
-                if seen.contains(name) {
-                    return Err(HeaderError::Header(line.number));
-                }
-                seen.add(alloc, name)?;
-                let name = name_text(alloc, name)?;
-                marks.push(ImportMark { name, digest })?;
-            }
-            None => return Ok(rest),
-        }
-        rest = more;
+    match version {
+        Version::One => Ok(rest),
+        Version::Two => mark_rows(alloc, b"use ", rest, uses),
     }
-    Ok(rest)
-}
-
-/// Appends the marks in the next rows, whose names are distinct, and answers what is left after them.
-fn import_rows<'a>(
-    alloc: Global,
-    rest: Rest<'a>,
-    marks: &mut Vec<ImportMark>,
-) -> Result<Rest<'a>, HeaderError>
-    requires { marks.old.items ≡ [] }
-    ensures rows { Gives (λ x. (marks_view marks.new.items, left x)) Refuses result
-        (distinct_rows (λ m. m.name) (spec.mark_after (codes "import ")) [] (left rest.entry)) }
-    ensures utf8 { IsUtf8 rest.entry.bytes.now → IfOk result (λ x. IsUtf8 x.bytes.now) }
-{
-    let mut seen = Names::new(alloc);
-    let read = add_rows(alloc, rest, &mut seen, marks);
-    drop(seen);
-    read
 }
 
 /// The text of the next line, and what is left after it.
 #[tactic(auto, unfolding(sx_lines::specs::Reading::next_line))]
 fn signature_line<'a>(rest: Rest<'a>) -> Result<(&'a [u8], Rest<'a>), HeaderError>
     requires { IsUtf8 rest.bytes.now }
-    ensures line { Gives (λ x. (x.0.now, left x.1)) Refuses result (next_line Some (left rest.entry)) }
-    ensures utf8 { IfOk result (λ x. IsUtf8 x.0.now) }
+    ensures line { Gives (λ x. (x.0.now, left x.1)) Refuses result
+        (next_line Some (left rest.entry)) }
+    ensures utf8 { IfOk result (λ x. IsUtf8 x.0.now × IsUtf8 x.1.bytes.now) }
 {
     let (line, more) = rest.next()?;
     Ok((line.text, more))
+}
+
+/// The stated signature, which in version 1 is the signature, and what is left after it.
+fn stated_line<'a>(
+    version: Version,
+    signature: &'a [u8],
+    rest: Rest<'a>,
+) -> Result<(&'a [u8], Rest<'a>), HeaderError>
+    requires signature { IsUtf8 signature.now }
+    requires utf8 { IsUtf8 rest.bytes.now }
+    ensures line { Gives (λ x. (x.0.now, left x.1)) Refuses result
+        (spec.stated_of version (signature.entry.now, left rest.entry)) }
+    ensures utf8 { IfOk result (λ x. IsUtf8 x.0.now) }
+{
+    match version {
+        Version::One => Ok((signature, rest)),
+        Version::Two => signature_line(rest),
+    }
 }
 
 /// That no line is left.
@@ -192,82 +191,90 @@ fn end(rest: Rest<'_>) -> Result<(), HeaderError>
     }
 }
 
-/// The language with its digest, the digest of the base file and the signature that lines state, with the marks of the imports.
+/// What the lines of an interface state, with the marks in the `use` and `import` lines.
 #[tactic(auto, unfolding(crate::specs::Interfaces::interface_of))]
 fn read_rows<'a>(
     alloc: Global,
     name: &Text,
     bytes: &'a [u8],
+    uses: &mut Vec<ImportMark>,
     imports: &mut Vec<ImportMark>,
-) -> Result<((&'a [u8], Digest), Digest, &'a [u8]), HeaderError>
+) -> Result<Rows<'a>, HeaderError>
     requires numbered { length bytes.now + 1 < 2 ^ 32 }
     requires utf8 { IsUtf8 bytes.now }
+    requires uses { uses.old.items ≡ [] }
     requires imports { imports.old.items ≡ [] }
-    ensures rows { Gives (λ x. rows_view name.now (pair_view x.0) x.1.bytes (marks_view imports.new.items) x.2.now) Refuses result
+    ensures rows { Gives (λ x. rows_view name.now x (marks_view uses.new.items)
+        (marks_view imports.new.items)) Refuses result
         (spec.interface_of name.now (lines_from 1 bytes.entry.now)) }
-    ensures named { IfOk result (λ x. is_name false x.0.0.now ≡ true) }
-    ensures utf8 { IfOk result (λ x. IsUtf8 x.2.now) }
+    ensures named { IfOk result (λ x. is_name false x.language.now ≡ true) }
+    ensures signature { IfOk result (λ x. IsUtf8 x.signature.now) }
+    ensures stated { IfOk result (λ x. IsUtf8 x.stated.now) }
 {
-    let rest = exact_line(b"sxint 1", Rest::all(bytes))?;
+    let (version, rest) = version_row(Rest::all(bytes))?;
     let rest = module_line(name.bytes(), rest)?;
-    let (language, rest) = language_row(rest)?;
+    let ((language, language_digest), rest) = language_row(rest)?;
+    let rest = use_rows(alloc, version, rest, uses)?;
     let (base_digest, rest) = base_row(rest)?;
-    let rest = import_rows(alloc, rest, imports)?;
+    let rest = mark_rows(alloc, b"import ", rest, imports)?;
     let rest = exact_line(b"---", rest)?;
     let (signature, rest) = signature_line(rest)?;
+    let (stated, rest) = stated_line(version, signature, rest)?;
     end(rest)?;
-    Ok((language, base_digest, signature))
+    Ok(Rows {
+        language,
+        language_digest,
+        base_digest,
+        signature,
+        stated,
+    })
 }
 
-/// The texts of a name and of bytes that are UTF-8.
-fn two_texts(alloc: Global, name: &[u8], bytes: &[u8]) -> Result<(Text, Text), NoMemory>
-    requires named { is_name false name.now ≡ true }
-    requires utf8 { IsUtf8 bytes.now }
-    ensures { IfOk result (λ x. x ≡ (name.now, bytes.now)) }
+/// The texts of the module's name and of rows.
+fn owned_texts(alloc: Global, name: &Text, rows: Rows<'_>) -> Result<Texts, NoMemory>
+    requires named { is_name false rows.language.now ≡ true }
+    requires signature { IsUtf8 rows.signature.now }
+    requires stated { IsUtf8 rows.stated.now }
+    ensures names { IfOk result (λ x. (x.«module» ≡ name.now) ×
+        (x.language ≡ rows.entry.language.now)) }
+    ensures signatures { IfOk result (λ x. (x.signature ≡ rows.entry.signature.now) ×
+        (x.stated ≡ rows.entry.stated.now)) }
 {
-    let name = name_text(alloc, name)?;
-    match Text::of_utf8(alloc, bytes) {
-        Ok(text) => Ok((name, text)),
-        Err(e) => {
-            drop(name);
-            Err(e)
-        }
-    }
+    Ok(Texts {
+        module: name.copy(alloc)?,
+        language: name_text(alloc, rows.language)?,
+        signature: Text::of_utf8(alloc, rows.signature)?,
+        stated: Text::of_utf8(alloc, rows.stated)?,
+    })
 }
 
-/// The interface with these imports, of the name, the language, the digests and the signature.
+/// The interface of the module with this name, of rows and marks.
 fn interface_with(
     alloc: Global,
     name: &Text,
-    language: (&[u8], Digest),
-    base_digest: Digest,
-    signature: &[u8],
-    imports: Vec<ImportMark>,
+    rows: Rows<'_>,
+    marks: Marks,
 ) -> Result<Interface, HeaderError>
-    requires named { is_name false language.0.now ≡ true }
-    requires utf8 { IsUtf8 signature.now }
-    ensures good { IfOk result (λ it. interface_view it ≡ rows_view name.now (pair_view language.entry) base_digest.bytes (marks_view imports.items) signature.now) }
+    requires named { is_name false rows.language.now ≡ true }
+    requires signature { IsUtf8 rows.signature.now }
+    requires stated { IsUtf8 rows.stated.now }
+    ensures good { IfOk result (λ it. interface_view it ≡ rows_view name.now rows.entry
+        (marks_view marks.uses.items) (marks_view marks.imports.items)) }
     ensures refused { IfErr result (λ e. e ≡ Memory) }
 {
-    match two_texts(alloc, language.0, signature) {
-        Ok((text, signature)) => match name.copy(alloc) {
-            Ok(module) => Ok(Interface {
-                module,
-                language: text,
-                language_digest: language.1,
-                base_digest,
-                imports,
-                signature,
-            }),
-            Err(_) => {
-                drop(signature);
-                drop(text);
-                drop(imports);
-                Err(HeaderError::Memory)
-            }
-        },
+    match owned_texts(alloc, name, rows) {
+        Ok(texts) => Ok(Interface {
+            module: texts.module,
+            language: texts.language,
+            language_digest: rows.language_digest,
+            uses: marks.uses,
+            base_digest: rows.base_digest,
+            imports: marks.imports,
+            signature: texts.signature,
+            stated: texts.stated,
+        }),
         Err(_) => {
-            drop(imports);
+            drop(marks);
             Err(HeaderError::Memory)
         }
     }
@@ -277,15 +284,17 @@ fn interface_with(
 fn interface(alloc: Global, name: &Text, bytes: &[u8]) -> Result<Interface, HeaderError>
     requires numbered { length bytes.now + 1 < 2 ^ 32 }
     requires utf8 { IsUtf8 bytes.now }
-    ensures { Gives interface_view Refuses result (spec.interface_of name.now (lines_from 1 bytes.now)) }
+    ensures { Gives interface_view Refuses result
+        (spec.interface_of name.now (lines_from 1 bytes.now)) }
 {
-    let mut imports = Vec::new(alloc);
-    match read_rows(alloc, name, bytes, &mut imports) {
-        Ok((language, base_digest, signature)) => {
-            interface_with(alloc, name, language, base_digest, signature, imports)
-        }
+    let mut marks = Marks {
+        uses: Vec::new(alloc),
+        imports: Vec::new(alloc),
+    };
+    match read_rows(alloc, name, bytes, &mut marks.uses, &mut marks.imports) {
+        Ok(rows) => interface_with(alloc, name, rows, marks),
         Err(e) => {
-            drop(imports);
+            drop(marks);
             Err(e)
         }
     }
@@ -301,7 +310,7 @@ fn other_version(bytes: &[u8]) -> Option<u64>
         Ok((line, _)) => {
             let digits = after(line.text, b"sxint ")?;
             let number = number_within(u64::MAX, digits)?;
-            if number == 1 {
+            if number == 1 || number == 2 {
                 return None;
             }
             Some(number)
@@ -314,7 +323,8 @@ fn other_version(bytes: &[u8]) -> Option<u64>
 fn checked(alloc: Global, name: &Text, bytes: &[u8]) -> Result<Interface, HeaderError>
     requires { length bytes.now + 1 < 2 ^ 32 }
     ensures text { IsText bytes.now result }
-    ensures exact { AnswersVersion bytes.now (spec.other_version (lines_from 1 bytes.now)) interface_view result
+    ensures exact { AnswersVersion bytes.now (spec.other_version
+        (lines_from 1 bytes.now)) interface_view result
         (spec.interface_of name.now (lines_from 1 bytes.now)) }
 {
     match std::str::from_utf8(bytes) {
@@ -326,35 +336,45 @@ fn checked(alloc: Global, name: &Text, bytes: &[u8]) -> Result<Interface, Header
     }
 }
 
-/// The interface that the file with these bytes states, of a module of this name. The file has fewer than 2^32 - 1
-/// bytes, so that the number of a line fits.
+/// The interface that the file with these bytes states, of a module of this name. The file has
+/// fewer than 2^32 - 1 bytes, so that the number of a line fits.
 ///
-/// The lines are `sxint 1`, `module` and the name, `language` with a name and a digest, `base` with a digest, an `import`
-/// line with a name and a digest for each import, `---`, and the signature. No name stands in two `import` lines.
+/// The lines are `sxint 2`, `module` and the name, `language` with a name and a digest, a `use`
+/// line with a name and a digest for each extension, `base` with a digest, an `import` line with
+/// a name and a digest for each import, `---`, the signature and the stated signature. No name
+/// stands in two `use` lines or in two `import` lines. In version 1 the first line is `sxint 1`,
+/// there are no `use` lines, and the signature, which is the last line, is also the stated one.
 ///
-/// `NotUtf8` comes exactly where the bytes are not UTF-8, else `Version` exactly where the first line is `sxint` and a
-/// number other than 1, and else `Header` exactly where they state no interface.
+/// `NotUtf8` comes exactly where the bytes are not UTF-8, else `Version` exactly where the first
+/// line is `sxint` and a number other than 1 and 2, and else `Header` exactly where they state no
+/// interface.
 pub fn read_interface(alloc: Global, name: &Text, bytes: &[u8]) -> Result<Interface, HeaderError>
     requires { length bytes.now + 1 < 2 ^ 32 }
     ensures text { IsText bytes.now result }
     // What is read is stated.
-    ensures found { IfOk result (λ it. StatesInterface name.now (texts (lines_from 1 bytes.now)) (interface_view it)) }
+    ensures found { IfOk result (λ it. StatesInterface name.now (texts (lines_from 1 bytes.now))
+        (interface_view it)) }
     // What is stated is read, unless memory runs out.
-    ensures only { (it : InterfaceParts) → StatesInterface name.now (texts (lines_from 1 bytes.now)) it
+    ensures only { (it : InterfaceParts) → StatesInterface name.now
+        (texts (lines_from 1 bytes.now)) it
         → Gives interface_view (RefusesText bytes.now) result (Ok it) }
     // The line that is refused is the first that is not as defined.
     ensures refused { IfErr result (λ e. IfSome (line_of e)
         (IsFirstBad (λ l. StatesInterface name.now (texts l)) (lines_from 1 bytes.now))) }
-    ensures exact { AnswersVersion bytes.now (spec.other_version (lines_from 1 bytes.now)) interface_view result
+    ensures exact { AnswersVersion bytes.now (spec.other_version
+        (lines_from 1 bytes.now)) interface_view result
         (spec.interface_of name.now (lines_from 1 bytes.now)) }
 {
     checked(alloc, name, bytes)
 }
 
-/// What was written of an interface is read again as the same one, where its names are names, those of the imports are
-/// distinct, and the signature has no line feed and no carriage return at its end.
+/// What was written of an interface is read again as the same one, where its names are names,
+/// those of the uses and those of the imports are distinct, and neither signature has a line
+/// feed, or a carriage return at its end.
 pub fn written_interface_is_read()
-    ensures version { (it : InterfaceParts) → spec.other_version (lines_from 1 (written (interface_lines it))) ≡ None }
-    ensures value { (it : InterfaceParts) → is_name false it.name ≡ true → IsInterface it.name it → IsLineText it.signature
+    ensures version { (it : InterfaceParts) → spec.other_version
+        (lines_from 1 (written (interface_lines it))) ≡ None }
+    ensures value { (it : InterfaceParts) → is_name false it.name ≡ true →
+        IsInterface it.name it → IsLineText it.signature → IsLineText it.stated
         → spec.interface_of it.name (lines_from 1 (written (interface_lines it))) ≡ Ok it }
 {}

@@ -3,12 +3,12 @@
 use crate::marks::Digest;
 use sx_term::Text;
 
-/// An import, with the digest of its interface file.
+/// An import or an extension, with the digest of its file.
 #[derive(Drop)]
 pub struct ImportMark {
-    /// The import's name.
+    /// The name of the import or extension.
     pub name: Text,
-    /// The digest of the bytes of its interface file.
+    /// The digest of the bytes of the import's interface file, or of the extension's file.
     pub digest: Digest,
 }
 
@@ -21,10 +21,14 @@ pub struct Interface {
     pub language: Text,
     /// The digest of the language file.
     pub language_digest: Digest,
+    /// The extensions of its closure, in order.
+    pub uses: Vec<ImportMark>,
     /// The digest of the module's base file.
     pub base_digest: Digest,
     /// Its imports, in the order of its header.
     pub imports: Vec<ImportMark>,
     /// The signature in base syntax, as one line.
     pub signature: Text,
+    /// The signature in the syntax of the extensions, as one line.
+    pub stated: Text,
 }

@@ -7,10 +7,12 @@ mod headers;
 mod interface_reading;
 mod interface_writing;
 mod interfaces;
+mod mark_rows;
 mod marks;
 mod names;
 mod rows;
 mod texts;
+mod version;
 
 pub use error::HeaderError;
 pub use hashing::digest;

@@ -1,4 +1,4 @@
-use Rattle.std.proofs.Common.{codes, sym, ◌∙◌}
+use Rattle.std.proofs.Common.{sym, ◌∙◌}
 use Rattle.std.proofs.lemmas.List.{map_push}
 use Rattle.sx_interface.specs.declared.interfaces.ImportMark.{ImportMark}
 use Rattle.sx_interface.specs.Interfaces.{Mark, mark_after}
@@ -6,23 +6,23 @@ use Rattle.sx_interface.specs.InterfaceView.{marks_view, pair_view}
 use Rattle.sx_interface.proofs.NameLaws.{keys_have}
 use Rattle.sx_interface.proofs.RowLaws.{one_row, row_twice, rows_end, rows_over}
 use Rattle.sx_interface.proofs.MarkLaws.{marks_view_push, named}
-use Rattle.sx_interface.proofs.interface_reading.add_rows.Goals as goal
+use Rattle.sx_interface.proofs.mark_rows.add_rows.Goals as goal
 
 pub returns-then-contains-clause-rows : goal.returns-then-contains-clause-rows
 returns-then-contains-clause-rows c =
     let found = rw c.rows.invariant.0 at c.if-contains.ensures in
     let seen = sym (keys_have (λ (m : Mark). m.name) (marks_view c.rows.marks.items) c.in-Some.name.now) ∙ sym found in
-    row_twice (λ (m : Mark). m.name) (mark_after (codes "import ")) (marks_view c.rows.marks.items) _ _ c.rows.invariant.1 _ _ _ _ (pair_view (c.in-Some.name, c.in-Some.digest)) c.in-Ok.ensures.first c.in-Some.ensures.value seen
+    row_twice (λ (m : Mark). m.name) (mark_after c.args.front.now) (marks_view c.rows.marks.items) _ _ c.rows.invariant.1 _ _ _ _ (pair_view (c.in-Some.name, c.in-Some.digest)) c.in-Ok.ensures.first c.in-Some.ensures.value seen
 
 pub returns-in-None-clause-rows : goal.returns-in-None-clause-rows
-returns-in-None-clause-rows c = rows_end (λ (m : Mark). m.name) (mark_after (codes "import ")) (marks_view c.rows.marks.items) _ _ c.rows.invariant.1 _ _ _ _ c.in-Ok.ensures.first c.in-None.ensures.value
+returns-in-None-clause-rows c = rows_end (λ (m : Mark). m.name) (mark_after c.args.front.now) (marks_view c.rows.marks.items) _ _ c.rows.invariant.1 _ _ _ _ c.in-Ok.ensures.first c.in-None.ensures.value
 
 pub rows-preserved : goal.rows-preserved
 rows-preserved c =
     let found = rw c.rows.invariant.0 at c.if-contains.ensures in
     let fresh = sym (keys_have (λ (m : Mark). m.name) (marks_view c.rows.marks.items) c.in-Some.name.now) ∙ sym found in
     let mark : Mark = pair_view (c.in-Some.name, c.in-Some.digest) in
-    let next = one_row (λ (m : Mark). m.name) (mark_after (codes "import ")) (marks_view c.rows.marks.items) _ _ c.rows.invariant.1 _ _ _ _ mark c.in-Ok.ensures.first c.in-Some.ensures.value fresh in
+    let next = one_row (λ (m : Mark). m.name) (mark_after c.args.front.now) (marks_view c.rows.marks.items) _ _ c.rows.invariant.1 _ _ _ _ mark c.in-Ok.ensures.first c.in-Some.ensures.value fresh in
     let item : ImportMark = record { name = c.in_ok-name-in-Some.name; digest = c.in-Some.digest } in
     let made = marks_view_push c.rows.marks.items item mark (named c.in_ok-name-in-Some.name c.in-Some.name.now c.in-Some.digest.bytes c.in_ok-name-in-Some.ensures) in
     let names = map_push (λ (m : Mark). m.name) (marks_view c.rows.marks.items) mark in
@@ -30,4 +30,4 @@ rows-preserved c =
     rw c.in_ok-push-in-Some.ensures.items (rw made (added ∙ sym names), rw made next, λ u. (c.in-Ok.ensures.utf8 (c.rows.invariant.2 u)).1)
 
 pub returns-clause-rows : goal.returns-clause-rows
-returns-clause-rows c = rows_over (λ (m : Mark). m.name) (mark_after (codes "import ")) (marks_view c.rows.marks.items) _ _ c.rows.invariant.1 _ c.in_default.ensures.first
+returns-clause-rows c = rows_over (λ (m : Mark). m.name) (mark_after c.args.front.now) (marks_view c.rows.marks.items) _ _ c.rows.invariant.1 _ c.in_default.ensures.first
