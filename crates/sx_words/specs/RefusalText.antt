@@ -118,6 +118,7 @@ grammar_text (grammar.Cyclic sort) = joined (codes "sort " ∷ sort ∷ codes " 
 abbrev pub part_text : PrintedPart → List ℕ
 part_text print.Body = joined (codes "printed text " ∷ [])
 part_text print.Signature = joined (codes "printed signature " ∷ [])
+part_text print.Stated = joined (codes "printed stated signature " ∷ [])
 
 -- printed texts that cannot be written, after the name of the part
 abbrev pub print_text : PrintDefect → List ℕ

@@ -14,6 +14,8 @@ pub enum PrintedPart {
     Body,
     /// The signature of its interface.
     Signature,
+    /// The stated signature of its interface.
+    Stated,
 }
 
 /// Why a printed text cannot be written.
@@ -38,6 +40,7 @@ pub(crate) fn put_part(part: PrintedPart, into: &mut Vec<u8>) -> Result<(), NoMe
     match part {
         PrintedPart::Body => put_words(b"printed text ", into),
         PrintedPart::Signature => put_words(b"printed signature ", into),
+        PrintedPart::Stated => put_words(b"printed stated signature ", into),
     }
 }
 
