@@ -1,5 +1,5 @@
 -- What is written of a module that is read and typed.
-use Rattle.std.proofs.Common.{Vec, vec_len, ◌≡◌, ◌≤◌, ℕ, List, [], ◌∷◌, ◌++◌, map, length, sym, ap, ◌∙◌, subst, arith, length-append}
+use Rattle.std.proofs.Common.{Vec, vec_len, ◌≡◌, ◌≤◌, ◌<◌, ◌+◌, ◌-◌, ℕ, List, [], ◌∷◌, ◌++◌, map, length, refl, sym, ap, ◌∙◌, subst, arith, length-append}
 use Rattle.std.specs.Prelude.{None, codes}
 use Rattle.std.specs.List.{AllByRecursion}
 use Rattle.std.specs.declared.alloc.Global.{Global}
@@ -12,7 +12,7 @@ use Rattle.sx_token.specs.declared.token.Token.{Token}
 use Rattle.sx_grammar.specs.Reading.{Reading}
 use Rattle.sx_interface.specs.Headers.{HeaderParts}
 use Rattle.sx_interface.specs.StatedHeader.{row_lines}
-use Rattle.sx_interface.specs.Interfaces.{InterfaceParts, interface_lines, import_lines}
+use Rattle.sx_interface.specs.Interfaces.{InterfaceParts, mark_lines, interface_lines}
 use Rattle.sx_rules.specs.Derivations.{nodes_of}
 use Rattle.sx_rules.specs.Good.{IsRuleSet}
 use Rattle.sx_rules.specs.ListText.{IsEntry}
@@ -25,16 +25,18 @@ use Rattle.sx_module.specs.declared.given.Given.{Given}
 use Rattle.sx_module.specs.declared.typed.Typed.{Typed}
 use Rattle.sx_module.specs.declared.print_check.PrintRefusal.TheVariants.{Memory, Limit, Ambiguous}
 use Rattle.sx_module.specs.declared.print_limit.Part.{Part}
-use Rattle.sx_module.specs.declared.print_limit.Part.TheVariants.{Body, Signature}
+use Rattle.sx_module.specs.declared.print_limit.Part.TheVariants.{Body, Signature, Stated}
+use Rattle.sx_module.specs.declared.print_limit.Limit.TheVariants.{Bytes}
 use Rattle.sx_module.specs.declared.module_error.ModuleError.{ModuleError}
+use Rattle.sx_module.specs.declared.module_error.ModuleError.TheVariants.{PrintLimit}
 use Rattle.sx_module.specs.Source.{Source}
 use Rattle.sx_module.specs.Outcomes.{bare, no_hypotheses}
 use Rattle.sx_module.specs.Texts.{printed, base_of, derivation_text}
 use Rattle.sx_module.specs.Unit.{UnitData, IsBody, IsMade, goal as goal_of}
 use Rattle.sx_module.specs.Given.{source_of, CanCompile, IsTypedBy}
 use Rattle.sx_module.specs.Body.{ReadsOnly}
-use Rattle.sx_module.specs.Refused.{file_of, sort_of, shown_of, term_of, IsDue, IsBadModule}
-use Rattle.sx_module.specs.PrintedParts.{IsRefusal, IsBadPart, IsGoodPart}
+use Rattle.sx_module.specs.Refused.{file_size, sort_of, shown_of, term_of, IsDue, IsBadModule}
+use Rattle.sx_module.specs.PrintedParts.{IsRefusal, IsBadPart, file_of, IsGoodPart}
 use Rattle.sx_module.proofs.Entries.{lists_fit}
 use Rattle.sx_module.proofs.MainSorts.{subject_is_sort, signature_is_sort}
 
@@ -52,7 +54,7 @@ list_fits s shapes set tries subject t b =
 
 -- the body has been read and typed, and these are its texts
 pub made : (s : Source) (tries : ℕ) (tokens : List Token) (reading : Reading) (subject : Tree) (t : Typed) (u : UnitData) → IsBody s tokens reading subject → (b : IsTypedBy s tries subject t)
-    → IsGoodPart s subject (tree t.signature) Body u.base → IsGoodPart s subject (tree t.signature) Signature u.interface
+    → IsGoodPart s subject (tree t.signature) Body u.base → IsGoodPart s subject (tree t.signature) Stated u.interface
     → u.list ≡ entries t.list.items → u.derivation ≡ derivation_text s.language.rules (entries t.list.items) → u.nodes ≡ nodes_of b.answer.0
     → u.base_tokens ≡ length (printed s.language.parts subject) → u.source_tokens ≡ length tokens → IsMade s tries u
 made s tries tokens reading subject t u read b base interface list derivation nodes base_tokens source_tokens = record {
@@ -65,11 +67,11 @@ made s tries tokens reading subject t u read b base interface list derivation no
   typed = b.typed;
   written = record {
     base = base.text;
-    base_short = subst (λ (text : List ℕ). length text ≤ 262144) (sym base.text) base.short;
-    body = base.read;
+    base_short = subst (λ (text : List ℕ). length text ≤ 262144) (sym base.text) base.writable.0;
+    body = base.writable.1;
     interface = interface.text;
-    interface_short = subst (λ (text : List ℕ). length text ≤ 262144) (sym interface.text) interface.short;
-    signature_read = interface.read;
+    interface_short = subst (λ (text : List ℕ). length text ≤ 262144) (sym interface.text) interface.writable.0;
+    signature_read = interface.writable.1;
     list = list ∙ b.list;
     derivation = derivation ∙ ap (derivation_text s.language.rules) (sym list);
     nodes = nodes;
@@ -80,7 +82,7 @@ made s tries tokens reading subject t u read b base interface list derivation no
 
 -- a part that is due is refused
 pub refused : (s : Source) (tries : ℕ) (tokens : List Token) (reading : Reading) (subject : Tree) (t : Typed) (part : Part) (e : ModuleError) → IsBody s tokens reading subject → IsTypedBy s tries subject t
-    → IsDue s subject part → IsBadPart s subject (tree t.signature) part e → IsBadModule s tries e
+    → IsDue s subject (tree t.signature) part → IsBadPart s subject (tree t.signature) part e → IsBadModule s tries e
 refused s tries tokens reading subject t part e read b due (Memory, is, bad) = subst (IsBadModule s tries) (sym is) tt
 refused s tries tokens reading subject t part e read b due (Limit limit, is, bad) = subst (IsBadModule s tries) (sym is)
     (record { body = record { tokens = tokens; reading = reading; subject = subject; read = read }; signature = tree t.signature; answer = b.answer; typed = b.typed }, due, bad)
@@ -91,24 +93,36 @@ refused s tries tokens reading subject t part e read b due (Ambiguous one other,
 pub part_is_sort : (g : Given) → CanCompile g → (part : Part) → IsSort (source_of g).language.parts (sort_of (source_of g) part)
 part_is_sort g can Body = (subject_is_sort g.language.now can.language).0
 part_is_sort g can Signature = (signature_is_sort g.language.now can.language).0
+part_is_sort g can Stated = (signature_is_sort g.language.now can.language).0
 
 -- the file and the printed text are those of the part
-module _ (s : Source) (subject signature : Tree) (part : Part) (file shown : List ℕ) (size : ℕ) (is : file ≡ file_of s subject signature part) (same : size ≡ length file)
+module _ (s : Source) (subject signature : Tree) (part : Part) (file shown : List ℕ) (size : ℕ) (is : file ≡ file_of s subject signature part) (size_is : size ≡ file_size s subject signature part)
     (printed_as : shown ≡ shown_of s subject signature part) where
-  size_is : size ≡ length (file_of s subject signature part)
-  size_is = same ∙ ap length is
-
   pub good_part : size ≤ 262144 → ReadsOnly s.language.parts (sort_of s part) shown (term_of subject signature part) → IsGoodPart s subject signature part file
   good_part short read = record {
     text = is;
-    short = subst (λ (n : ℕ). n ≤ 262144) size_is short;
-    read = subst (λ (text : List ℕ). ReadsOnly s.language.parts (sort_of s part) text (term_of subject signature part)) printed_as read;
+    writable = (subst (λ (n : ℕ). n ≤ 262144) size_is short, subst (λ (text : List ℕ). ReadsOnly s.language.parts (sort_of s part) text (term_of subject signature part)) printed_as read);
   }
 
   pub bad_part : (e : ModuleError) → IsRefusal s.language.parts (sort_of s part) size shown (term_of subject signature part) part e → IsBadPart s subject signature part e
   bad_part e h =
-      subst (λ (text : List ℕ). IsRefusal s.language.parts (sort_of s part) (length (file_of s subject signature part)) text (term_of subject signature part) part e) printed_as
+      subst (λ (text : List ℕ). IsRefusal s.language.parts (sort_of s part) (file_size s subject signature part) text (term_of subject signature part) part e) printed_as
       (subst (λ (n : ℕ). IsRefusal s.language.parts (sort_of s part) n shown (term_of subject signature part) part e) size_is h)
+
+-- the stated signature is the signature, so it reads in the same way, and only its file can be too long
+module _ (s : Source) (subject signature : Tree) (file : List ℕ) (size : ℕ) (good : IsGoodPart s subject signature Signature file) (same : size ≡ length file) where
+  stated_size : size ≡ file_size s subject signature Stated
+  stated_size = same ∙ ap length good.text
+
+  pub good_stated : size ≤ 262144 → IsGoodPart s subject signature Stated file
+  good_stated short = record { text = good.text; writable = (subst (λ (n : ℕ). n ≤ 262144) stated_size short, good.writable.1) }
+
+  pub bad_stated : (e : ModuleError) → (262144 < size) × (e ≡ PrintLimit Stated (Bytes size)) → IsBadPart s subject signature Stated e
+  bad_stated e h = (Limit (Bytes size), h.1, (subst (λ (n : ℕ). 262144 < n) stated_size h.0, stated_size))
+
+-- how many bytes stand before the line of the stated signature
+pub unstated_is : (whole other stated shown : List ℕ) (size : ℕ) → size ≡ length whole - (length stated + 1) → whole ≡ other → stated ≡ shown → size ≡ length other - (length shown + 1)
+unstated_is whole other stated shown size e h k = e ∙ (λ i. length (h i) - (length (k i) + 1))
 
 -- the printed texts stand in their files
 along : (a b c : ℕ) → a ≤ b → b ≤ c → a ≤ c
@@ -129,8 +143,9 @@ behind_lines (line ∷ lines) more =
     along (length (written more)) (length (written (lines ++ more))) (length (written (line ∷ lines ++ more))) (behind_lines lines more)
     (behind_front (line ++ line_feed ∷ []) (written (lines ++ more)))
 
-last_within : (last : List ℕ) → length last ≤ length (written (codes "---" ∷ last ∷ []))
-last_within last = omega (arith, length-append last (line_feed ∷ []), length-append (last ++ line_feed ∷ []) [])
+last_within : (signature stated : List ℕ) → length signature + (length stated + 1) ≤ length (written (codes "---" ∷ signature ∷ stated ∷ []))
+last_within signature stated =
+    omega (arith, length-append signature (line_feed ∷ []), length-append (signature ++ line_feed ∷ []) (written (stated ∷ [])), length-append stated (line_feed ∷ []), length-append (stated ++ line_feed ∷ []) [])
 
 -- the lines but the first
 abbrev rest : List (List ℕ) → List (List ℕ)
@@ -141,17 +156,24 @@ rest_within : (lines : List (List ℕ)) → length (written (rest lines)) ≤ le
 rest_within [] = omega arith
 rest_within (line ∷ lines) = behind_front (line ++ line_feed ∷ []) (written lines)
 
-pub signature_within : (it : InterfaceParts) (text : List ℕ) → text ≡ written (interface_lines it) → length it.signature ≤ length text
-signature_within it text e =
-    let all = interface_lines it in
+-- the last lines stand in the file, behind three, the uses, a line and the imports
+end_within : (first second third base : List ℕ) (uses imports last lines : List (List ℕ)) → first ∷ second ∷ third ∷ (uses ++ base ∷ (imports ++ last)) ≡ lines → length (written last) ≤ length (written lines)
+end_within first second third base uses imports last lines e =
     let size : List (List ℕ) → ℕ = λ lines. length (written lines) in
-    let last = codes "---" ∷ it.signature ∷ [] in
-    let one : size (rest all) ≤ size all = rest_within all in
-    let two : size (rest (rest all)) ≤ size (rest all) = rest_within (rest all) in
-    let three : size (rest (rest (rest all))) ≤ size (rest (rest all)) = rest_within (rest (rest all)) in
-    let four : size (import_lines it.imports ++ last) ≤ size (rest (rest (rest all))) = rest_within (rest (rest (rest all))) in
-    let behind : size last ≤ size (import_lines it.imports ++ last) = behind_lines (import_lines it.imports) last in
-    let start : length it.signature ≤ size (rest (rest all)) = along (length it.signature) (size last) (size (rest (rest all))) (last_within it.signature)
-    (along (size last) (size (import_lines it.imports ++ last)) (size (rest (rest all))) behind (along (size (import_lines it.imports ++ last)) (size (rest (rest (rest all)))) (size (rest (rest all))) four three)) in
-    subst (λ (t : List ℕ). length it.signature ≤ length t) (sym e)
-    (along (length it.signature) (size (rest (rest all))) (size all) start (along (size (rest (rest all))) (size (rest all)) (size all) two one))
+    let based = base ∷ (imports ++ last) in
+    let all = uses ++ based in
+    let low : size last ≤ size based = along (size last) (size (imports ++ last)) (size based) (behind_lines imports last) (rest_within based) in
+    let middle : size last ≤ size all = along (size last) (size based) (size all) low (behind_lines uses based) in
+    let one : size all ≤ size (third ∷ all) = rest_within (third ∷ all) in
+    let two : size (third ∷ all) ≤ size (second ∷ third ∷ all) = rest_within (second ∷ third ∷ all) in
+    let three : size (second ∷ third ∷ all) ≤ size (first ∷ second ∷ third ∷ all) = rest_within (first ∷ second ∷ third ∷ all) in
+    subst (λ (l : List (List ℕ)). size last ≤ size l) e
+    (along (size last) (size (third ∷ all)) (size (first ∷ second ∷ third ∷ all)) (along (size last) (size all) (size (third ∷ all)) middle one)
+    (along (size (third ∷ all)) (size (second ∷ third ∷ all)) (size (first ∷ second ∷ third ∷ all)) two three))
+
+pub signatures_within : (it : InterfaceParts) (text : List ℕ) → text ≡ written (interface_lines it) → length it.signature + (length it.stated + 1) ≤ length text
+signatures_within it text e =
+    let last = codes "---" ∷ it.signature ∷ it.stated ∷ [] in
+    let within = end_within _ _ _ _ (mark_lines (codes "use ") it.uses) (mark_lines (codes "import ") it.imports) last (interface_lines it) refl in
+    subst (λ (t : List ℕ). length it.signature + (length it.stated + 1) ≤ length t) (sym e)
+    (along (length it.signature + (length it.stated + 1)) (length (written last)) (length (written (interface_lines it))) (last_within it.signature it.stated) within)

@@ -1,12 +1,12 @@
 -- A module has one unit or one refusal, but for the two readings that a refusal may show.
-use Rattle.std.proofs.Common.{◌≡◌, ◌≢◌, ℕ, ◌-◌, ◌^◌, ◌≤◌, List, [], ◌∷◌, ◌⊎◌, inl, inr, length, min, refl, sym, ap, ◌∙◌, subst}
+use Rattle.std.proofs.Common.{◌≡◌, ◌≢◌, ℕ, ◌-◌, ◌^◌, ◌≤◌, List, [], ◌∷◌, ◌⊎◌, inl, inr, ◌+◌, length, min, refl, sym, ap, ◌∙◌, subst, arith}
 use Rattle.std.specs.Prelude.{Some, None}
 use Rattle.sx_term.specs.Tree.{Tree}
 use Rattle.sx_token.specs.declared.token.Token.{Token}
 use Rattle.sx_token.specs.declared.token_error.TokenError.{TokenError}
 use Rattle.sx_grammar.specs.Grammar.{Text}
 use Rattle.sx_grammar.specs.Reading.{Reading}
-use Rattle.sx_term.specs.declared.role.Role.TheVariants.{Sub, Out}
+use Rattle.sx_term.specs.declared.role.Role.TheVariants.{Sub}
 use Rattle.sx_rules.specs.First.{Answer}
 use Rattle.sx_rules.specs.Modes.{AllModed}
 use Rattle.sx_rules.specs.Views.{modes_of, subjects_in}
@@ -18,16 +18,16 @@ use Rattle.sx_notation.specs.declared.unread.Unread.{Unread}
 use Rattle.sx_notation.specs.WhyUnread.{IsUnreadAs, place_in}
 use Rattle.sx_module.specs.declared.stuck_text.StuckText.{StuckText}
 use Rattle.sx_module.specs.declared.print_limit.Part.{Part}
-use Rattle.sx_module.specs.declared.print_limit.Part.TheVariants.{Body, Signature}
+use Rattle.sx_module.specs.declared.print_limit.Part.TheVariants.{Body, Signature, Stated}
 use Rattle.sx_module.specs.declared.print_limit.Limit.{Limit}
 use Rattle.sx_module.specs.declared.module_error.ModuleError.{ModuleError}
 use Rattle.sx_module.specs.declared.module_error.ModuleError.TheVariants.{Memory, Token as BadTokens, Read, TypeError, BudgetSpent, DepthSpent, TooDeep, TooBig, PrintLimit, PrintAmbiguous}
 use Rattle.sx_module.specs.Alike.{AreAlike, OneUnit}
 use Rattle.sx_module.specs.Body.{IsCut, HasDefect}
 use Rattle.sx_module.specs.Outcomes.{no_hypotheses}
-use Rattle.sx_module.specs.Refused.{IsSpot, defect_place, unread_place, stuck_text, IsStuckGoal, IsStuckAt, IsLimit, IsAmbiguous, file_of, sort_of, term_of, shown_of, IsDue, HasBody, IsBadModule, HasWalked}
+use Rattle.sx_module.specs.Refused.{IsSpot, defect_place, unread_place, stuck_text, IsStuckGoal, IsStuckAt, IsLimit, IsAmbiguous, file_size, sort_of, term_of, shown_of, stated_text, IsWritable, IsDue, HasBody, IsBadModule, HasWalked}
 use Rattle.sx_module.specs.Source.{Source, main_sort}
-use Rattle.sx_module.specs.Texts.{base_text, interface_text, derivation_text, print_line, print_text}
+use Rattle.sx_module.specs.Texts.{interface_text, derivation_text}
 use Rattle.sx_module.specs.Unit.{UnitData, rules_of, goal, goal_events, IsTyped, IsWritten, IsMade}
 use Rattle.sx_module.proofs.OneBody.{one_cut, defect_or_cut, unread_or_read}
 use Rattle.sx_module.proofs.OneAnswer.{ShowTwo, SameBody, body_one, defect_one, unread_one}
@@ -41,6 +41,9 @@ answer_same a b e = cc
 
 same_head : {A : Type 0} (x y : A) → x ∷ [] ≡ y ∷ [] → x ≡ y
 same_head x y e = cc
+
+less_short : (size less : ℕ) → size ≤ 262144 → size - less ≤ 262144
+less_short size less h = omega (arith, h)
 
 module _ (s : Source) (tries : ℕ) where
   -- ---- the body
@@ -123,58 +126,62 @@ module _ (s : Source) (tries : ℕ) where
     record PassesLimit (part : Part) (e : ModuleError) : Type 0 where
       limit : Limit
       is : e ≡ PrintLimit part limit
-      passes : IsLimit s.language.parts (sort_of s part) (length (file_of s subject signature part)) (shown_of s subject signature part) (term_of subject signature part) limit
+      passes : IsLimit s.language.parts (sort_of s part) (file_size s subject signature part) (shown_of s subject signature part) (term_of subject signature part) limit
 
     record HasTwo (part : Part) (e : ModuleError) : Type 0 where
       one : Text
       other : Text
       is : e ≡ PrintAmbiguous part one other
-      two : IsAmbiguous s.language.parts (sort_of s part) (length (file_of s subject signature part)) (shown_of s subject signature part) one other
+      two : IsAmbiguous s.language.parts (sort_of s part) (file_size s subject signature part) (shown_of s subject signature part) one other
 
     abbrev IsUnprinted : Part → ModuleError → Type 0
     IsUnprinted part e = PassesLimit part e ⊎ HasTwo part e
 
     unprinted_one : (part : Part) (e d : ModuleError) → IsUnprinted part e → IsUnprinted part d → AreAlike e d
     unprinted_one part e d (inl h) (inl k) =
-        inl (h.is ∙ ap (PrintLimit part) (limit_one s.language.parts (sort_of s part) (length (file_of s subject signature part)) (shown_of s subject signature part) (term_of subject signature part)
+        inl (h.is ∙ ap (PrintLimit part) (limit_one s.language.parts (sort_of s part) (file_size s subject signature part) (shown_of s subject signature part) (term_of subject signature part)
         h.limit k.limit h.passes k.passes) ∙ sym k.is)
     unprinted_one part e d (inl h) (inr k) =
-        absurd (limit_two s.language.parts (sort_of s part) (length (file_of s subject signature part)) (shown_of s subject signature part) (term_of subject signature part)
+        absurd (limit_two s.language.parts (sort_of s part) (file_size s subject signature part) (shown_of s subject signature part) (term_of subject signature part)
         h.limit k.one k.other h.passes k.two)
     unprinted_one part e d (inr h) (inl k) =
-        absurd (limit_two s.language.parts (sort_of s part) (length (file_of s subject signature part)) (shown_of s subject signature part) (term_of subject signature part)
+        absurd (limit_two s.language.parts (sort_of s part) (file_size s subject signature part) (shown_of s subject signature part) (term_of subject signature part)
         k.limit h.one h.other k.passes h.two)
     unprinted_one part e d (inr h) (inr k) =
         inr (inr (record { part = part; one = h.one; other = h.other; some = k.one; more = k.other; first = h.is; second = k.is }))
 
-    -- a body that can be written is not refused
-    body_none : (e : ModuleError) → IsUnprinted Body e → IsDue s subject Signature → ⊥
-    body_none e (inl h) due =
-        limit_none s.language.parts (main_sort s.language Sub) (length (base_text s subject)) (print_line s.language.parts subject) subject h.limit due.0 h.passes due.1
-    body_none e (inr h) due =
-        two_none s.language.parts (main_sort s.language Sub) (length (base_text s subject)) (print_line s.language.parts subject) subject h.one h.other h.two due.1
+    -- a part that can be written is not refused
+    part_none : (part : Part) (e : ModuleError) → IsUnprinted part e → IsWritable s subject signature part → ⊥
+    part_none part e (inl h) w =
+        limit_none s.language.parts (sort_of s part) (file_size s subject signature part) (shown_of s subject signature part) (term_of subject signature part) h.limit w.0 h.passes w.1
+    part_none part e (inr h) w =
+        two_none s.language.parts (sort_of s part) (file_size s subject signature part) (shown_of s subject signature part) (term_of subject signature part) h.one h.other h.two w.1
 
     record IsUnwritten (e : ModuleError) : Type 0 where
       part : Part
-      due : IsDue s subject part
+      due : IsDue s subject signature part
       unprinted : IsUnprinted part e
 
-    parts_one : (part more : Part) (e d : ModuleError) → IsDue s subject part → IsDue s subject more → IsUnprinted part e → IsUnprinted more d → AreAlike e d
+    parts_one : (part more : Part) (e d : ModuleError) → IsDue s subject signature part → IsDue s subject signature more → IsUnprinted part e → IsUnprinted more d → AreAlike e d
     parts_one Body Body e d due other h k = unprinted_one Body e d h k
-    parts_one Body Signature e d due other h k = absurd (body_none e h other)
-    parts_one Signature Body e d due other h k = absurd (body_none d k due)
+    parts_one Body Signature e d due other h k = absurd (part_none Body e h other)
+    parts_one Body Stated e d due other h k = absurd (part_none Body e h other.0)
+    parts_one Signature Body e d due other h k = absurd (part_none Body d k due)
     parts_one Signature Signature e d due other h k = unprinted_one Signature e d h k
+    parts_one Signature Stated e d due other h k = absurd (part_none Signature e h other.1)
+    parts_one Stated Body e d due other h k = absurd (part_none Body d k due.0)
+    parts_one Stated Signature e d due other h k = absurd (part_none Signature d k due.1)
+    parts_one Stated Stated e d due other h k = unprinted_one Stated e d h k
 
-    written_due : (answer : Answer) (u : UnitData) → IsWritten s subject signature answer u → IsDue s subject Signature
-    written_due answer u w = (subst (λ (l : List ℕ). length l ≤ 262144) w.base w.base_short, w.body)
+    -- each part of what is written can be written
+    all_writable : (part : Part) (answer : Answer) (u : UnitData) → IsWritten s subject signature answer u → IsWritable s subject signature part
+    all_writable Body answer u w = (subst (λ (l : List ℕ). length l ≤ 262144) w.base w.base_short, w.body)
+    all_writable Signature answer u w =
+        (less_short (length (interface_text s subject signature)) (length (stated_text s signature) + 1) (subst (λ (l : List ℕ). length l ≤ 262144) w.interface w.interface_short), w.signature_read)
+    all_writable Stated answer u w = (subst (λ (l : List ℕ). length l ≤ 262144) w.interface w.interface_short, w.signature_read)
 
     unwritten_none : (part : Part) (e : ModuleError) (answer : Answer) (u : UnitData) → IsUnprinted part e → IsWritten s subject signature answer u → ⊥
-    unwritten_none Body e answer u h w = body_none e h (written_due answer u w)
-    unwritten_none Signature e answer u (inl h) w =
-        limit_none s.language.parts (main_sort s.language Out) (length (interface_text s subject signature)) (print_text s.language.parts signature) signature h.limit
-        (subst (λ (l : List ℕ). length l ≤ 262144) w.interface w.interface_short) h.passes w.signature_read
-    unwritten_none Signature e answer u (inr h) w =
-        two_none s.language.parts (main_sort s.language Out) (length (interface_text s subject signature)) (print_text s.language.parts signature) signature h.one h.other h.two w.signature_read
+    unwritten_none part e answer u h w = part_none part e h (all_writable part answer u w)
 
     written_one : (answer : Answer) (u v : UnitData) → IsWritten s subject signature answer u → IsWritten s subject signature answer v → u.source_tokens ≡ v.source_tokens → u ≡ v
     written_one answer u v h k same = λ i. record {

@@ -1,5 +1,5 @@
--- The two printed parts of a module.
-use Rattle.std.specs.Prelude.{◌≡◌, ℕ, ◌≤◌, List, length}
+-- The printed parts of a module.
+use Rattle.std.specs.Prelude.{◌≡◌, ℕ, List}
 use Rattle.sx_term.specs.declared.sort.Sort.{Sort}
 use Rattle.sx_term.specs.Tree.{Tree}
 use Rattle.sx_grammar.specs.Parts.{Parts}
@@ -8,10 +8,11 @@ use Rattle.sx_module.specs.declared.module_error.ModuleError.TheVariants.{Memory
 use Rattle.sx_module.specs.declared.print_check.PrintRefusal.{PrintRefusal}
 use Rattle.sx_module.specs.declared.print_check.PrintRefusal.TheVariants as refusal
 use Rattle.sx_module.specs.declared.print_limit.Part.{Part}
+use Rattle.sx_module.specs.declared.print_limit.Part.TheVariants.{Body, Signature, Stated}
 use Rattle.sx_module.specs.Source.{Source}
-use Rattle.sx_module.specs.Body.{ReadsOnly}
+use Rattle.sx_module.specs.Texts.{base_text, interface_text}
 use Rattle.sx_module.specs.PrintRefused.{IsPrintRefusal}
-use Rattle.sx_module.specs.Refused.{file_of, sort_of, shown_of, term_of}
+use Rattle.sx_module.specs.Refused.{file_size, sort_of, shown_of, term_of, IsWritable}
 
 -- the refusal of a part
 abbrev pub refusal_of : Part → PrintRefusal → ModuleError
@@ -26,10 +27,16 @@ IsRefusal p sort size shown t part e = (r : PrintRefusal) × (e ≡ refusal_of p
 -- it is that of this part of the module with this subject and this signature
 abbrev pub IsBadPart : Source → (subject signature : Tree) → Part → ModuleError → Type 0
 IsBadPart s subject signature part =
-    IsRefusal s.language.parts (sort_of s part) (length (file_of s subject signature part)) (shown_of s subject signature part) (term_of subject signature part) part
+    IsRefusal s.language.parts (sort_of s part) (file_size s subject signature part)
+    (shown_of s subject signature part) (term_of subject signature part) part
 
--- the file is that of the part, it is short enough, and what is printed in it has only one reading
+-- the file in which a part stands
+abbrev pub file_of : Source → (subject signature : Tree) → Part → List ℕ
+file_of s subject signature Body = base_text s subject
+file_of s subject signature Signature = interface_text s subject signature
+file_of s subject signature Stated = interface_text s subject signature
+
+-- the file is that of the part, and the part can be written
 pub record IsGoodPart (s : Source) (subject signature : Tree) (part : Part) (file : List ℕ) : Type 0 where
   pub text : file ≡ file_of s subject signature part
-  pub short : length (file_of s subject signature part) ≤ 262144
-  pub read : ReadsOnly s.language.parts (sort_of s part) (shown_of s subject signature part) (term_of subject signature part)
+  pub writable : IsWritable s subject signature part

@@ -28,7 +28,7 @@ use Rattle.sx_module.specs.declared.compiled.Compiled.{Compiled}
 use Rattle.sx_module.specs.declared.stuck_text.StuckText.{StuckText}
 use Rattle.sx_module.specs.declared.stuck_text.StuckText.TheVariants as stuck
 use Rattle.sx_module.specs.declared.print_limit.Part.{Part}
-use Rattle.sx_module.specs.declared.print_limit.Part.TheVariants.{Body, Signature}
+use Rattle.sx_module.specs.declared.print_limit.Part.TheVariants.{Body, Signature, Stated}
 use Rattle.sx_module.specs.declared.print_limit.Limit.{Limit}
 use Rattle.sx_module.specs.declared.print_limit.Limit.TheVariants.{Bytes, Tokens, Items, Depth}
 use Rattle.sx_module.specs.declared.module_error.ModuleError.{ModuleError}
@@ -90,27 +90,50 @@ IsLimit p sort size shown t (Depth n) =
 abbrev pub IsAmbiguous : Parts → Sort → (size : ℕ) → (shown : List ℕ) → (one other : Text) → Type 0
 IsAmbiguous p sort size shown one other = (size ≤ 262144) × ((ts : List Token) × IsCut p shown ts × AreTwo p [] sort ts one other)
 
--- the file, the sort and the text of a printed part
-abbrev pub file_of : Source → (subject signature : Tree) → Part → List ℕ
-file_of s subject signature Body = base_text s subject
-file_of s subject signature Signature = interface_text s subject signature
+-- the stated signature of a module without extensions is its signature
+abbrev pub stated_text : Source → (signature : Tree) → List ℕ
+stated_text s signature = print_text s.language.parts signature
+
+-- how many bytes are measured for a printed part: those of its file, for the signature without
+-- the line of the stated signature
+abbrev pub file_size : Source → (subject signature : Tree) → Part → ℕ
+file_size s subject signature Body = length (base_text s subject)
+file_size s subject signature Signature =
+    length (interface_text s subject signature) - (length (stated_text s signature) + 1)
+file_size s subject signature Stated = length (interface_text s subject signature)
+
+-- its sort, its term and its text
 
 abbrev pub sort_of : Source → Part → Sort
 sort_of s Body = main_sort s.language Sub
 sort_of s Signature = main_sort s.language Out
+sort_of s Stated = main_sort s.language Out
 
 abbrev pub term_of : (subject signature : Tree) → Part → Tree
 term_of subject signature Body = subject
 term_of subject signature Signature = signature
+term_of subject signature Stated = signature
 
 abbrev pub shown_of : Source → (subject signature : Tree) → Part → List ℕ
 shown_of s subject signature Body = print_line s.language.parts subject
 shown_of s subject signature Signature = print_text s.language.parts signature
+shown_of s subject signature Stated = stated_text s signature
 
--- the body comes before the signature, and can be written where the signature is refused
-abbrev pub IsDue : Source → (subject : Tree) → Part → Type 0
-IsDue s subject Body = Unit {0}
-IsDue s subject Signature = (length (base_text s subject) ≤ 262144) × ReadsOnly s.language.parts (main_sort s.language Sub) (print_line s.language.parts subject) subject
+-- a part can be written: what is measured is short enough, and what is printed has only one
+-- reading
+abbrev pub IsWritable : Source → (subject signature : Tree) → Part → Type 0
+IsWritable s subject signature part =
+    (file_size s subject signature part ≤ 262144)
+    × ReadsOnly s.language.parts (sort_of s part) (shown_of s subject signature part)
+    (term_of subject signature part)
+
+-- the body comes first, then the signature, then the stated signature, and the parts before one
+-- that is refused can be written
+abbrev pub IsDue : Source → (subject signature : Tree) → Part → Type 0
+IsDue s subject signature Body = Unit {0}
+IsDue s subject signature Signature = IsWritable s subject signature Body
+IsDue s subject signature Stated =
+    IsWritable s subject signature Body × IsWritable s subject signature Signature
 
 -- ---- all of it
 
@@ -143,11 +166,13 @@ IsBadModule s tries DepthSpent = (b : HasBody s) × (walk None tries (goal_event
 IsBadModule s tries (TooDeep n) = (b : HasBody s) × (depth : ℕ) × (walk None tries (goal_events s b.subject) ≡ stopped (passes_depth depth)) × (n ≡ min depth (2 ^ 64 - 1))
 IsBadModule s tries (TooBig n) = (b : HasBody s) × (size : ℕ) × (walk None tries (goal_events s b.subject) ≡ stopped (passes_size size)) × (n ≡ min size (2 ^ 64 - 1))
 IsBadModule s tries (PrintLimit part limit) =
-    (t : Typed s tries) × IsDue s t.body.subject part
-    × IsLimit s.language.parts (sort_of s part) (length (file_of s t.body.subject t.signature part)) (shown_of s t.body.subject t.signature part) (term_of t.body.subject t.signature part) limit
+    (t : Typed s tries) × IsDue s t.body.subject t.signature part
+    × IsLimit s.language.parts (sort_of s part) (file_size s t.body.subject t.signature part)
+    (shown_of s t.body.subject t.signature part) (term_of t.body.subject t.signature part) limit
 IsBadModule s tries (PrintAmbiguous part one other) =
-    (t : Typed s tries) × IsDue s t.body.subject part
-    × IsAmbiguous s.language.parts (sort_of s part) (length (file_of s t.body.subject t.signature part)) (shown_of s t.body.subject t.signature part) one other
+    (t : Typed s tries) × IsDue s t.body.subject t.signature part
+    × IsAmbiguous s.language.parts (sort_of s part) (file_size s t.body.subject t.signature part)
+    (shown_of s t.body.subject t.signature part) one other
 
 -- what compiling answers
 abbrev pub IsCompiled : Source → ℕ → Result Compiled ModuleError → Type 0

@@ -33,10 +33,19 @@ base_of h shown =
 abbrev pub base_text : Source → (subject : Tree) → List ℕ
 base_text s subject = base_of s.header (print_text s.language.parts subject)
 
--- what importers read of a module: the digests of the language and of the base file, those of the imports, and the signature
+-- what importers read of a module: the digests of the language and of the base file, those of the
+-- imports, and the signature. A module without extensions has no uses, and its stated signature is its signature.
 abbrev pub interface_of : HeaderParts → (language base : List ℕ) → List Mark → (signature : List ℕ) → InterfaceParts
 interface_of h language base marks signature =
-    record { name = h.name; language = record { name = h.language; digest = language }; base = base; imports = marks; signature = signature }
+    record {
+      name = h.name;
+      language = record { name = h.language; digest = language };
+      uses = [];
+      base = base;
+      imports = marks;
+      signature = signature;
+      stated = signature;
+    }
 
 abbrev pub interface_text : Source → (subject signature : Tree) → List ℕ
 interface_text s subject signature =

@@ -1,6 +1,6 @@
 //! Writing a module's texts.
 
-ghost use Rattle.std.specs.Prelude.{◌≡◌, ◌≤◌, ◌++◌, ◌∷◌, [], ℕ, List, length, IfOk, IfErr, OnOk};
+ghost use Rattle.std.specs.Prelude.{◌≡◌, ◌+◌, ◌-◌, ◌<◌, ◌≤◌, ◌++◌, ◌∷◌, [], ℕ, List, length, IfOk, IfErr, OnOk};
 ghost use Rattle.std.specs.Str.{IsUtf8};
 ghost use Rattle.sx_term.specs.Spaced.{AreBlanks};
 ghost use Rattle.sx_term.specs.Term.{tree};
@@ -20,8 +20,8 @@ use crate::body::Body;
 use crate::compiled::Compiled;
 use crate::given::Given;
 use crate::module_error::ModuleError;
-use crate::print_check::{PrintRefusal, check_print};
-use crate::print_limit::Part;
+use crate::print_check::{MOST_BYTES, PrintRefusal, check_print};
+use crate::print_limit::{Limit, Part};
 use crate::reading::main_sort;
 use crate::showing::show;
 use crate::texts::{base_text, derivation_text, interface_text};
@@ -54,7 +54,7 @@ fn part_sort(given: &Given, part: Part) -> Sort
 {
     match part {
         Part::Body => main_sort(given.language, Role::Sub),
-        Part::Signature => main_sort(given.language, Role::Out),
+        Part::Signature | Part::Stated => main_sort(given.language, Role::Out),
     }
 }
 
@@ -116,6 +116,30 @@ fn put_body(alloc: Global, given: &Given, subject: &Term) -> Result<Base, Module
     Ok(Base { text, tokens })
 }
 
+/// How many bytes an interface has before the line of its stated signature.
+fn unstated_size(interface: &[u8], stated: &[u8]) -> usize
+    requires { length stated.now + 1 ≤ length interface.now }
+    ensures { result ≡ length interface.now - (length stated.now + 1) }
+{
+    interface.len() - stated.len() - 1
+}
+
+/// Whether an interface of so many bytes is short enough for its stated signature, which reads as
+/// the signature does.
+fn check_stated(size: usize) -> Result<(), ModuleError>
+    ensures short { IfOk result (λ _. size ≤ 262144) }
+    ensures refused { IfErr result (λ e. (262144 < size)
+        × (e ≡ ModuleError.PrintLimit Part.Stated (Limit.Bytes size))) }
+{
+    if size > MOST_BYTES {
+        return Err(ModuleError::PrintLimit {
+            part: Part::Stated,
+            limit: Limit::Bytes(size as u64),
+        });
+    }
+    Ok(())
+}
+
 /// The interface file with the printed signature, for this base file.
 fn put_signature(
     alloc: Global,
@@ -137,7 +161,8 @@ fn put_signature(
         given.imports,
         &shown,
     )?;
-    check_part(alloc, given, Part::Signature, text.len(), signature, &shown)?;
+    let size = unstated_size(&text, &shown);
+    check_part(alloc, given, Part::Signature, size, signature, &shown)?;
     Ok(text)
 }
 
@@ -167,6 +192,7 @@ pub(crate) fn write_module(
 {
     let base = put_body(alloc, given, &body.term)?;
     let interface = put_signature(alloc, given, &base.text, &typed.signature)?;
+    check_stated(interface.len())?;
     let derivation = put_derivation(alloc, given, &typed)?;
     Ok(Compiled {
         base: base.text,

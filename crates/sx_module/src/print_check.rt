@@ -34,7 +34,7 @@ use sx_term::{NoMemory, Sort, Term, Text};
 use sx_token::{Token, TokenError, tokens};
 
 /// The most bytes that a file may have.
-const MOST_BYTES: usize = 262_144;
+pub(crate) const MOST_BYTES: usize = 262_144;
 
 /// The most tokens that a printed text may have.
 const MOST_TOKENS: u64 = 10_000;

@@ -7,6 +7,8 @@ pub enum Part {
     Body,
     /// The signature.
     Signature,
+    /// The signature in the syntax of the extensions.
+    Stated,
 }
 
 /// The limit that a printed text passes, and by what.

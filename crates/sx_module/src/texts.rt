@@ -70,7 +70,7 @@ fn import_marks(alloc: Global, imports: &[Import]) -> Result<Vec<ImportMark>, No
     Ok(marks)
 }
 
-/// What importers read of the module.
+/// What importers read of a module without extensions, whose stated signature is its signature.
 fn interface(
     alloc: Global,
     header: &Header,
@@ -86,9 +86,11 @@ fn interface(
         module: header.name.copy(alloc)?,
         language: header.language.copy(alloc)?,
         language_digest: *language,
+        uses: Vec::new(alloc),
         base_digest: digest(base),
         imports: import_marks(alloc, imports)?,
         signature: Text::of_utf8(alloc, signature)?,
+        stated: Text::of_utf8(alloc, signature)?,
     })
 }
 

@@ -33,7 +33,7 @@ returns-in_err-tokens-clause-refused c =
     let shown = c.in_ok-shown.ensures.0 in
     err_if c.from_residual-in_err-tokens.result _ P c.from_residual-in_err-tokens.ensures.1 (λ e is. subst P (sym is) (λ signature.
     bad_part s subject signature Body c.in_ok-text.text.items c.deref-2.result.now c.len.result
-    (c.in_ok-text.ensures s.bytes ∙ ap (base_of s.header) (c.deref.ensures.value ∙ shown)) (size_of c.in_ok-text.text c.len.result c.len.ensures)
+    (c.in_ok-text.ensures s.bytes ∙ ap (base_of s.header) (c.deref.ensures.value ∙ shown)) (size_of c.in_ok-text.text c.len.result c.len.ensures ∙ ap length (c.in_ok-text.ensures s.bytes ∙ ap (base_of s.header) (c.deref.ensures.value ∙ shown)))
     (c.deref-2.ensures.value ∙ c.in_ok-end_line.ensures ∙ ap (λ (l : List ℕ). l ++ 10 ∷ []) shown) _ c.in_err-tokens.ensures.refused))
 
 pub returns-clause-good : goal.returns-clause-good
@@ -41,5 +41,5 @@ returns-clause-good c = λ signature.
     let s = source_of c.args.given.now in
     let shown = c.in_ok-shown.ensures.0 in
     good_part s (tree c.args.subject.now) signature Body c.in_ok-text.text.items c.deref-2.result.now c.len.result
-    (c.in_ok-text.ensures s.bytes ∙ ap (base_of s.header) (c.deref.ensures.value ∙ shown)) (size_of c.in_ok-text.text c.len.result c.len.ensures)
+    (c.in_ok-text.ensures s.bytes ∙ ap (base_of s.header) (c.deref.ensures.value ∙ shown)) (size_of c.in_ok-text.text c.len.result c.len.ensures ∙ ap length (c.in_ok-text.ensures s.bytes ∙ ap (base_of s.header) (c.deref.ensures.value ∙ shown)))
     (c.deref-2.ensures.value ∙ c.in_ok-end_line.ensures ∙ ap (λ (l : List ℕ). l ++ 10 ∷ []) shown) c.in_ok-tokens.ensures.short c.in_ok-tokens.ensures.read
