@@ -60,6 +60,7 @@ untyped file line column why = at (Spot line column) file (defect.Goal (stuck_go
 abbrev pub printed_part : Part → PrintedPart
 printed_part parts.Body = printed.Body
 printed_part parts.Signature = printed.Signature
+printed_part parts.Stated = printed.Stated
 
 -- the limit that it passes
 abbrev pub passed_limit : Limit → PrintDefect

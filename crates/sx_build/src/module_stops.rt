@@ -127,6 +127,7 @@ fn printed_part(part: Part) -> PrintedPart
     match part {
         Part::Body => PrintedPart::Body,
         Part::Signature => PrintedPart::Signature,
+        Part::Stated => PrintedPart::Stated,
     }
 }
 
