@@ -17,9 +17,9 @@ def digest(text):
     return hashlib.sha256(text).hexdigest().encode()
 
 
-def interface_text(version, module, language, language_digest, uses, base_digest, imports, texts):
+def interface_text(module, language, language_digest, uses, base_digest, imports, texts):
     """The text of an interface: `uses` and `imports` are names with digests, `texts` the last lines."""
-    lines = [b"sxint %d" % version, b"module " + module, b"language %s %s" % (language, language_digest)]
+    lines = [b"sxint 2", b"module " + module, b"language %s %s" % (language, language_digest)]
     lines.extend(b"use %s %s" % mark for mark in uses)
     lines.append(b"base " + base_digest)
     lines.extend(b"import %s %s" % mark for mark in imports)

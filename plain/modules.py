@@ -27,16 +27,15 @@ class Compiled:
 
 
 class Compiler:
-    """Compiles one module against the interfaces of its imports; `version` is that of its own interface."""
+    """Compiles one module against the interfaces of its imports."""
 
-    def __init__(self, module, held, more, imports, command, version):
+    def __init__(self, module, held, more, imports, command):
         self.module = module
         self.held = held
         self.language = held.language
         self.more = more
         self.imports = imports
         self.command = command
-        self.version = version
 
     def run(self):
         """The environment is made, the body read and typed, its derivation lowered, the texts printed."""
@@ -79,8 +78,6 @@ class Compiler:
         print_of = Print(b"printed signature", self.language.grammar, sort, output)
         text = self._interface_text(base, [print_of.text])
         print_of.need_readable(len(text))
-        if self.version == 1:
-            return text
         self._need_no_captured(stated)
         print_stated = Print(b"printed stated signature", self.more.grammar, sort, stated)
         text = self._interface_text(base, [print_of.text, print_stated.text])
@@ -89,8 +86,8 @@ class Compiler:
 
     def _interface_text(self, base, texts):
         marks = [(interface.module, interface.digest) for interface in self.imports]
-        return interface_text(self.version, self.module.name, self.language.name, self.held.digest,
-                              extension_marks(self.more), digest(base), marks, texts)
+        return interface_text(self.module.name, self.language.name, self.held.digest, extension_marks(self.more),
+                              digest(base), marks, texts)
 
     def _need_no_captured(self, term):
         """Stops at the first name in a term that is a literal of the extended grammar."""
@@ -100,11 +97,11 @@ class Compiler:
             self._need_no_captured(kid)
 
 
-def treat(module, held, imports, command, auditors, version=2):
+def treat(module, held, imports, command, auditors):
     """What a module compiles to; each auditor has seen its base derivation."""
     of_file(module.file, module.header.need_no_literal, held.language.grammar.literals)
     more = extended(held.language, module.header.uses, module.file, command.tries, command.nodes)
-    compiled = of_file(module.file, Compiler(module, held, more, imports, command, version).run)
+    compiled = of_file(module.file, Compiler(module, held, more, imports, command).run)
     of_file(module.file, show, auditors, held.language.rule_set.rules, compiled.proof)
     return compiled
 
@@ -150,9 +147,9 @@ def compile_one(command):
 
 
 def build_alone(command):
-    """`build` where there are modules only: no extensions, no imports, interfaces of the first version."""
+    """`build` where there are modules only: no extensions and no imports."""
     module = Module(command.name)
     if module.header.uses or module.header.imports:
         raise Stop(b"not read yet", file=module.file)
     held = HeldLanguage(module.header.language).read()
-    return answer([(module, treat(module, held, [], command, [], version=1))], [])
+    return answer([(module, treat(module, held, [], command, []))], [])
