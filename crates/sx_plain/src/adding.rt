@@ -23,8 +23,8 @@ fn is_known(table: &PlainTable, label: u32) -> bool
     label < table.base || table.entry(label).is_some()
 }
 
-/// The first label of the term, in preorder, that is not base and has no entry.
-fn first_later(table: &PlainTable, term: &Term) -> Option<u32>
+/// The first label of the term, in preorder, that is not base and has no entry, or None where each label is base or has one.
+pub fn first_later(table: &PlainTable, term: &Term) -> Option<u32>
     requires { depth_of (tree term.now) ≤ 1000 }
     ensures { result ≡ first_uncovered table.now.base (table_of table.now) (tree term.now) }
 {

@@ -24,6 +24,7 @@ mod part_use;
 mod plain_error;
 mod table;
 
+pub use adding::first_later;
 pub use laws::{
     base_terms_stay, images_are_base, images_are_sorted, images_keep_variables,
     images_of_instances, images_stay, plain_terms_are_covered, sorted_terms_are_below,

@@ -49,7 +49,7 @@ module _ (ms : List Measure) (i : ℕ) (so : (ts : List Tree) → AreMeasuresOf 
   measures-end l ts h = so ts h ∙ ap first_over (past ts ms i h l)
 
 -- where no term passes a limit, each is made
-small-here : (t : Tree) (ts : List Tree) → first_over (t ∷ ts) ≡ None → IsSmall t × (first_over ts ≡ None)
+pub small-here : (t : Tree) (ts : List Tree) → first_over (t ∷ ts) ≡ None → IsSmall t × (first_over ts ≡ None)
 small-here t ts e = go (nat_lt 1000 (depth_of t)) (nat_lt 1000000 (size_of t)) refl refl e
   where
     go : (x y : Bool) → nat_lt 1000 (depth_of t) ≡ x → nat_lt 1000000 (size_of t) ≡ y → (if x then Some (too_deep (depth_of t)) else if y then Some (too_big (min (size_of t) (2 ^ 64 - 1))) else first_over ts) ≡ None → IsSmall t × (first_over ts ≡ None)

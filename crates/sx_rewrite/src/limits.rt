@@ -12,7 +12,7 @@ const MOST_DEPTH: u32 = 1000;
 const MOST_SIZE: u64 = 1_000_000;
 
 /// Refuses a measure that passes a limit: the depth, or else the size.
-pub(crate) fn check_measure(measure: Measure) -> Result<(), RewriteError>
+pub fn check_measure(measure: Measure) -> Result<(), RewriteError>
     ensures { IsLimited measure result }
 {
     if measure.depth > MOST_DEPTH {

@@ -10,7 +10,7 @@ ghost use Rattle.sx_rules.specs.Discipline.{subjects_of};
 ghost use Rattle.sx_rules.specs.Derivations.{Derives, AreShallow, HasShallowBinds, ShallowJudgements};
 ghost use Rattle.sx_rules.specs.ProofView as view;
 ghost use Rattle.sx_rules.specs.Sets.{forms_in, bare_rules_in};
-ghost use Rattle.sx_rules.specs.Views.{judgement, hypotheses, subjects_in};
+ghost use Rattle.sx_rules.specs.Views.{judgement, hypotheses, subjects_in, places_at};
 ghost use Rattle.sx_rewrite.specs.SubjectTerms.{subject_mask, IsSubject};
 
 use crate::instance_made::instance_made;
@@ -93,7 +93,7 @@ fn own_subject(alloc: Global, set: &RuleSet, from: &Judgement) -> Result<Option<
 }
 
 /// The subject of the judgement, where its form has one.
-pub(crate) fn subject_of<'a>(set: &RuleSet, from: &'a Judgement) -> Option<&'a Term>
+pub fn subject_of<'a>(set: &RuleSet, from: &'a Judgement) -> Option<&'a Term>
     ensures { MatchOption result
         (subjects_of (subjects_in (forms_in set.entry.now)) (judgement from.entry.now) ≡ [])
         (λ t. (rest : List Tree)
@@ -104,8 +104,9 @@ pub(crate) fn subject_of<'a>(set: &RuleSet, from: &'a Judgement) -> Option<&'a T
 }
 
 /// The places of the form, none where there is no such form.
-fn places_of(set: &RuleSet, form: u32) -> &[Place]
-    ensures { subject_mask result.now ≡ subjects_in (forms_in set.now) form }
+pub fn places_of(set: &RuleSet, form: u32) -> &[Place]
+    ensures mask { subject_mask result.now ≡ subjects_in (forms_in set.now) form }
+    ensures places { result.now ≡ places_at (forms_in set.now) form }
 {
     match set.forms().get(form as usize) {
         Some(it) => it.places.as_slice(),
@@ -114,7 +115,7 @@ fn places_of(set: &RuleSet, form: u32) -> &[Place]
 }
 
 /// Whether the place is a subject.
-fn is_subject(places: &[Place], place: usize) -> bool
+pub fn is_subject(places: &[Place], place: usize) -> bool
     ensures { result ≡ get_or (subject_mask places.now) place false }
 {
     match places.get(place) {

@@ -77,7 +77,7 @@ fn plain_premise(alloc: Global, table: &PlainTable, from: &Premise) -> Result<Pr
 }
 
 /// The judgement with plain images.
-fn plain_judgement(
+pub fn plain_judgement(
     alloc: Global,
     table: &PlainTable,
     from: &Judgement,
@@ -106,7 +106,7 @@ fn plain_terms(alloc: Global, table: &PlainTable, terms: &[Term]) -> Result<Vec<
 }
 
 /// The plain image of the term, which is within the limits.
-fn plain_term(alloc: Global, table: &PlainTable, term: &Term) -> Result<Term, NoMemory>
+pub fn plain_term(alloc: Global, table: &PlainTable, term: &Term) -> Result<Term, NoMemory>
     requires { HasImage (table_of table.now) (tree term.now) }
     ensures { IfOk result (λ t. tree t ≡ image (table_of table.now) (tree term.now)) }
 {
