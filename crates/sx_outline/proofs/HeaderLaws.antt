@@ -1,15 +1,13 @@
 -- Reading the first lines of an extension file.
-use Rattle.std.proofs.Common.{◌≡◌, ℕ, Bool, true, false, List, [], length, take, IsTrue, ◌↔◌, Option, Some, None, Result, Ok, Err, refl, sym, ap, subst, ◌∙◌, inl, inr, arith}
-use Rattle.std.specs.Prelude.{Contains, MatchOption}
+use Rattle.std.proofs.Common.{◌≡◌, ℕ, Bool, true, false, List, [], length, take, IsTrue, ◌↔◌, Result, Ok, Err, refl, sym, ap, subst, ◌∙◌, inl, inr, arith}
+use Rattle.std.specs.Prelude.{Contains}
 use Rattle.std.proofs.lemmas.List.{take_all}
 use Rattle.std.proofs.lemmas.Bool.{false≢true}
 use Rattle.std.specs.Str.{IsUtf8}
 use Rattle.sx_lines.specs.Lines.{Lines, over, line, lines_from}
 use Rattle.sx_lines.specs.declared.kind.Kind.TheVariants.{Head, Directive, Shape, Order, Unfinished, Main, Variable}
-use Rattle.sx_directives.specs.Rows.{IsRow, IsRowRead}
-use Rattle.sx_directives.specs.declared.file_kind.FileKind.{FileKind}
+use Rattle.sx_directives.specs.Rows.{IsRow}
 use Rattle.sx_directives.specs.declared.file_kind.FileKind.TheVariants as files
-use Rattle.sx_directives.specs.declared.row.Row.{Row}
 use Rattle.sx_directives.specs.declared.row.Row.TheVariants.{Use}
 use Rattle.sx_outline.specs.declared.extension_header.ExtensionHeader.{ExtensionHeader}
 use Rattle.sx_outline.specs.declared.outline_error.OutlineError.{OutlineError}
@@ -18,18 +16,8 @@ use Rattle.sx_outline.specs.Known.{kept_lines}
 use Rattle.sx_outline.specs.Headers.{HeaderData, begun, IsHeaderOf, IsHeaderRead, IsLanguageLine, IsLanguageNext, IsUseLine, IsNewUse, AreUses}
 use Rattle.sx_outline.specs.HeaderReading.{using, IsUseRefused, IsUseRead, AreUsesRead, OrLacking}
 use Rattle.sx_outline.proofs.SameRows.{same_row}
-use Rattle.sx_outline.proofs.SameLaws.{has_word}
 
 -- ---- one line
-
--- a row is spelled, or none
-pub spelled_in : (kind : FileKind) (text : List ℕ) (o : Option Row) → IsRowRead kind text (Ok o) → MatchOption o ((row : Row) → IsRow kind text row → ⊥) (λ row. IsRow kind text row)
-spelled_in kind text None h = λ row is. h (has_word kind text row is)
-spelled_in kind text (Some row) h = h
-
--- what holds where there is none
-pub where_none : {X : Type 0} (N : Type 0) (S : X → Type 0) (o : Option X) → o ≡ None → MatchOption o N S → N
-where_none N S o e h = subst (λ x. MatchOption x N S) e h
 
 -- a name that stands before none of them
 pub not_before : (names : List (List ℕ)) (name : List ℕ) (count : ℕ) (b : Bool) → count ≡ length names → IsTrue b ↔ Contains (take count names) name → b ≡ false → Contains names name → ⊥

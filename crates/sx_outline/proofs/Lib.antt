@@ -17,5 +17,6 @@ pub mod LeftLines
 pub mod LinesLaws
 pub mod LinesOutlined
 pub mod OneOutline
+mod ReadRows
 mod HeaderLaws
 mod OneHeader

@@ -10,8 +10,9 @@ ghost use Rattle.sx_outline.specs.View.{known};
 use crate::declared_rows::DeclaredRows;
 use crate::kept::next_kept_line;
 use crate::known::Known;
+use crate::spelled_row::spelled_row;
 use std::alloc::Global;
-use sx_directives::{FileKind, Row, RowError, read_row};
+use sx_directives::{FileKind, Row};
 use sx_lines::Rest;
 use sx_term::NoMemory;
 
@@ -40,11 +41,9 @@ fn take_line(alloc: Global, rows: &mut DeclaredRows, text: &[u8]) -> Result<bool
     ensures taken { IfOk result (λ ends. TakesLine (declared_in rows.old) text.now ends (declared_in rows.new)) }
     ensures grows { OnOk result (Grows (declared_in rows.old) (declared_in rows.new)) }
 {
-    match read_row(alloc, FileKind::Language, text) {
-        Ok(Some(row)) => take_row(rows, row),
-        Ok(None) => Ok(false),
-        Err(RowError::Shape) => Ok(false),
-        Err(RowError::Memory) => Err(NoMemory::Memory),
+    match spelled_row(alloc, FileKind::Language, text)? {
+        Some(row) => take_row(rows, row),
+        None => Ok(false),
     }
 }
 

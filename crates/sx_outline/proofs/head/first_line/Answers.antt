@@ -1,7 +1,7 @@
 use Rattle.sx_directives.specs.Rows.{IsRow}
 use Rattle.sx_directives.specs.declared.row.Row.{Row}
 use Rattle.sx_outline.specs.Stages.{head_row}
-use Rattle.sx_outline.proofs.HeaderLaws.{where_none}
+use Rattle.sx_outline.proofs.ReadRows.{where_none}
 use Rattle.sx_outline.proofs.StepLaws.{other_head}
 use Rattle.sx_outline.proofs.head.first_line.Goals as goal
 

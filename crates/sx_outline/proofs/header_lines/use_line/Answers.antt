@@ -3,7 +3,8 @@ use Rattle.sx_directives.specs.Rows.{IsRow}
 use Rattle.sx_directives.specs.declared.file_kind.FileKind.TheVariants as files
 use Rattle.sx_directives.specs.declared.row.Row.TheVariants.{Use}
 use Rattle.sx_outline.specs.HeaderReading.{using}
-use Rattle.sx_outline.proofs.HeaderLaws.{where_none, use_refused}
+use Rattle.sx_outline.proofs.HeaderLaws.{use_refused}
+use Rattle.sx_outline.proofs.ReadRows.{where_none}
 use Rattle.sx_outline.proofs.header_lines.use_line.Goals as goal
 
 pub returns-in-Ok-None-clause-read : goal.returns-in-Ok-None-clause-read

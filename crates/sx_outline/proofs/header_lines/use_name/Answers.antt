@@ -2,7 +2,7 @@ use Rattle.sx_directives.specs.Rows.{IsRow}
 use Rattle.sx_directives.specs.declared.file_kind.FileKind.TheVariants as files
 use Rattle.sx_directives.specs.declared.row.Row.{Row}
 use Rattle.sx_directives.specs.declared.row.Row.TheVariants.{Use}
-use Rattle.sx_outline.proofs.HeaderLaws.{where_none}
+use Rattle.sx_outline.proofs.ReadRows.{where_none}
 use Rattle.sx_outline.proofs.header_lines.use_name.Goals as goal
 
 pub returns-in-None : goal.returns-in-None

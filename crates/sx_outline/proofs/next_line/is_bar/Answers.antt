@@ -3,7 +3,7 @@ use Rattle.sx_directives.specs.Rows.{IsRow}
 use Rattle.sx_directives.specs.declared.file_kind.FileKind.TheVariants as files
 use Rattle.sx_directives.specs.declared.row.Row.{Row}
 use Rattle.sx_directives.specs.declared.row.Row.TheVariants.{Bar}
-use Rattle.sx_outline.proofs.HeaderLaws.{where_none}
+use Rattle.sx_outline.proofs.ReadRows.{where_none}
 use Rattle.sx_outline.proofs.StepLaws.{bar_row}
 use Rattle.sx_outline.proofs.next_line.is_bar.Goals as goal
 

@@ -1,4 +1,4 @@
-use Rattle.sx_outline.proofs.HeaderLaws.{spelled_in}
+use Rattle.sx_outline.proofs.ReadRows.{spelled_in}
 use Rattle.sx_outline.proofs.spelled_row.spelled_row.Goals as goal
 
 pub returns-in-Ok : goal.returns-in-Ok
