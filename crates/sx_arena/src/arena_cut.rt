@@ -24,8 +24,9 @@ fn are_below(numbers: &[usize], bound: usize) -> bool
     true
 }
 
-/// Whether the terms pass no limit, and have together no more than half as many nodes as there are terms past the first so many: then
-/// they are made again in the time in which the others are dropped.
+/// Whether the terms pass no limit, and have together no more than half as many nodes as there are
+/// terms past the first so many: then they are made again in the time in which the others are
+/// dropped.
 fn is_worth(arena: &Arena, first: usize, numbers: &[usize]) -> bool
     requires arena { IsArena arena.now }
     requires numbers { AreBelow (length (trees arena.now)) numbers.now }
@@ -40,8 +41,8 @@ fn is_worth(arena: &Arena, first: usize, numbers: &[usize]) -> bool
     }
 }
 
-/// Drops the terms past the first so many but for those with these numbers, which may get others. Where they are too large for that, all
-/// terms stay.
+/// Drops the terms past the first so many but for those with these numbers, which may get others.
+/// Where they are too large for that, all terms stay.
 pub fn keep(
     alloc: Global,
     arena: &mut Arena,

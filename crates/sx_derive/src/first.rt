@@ -18,7 +18,8 @@ use sx_arena::{Fact, Pair};
 use sx_rules::RuleSet;
 use sx_term::NoMemory;
 
-/// The outputs of a goal's first answer, where it has one. No try is counted, and of what is made on the way only terms stay.
+/// The outputs of a goal's first answer, where it has one. No try is counted. Of what is made on
+/// the way only terms stay where there is an answer, and else nothing.
 pub(crate) fn first_answer(
     alloc: Global,
     rules: &RuleSet,

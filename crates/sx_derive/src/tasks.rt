@@ -17,8 +17,8 @@ use sx_arena::{Fact, Limit, Pair};
 use sx_rules::RuleSet;
 use sx_term::NoMemory;
 
-/// The candidates of a goal that are still to be tried: first the hypotheses and then the rules, from a number on; and where the chains
-/// ended when the goal was come to.
+/// The candidates of a goal that are still to be tried: first the hypotheses and then the rules,
+/// from a number on; and where the store ended when the goal was come to.
 #[derive(Drop)]
 pub struct Task {
     pub(crate) next: usize,

@@ -42,7 +42,7 @@ pub(crate) fn next_task(rules: &RuleSet, facts: &[Fact], tasks: &mut Vec<Task>) 
     None
 }
 
-/// What comes of the next candidate of a task. Where it is nothing, the chains that were made for it are cut off.
+/// What comes of the next candidate of a task. Where it is nothing, what was made for it is cut off.
 fn try_task(
     alloc: Global,
     rules: &RuleSet,

@@ -62,8 +62,8 @@ fn resume(
     }
 }
 
-/// What comes of outputs that are handed to the rules that wait, from the last one on. What was made since a rule began to wait is
-/// dropped when it goes on, but for the outputs.
+/// What comes of outputs that are handed to the rules that wait, from the last one on. What was
+/// made since a rule began to wait is dropped when it goes on, but for the outputs.
 pub fn hand_on(
     alloc: Global,
     rules: &RuleSet,

@@ -16,8 +16,8 @@ use sx_arena::{Arena, Binds, make_places, roles};
 use sx_rules::{Judgement, RuleSet};
 use sx_term::NoMemory;
 
-/// A rule that waits for one of its premises, with the chain of its bindings, and the numbers of all bindings and of all terms when
-/// it began to wait.
+/// A rule that waits for one of its premises, with the chain of its bindings, and the numbers of
+/// all bindings and of all terms when it began to wait.
 #[derive(Clone, Copy)]
 pub struct Waiting {
     pub rule: u32,
@@ -27,8 +27,8 @@ pub struct Waiting {
     pub terms: usize,
 }
 
-/// The terms and the bindings made so far, the rules in work from the first goal on, the first terms that pass a limit, and the
-/// number of the terms that stay to the end, those of the problem.
+/// The terms and the bindings made so far, the rules in work from the first goal on, the first
+/// terms that pass a limit, and the number of the terms that stay to the end, those of the problem.
 #[derive(Drop)]
 pub struct Reader {
     pub arena: Arena,
