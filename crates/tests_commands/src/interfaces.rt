@@ -1,6 +1,6 @@
 //! Interfaces of modules, and the digests in them.
 
-use crate::samples::INTERFACE;
+use crate::samples::{EXTENDED_INTERFACE, FIRST_INTERFACE, INTERFACE};
 use std::alloc::Global;
 use sx_interface::{
     HeaderError, Interface, digest, read_digest, read_interface, write_digest, write_interface,
@@ -34,17 +34,19 @@ fn known_digest(rt: HostRuntime) {
     assert_eq!(rt; hold, [true; 3]);
 }
 
-/// Whether the interface is the sample.
-fn is_sample(it: &Interface) -> bool {
+/// Whether the interface has so many uses, one import, and this stated signature.
+fn is_sample(it: &Interface, uses: usize, stated: &[u8]) -> bool {
     it.language.bytes() == b"L".as_slice()
+        && it.uses.len() == uses
         && it.imports.len() == 1
         && it.signature.bytes() == b"int -> int".as_slice()
+        && it.stated.bytes() == stated
 }
 
-/// Whether the interface is written as the sample.
-fn writes_sample(alloc: Global, it: &Interface) -> bool {
+/// Whether the interface is written as this text.
+fn is_written_as(alloc: Global, it: &Interface, text: &[u8]) -> bool {
     let mut written = Vec::new(alloc);
-    let is = write_interface(alloc, it, &mut written).is_ok() && written.as_slice() == INTERFACE;
+    let is = write_interface(alloc, it, &mut written).is_ok() && written.as_slice() == text;
     drop(written);
     is
 }
@@ -52,23 +54,29 @@ fn writes_sample(alloc: Global, it: &Interface) -> bool {
 /// What reading an interface answers.
 #[derive(Clone, Copy, PartialEq, Eq, Debug)]
 enum Answer {
-    Sample,
+    Extended,
+    Plain,
     Different,
     BadLine(u32),
     Version(u64),
     Other,
 }
 
+/// Which sample was read.
+fn sample_of(alloc: Global, it: &Interface) -> Answer {
+    if is_sample(it, 0, b"int -> int") && is_written_as(alloc, it, INTERFACE) {
+        return Answer::Plain;
+    }
+    if is_sample(it, 2, b"fn int int") && is_written_as(alloc, it, EXTENDED_INTERFACE) {
+        return Answer::Extended;
+    }
+    Answer::Different
+}
+
 /// What is read.
 fn answer_of(alloc: Global, read: &Result<Interface, HeaderError>) -> Answer {
     match read {
-        Ok(it) => {
-            if is_sample(it) && writes_sample(alloc, it) {
-                Answer::Sample
-            } else {
-                Answer::Different
-            }
-        }
+        Ok(it) => sample_of(alloc, it),
         Err(HeaderError::Header(line)) => Answer::BadLine(*line),
         Err(HeaderError::Version(number)) => Answer::Version(*number),
         Err(_) => Answer::Other,
@@ -94,7 +102,13 @@ fn reading(alloc: Global, text: &[u8]) -> Answer {
 
 #[test]
 fn interface_both_ways(rt: HostRuntime) {
-    assert_eq!(rt; reading(rt.alloc(), INTERFACE), Answer::Sample);
+    let alloc = rt.alloc();
+    let answers = [
+        reading(alloc, FIRST_INTERFACE),
+        reading(alloc, INTERFACE),
+        reading(alloc, EXTENDED_INTERFACE),
+    ];
+    assert_eq!(rt; answers, [Answer::Plain, Answer::Plain, Answer::Extended]);
 }
 
 #[test]
@@ -108,6 +122,8 @@ fn versions(rt: HostRuntime) {
         reading(alloc, b"sxint 01\n"),
         reading(alloc, b"sxint 1\n"),
         reading(alloc, b"sxint 1\nmodule M\n"),
+        reading(alloc, b"sxint 2\n"),
+        reading(alloc, b"sxint 3\n"),
     ];
     let wanted = [
         Answer::Version(0),
@@ -117,6 +133,8 @@ fn versions(rt: HostRuntime) {
         Answer::BadLine(1),
         Answer::BadLine(2),
         Answer::BadLine(3),
+        Answer::BadLine(2),
+        Answer::Version(3),
     ];
     assert_eq!(rt; answers, wanted);
 }

@@ -143,6 +143,16 @@ fn a_line_of_a_print(rt: HostRuntime) {
     assert!(rt; has_line(rt.alloc(), Place::Nowhere, defect, want));
 }
 
+#[test]
+fn a_line_of_a_stated_print(rt: HostRuntime) {
+    let defect = Defect::Print {
+        part: PrintedPart::Stated,
+        defect: PrintDefect::Bytes(262_145),
+    };
+    let want = b"soundx: M.mod: printed stated signature has 262145 bytes, over 262144\n";
+    assert!(rt; has_line(rt.alloc(), Place::Nowhere, defect, want));
+}
+
 /// Appends the name, and answers whether memory was there for it.
 fn put_name(alloc: Global, name: &[u8], names: &mut Vec<Text>) -> bool {
     match Text::make(alloc, name) {
