@@ -1,0 +1,11 @@
+pub mod Measuring
+pub mod Measurable
+pub mod Given
+pub mod Goal
+pub mod Found
+pub mod Checked
+pub mod Ready
+pub mod ByRules
+pub mod StoredRules
+pub mod Fronts
+pub mod Fitting

@@ -1,0 +1,51 @@
+//! The first derivation of a flat goal.
+
+ghost use Rattle.std.specs.Prelude.{◌≡◌, ◌^◌, ◌<◌, length};
+ghost use Rattle.sx_extcheck.specs.Searches.{search_of, tries_in, IsShallowSearch, IsSearched, AreCounted, defect_of};
+
+use crate::check_error::CheckError;
+use crate::flat_goal::FlatGoal;
+use crate::rule_defect::RuleDefect;
+use std::alloc::Global;
+use std::sync::ledger::Ledger;
+use sx_derive::{DeriveError, Derived, derive};
+use sx_rules::{Hyps, Proof, RuleSet};
+use sx_term::Steps;
+
+/// The first derivation of the goal with the wanted outputs, from the hypotheses. Each try is counted in `steps`, and at most
+/// `tries` are made.
+pub(crate) fn find<L: Ledger>(
+    alloc: Global,
+    rules: &RuleSet,
+    given: &Hyps,
+    goal: &FlatGoal,
+    tries: u64,
+    steps: &mut Steps<L>,
+) -> Result<Box<Proof>, CheckError>
+    requires few { length given.now.holds.items < 2 ^ 32 }
+    requires shallow { IsShallowSearch (search_of rules.now given.now goal.now) }
+    ensures answer { IsSearched (search_of rules.now given.now goal.now) tries result }
+    ensures steps { AreCounted (tries_in (search_of rules.now given.now goal.now) tries) steps.old steps.new result }
+{
+    match derive(alloc, rules, given, &goal.goal, Some(&goal.wanted), tries, steps) {
+        Ok(Derived { proof, outputs }) => {
+            drop(outputs);
+            Ok(proof)
+        }
+        Err(e) => Err(walk_defect(e)),
+    }
+}
+
+/// Want of memory, or the defect of a rule whose search ends so.
+fn walk_defect(e: DeriveError) -> CheckError
+    ensures { result ≡ defect_of e }
+{
+    match e {
+        DeriveError::Memory => CheckError::Memory,
+        DeriveError::Underivable(blame) => CheckError::Defect(RuleDefect::Rejected(blame)),
+        DeriveError::BudgetSpent(tries) => CheckError::Defect(RuleDefect::BudgetSpent(tries)),
+        DeriveError::DepthSpent(depth) => CheckError::Defect(RuleDefect::DepthSpent(depth)),
+        DeriveError::TooDeep(depth) => CheckError::Defect(RuleDefect::TooDeep(depth)),
+        DeriveError::TooBig(nodes) => CheckError::Defect(RuleDefect::TooBig(nodes)),
+    }
+}

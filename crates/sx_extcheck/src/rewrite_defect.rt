@@ -1,0 +1,21 @@
+//! Limits that a rule passes.
+
+ghost use Rattle.std.specs.Prelude.{◌≡◌};
+ghost use Rattle.sx_extcheck.specs.Limits.{defect_of};
+
+use crate::check_error::CheckError;
+use crate::rule_defect::RuleDefect;
+use sx_rewrite::RewriteError;
+
+/// Want of memory, or the defect of a rule that passes this limit.
+pub(crate) fn rewrite_defect(e: RewriteError) -> CheckError
+    ensures { result ≡ defect_of e }
+{
+    match e {
+        RewriteError::Memory => CheckError::Memory,
+        RewriteError::RewriteSpent(nodes) => CheckError::Defect(RuleDefect::RewriteSpent(nodes)),
+        RewriteError::RewriteDeep => CheckError::Defect(RuleDefect::RewriteDeep),
+        RewriteError::TooDeep(depth) => CheckError::Defect(RuleDefect::TooDeep(depth)),
+        RewriteError::TooBig(nodes) => CheckError::Defect(RuleDefect::TooBig(nodes)),
+    }
+}
