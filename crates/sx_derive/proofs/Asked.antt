@@ -15,7 +15,6 @@ use Rattle.sx_derive.specs.Candidates.{IsFact, AreFacts}
 use Rattle.sx_rules.proofs.Moded.{judgement_known, goal_same}
 use Rattle.sx_derive.specs.Asking.{asked_goal, asked_events, AreTermsOf, IsAnswered}
 use Rattle.sx_arena.specs.Binds.{env_at, BindsGrow}
-use Rattle.sx_derive.specs.Handing.{answer_in}
 use Rattle.sx_arena.specs.Pairs.{ArePairs}
 use Rattle.sx_arena.specs.Places.{AreHeld}
 use Rattle.sx_derive.specs.Quiet.{IsQuiet, first_given, IsFirstFound}

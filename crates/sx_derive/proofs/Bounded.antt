@@ -1,12 +1,12 @@
 use Rattle.std.proofs.Common.{◌≡◌, ℕ, zero, suc, ◌-◌, ◌≤◌, ◌&&◌, Bool, true, false, List, [], ◌∷◌, ◌⊎◌, inl, inr, map, length, Option, Some, None, refl, sym, ap, ◌∙◌, subst, arith}
-use Rattle.std.specs.Prelude.{nat_eq, nat_lt}
-use Rattle.sx_term.specs.Tree.{Tree, Trees, node, lexeme, hole, none, ◌▹◌, depth_of, greatest_depth, size_of}
+use Rattle.std.specs.Prelude.{nat_eq}
+use Rattle.sx_term.specs.Tree.{Tree, Trees, node, lexeme, hole, none, ◌▹◌, depth_of, greatest_depth}
 use Rattle.sx_rules.specs.Instances.{instance, instances, Stands, StandsInKids, StandsAmong}
 use Rattle.sx_arena.specs.Matching.{same_all, Assignment, unbound, match_all, value_or, filled, IsBound}
 use Rattle.sx_rules.specs.Rules.{Judgement, Premise, holds, apart, Rule, Hypotheses, judgement_instance}
 use Rattle.sx_rules.specs.Modes.{Modes, outputs, inputs_of, outputs_of, Goal, goal_of}
 use Rattle.sx_rules.specs.Derivations.{Proofs, by, given, height_of, most_height, AreShallow, HasShallowBinds, HaveShallowBinds, ShallowJudgements}
-use Rattle.sx_derive.specs.Walk.{Cause, Event, give, Answer, then_each, when_matched, term_limit, first_cause, limit_passed, unless_passed, are_apart, put_first, after_kid, premise_events, first_values, conclude, after_match, rule_events, rules_events, given_event, given_events, goal_events, events}
+use Rattle.sx_derive.specs.Walk.{Cause, Event, give, Answer, then_each, when_matched, limit_passed, unless_passed, are_apart, put_first, after_kid, premise_events, first_values, conclude, after_match, rule_events, rules_events, given_event, given_events, goal_events, events}
 use Rattle.sx_derive.specs.Search.{EachGiven}
 use Rattle.sx_derive.specs.Laws.{AnswersAreBounded}
 use Rattle.sx_arena.proofs.Matchings.{MatchesAll, match_all-matches}

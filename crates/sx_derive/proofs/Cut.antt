@@ -1,9 +1,9 @@
 -- A store that is cut back is the one that it grew from.
-use Rattle.std.proofs.Common.{◌≡◌, ◌+◌, List, [], ◌∷◌, ◌++◌, length, sym, ap, ◌∙◌, subst}
+use Rattle.std.proofs.Common.{◌≡◌, List, [], sym, ap, ◌∙◌, subst}
 use Rattle.sx_term.specs.Tree.{Tree}
 use Rattle.sx_rules.specs.Rules.{Judgement, Rule}
 use Rattle.sx_rules.specs.Modes.{Modes}
-use Rattle.sx_arena.specs.Binds.{bind_step, BindFits, envs, IsBinds}
+use Rattle.sx_arena.specs.Binds.{bind_step, BindFits}
 use Rattle.sx_arena.specs.Grown.{Extends, grown_from, Fits}
 use Rattle.sx_arena.specs.declared.arena.Arena.{Arena}
 use Rattle.sx_arena.specs.declared.binds.Bind.{Bind}

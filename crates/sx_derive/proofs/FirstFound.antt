@@ -11,7 +11,7 @@ use Rattle.sx_derive.specs.declared.store.Store.{Store}
 use Rattle.sx_derive.specs.declared.tasks.Ending.TheVariants.{Found, Passed, DepthSpent, Spent, Exhausted}
 use Rattle.sx_derive.specs.Handing.{answer_in}
 use Rattle.sx_derive.specs.Quiet.{IsQuiet, first_given, IsGivenIn, IsFirstFound}
-use Rattle.sx_derive.specs.Store.{IsStore, Grows, IsMark, IsChainsCut, IsCut, store_trees, store_envs, store_kids}
+use Rattle.sx_derive.specs.Store.{IsStore, IsMark, IsChainsCut, IsCut, store_trees, store_envs, store_kids}
 use Rattle.sx_derive.specs.Chains.{head_proof}
 use Rattle.sx_derive.specs.declared.store.Mark.{Mark}
 use Rattle.sx_arena.specs.Arena.{trees}

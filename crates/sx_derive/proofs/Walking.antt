@@ -24,7 +24,7 @@ use Rattle.sx_arena.proofs.Facts.{facts_stay}
 use Rattle.sx_arena.proofs.Arenas.{maps_same, below_more}
 use Rattle.sx_derive.proofs.Stored.{grows_same, grows_then}
 use Rattle.sx_derive.proofs.Tasked.{task_starts, facts_length}
-use Rattle.sx_derive.proofs.Turned.{fit_more, fits_more, fits_push, fits_pop, piled_grows, piled_fits, piled_push, piled_top, events_stay, events_try}
+use Rattle.sx_derive.proofs.Turned.{fits_more, fits_push, fits_pop, piled_grows, piled_fits, piled_push, piled_top, events_stay, events_try}
 use Rattle.sx_derive.proofs.Cut.{cut_grows}
 use Rattle.sx_arena.specs.Pairs.{ArePairs}
 use Rattle.sx_arena.proofs.Growing.{extends-length}
