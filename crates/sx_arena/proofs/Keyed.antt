@@ -1,9 +1,9 @@
 -- The first pattern that is a node, against the label of its term.
-use Rattle.std.proofs.Common.{◌≡◌, ℕ, ◌+◌, ◌<◌, ◌≤◌, Bool, true, false, List, [], ◌∷◌, map, drop, length, get_or, Option, Some, None, Vec, refl, sym, ap, ◌∙◌, subst}
+use Rattle.std.proofs.Common.{◌≡◌, ℕ, ◌+◌, ◌<◌, ◌≤◌, Bool, true, false, List, map, drop, length, get_or, Option, Some, None, Vec, refl, sym, ap, ◌∙◌, subst}
 use Rattle.std.specs.Prelude.{nat_eq}
 use Rattle.std.specs.declared.alloc.Global.{Global}
-use Rattle.std.proofs.lemmas.List.{drop_more, drop_all}
-use Rattle.sx_term.specs.Tree.{Tree, Trees, node, forest}
+use Rattle.std.proofs.lemmas.List.{drop_all}
+use Rattle.sx_term.specs.Tree.{Tree, node, forest}
 use Rattle.sx_term.specs.declared.term.Term.{Term}
 use Rattle.sx_term.specs.declared.term.Term.TheVariants.{Node as TermNode}
 use Rattle.sx_term.proofs.Kids.{tree-at_node}

@@ -1,4 +1,4 @@
-use Rattle.std.proofs.Common.{◌≡◌, ℕ, List, map, refl, ap, ◌∙◌, sym, subst}
+use Rattle.std.proofs.Common.{ℕ, List, map, refl, ap, ◌∙◌, sym, subst}
 use Rattle.sx_term.specs.Term.{tree}
 use Rattle.sx_term.specs.Tree.{Tree}
 use Rattle.sx_rules.specs.Deep.{AreShallow}
