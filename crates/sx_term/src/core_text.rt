@@ -59,7 +59,8 @@ fn append_core(alloc: Global, term: &Term, into: &mut Vec<u8>) -> Result<(), NoM
         }
         Term::Var(variable) => {
             into.push(b'?')?;
-            append_decimal(alloc, *variable, into)
+            append_decimal(alloc, *variable, into)?;
+            Ok(())
         }
     }
 }

@@ -13,6 +13,9 @@ use crate::term::Term;
 use crate::term_error::TermError;
 use std::alloc::Global;
 
+/// The greatest depth of an instance.
+const MOST_DEPTH: u32 = 1000;
+
 /// The instance: the term with each variable replaced by what it is bound to. A variable that is not bound stays.
 ///
 /// The instance is measured before it is made. It is refused as TooDeep where its depth is more than 1,000, and else as TooBig
@@ -22,7 +25,7 @@ pub fn subst(alloc: Global, term: &Term, with: &Bindings) -> Result<Term, TermEr
     ensures { IsWithinLimits (instance (bindings with.now) (tree term.now)) result }
 {
     let depth = instance_depth(term, with);
-    if depth > 1000 {
+    if depth > MOST_DEPTH {
         return Err(TermError::TooDeep(depth));
     }
     let size = instance_size(term, with);
