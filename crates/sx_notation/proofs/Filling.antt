@@ -33,7 +33,7 @@ pub is_no_output : (r : Role) → (r ≡ In) ⊎ (r ≡ Sub) → is_out r ≡ fa
 is_no_output r (inl e) = ap is_out e
 is_no_output r (inr e) = ap is_out e
 
--- what is filled in by now, with what comes, is the whole
+-- what is filled in so far, with what comes, is the whole
 pub record Filled (ps : List Place) (ins os : List Tree) (k i j : ℕ) (now : List (Option Tree)) : Type 0 where
   pub low : i ≤ k
   pub under : j ≤ k

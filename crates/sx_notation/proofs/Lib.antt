@@ -7,4 +7,6 @@ pub mod Numbers
 pub mod Copied
 pub mod TextReading
 pub mod TreeTexts
+pub mod SameReadings
+pub mod OneReasons
 pub mod ReadLexemes

@@ -32,8 +32,8 @@ sort_when _ _ sort = []
 abbrev pub sorts_with : Role → List Place → List Sort
 sorts_with role places = flat_map (λ p. sort_when role p.role p.sort) places
 
--- The main form has one input, for an environment, one subject and one output, for a signature. The empty constructor has no parts, the other one
--- an environment, a name and a signature.
+-- The main form has one input, for an environment, one subject and one output, for a signature. The
+-- empty constructor has no parts, the other one an environment, a name and a signature.
 pub record IsMain (p : Parts) (forms : List FormData) (m : MainForm) : Type 0 where
   pub form : FormData
   pub is : slice_get forms m.form ≡ Some form
@@ -44,8 +44,13 @@ pub record IsMain (p : Parts) (forms : List FormData) (m : MainForm) : Type 0 wh
   pub typed : sorts_with Sub form.places ≡ Typed subject ∷ []
   pub output : sorts_with Out form.places ≡ Plain signature ∷ []
   pub many : length form.places ≡ 3
-  pub empty : slice_get (shapes_of p) m.empty ≡ Some (record { sort = Plain environment; kids = [] })
-  pub add : slice_get (shapes_of p) m.add ≡ Some (record { sort = Plain environment; kids = Plain environment ∷ Lex Id ∷ Plain signature ∷ [] })
+  pub empty :
+      slice_get (shapes_of p) m.empty ≡ Some (record { sort = Plain environment; kids = [] })
+  pub add : slice_get (shapes_of p) m.add ≡ Some
+      (record {
+        sort = Plain environment;
+        kids = Plain environment ∷ Lex Id ∷ Plain signature ∷ [];
+      })
 
 -- each lexeme of the premise is a token of its kind, and none of the literals
 abbrev pub PremiseHasLexemes : List Text → Premise → Type 0
@@ -57,8 +62,9 @@ pub record RuleHasLexemes (literals : List Text) (r : NamedRule) : Type 0 where
   pub premises : AllByRecursion (PremiseHasLexemes literals) r.rule.premises
   pub conclusion : AllByRecursion (HasLexemes literals) r.rule.conclusion.places
 
--- The rules have the constructors of the grammar, and their lexemes are tokens of it. The grammar by which rules are read, and the forms, are those
--- of some form lines. The main form is one of them.
+-- The rules have the constructors of the grammar, and their lexemes are tokens of it. The grammar
+-- by which rules are read, and the forms, are those of some form lines. The main form is one of
+-- them.
 pub record IsLanguage (l : Language) : Type 0 where
   pub lines : List FormLine
   pub base : l.grammar.base ≡ length l.grammar.parts.productions
@@ -79,4 +85,10 @@ pub record LanguageData : Type 0 where
 
 -- the data of a language
 abbrev pub language_data : Language → LanguageData
-language_data l = record { parts = l.grammar.parts; rule_parts = l.rule_grammar.parts; forms = forms_in l.rules; rules = rules_in l.rules; main = l.main }
+language_data l = record {
+  parts = l.grammar.parts;
+  rule_parts = l.rule_grammar.parts;
+  forms = forms_in l.rules;
+  rules = rules_in l.rules;
+  main = l.main;
+}

@@ -5,6 +5,7 @@ pub mod RuleParts
 pub mod RuleLaws
 pub mod Language
 pub mod WhyUnread
+pub mod OneReason
 pub mod ReadText
 pub mod ReadLaws
 pub mod Directives

@@ -11,8 +11,10 @@ use Rattle.sx_notation.specs.ReadText.{IsRead}
 
 -- each lexeme of it is a token of its kind, and none of the literals
 abbrev pub ReadsHaveLexemes : Type 0
-ReadsHaveLexemes = (p : Parts) (stems : Stems) (sort : Sort) (line : Text) (old new : List Text) (t : Tree) → IsRead p stems sort line old new t → HasLexemes (literals_of p) t
+ReadsHaveLexemes = (p : Parts) (stems : Stems) (sort : Sort) (line : Text) (old new : List Text)
+    (t : Tree) → IsRead p stems sort line old new t → HasLexemes (literals_of p) t
 
 -- it is at most 1,000 deep
 abbrev pub ReadsAreShallow : Type 0
-ReadsAreShallow = (p : Parts) (stems : Stems) (sort : Sort) (line : Text) (old new : List Text) (t : Tree) → IsRead p stems sort line old new t → depth_of t ≤ 1000
+ReadsAreShallow = (p : Parts) (stems : Stems) (sort : Sort) (line : Text) (old new : List Text)
+    (t : Tree) → IsRead p stems sort line old new t → depth_of t ≤ 1000

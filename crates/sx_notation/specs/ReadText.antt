@@ -20,7 +20,9 @@ use Rattle.sx_forest.specs.Names.{names_in, AddsEach}
 use Rattle.sx_lines.specs.declared.kind.Kind.TheVariants.{Variable}
 use Rattle.sx_notation.specs.WhyUnread.{IsUnreadAs}
 use Rattle.sx_notation.specs.declared.notation_error.NotationError.{NotationError}
-use Rattle.sx_notation.specs.declared.notation_error.NotationError.TheVariants.{Memory, Notation, Token as BadTokens, Read}
+use Rattle.sx_notation.specs.declared.notation_error.NotationError.TheVariants.{Memory, Notation}
+use Rattle.sx_notation.specs.declared.notation_error.NotationError.TheVariants.{Token as BadTokens}
+use Rattle.sx_notation.specs.declared.notation_error.NotationError.TheVariants.{Read}
 
 -- what lines are read by: the parts of a grammar, and stems
 pub record ReaderData : Type 0 where
@@ -35,8 +37,10 @@ IsCut p line ts = IsOutcome (literals_of p) true line (tokens (pieces ts))
 abbrev pub IsKnownCut : Parts → Stems → (line : Text) → List Token → Type 0
 IsKnownCut p stems line ts = IsCut p line ts × IsFirstUnknown stems ts None
 
--- the tree is that of the line's only reading as the sort; names that the old list lacks are added to it in order of standing
-pub record IsRead (p : Parts) (stems : Stems) (sort : Sort) (line : Text) (old new : List Text) (t : Tree) : Type 0 where
+-- the tree is that of the line's only reading as the sort; names that the old list lacks are added
+-- to it in order of standing
+pub record IsRead (p : Parts) (stems : Stems) (sort : Sort) (line : Text) (old new : List Text)
+    (t : Tree) : Type 0 where
   pub tokens : List Token
   pub known : IsKnownCut p stems line tokens
   pub reading : Reading
@@ -51,20 +55,25 @@ HasDefect p line e = IfSome (outcome_of (Err e)) (IsOutcome (literals_of p) true
 
 -- a metavariable among the tokens of the line has an unknown stem
 abbrev pub HasUnknown : Parts → Stems → (line : Text) → Type 0
-HasUnknown p stems line = (ts : List Token) × (place : ℕ) × IsCut p line ts × IsFirstUnknown stems ts (Some place)
+HasUnknown p stems line = (ts : List Token) × (place : ℕ) × IsCut p line ts ×
+    IsFirstUnknown stems ts (Some place)
 
--- why the line with this number is refused, want of memory aside
+-- why the line with this number is refused, out of memory aside
 abbrev pub IsRefused : Parts → Stems → Sort → (line : Text) → (number : ℕ) → NotationError → Type 0
 IsRefused p stems sort line number Memory = Unit {0}
 IsRefused p stems sort line number (BadTokens at e) = (at ≡ number) × HasDefect p line e
-IsRefused p stems sort line number (Notation at kind) = (at ≡ number) × (kind ≡ Variable) × HasUnknown p stems line
-IsRefused p stems sort line number (Read at e) = (at ≡ number) × ((ts : List Token) × IsKnownCut p stems line ts × IsUnreadAs p stems sort ts (length line) e)
+IsRefused p stems sort line number (Notation at kind) = (at ≡ number) × (kind ≡ Variable) ×
+    HasUnknown p stems line
+IsRefused p stems sort line number (Read at e) = (at ≡ number) ×
+    ((ts : List Token) × IsKnownCut p stems line ts × IsUnreadAs p stems sort ts (length line) e)
 IsRefused p stems sort line number _ = ⊥
 
--- the tokens of a line of so many bytes have not one reading, want of memory aside
-abbrev pub IsUnreadLine : Parts → Stems → Sort → List Token → (size : ℕ) → (number : ℕ) → NotationError → Type 0
+-- the tokens of a line of so many bytes have not one reading, out of memory aside
+abbrev pub IsUnreadLine : Parts → Stems → Sort → List Token → (size : ℕ) → (number : ℕ) →
+    NotationError → Type 0
 IsUnreadLine p stems sort ts size number Memory = Unit {0}
-IsUnreadLine p stems sort ts size number (Read at e) = (at ≡ number) × IsUnreadAs p stems sort ts size e
+IsUnreadLine p stems sort ts size number (Read at e) = (at ≡ number) ×
+    IsUnreadAs p stems sort ts size e
 IsUnreadLine p stems sort ts size number _ = ⊥
 
 -- a defect as a refusal of the line with this number

@@ -1,5 +1,6 @@
 -- What holds of the grammar by which rules are read.
-use Rattle.std.specs.Prelude.{◌≡◌, ℕ, ◌≤◌, List, [], ◌∷◌, Option, Some, None, map, flat_map, length, slice_get, Contains}
+use Rattle.std.specs.Prelude.{◌≡◌, ℕ, ◌≤◌, List, [], ◌∷◌, Option, Some, None, map, flat_map, length}
+use Rattle.std.specs.Prelude.{slice_get, Contains}
 use Rattle.std.specs.List.{AllByRecursion}
 use Rattle.sx_term.specs.declared.sort.Sort.{Sort}
 use Rattle.sx_term.specs.declared.sort.Sort.TheVariants.{Lex}
@@ -51,12 +52,14 @@ HaveSortsOf p fs = AllByRecursion (λ f. AllByRecursion (HasSortOf p) f.symbols.
 
 -- the productions of a grammar keep their labels in the grammar by which rules are read
 abbrev pub ProductionsStay : Type 0
-ProductionsStay = (p : Parts) (fs : List FormLine) (label : ℕ) (r : Production) → IsGrammar p → slice_get (numbered p).productions label ≡ Some r →
+ProductionsStay = (p : Parts) (fs : List FormLine) (label : ℕ) (r : Production) → IsGrammar p →
+    slice_get (numbered p).productions label ≡ Some r →
     slice_get (numbered (rule_parts p fs)).productions label ≡ Some r
 
 -- the forms follow them in order, each with parts of the sorts of its places, and then three more
 abbrev pub FormsFollow : Type 0
-FormsFollow = (p : Parts) (fs : List FormLine) → HaveSortsOf p fs → HasForms (rule_parts p fs) (map (form_of p) fs)
+FormsFollow = (p : Parts) (fs : List FormLine) → HaveSortsOf p fs →
+    HasForms (rule_parts p fs) (map (form_of p) fs)
 
 -- the terms have these sorts, where there are some
 abbrev pub MayHaveSorts : List Shape → List Sort → Option (List Tree) → List Sort → Type 0
@@ -65,7 +68,10 @@ MayHaveSorts shapes vars (Some ts) sorts = HaveSorts shapes vars ts sorts
 
 -- a goal that is well sorted by the grammar, as its outputs are where they were got, fits the forms
 abbrev pub SortedGoalsFit : Type 0
-SortedGoalsFit = (p : Parts) (fs : List FormLine) (known : List FormData) (form : FormData) (vars : List Sort) (variables : ℕ) (goal : Goal) (got : Option (List Tree)) →
-    IsGrammar p → length vars ≤ variables → slice_get known goal.form ≡ Some form → GoalIsSorted (shapes_of p) (sorts_of known) (modes_of known) vars goal →
-    MayHaveSorts (shapes_of p) vars got (outputs (modes_of known goal.form) (sorts_of known goal.form)) →
+SortedGoalsFit = (p : Parts) (fs : List FormLine) (known : List FormData) (form : FormData)
+    (vars : List Sort) (variables : ℕ) (goal : Goal) (got : Option (List Tree)) →
+    IsGrammar p → length vars ≤ variables → slice_get known goal.form ≡ Some form →
+    GoalIsSorted (shapes_of p) (sorts_of known) (modes_of known) vars goal →
+    MayHaveSorts (shapes_of p) vars got
+    (outputs (modes_of known goal.form) (sorts_of known goal.form)) →
     GoalFits (numbered (rule_parts p fs)) variables known goal got

@@ -27,14 +27,25 @@ abbrev pub symbol_for : FormSymbol → Symbol
 symbol_for (Literal text) = Lit text
 symbol_for (Place role sort) = symbol_of_sort sort
 
--- the production that a form is; no part asks for a level of its sort, so its level makes no difference
+-- the production that a form is; no part asks for a level of its sort, so its level makes no
+-- difference
 abbrev pub form_line : FormLine → Line
-form_line f = record { label = codes "form " ++ f.name; sort = codes "a judgement"; level = 0; symbols = map symbol_for f.symbols.items }
+form_line f = record {
+  label = codes "form " ++ f.name;
+  sort = codes "a judgement";
+  level = 0;
+  symbols = map symbol_for f.symbols.items;
+}
 
 -- two lexemes of the kind with `!=` between them
 abbrev pub apart_line : LexKind → Line
 apart_line kind =
-    record { label = codes "apart " ++ lex_text kind; sort = codes "a judgement"; level = 0; symbols = Lex kind ∷ Lit (codes "!=") ∷ Lex kind ∷ [] }
+    record {
+      label = codes "apart " ++ lex_text kind;
+      sort = codes "a judgement";
+      level = 0;
+      symbols = Lex kind ∷ Lit (codes "!=") ∷ Lex kind ∷ [];
+    }
 
 -- one of these for each lexical kind
 abbrev pub apart_lines : List Line
@@ -42,4 +53,7 @@ apart_lines = apart_line Id ∷ apart_line Num ∷ apart_line Str ∷ []
 
 -- the parts with a sort of judgements, a production for each form, and three for `!=`
 abbrev pub rule_parts : Parts → List FormLine → Parts
-rule_parts p forms = record { sorts = p.sorts ++ judgement_sort ∷ []; productions = p.productions ++ (map form_line forms ++ apart_lines) }
+rule_parts p forms = record {
+  sorts = p.sorts ++ judgement_sort ∷ [];
+  productions = p.productions ++ (map form_line forms ++ apart_lines);
+}

@@ -19,7 +19,8 @@ fn term_in(terms: &[Term], number: usize) -> Option<&Term>
 
 /// The same of terms that may be absent.
 fn term_at<'a>(terms: Option<&'a Vec<Term>>, number: usize) -> Option<&'a Term>
-    ensures { shown result ≡ slice_get (unwrap_or (option_map (λ w. map tree w.now.items) terms.entry) []) number }
+    ensures { shown result ≡ slice_get
+        (unwrap_or (option_map (λ w. map tree w.now.items) terms.entry) []) number }
 {
     match terms {
         Some(terms) => term_in(terms, number),
@@ -34,7 +35,9 @@ pub(crate) fn contents<'a>(
     inputs: &'a [Term],
     outputs: Option<&'a Vec<Term>>,
 ) -> Result<Vec<Option<&'a Term>>, NoMemory>
-    ensures { IfOk result (λ v. map shown v.items ≡ contents (map (λ p. is_out p.role) places.entry.now) (map tree inputs.entry.now)
+    ensures { IfOk result (λ v.
+        map shown v.items ≡ contents (map (λ p. is_out p.role) places.entry.now)
+        (map tree inputs.entry.now)
         (unwrap_or (option_map (λ w. map tree w.now.items) outputs.entry) [])) }
 {
     let mut here = Vec::with_capacity(alloc, places.len())?;

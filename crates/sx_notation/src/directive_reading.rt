@@ -9,8 +9,9 @@ use std::alloc::Global;
 use sx_directives::{Directive, RowError};
 use sx_lines::Kind;
 
-/// What the line with this number states. It is refused, with its number and `Shape`, exactly where it is no `prod` and no `var` line:
-/// where its first part is another word, or the parts after it are not as stated.
+/// What the line with this number states. It is refused, with its number and `Shape`, exactly where
+/// it is no `prod` and no `var` line: where its first part is another word, or the parts after it
+/// are not as stated.
 pub fn read_directive(alloc: Global, line: &[u8], number: u32) -> Result<Directive, NotationError>
     ensures { MatchResult result (IsDirective line.now) (IsNoDirective line.now number) }
 {

@@ -1,6 +1,7 @@
 //! Printing of goals.
 
-ghost use Rattle.std.specs.Prelude.{◌≡◌, ◌≤◌, ◌<◌, ◌+◌, ◌++◌, ℕ, Some, map, length, option_map, slice_get, MatchOption, OnOk, OnErr};
+ghost use Rattle.std.specs.Prelude.{◌≡◌, ◌≤◌, ◌<◌, ◌+◌, ◌++◌, ℕ, Some, map, length, option_map};
+ghost use Rattle.std.specs.Prelude.{slice_get, MatchOption, OnOk, OnErr};
 ghost use Rattle.std.specs.Str.{IsUtf8};
 ghost use Rattle.sx_term.specs.Term.{tree};
 ghost use Rattle.sx_grammar.specs.Parts.{numbered};
@@ -26,18 +27,21 @@ use sx_term::{NoMemory, Term, Vars};
 fn production_of(grammar: &Grammar, forms: usize, form: u32) -> &NumberedProduction
     requires room { forms + 3 ≤ length grammar.now.parts.productions }
     requires form { form < forms }
-    ensures same { slice_get (numbered grammar.now.parts).productions (form_label (length grammar.now.parts.productions) forms form)
+    ensures same { slice_get (numbered grammar.now.parts).productions
+        (form_label (length grammar.now.parts.productions) forms form)
         ≡ Some (production (literals_of grammar.now.parts) result.now) }
-    ensures below { HasLiteralsBelow (length (literals_of grammar.now.parts)) result.now.symbols.items }
+    ensures below { HasLiteralsBelow (length (literals_of grammar.now.parts))
+        result.now.symbols.items }
 {
     let productions = grammar.productions();
     let label = productions.len() - (forms + 3) + form as usize;
     &productions[label]
 }
 
-/// Appends the text of the goal: the symbols of its form with one blank between tokens, each input at the least level of its place, and
-/// `_` for each output, or the outputs got, at the least levels of their places. Variables are `~` and their names. The grammar is one
-/// by which rules are read. Where memory is lacking, `into` is as before.
+/// Appends the text of the goal: the symbols of its form with one blank between tokens, each input
+/// at the least level of its place, and `_` for each output, or the outputs got, at the least
+/// levels of their places. Variables are `~` and their names. The grammar is one by which rules are
+/// read. Where memory is lacking, `into` is as before.
 pub fn print_goal(
     alloc: Global,
     language: &Language,
@@ -48,13 +52,17 @@ pub fn print_goal(
     into: &mut Vec<u8>,
 ) -> Result<(), NoMemory>
     requires forms { HasForms grammar.now.parts (forms_in language.now.rules) }
-    requires fits { GoalFits (numbered grammar.now.parts) (length vars.now) (forms_in language.now.rules) (view.goal goal.now) (option_map (λ w. map tree w.now.items) got) }
+    requires fits { GoalFits (numbered grammar.now.parts) (length vars.now)
+        (forms_in language.now.rules) (view.goal goal.now)
+        (option_map (λ w. map tree w.now.items) got) }
     requires inputs { AreShallow (view.goal goal.now).terms }
     requires outputs { MatchOption got Unit (λ w. AreShallow (map tree w.now.items)) }
-    ensures text { OnOk result (into.new.items ≡ into.old.items
-        ++ goal_text grammar.now.parts vars.now (forms_in language.now.rules) (view.goal goal.now) (option_map (λ w. map tree w.now.items) got.entry)) }
+    ensures text { OnOk result (into.new.items ≡ into.old.items ++
+        goal_text grammar.now.parts vars.now (forms_in language.now.rules) (view.goal goal.now)
+        (option_map (λ w. map tree w.now.items) got.entry)) }
     ensures utf8 { OnOk result (IsUtf8
-        (goal_text grammar.now.parts vars.now (forms_in language.now.rules) (view.goal goal.now) (option_map (λ w. map tree w.now.items) got.entry))) }
+        (goal_text grammar.now.parts vars.now (forms_in language.now.rules) (view.goal goal.now)
+        (option_map (λ w. map tree w.now.items) got.entry))) }
     ensures err { OnErr result (into.new.items ≡ into.old.items) }
 {
     let forms = language.rules.forms();

@@ -1,6 +1,7 @@
 //! Reading lines of text.
 
-ghost use Rattle.std.specs.Prelude.{◌≡◌, ◌≢◌, ◌+◌, ◌<◌, ◌≤◌, ◌^◌, ℕ, List, None, length, IfOk, IfErr};
+ghost use Rattle.std.specs.Prelude.{◌≡◌, ◌≢◌, ◌+◌, ◌<◌, ◌≤◌, ◌^◌, ℕ, List, None, length, IfOk};
+ghost use Rattle.std.specs.Prelude.{IfErr};
 ghost use Rattle.sx_term.specs.declared.sort.Sort.{Sort};
 ghost use Rattle.sx_term.specs.Term.{tree};
 ghost use Rattle.sx_grammar.specs.Parts.{numbered};
@@ -11,7 +12,8 @@ ghost use Rattle.sx_earley.specs.Completed.{IsSort, number_of};
 ghost use Rattle.sx_forest.specs.Readings.{plain_reading};
 ghost use Rattle.sx_notation.specs.WhyUnread.{IsReadError};
 ghost use Rattle.sx_notation.specs.declared.notation_error.NotationError.TheVariants.{Memory};
-ghost use Rattle.sx_notation.specs.ReadText.{IsCut, IsKnownCut, IsRead, IsRefused, IsUnreadLine, of_token_error};
+ghost use Rattle.sx_notation.specs.ReadText.{IsCut, IsKnownCut, IsRead, IsRefused, IsUnreadLine};
+ghost use Rattle.sx_notation.specs.ReadText.{of_token_error};
 
 use crate::notation_error::NotationError;
 use crate::telling::why_unread;
@@ -24,7 +26,8 @@ use sx_lines::Kind;
 use sx_term::{NoMemory, Sort, Term, Vars};
 use sx_token::{Literals, Token, TokenError};
 
-/// What any number of lines are read by: a grammar, with tables of its literals and of the stems of metavariables.
+/// What any number of lines are read by: a grammar, with tables of its literals and of the stems of
+/// metavariables.
 #[derive(Drop)]
 pub struct LineReader<'a> {
     grammar: &'a Grammar,
@@ -63,8 +66,10 @@ fn read_error(
     line: u32,
     error: ReadError,
 ) -> NotationError
-    requires { (stems : Stems) × (sort : Sort) × IsReadError grammar.now.parts stems sort tokens.now error }
-    ensures { (stems : Stems) (sort : Sort) → IsReadError grammar.now.parts stems sort tokens.now error →
+    requires { (stems : Stems) × (sort : Sort) ×
+        IsReadError grammar.now.parts stems sort tokens.now error }
+    ensures { (stems : Stems) (sort : Sort) →
+        IsReadError grammar.now.parts stems sort tokens.now error →
         IsUnreadLine grammar.now.parts stems sort tokens.now size line result }
 {
     match why_unread(alloc, grammar, tokens, size, error) {
@@ -82,7 +87,8 @@ fn cut_line(
 ) -> Result<Vec<Token>, NotationError>
     requires { length line.now ≤ 262144 }
     ensures cut { IfOk result (λ ts. IsCut by.now.parts line.now ts.items) }
-    ensures refused { IfErr result (λ e. (stems : Stems) (sort : Sort) → IsRefused by.now.parts stems sort line.now number e) }
+    ensures refused { IfErr result (λ e. (stems : Stems) (sort : Sort) →
+        IsRefused by.now.parts stems sort line.now number e) }
 {
     let literals = &by.literals;
     match literals.tokens(alloc, line, true) {
@@ -100,7 +106,8 @@ fn known_tokens(
 ) -> Result<Vec<Token>, NotationError>
     requires { length line.now ≤ 262144 }
     ensures known { IfOk result (λ ts. IsKnownCut by.now.parts by.now.stems line.now ts.items) }
-    ensures refused { IfErr result (λ e. (sort : Sort) → IsRefused by.now.parts by.now.stems sort line.now number e) }
+    ensures refused { IfErr result (λ e. (sort : Sort) →
+        IsRefused by.now.parts by.now.stems sort line.now number e) }
 {
     let tokens = cut_line(alloc, by, line, number)?;
     let stems = &by.stems;
@@ -124,8 +131,11 @@ fn reading_of(
 ) -> Result<Reading, NotationError>
     requires sort { IsSort by.now.parts sort }
     requires known { (line : List ℕ) × IsKnownCut by.now.parts by.now.stems line tokens.now }
-    ensures only { IfOk result (λ r. IsAnswer (numbered by.now.parts) (plain_tokens by.now.stems tokens.now) (number_of sort) (only (plain_reading r))) }
-    ensures refused { IfErr result (IsUnreadLine by.now.parts by.now.stems sort tokens.now size number) }
+    ensures only { IfOk result
+        (λ r. IsAnswer (numbered by.now.parts) (plain_tokens by.now.stems tokens.now)
+        (number_of sort) (only (plain_reading r))) }
+    ensures refused { IfErr result
+        (IsUnreadLine by.now.parts by.now.stems sort tokens.now size number) }
 {
     let grammar = by.grammar;
     let stems = &by.stems;
@@ -142,7 +152,8 @@ impl<'a> LineReader<'a> {
         grammar: &'a Grammar,
         metas: &'a Metas,
     ) -> Result<LineReader<'a>, NoMemory>
-        ensures { IfOk result (λ r. r ≡ record { parts = grammar.now.parts; stems = metas.now.stems.items }) }
+        ensures { IfOk result (λ r.
+            r ≡ record { parts = grammar.now.parts; stems = metas.now.stems.items }) }
     {
         grammar.facts();
         Ok(LineReader {
@@ -171,8 +182,10 @@ impl<'a> LineReader<'a> {
         requires sort { IsSort self.now.parts sort }
         requires short { length line.now ≤ 262144 }
         requires room { length vars.now + 10000 < 2 ^ 32 }
-        ensures read { IfOk result (λ t. IsRead self.now.parts self.now.stems sort line.now vars.old vars.new (tree t)) }
-        ensures refused { IfErr result (IsRefused self.now.parts self.now.stems sort line.now number) }
+        ensures read { IfOk result
+            (λ t. IsRead self.now.parts self.now.stems sort line.now vars.old vars.new (tree t)) }
+        ensures refused { IfErr result
+            (IsRefused self.now.parts self.now.stems sort line.now number) }
         ensures kept { IfErr result (λ e. e ≢ Memory → vars.new ≡ vars.old) }
         ensures grows { length vars.new ≤ length vars.old + 10000 }
     {

@@ -10,7 +10,8 @@ use sx_term::{NoMemory, Text};
 use sx_token::TokenError;
 use thiserror::Error;
 
-/// Why a language file or a line is refused. Lines have the numbers that the caller gave them, and lines of a file count from 1.
+/// Why a language file or a line is refused. Lines have the numbers that the caller gave them, and
+/// lines of a file count from 1.
 #[derive(Drop, Error)]
 pub enum NotationError {
     /// Memory is lacking.
@@ -34,13 +35,15 @@ pub enum NotationError {
     /// The sorts, productions and forms are no grammar, and why.
     #[error("no grammar")]
     Grammar(GrammarError),
-    /// The tokens of the line have not one reading, and why. Places count the bytes of the line from 0.
+    /// The tokens of the line have not one reading, and why. Places count the bytes of the line
+    /// from 0.
     #[error("a line without one reading")]
     Read {
         line: u32,
         error: Unread,
     },
-    /// The rules are no rule set, and why; and the name of the variable that is not bound, exactly where that is why.
+    /// The rules are no rule set, and why; and the name of the variable that is not bound, exactly
+    /// where that is why.
     #[error("no rule set")]
     Rules {
         error: RuleError,

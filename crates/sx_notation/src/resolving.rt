@@ -1,10 +1,12 @@
 //! Forms with the sorts of a grammar.
 
-ghost use Rattle.std.specs.Prelude.{◌≡◌, ◌<◌, ◌++◌, map, flat_map, length, true, false, IfOk, MatchOption};
+ghost use Rattle.std.specs.Prelude.{◌≡◌, ◌<◌, ◌++◌, map, flat_map, length, true, false, IfOk};
+ghost use Rattle.std.specs.Prelude.{MatchOption};
 ghost use Rattle.std.specs.List.{AllByRecursion};
 ghost use Rattle.sx_grammar.specs.Told as told;
 ghost use Rattle.sx_rules.specs.Views as view;
-ghost use Rattle.sx_notation.specs.RuleLaws.{sort_of, places_of, form_of, IsSortOf, HasSortOf, HaveSortsOf};
+ghost use Rattle.sx_notation.specs.RuleLaws.{sort_of, places_of, form_of, IsSortOf, HasSortOf};
+ghost use Rattle.sx_notation.specs.RuleLaws.{HaveSortsOf};
 
 use std::alloc::Global;
 use sx_directives::{FormLine, FormSymbol, SpelledSort};
@@ -27,7 +29,9 @@ pub fn sort_with(grammar: &Grammar, number: u32) -> Sort
 
 /// The sort that is spelled, or None where the grammar has no such sort.
 fn sort_of(grammar: &Grammar, spelled: &SpelledSort) -> Option<Sort>
-    ensures { MatchOption result (¬ (IsSortOf grammar.now.parts spelled.now)) (λ s. IsSortOf grammar.now.parts spelled.now × (s ≡ sort_of grammar.now.parts spelled.now)) }
+    ensures { MatchOption result (¬ (IsSortOf grammar.now.parts spelled.now))
+        (λ s. IsSortOf grammar.now.parts spelled.now ×
+        (s ≡ sort_of grammar.now.parts spelled.now)) }
 {
     grammar.facts();
     match spelled {
@@ -39,13 +43,15 @@ fn sort_of(grammar: &Grammar, spelled: &SpelledSort) -> Option<Sort>
     }
 }
 
-/// Adds the place that the symbol is, if it is one. False comes exactly where it is a place of no sort of the grammar.
+/// Adds the place that the symbol is, if it is one. False comes exactly where it is a place of no
+/// sort of the grammar.
 fn add_place(
     grammar: &Grammar,
     symbol: &FormSymbol,
     into: &mut Vec<Place>,
 ) -> Result<bool, NoMemory>
-    ensures yes { IfOk result (λ b. b ≡ true → HasSortOf grammar.now.parts symbol.now × (into.new.items ≡ into.old.items ++ places_of grammar.now.parts symbol.now)) }
+    ensures yes { IfOk result (λ b. b ≡ true → HasSortOf grammar.now.parts symbol.now ×
+        (into.new.items ≡ into.old.items ++ places_of grammar.now.parts symbol.now)) }
     ensures not { IfOk result (λ b. b ≡ false → ¬ (HasSortOf grammar.now.parts symbol.now)) }
 {
     match symbol {
@@ -66,8 +72,10 @@ fn places_of(
     grammar: &Grammar,
     symbols: &[FormSymbol],
 ) -> Result<Option<Vec<Place>>, NoMemory>
-    ensures { IfOk result (λ o. MatchOption o (¬ (AllByRecursion (HasSortOf grammar.now.parts) symbols.now))
-        (λ v. AllByRecursion (HasSortOf grammar.now.parts) symbols.now × (v.items ≡ flat_map (places_of grammar.now.parts) symbols.now))) }
+    ensures { IfOk result (λ o.
+        MatchOption o (¬ (AllByRecursion (HasSortOf grammar.now.parts) symbols.now))
+        (λ v. AllByRecursion (HasSortOf grammar.now.parts) symbols.now ×
+        (v.items ≡ flat_map (places_of grammar.now.parts) symbols.now))) }
 {
     let mut places = Vec::new(alloc);
     for i in 0..symbols.len() {
@@ -81,8 +89,10 @@ fn places_of(
 
 /// The form that the line spells, or None where a place is of no sort of the grammar.
 fn form_of(alloc: Global, grammar: &Grammar, line: &FormLine) -> Result<Option<Form>, NoMemory>
-    ensures { IfOk result (λ o. MatchOption o (¬ (AllByRecursion (HasSortOf grammar.now.parts) line.now.symbols.items))
-        (λ f. AllByRecursion (HasSortOf grammar.now.parts) line.now.symbols.items × (view.form f ≡ form_of grammar.now.parts line.now))) }
+    ensures { IfOk result (λ o.
+        MatchOption o (¬ (AllByRecursion (HasSortOf grammar.now.parts) line.now.symbols.items))
+        (λ f. AllByRecursion (HasSortOf grammar.now.parts) line.now.symbols.items ×
+        (view.form f ≡ form_of grammar.now.parts line.now))) }
 {
     match places_of(alloc, grammar, &line.symbols)? {
         Some(places) => Ok(Some(Form {
@@ -93,14 +103,16 @@ fn form_of(alloc: Global, grammar: &Grammar, line: &FormLine) -> Result<Option<F
     }
 }
 
-/// The forms that the lines spell, with the sorts of the grammar, or None where a place is of no sort of the grammar.
+/// The forms that the lines spell, with the sorts of the grammar, or None where a place is of no
+/// sort of the grammar.
 pub fn forms_of(
     alloc: Global,
     grammar: &Grammar,
     lines: &[FormLine],
 ) -> Result<Option<Vec<Form>>, NoMemory>
     ensures { IfOk result (λ o. MatchOption o (¬ (HaveSortsOf grammar.now.parts lines.now))
-        (λ v. HaveSortsOf grammar.now.parts lines.now × (view.forms v.items ≡ map (form_of grammar.now.parts) lines.now))) }
+        (λ v. HaveSortsOf grammar.now.parts lines.now ×
+        (view.forms v.items ≡ map (form_of grammar.now.parts) lines.now))) }
 {
     let mut forms = Vec::with_capacity(alloc, lines.len())?;
     for i in 0..lines.len() {

@@ -5,7 +5,8 @@ ghost use Rattle.std.specs.Str.{IsUtf8};
 ghost use Rattle.sx_grammar.specs.Parts.{line, parts};
 ghost use Rattle.sx_grammar.specs.Tables.{IsWithinLimits, IsMade};
 ghost use Rattle.sx_directives.specs.Spelling.{lex_text};
-ghost use Rattle.sx_notation.specs.RuleParts.{symbol_for, judgement_sort, form_line, apart_line, apart_lines, rule_parts};
+ghost use Rattle.sx_notation.specs.RuleParts.{symbol_for, judgement_sort, form_line, apart_line};
+ghost use Rattle.sx_notation.specs.RuleParts.{apart_lines, rule_parts};
 
 use std::alloc::Global;
 use sx_directives::{FormLine, FormSymbol, SpelledSort};
@@ -84,7 +85,8 @@ fn apart_production(alloc: Global, kind: LexKind) -> Result<Production, NoMemory
 
 /// Adds the productions of the forms.
 fn add_forms(alloc: Global, forms: &[FormLine], into: &mut Vec<Production>) -> Result<(), NoMemory>
-    ensures { OnOk result (map line into.new.items ≡ map line into.old.items ++ map form_line forms.now) }
+    ensures { OnOk result (map line into.new.items ≡ map line into.old.items ++ map form_line
+        forms.now) }
 {
     for i in 0..forms.len() {
         let form = &forms[i];
@@ -114,9 +116,10 @@ fn judgement_sort(alloc: Global) -> Result<SortLine, NoMemory>
     })
 }
 
-/// The parts of the grammar by which rules are read: those of the language's grammar, a sort of judgements, one production for each form,
-/// and for each lexical kind one of two lexemes with `!=` between them. The names of the sort and of these productions have a blank, so
-/// no sort and no production of a language file has them.
+/// The parts of the grammar by which rules are read: those of the language's grammar, a sort of
+/// judgements, one production for each form, and for each lexical kind one of two lexemes with `!=`
+/// between them. The names of the sort and of these productions have a blank, so no sort and no
+/// production of a language file has them.
 pub fn rule_parts(
     alloc: Global,
     from: &GrammarParts,
@@ -131,7 +134,8 @@ pub fn rule_parts(
     Ok(all)
 }
 
-/// The grammar by which rules are read, whose parts are those of `rule_parts`, or the first refusal that holds of these parts.
+/// The grammar by which rules are read, whose parts are those of `rule_parts`, or the first refusal
+/// that holds of these parts.
 pub fn rule_grammar(
     alloc: Global,
     grammar: &Grammar,

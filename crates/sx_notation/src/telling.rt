@@ -19,8 +19,9 @@ use sx_term::{NoMemory, Text};
 use sx_token::Token;
 
 /// Where the token with this number begins, or the number of the text's bytes where there is none.
-fn place_in(tokens: &[Token], size: usize, number: u32) -> usize
-    ensures { result ≡ place_in tokens.now size number }
+pub fn place_in(tokens: &[Token], size: usize, number: u32) -> usize
+    ensures place { result ≡ place_in tokens.now size number }
+    ensures within { AllByRecursion (λ t. t.from ≤ size) tokens.now → result ≤ size }
 {
     match tokens.get(number as usize) {
         Some(token) => token.from as usize,
@@ -56,8 +57,10 @@ fn tree_text(
     tokens: &[Token],
 ) -> Result<Text, NoMemory>
     requires depth { reading_depth (plain_reading reading.now) ≤ 1000 }
-    requires within { IsWithin (length grammar.now.parts.productions) (length tokens.now) (plain_reading reading.now) }
-    ensures { IfOk result (λ t. t ≡ tree_text (labels grammar.now.parts) (texts tokens.now) (plain_reading reading.now)) }
+    requires within { IsWithin (length grammar.now.parts.productions) (length tokens.now)
+        (plain_reading reading.now) }
+    ensures { IfOk result (λ t. t ≡ tree_text (labels grammar.now.parts) (texts tokens.now)
+        (plain_reading reading.now)) }
 {
     let mut bytes = Vec::new(alloc);
     write_tree(alloc, grammar, reading, tokens, &mut bytes)?;
@@ -66,7 +69,8 @@ fn tree_text(
     Text::of_utf8(alloc, &bytes)
 }
 
-/// Why tokens of a text of so many bytes have not one reading, where `read_one` answers this error for them.
+/// Why tokens of a text of so many bytes have not one reading, where `read_one` answers this error
+/// for them.
 pub fn why_unread(
     alloc: Global,
     grammar: &Grammar,
@@ -74,8 +78,10 @@ pub fn why_unread(
     size: usize,
     error: ReadError,
 ) -> Result<Unread, NoMemory>
-    requires { (stems : Stems) × (sort : Sort) × IsReadError grammar.now.parts stems sort tokens.now error }
-    ensures { IfOk result (λ u. (stems : Stems) (sort : Sort) → IsReadError grammar.now.parts stems sort tokens.now error →
+    requires { (stems : Stems) × (sort : Sort) ×
+        IsReadError grammar.now.parts stems sort tokens.now error }
+    ensures { IfOk result (λ u. (stems : Stems) (sort : Sort) →
+        IsReadError grammar.now.parts stems sort tokens.now error →
         IsUnreadAs grammar.now.parts stems sort tokens.now size u) }
 {
     match error {

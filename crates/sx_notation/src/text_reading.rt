@@ -15,9 +15,11 @@ use sx_earley::Metas;
 use sx_grammar::Grammar;
 use sx_term::{Sort, Term, Vars};
 
-/// The term of the line's only reading as the sort. Names of metavariables that `vars` lacks are added in order of standing. The line is
-/// refused, with its number, where it has no tokens, where the stem of a metavariable is unknown, and where its tokens have not one
-/// reading, in this order; `vars` is then as before. Where memory is lacking, `vars` may have some of the names that it lacks.
+/// The term of the line's only reading as the sort. Names of metavariables that `vars` lacks are
+/// added in order of standing. The line is refused, with its number, where it has no tokens, where
+/// the stem of a metavariable is unknown, and where its tokens have not one reading, in this order;
+/// `vars` is then as before. Where memory is lacking, `vars` may have some of the names that it
+/// lacks.
 pub fn read_into(
     alloc: Global,
     grammar: &Grammar,
@@ -30,8 +32,11 @@ pub fn read_into(
     requires sort { IsSort grammar.now.parts sort }
     requires short { length line.now ≤ 262144 }
     requires room { length vars.now + 10000 < 2 ^ 32 }
-    ensures read { IfOk result (λ t. IsRead grammar.now.parts metas.now.stems.items sort line.now vars.old vars.new (tree t)) }
-    ensures refused { IfErr result (IsRefused grammar.now.parts metas.now.stems.items sort line.now number) }
+    ensures read { IfOk result
+        (λ t. IsRead grammar.now.parts metas.now.stems.items sort line.now vars.old vars.new
+        (tree t)) }
+    ensures refused { IfErr result
+        (IsRefused grammar.now.parts metas.now.stems.items sort line.now number) }
     ensures kept { IfErr result (λ e. e ≢ Memory → vars.new ≡ vars.old) }
     ensures grows { length vars.new ≤ length vars.old + 10000 }
 {
@@ -39,7 +44,8 @@ pub fn read_into(
     reader.read_line(alloc, sort, line, number, vars)
 }
 
-/// The same of a copy of the names: after each refusal, also where memory is lacking, `vars` is as before.
+/// The same of a copy of the names: after each refusal, also where memory is lacking, `vars` is as
+/// before.
 pub fn read_text(
     alloc: Global,
     grammar: &Grammar,
@@ -52,8 +58,11 @@ pub fn read_text(
     requires sort { IsSort grammar.now.parts sort }
     requires short { length line.now ≤ 262144 }
     requires room { length vars.now + 10000 < 2 ^ 32 }
-    ensures read { IfOk result (λ t. IsRead grammar.now.parts metas.now.stems.items sort line.now vars.old vars.new (tree t)) }
-    ensures refused { IfErr result (IsRefused grammar.now.parts metas.now.stems.items sort line.now number) }
+    ensures read { IfOk result
+        (λ t. IsRead grammar.now.parts metas.now.stems.items sort line.now vars.old vars.new
+        (tree t)) }
+    ensures refused { IfErr result
+        (IsRefused grammar.now.parts metas.now.stems.items sort line.now number) }
     ensures err { OnErr result (vars.new ≡ vars.old) }
     ensures grows { length vars.new ≤ length vars.old + 10000 }
 {

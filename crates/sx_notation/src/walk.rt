@@ -24,7 +24,8 @@ fn put_nothing(into: &mut Vec<u8>) -> Result<(), NoMemory>
     Ok(())
 }
 
-/// Appends the tokens of the term, or `_` where there is none, each with a blank behind it, or a front of them where memory is lacking.
+/// Appends the tokens of the term, or `_` where there is none, each with a blank behind it, or a
+/// front of them where memory is lacking.
 fn put_content(
     grammar: &Grammar,
     content: Option<&Term>,
@@ -34,7 +35,8 @@ fn put_content(
 ) -> Result<(), NoMemory>
     requires { IsPuttable (numbered grammar.now.parts) (length vars.now) (shown content) }
     ensures ok { OnOk result ((place : Stem) →
-        Adds (printer (numbered grammar.now.parts) vars.now (shown content.entry) place least) into.old.items into.new.items) }
+        Adds (printer (numbered grammar.now.parts) vars.now (shown content.entry) place least)
+        into.old.items into.new.items) }
     ensures appends { (more : List ℕ) × (into.new.items ≡ into.old.items ++ more) }
 {
     match content {
@@ -43,8 +45,8 @@ fn put_content(
     }
 }
 
-/// Appends the tokens of the symbols with what stands at their places, each with a blank behind it, or a front of them where memory is
-/// lacking.
+/// Appends the tokens of the symbols with what stands at their places, each with a blank behind it,
+/// or a front of them where memory is lacking.
 pub(crate) fn put_places(
     grammar: &Grammar,
     symbols: &[NumberedSymbol],
@@ -53,10 +55,13 @@ pub(crate) fn put_places(
     into: &mut Vec<u8>,
 ) -> Result<(), NoMemory>
     requires below { HasLiteralsBelow (length (literals_of grammar.now.parts)) symbols.now }
-    requires many { parts_in (map (symbol (literals_of grammar.now.parts)) symbols.now) ≡ length contents.now }
-    requires puttable { ArePuttable (numbered grammar.now.parts) (length vars.now) (map shown contents.now) }
+    requires many { parts_in (map (symbol (literals_of grammar.now.parts)) symbols.now) ≡ length
+        contents.now }
+    requires puttable { ArePuttable (numbered grammar.now.parts) (length vars.now)
+        (map shown contents.now) }
     ensures ok { OnOk result (Adds
-        (print_symbols (map (symbol (literals_of grammar.now.parts)) symbols.now) (map (printer (numbered grammar.now.parts) vars.now) (map shown contents.entry.now)))
+        (print_symbols (map (symbol (literals_of grammar.now.parts)) symbols.now)
+        (map (printer (numbered grammar.now.parts) vars.now) (map shown contents.entry.now)))
         into.old.items into.new.items) }
     ensures appends { (more : List ℕ) × (into.new.items ≡ into.old.items ++ more) }
 {
