@@ -41,15 +41,17 @@ module _ (set : AcceptedOf) (plain : PlainTable) (all : List Shape) (ok : IsAcce
       BodiesFit (signature set) all (length (shapes_in set.rules)) (table_of plain) (map ext_rule es) → RulesAreShallow (map (λ e. rule e.rule) es) →
       AllByRecursion (λ e. AreShallow (listed_term (option_map tree e.body))) es → AllByRecursion (λ e. length e.rule.premises.items < 2 ^ 32) es → AllByRecursion (CanCheck set plain) es
   can-all [] s d b h k f = tt
-  can-all (e ∷ es) s d b h k f =
-      (record {
-        all = all;
-        after = record { accepted = ok; goes_on = goes_on; sorted = s.0; disciplined = d.0; body = b.0 };
-        labels = labels;
-        shallow = h.0;
-        body = k.0;
-        few = f.0;
-      }, can-all es s.1 d.1 b.1 h.1 k.1 f.1)
+  can-all (e ∷ es) s d b h k f = (
+    record {
+      all = all;
+      after = record { accepted = ok; goes_on = goes_on; sorted = s.0; disciplined = d.0; body = b.0 };
+      labels = labels;
+      shallow = h.0;
+      body = k.0;
+      few = f.0;
+    },
+    can-all es s.1 d.1 b.1 h.1 k.1 f.1,
+  )
 
 -- no measured term of a rule that is stored passes a limit
 pub stored-within : (c : Check) (ext : ExtRule) (s : Checked) → IsStoredFor c ext s → over_for c ext ≡ None
@@ -64,10 +66,11 @@ module _ (set : AcceptedOf) (plain : PlainTable) (budgets : Budgets) where
       AllByRecursion (λ e. RuleHasImage (table_of plain) (rule e.rule)) es
   checked-images [] ss count can h = tt
   checked-images (e ∷ es) [] count can h = absurd h
-  checked-images (e ∷ es) (s ∷ ss) count can (st, rest, n, more) =
-      (rule-images (table_of plain) (signature set).subjects (ext_rule e) (stored-within c (ext_rule e) s st)
-      (rule-can (signature set) (shapes_in set.base) (shapes_in set.rules) can.0.all (accepted set) (table_of plain) (ext_rule e) can.0.after can.0.shallow can.0.body),
-      checked-images es ss rest can.1 more)
+  checked-images (e ∷ es) (s ∷ ss) count can (st, rest, n, more) = (
+    rule-images (table_of plain) (signature set).subjects (ext_rule e) (stored-within c (ext_rule e) s st)
+        (rule-can (signature set) (shapes_in set.base) (shapes_in set.rules) can.0.all (accepted set) (table_of plain) (ext_rule e) can.0.after can.0.shallow can.0.body),
+    checked-images es ss rest can.1 more,
+  )
 
   module _ (base_moded : AllModed (signature set).modes (bare_rules_in set.base)) (plain_moded : AllModed (signature set).modes (rules_of (plain_of (with_table (accepted set) (table_of plain))))) where
     pub all-stored : (es : List ExtRuleOf) (ss : List Checked) (count : ℕ) → AreChecked c es count (Ok ss) →
@@ -80,8 +83,11 @@ module _ (set : AcceptedOf) (plain : PlainTable) (budgets : Budgets) where
     pub has-unsound : (es : List ExtRuleOf) (count : ℕ) (name : List ℕ) (b : Blame) → AreChecked c es count (Err (Rule name (Rejected b))) → HasUnsound c es name
     has-unsound [] count name b h = absurd h
     has-unsound (e ∷ es) count name b (inl (same, refused, n)) =
-        inl (same, λ s sound. rejected_is_unsound (signature set) (length (shapes_in set.base)) (with_table (accepted set) (table_of plain)) (ext_rule e) s
-        (checked-rejected c (ext_rule e) base_moded plain_moded refused.0) sound)
+        inl (
+          same,
+          λ s sound. rejected_is_unsound (signature set) (length (shapes_in set.base)) (with_table (accepted set) (table_of plain)) (ext_rule e) s
+              (checked-rejected c (ext_rule e) base_moded plain_moded refused.0) sound,
+        )
     has-unsound (e ∷ es) count name b (inr (s, st, rest, n, more)) = inr (has-unsound es rest name b more)
 
     pub rejects-unsound : (es : List ExtRuleOf) (count : ℕ) (error : AcceptError) → AreChecked c es count (Err error) → RejectsUnsound c es error

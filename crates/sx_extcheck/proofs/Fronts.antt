@@ -45,9 +45,13 @@ module _ (c : Check) where
   front-more [] [] count e left f h s k = let q = h.0 in cc
   front-more (x ∷ es) [] count e left f h s k =
       let p = list-parts e x left es h.0 in
-      let n = h.1 in
-      (subst (λ (y : ExtRuleOf). IsStoredFor c (ext_rule y) (checked_with (rule y.rule) f)) p.0 s, k, 0,
-      (let t : count + tries_for c (ext_rule e) ≡ tries_for c (ext_rule e) + 0 = omega (arith, n) in t) ∙ ap (λ (y : ExtRuleOf). tries_for c (ext_rule y) + 0) p.0, (p.1, refl))
+      let n = h.1 in (
+        subst (λ (y : ExtRuleOf). IsStoredFor c (ext_rule y) (checked_with (rule y.rule) f)) p.0 s,
+        k,
+        0,
+        (let t : count + tries_for c (ext_rule e) ≡ tries_for c (ext_rule e) + 0 = omega (arith, n) in t) ∙ ap (λ (y : ExtRuleOf). tries_for c (ext_rule y) + 0) p.0,
+        (p.1, refl),
+      )
   front-more [] (g ∷ fs) count e left f h s k = absurd h
   front-more (x ∷ es) (g ∷ fs) count e left f (st, sh, rest, n, more) s k =
       (st, sh, rest + tries_for c (ext_rule e), omega (arith, n), front-more es fs rest e left f more s k)
@@ -116,9 +120,13 @@ module _ (c : Check) (es : List ExtRuleOf) (first : ℕ) where
     pub front-end : length es ≤ i → (flats : Vec Flat) → flats.items ≡ fs → WereChecked c es first last (Ok flats)
     front-end l flats same =
         let left = subst (λ (xs : List ExtRuleOf). AreFront c es fs so.0 xs) (all-dropped es i l) so.2 in
-        let k = front-done c es fs so.0 left in
-        (so.0, so.1, subst (λ (x : List Flat). AreChecked c es so.0 (Ok (checked_of (map (λ e. rule e.rule) es) x))) (sym same) k.0,
-        subst (λ (x : List Flat). AllByRecursion IsShallow x) (sym same) k.1, subst (λ (x : List Flat). length x ≡ length es) (sym same) k.2)
+        let k = front-done c es fs so.0 left in (
+          so.0,
+          so.1,
+          subst (λ (x : List Flat). AreChecked c es so.0 (Ok (checked_of (map (λ e. rule e.rule) es) x))) (sym same) k.0,
+          subst (λ (x : List Flat). AllByRecursion IsShallow x) (sym same) k.1,
+          subst (λ (x : List Flat). length x ≡ length es) (sym same) k.2,
+        )
       where
         all-dropped : (qs : List ExtRuleOf) (i : ℕ) → length qs ≤ i → drop i qs ≡ []
         all-dropped [] zero l = refl

@@ -92,8 +92,10 @@ module _ (table : Table) (body : Option Tree) where
         ∙ ap (λ (bs : List Bool). if b then here ∷ outputs bs later else outputs bs later) (drop-one outs i)
 
   pub places-end : (outs subs : List Bool) (ts : List Term) (i : ℕ) → length ts ≤ i → (ins_from outs subs ts i ≡ []) × (outs_from outs subs ts i ≡ [])
-  places-end outs subs ts i l = (ap (λ (us : List Tree). inputs (drop i outs) (flat_places table body (drop i subs) us)) (all-dropped ts i l) ∙ no-ins (drop i outs) (drop i subs),
-      ap (λ (us : List Tree). outputs (drop i outs) (flat_places table body (drop i subs) us)) (all-dropped ts i l) ∙ no-outs (drop i outs) (drop i subs))
+  places-end outs subs ts i l = (
+    ap (λ (us : List Tree). inputs (drop i outs) (flat_places table body (drop i subs) us)) (all-dropped ts i l) ∙ no-ins (drop i outs) (drop i subs),
+    ap (λ (us : List Tree). outputs (drop i outs) (flat_places table body (drop i subs) us)) (all-dropped ts i l) ∙ no-outs (drop i outs) (drop i subs),
+  )
     where
       all-dropped : (ts : List Term) (i : ℕ) → length ts ≤ i → drop i (map tree ts) ≡ []
       all-dropped [] zero l = refl
@@ -151,19 +153,21 @@ module _ (table : Table) (body : Option Tree) (outs subs : List Bool) (ts : List
 
     pub goal-wanted : get_or outs i false ≡ true → (wanted' : List Term) → wanted' ≡ wanted ++ term ∷ [] →
         (map tree ins ++ ins_from table body outs subs ts (i + 1) ≡ ins_from table body outs subs ts 0) × (map tree wanted' ++ outs_from table body outs subs ts (i + 1) ≡ outs_from table body outs subs ts 0)
-    goal-wanted m wanted' w =
-        (ap (λ (us : List Tree). map tree ins ++ us) (sym (ins-step table body outs subs ts i t l e true m)) ∙ so.0,
-        ap (λ (us : List Term). map tree us ++ outs_from table body outs subs ts (i + 1)) w ∙ append-one wanted term (outs_from table body outs subs ts (i + 1))
-        ∙ ap (λ (u : Tree). map tree wanted ++ (u ∷ outs_from table body outs subs ts (i + 1))) is
-        ∙ ap (λ (us : List Tree). map tree wanted ++ us) (sym (outs-step table body outs subs ts i t l e true m)) ∙ so.1)
+    goal-wanted m wanted' w = (
+      ap (λ (us : List Tree). map tree ins ++ us) (sym (ins-step table body outs subs ts i t l e true m)) ∙ so.0,
+      ap (λ (us : List Term). map tree us ++ outs_from table body outs subs ts (i + 1)) w ∙ append-one wanted term (outs_from table body outs subs ts (i + 1))
+          ∙ ap (λ (u : Tree). map tree wanted ++ (u ∷ outs_from table body outs subs ts (i + 1))) is
+          ∙ ap (λ (us : List Tree). map tree wanted ++ us) (sym (outs-step table body outs subs ts i t l e true m)) ∙ so.1,
+    )
 
     pub goal-input : get_or outs i false ≡ false → (ins' : List Term) → ins' ≡ ins ++ term ∷ [] →
         (map tree ins' ++ ins_from table body outs subs ts (i + 1) ≡ ins_from table body outs subs ts 0) × (map tree wanted ++ outs_from table body outs subs ts (i + 1) ≡ outs_from table body outs subs ts 0)
-    goal-input m ins' w =
-        (ap (λ (us : List Term). map tree us ++ ins_from table body outs subs ts (i + 1)) w ∙ append-one ins term (ins_from table body outs subs ts (i + 1))
-        ∙ ap (λ (u : Tree). map tree ins ++ (u ∷ ins_from table body outs subs ts (i + 1))) is
-        ∙ ap (λ (us : List Tree). map tree ins ++ us) (sym (ins-step table body outs subs ts i t l e false m)) ∙ so.0,
-        ap (λ (us : List Tree). map tree wanted ++ us) (sym (outs-step table body outs subs ts i t l e false m)) ∙ so.1)
+    goal-input m ins' w = (
+      ap (λ (us : List Term). map tree us ++ ins_from table body outs subs ts (i + 1)) w ∙ append-one ins term (ins_from table body outs subs ts (i + 1))
+          ∙ ap (λ (u : Tree). map tree ins ++ (u ∷ ins_from table body outs subs ts (i + 1))) is
+          ∙ ap (λ (us : List Tree). map tree ins ++ us) (sym (ins-step table body outs subs ts i t l e false m)) ∙ so.0,
+      ap (λ (us : List Tree). map tree wanted ++ us) (sym (outs-step table body outs subs ts i t l e false m)) ∙ so.1,
+    )
 
   module _ (l : length ts ≤ i) where
     pub goal-inputs : map tree ins ≡ ins_from table body outs subs ts 0

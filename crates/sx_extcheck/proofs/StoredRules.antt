@@ -72,19 +72,26 @@ module _ (c : Check) (ext : ExtRule) (base_moded : AllModed c.sig.modes c.set.ba
 
   pub checked-stored : (st : Checked) → IsStoredFor c ext st → IsStored c.sig c.labels c.set ext st
   checked-stored st (inl (b, p, outs, (within, ends), same)) =
-      inl (is-base c.labels c.set.table ext.body b, (p, outs),
-      first-by c.set.base base_moded p outs (subst (λ (v : Bool). ending_of (by_these (rules_by v)) c.tries ≡ found (p, outs)) b ends), same)
+      inl (
+        is-base c.labels c.set.table ext.body b,
+        (p, outs),
+        first-by c.set.base base_moded p outs (subst (λ (v : Bool). ending_of (by_these (rules_by v)) c.tries ≡ found (p, outs)) b ends),
+        same,
+      )
   checked-stored st (inr (x, (b, p, outs, (within, ends), h), t, subject, same)) =
-      inr (not-base c.labels c.set.table ext.body b, (p, outs),
-      first-by (rules_of (plain_of c.set)) plain_moded p outs (subst (λ (v : Bool). ending_of (by_these (rules_by v)) c.tries ≡ found (p, outs)) b ends),
-      record {
-        same_rule = ap (λ (y : Checked). y.rule) same;
-        judgement = x.judgement;
-        subject = t;
-        lowers = subst (λ (q : Proof). Lowers (plain_of c.set) c.sig.subjects (flat_given c.set.table c.sig.subjects ext) p q x.judgement) (sym (ap (λ (y : Checked). y.proof) same)) h.0;
-        is_subject = subject;
-        flat_body = ap (λ (y : Checked). y.body) same;
-      })
+      inr (
+        not-base c.labels c.set.table ext.body b,
+        (p, outs),
+        first-by (rules_of (plain_of c.set)) plain_moded p outs (subst (λ (v : Bool). ending_of (by_these (rules_by v)) c.tries ≡ found (p, outs)) b ends),
+        record {
+          same_rule = ap (λ (y : Checked). y.rule) same;
+          judgement = x.judgement;
+          subject = t;
+          lowers = subst (λ (q : Proof). Lowers (plain_of c.set) c.sig.subjects (flat_given c.set.table c.sig.subjects ext) p q x.judgement) (sym (ap (λ (y : Checked). y.proof) same)) h.0;
+          is_subject = subject;
+          flat_body = ap (λ (y : Checked). y.body) same;
+        },
+      )
 
   pub checked-rejected : EndsSo c ext exhausted → IsRejected c.sig c.labels c.set ext
   checked-rejected (within, ends) = go (by_base c ext) refl

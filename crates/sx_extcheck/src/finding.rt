@@ -27,7 +27,15 @@ pub(crate) fn find<L: Ledger>(
     ensures answer { IsSearched (search_of rules.now given.now goal.now) tries result }
     ensures steps { AreCounted (tries_in (search_of rules.now given.now goal.now) tries) steps.old steps.new result }
 {
-    match derive(alloc, rules, given, &goal.goal, Some(&goal.wanted), tries, steps) {
+    match derive(
+        alloc,
+        rules,
+        given,
+        &goal.goal,
+        Some(&goal.wanted),
+        tries,
+        steps,
+    ) {
         Ok(Derived { proof, outputs }) => {
             drop(outputs);
             Ok(proof)

@@ -52,7 +52,14 @@ fn check_by_base<L: Ledger>(
     ensures steps { AreCounted (tries_in (search_for (check_of checking.now) (ext_rule ext.now)) checking.now.budgets.tries) steps.old steps.new result }
 {
     let rules = checking.set.base_rules();
-    match find(checking.alloc, rules, given, goal, checking.budgets.tries, steps) {
+    match find(
+        checking.alloc,
+        rules,
+        given,
+        goal,
+        checking.budgets.tries,
+        steps,
+    ) {
         Ok(proof) => Ok(with_image(checking.alloc, checking.plain, &ext.body, proof)?),
         Err(e) => Err(e),
     }
@@ -74,12 +81,29 @@ fn check_by_plain<L: Ledger>(
 {
     checking.set.facts();
     let rules = checking.set.plain_rules();
-    match find(checking.alloc, rules, given, goal, checking.budgets.tries, steps) {
+    match find(
+        checking.alloc,
+        rules,
+        given,
+        goal,
+        checking.budgets.tries,
+        steps,
+    ) {
         Ok(proof) => {
-            let lowered = rewrite_open(checking.alloc, checking.set, &proof, given, checking.budgets.nodes);
+            let lowered = rewrite_open(
+                checking.alloc,
+                checking.set,
+                &proof,
+                given,
+                checking.budgets.nodes,
+            );
             drop(proof);
             match lowered {
-                Ok(lowered) => Ok(with_subject(checking.alloc, checking.set.base_rules(), lowered)?),
+                Ok(lowered) => Ok(with_subject(
+                    checking.alloc,
+                    checking.set.base_rules(),
+                    lowered,
+                )?),
                 Err(e) => Err(rewrite_defect(e)),
             }
         }

@@ -39,7 +39,13 @@ pub(crate) fn flat_goal(
     let mut inputs = Vec::new(alloc);
     let mut wanted = Vec::new(alloc);
     for i in 0..conclusion.places.len() {
-        let term = flat_term(alloc, plain, is_subject(places, i), &conclusion.places[i], &ext.body)?;
+        let term = flat_term(
+            alloc,
+            plain,
+            is_subject(places, i),
+            &conclusion.places[i],
+            &ext.body,
+        )?;
         if is_output(places, i) {
             wanted.push(term)?;
         } else {

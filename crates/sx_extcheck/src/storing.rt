@@ -50,11 +50,7 @@ pub(crate) fn with_image(
 }
 
 /// The lowered derivation with the subject of what it derives. The one refusal is want of memory.
-pub(crate) fn with_subject(
-    alloc: Global,
-    set: &RuleSet,
-    lowered: Lowered,
-) -> Result<Flat, NoMemory>
+pub(crate) fn with_subject(alloc: Global, set: &RuleSet, lowered: Lowered) -> Result<Flat, NoMemory>
     requires places { AreShallow (judgement lowered.judgement).places }
     requires subject { (t : Tree) × (subjects_of (subjects_in (forms_in set.now)) (judgement lowered.judgement) ≡ t ∷ []) }
     ensures { IfOk result (λ f. MatchOption f.subject ⊥ (λ t. subjects_of (subjects_in (forms_in set.now)) (judgement lowered.judgement) ≡ tree t ∷ [])

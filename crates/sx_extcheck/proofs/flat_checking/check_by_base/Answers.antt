@@ -25,11 +25,16 @@ with_image-requires g c = body-ready c.args.checking.now c.args.ext.now c.requir
 pub returns-in_ok-with_image-in-Ok-clause-answer : goal.returns-in_ok-with_image-in-Ok-clause-answer
 returns-in_ok-with_image-in-Ok-clause-answer g c =
     let h = subst (λ (s : Search). IsSearched s c.args.checking.now.budgets.tries (Ok c.in-Ok.proof))
-        (ap (λ (r : RuleSet). search_of r c.args.given.now c.args.goal.now) c.base_rules-rules.ensures ∙ base-search c.args.checking.now c.args.ext.now c.args.given.now c.args.goal.now c.requires.flat c.requires.base)
-        c.in-Ok.ensures.answer in
+    (ap (λ (r : RuleSet). search_of r c.args.given.now c.args.goal.now) c.base_rules-rules.ensures ∙ base-search c.args.checking.now c.args.ext.now c.args.given.now c.args.goal.now c.requires.flat c.requires.base)
+    c.in-Ok.ensures.answer in
     let body = c.in_ok-with_image-in-Ok.ensures.0 in
     let same = c.in_ok-with_image-in-Ok.ensures.1 in
-    let limits = same-limits (proof c.in-Ok.proof.value) (proof c.in_ok-with_image-in-Ok.field-0.proof.value) same h.1 h.2 in
-    (base-checked (check_of c.args.checking.now) c.args.ext.now c.requires.flat.within c.requires.base (proof c.in-Ok.proof.value) h.0 c.in_ok-with_image-in-Ok.field-0 body same,
-    (image-shallow (table_of c.args.checking.now.plain.now) (option_map tree c.args.ext.now.body) c.in_ok-with_image-in-Ok.field-0.subject
-    (body-ready c.args.checking.now c.args.ext.now c.requires.flat.can c.requires.flat.within) body, limits.0, limits.1))
+    let limits = same-limits (proof c.in-Ok.proof.value) (proof c.in_ok-with_image-in-Ok.field-0.proof.value) same h.1 h.2 in (
+      base-checked (check_of c.args.checking.now) c.args.ext.now c.requires.flat.within c.requires.base (proof c.in-Ok.proof.value) h.0 c.in_ok-with_image-in-Ok.field-0 body same,
+      (
+        image-shallow (table_of c.args.checking.now.plain.now) (option_map tree c.args.ext.now.body) c.in_ok-with_image-in-Ok.field-0.subject
+            (body-ready c.args.checking.now c.args.ext.now c.requires.flat.can c.requires.flat.within) body,
+        limits.0,
+        limits.1,
+      ),
+    )

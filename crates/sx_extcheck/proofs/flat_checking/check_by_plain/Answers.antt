@@ -69,11 +69,16 @@ returns-in_ok-with_subject-in-Ok-lowered-clause-answer g c =
     let same = c.in_ok-with_subject-in-Ok-lowered.ensures.1 in
     let shallow = lowered-shallow c.args.checking.now c.args.ext.now c.args.given.now c.args.goal.now c.requires.flat c.facts.ensures.plain.forms_are c.facts.ensures.plain_rules c.args.checking.now.budgets.tries (proof c.in-Ok.proof.value) h.0.0 h.0.1 c.args.checking.now.budgets.nodes c.in-Ok-lowered.lowered lowers in
     let own = lowered-proof c.args.checking.now c.args.ext.now c.args.given.now c.args.goal.now c.requires.flat c.facts.ensures.plain.forms_are c.facts.ensures.plain_rules c.args.checking.now.budgets.tries (proof c.in-Ok.proof.value) h.0.0 h.0.1 c.args.checking.now.budgets.nodes c.in-Ok-lowered.lowered lowers in
-    let limits = same-limits (proof c.in-Ok-lowered.lowered.proof.value) (proof c.in_ok-with_subject-in-Ok-lowered.field-0.proof.value) same own.0 own.1 in
-    (lowered-checked (check_of c.args.checking.now) c.args.ext.now c.requires.flat.within c.requires.plain (proof c.in-Ok.proof.value) full.0 c.in-Ok-lowered.lowered alike
-    c.in_ok-with_subject-in-Ok-lowered.field-0 subject same,
-    (subject-shallow (subjects_in (forms_in c.args.checking.now.set.now.base) c.in-Ok-lowered.lowered.judgement.form) (judgement c.in-Ok-lowered.lowered.judgement).places
-    c.in_ok-with_subject-in-Ok-lowered.field-0.subject shallow subject, limits.0, limits.1))
+    let limits = same-limits (proof c.in-Ok-lowered.lowered.proof.value) (proof c.in_ok-with_subject-in-Ok-lowered.field-0.proof.value) same own.0 own.1 in (
+      lowered-checked (check_of c.args.checking.now) c.args.ext.now c.requires.flat.within c.requires.plain (proof c.in-Ok.proof.value) full.0 c.in-Ok-lowered.lowered alike
+          c.in_ok-with_subject-in-Ok-lowered.field-0 subject same,
+      (
+        subject-shallow (subjects_in (forms_in c.args.checking.now.set.now.base) c.in-Ok-lowered.lowered.judgement.form) (judgement c.in-Ok-lowered.lowered.judgement).places
+            c.in_ok-with_subject-in-Ok-lowered.field-0.subject shallow subject,
+        limits.0,
+        limits.1,
+      ),
+    )
 
 pub returns-in_ok-with_subject-in-Ok-lowered-clause-steps : goal.returns-in_ok-with_subject-in-Ok-lowered-clause-steps
 returns-in_ok-with_subject-in-Ok-lowered-clause-steps g c =
@@ -84,7 +89,7 @@ returns-in-Err-lowered-clause-answer g c =
     let h = subst (λ (s : Search). IsSearched s c.args.checking.now.budgets.tries (Ok c.in-Ok.proof)) (ap (λ (r : RuleSet). search_of r c.args.given.now c.args.goal.now) c.plain_rules-rules.ensures) c.in-Ok.ensures.answer in
     let full = subst (λ (s : Search). IsSearched s c.args.checking.now.budgets.tries (Ok c.in-Ok.proof)) (ap (λ (r : RuleSet). search_of r c.args.given.now c.args.goal.now) c.plain_rules-rules.ensures ∙ plain-search c.args.checking.now c.args.ext.now c.args.given.now c.args.goal.now c.requires.flat c.facts.ensures.plain.forms_are c.facts.ensures.plain_rules c.requires.plain) c.in-Ok.ensures.answer in
     let alike = plain-alike c.args.checking.now c.args.ext.now c.args.given.now c.args.goal.now c.requires.flat c.facts.ensures.plain.forms_are c.facts.ensures.plain_rules c.args.checking.now.budgets.tries (proof c.in-Ok.proof.value) h.0.0 h.0.1 c.args.checking.now.budgets.nodes (Err c.in-Err-lowered.e)
-        (subst (λ (p : Proof). IsRewriting (plain_of (accepted c.args.checking.now.set.now)) (signature c.args.checking.now.set.now).subjects (hypotheses c.args.given.now) p c.args.checking.now.budgets.nodes (Err c.in-Err-lowered.e)) (ap proof c.deref.ensures) c.in-Err-lowered.ensures) in
+    (subst (λ (p : Proof). IsRewriting (plain_of (accepted c.args.checking.now.set.now)) (signature c.args.checking.now.set.now).subjects (hypotheses c.args.given.now) p c.args.checking.now.budgets.nodes (Err c.in-Err-lowered.e)) (ap proof c.deref.ensures) c.in-Err-lowered.ensures) in
     subst (λ (x : CheckError). IsRuleChecked (check_of c.args.checking.now) c.args.ext.now (Err x)) (sym c.rewrite_defect.ensures)
     (refused-checked (check_of c.args.checking.now) c.args.ext.now c.requires.flat.within c.requires.plain (proof c.in-Ok.proof.value) full.0 c.in-Err-lowered.e alike)
 

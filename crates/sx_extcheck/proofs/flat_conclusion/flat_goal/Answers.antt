@@ -32,7 +32,7 @@ loop-i-preserved c =
     let subs = subjects_in (forms_in c.args.set.now) j.form in
     let within : c.loop-i.i < length j.places.items = omega (arith, l, n) in
     let is = subst (λ (b : Bool). tree c.in_ok-term.term ≡ flat_term table body b (tree c.index.result.now))
-        (c.is_subject.ensures ∙ ap (λ (m : List Bool). get_or m c.loop-i.i false) c.places_of-places.ensures.mask) c.in_ok-term.ensures in
+    (c.is_subject.ensures ∙ ap (λ (m : List Bool). get_or m c.loop-i.i false) c.places_of-places.ensures.mask) c.in_ok-term.ensures in
     let mark = sym (c.is_output.ensures ∙ ap (λ (ps : List Place). get_or (map (λ p. is_out p.role) ps) c.loop-i.i false) c.places_of-places.ensures.places) in
     elim c.if-is_output.branch [
       | then-is_output+in_ok-push w ↦

@@ -20,11 +20,12 @@ returns-in_err-measure_term c =
 
 pub loop-i-preserved : goal.loop-i-preserved
 loop-i-preserved c = elim c.if-is_subject-subjects.branch [
-    then-is_subject-subjects+in_ok-measure_term w ↦
-        picked-pass (table_of c.args.plain.now) c.args.subjects (subject_mask c.args.places.now) c.args.terms.now c.loop-i.i c.loop-i.invariant w.index-terms-i.result c.loop-i-test.true w.index-terms-i.is
-        (sym c.is_subject.ensures ∙ grind (arith, w.if-is_subject-subjects.true)) w.in_ok-measure_term.ensures.0
-    | else-is_subject-subjects w ↦
-        picked-skip (table_of c.args.plain.now) c.args.subjects (subject_mask c.args.places.now) c.args.terms.now c.loop-i.i c.loop-i.invariant c.loop-i-test.true (λ m. grind (arith, m, c.is_subject.ensures, w.if-is_subject-subjects.false)) ]
+  | then-is_subject-subjects+in_ok-measure_term w ↦
+      picked-pass (table_of c.args.plain.now) c.args.subjects (subject_mask c.args.places.now) c.args.terms.now c.loop-i.i c.loop-i.invariant w.index-terms-i.result c.loop-i-test.true w.index-terms-i.is
+      (sym c.is_subject.ensures ∙ grind (arith, w.if-is_subject-subjects.true)) w.in_ok-measure_term.ensures.0
+  | else-is_subject-subjects w ↦
+      picked-skip (table_of c.args.plain.now) c.args.subjects (subject_mask c.args.places.now) c.args.terms.now c.loop-i.i c.loop-i.invariant c.loop-i-test.true (λ m. grind (arith, m, c.is_subject.ensures, w.if-is_subject-subjects.false))
+]
 
 pub returns : goal.returns
 returns c = (picked-done (table_of c.args.plain.now) c.args.subjects (subject_mask c.args.places.now) c.args.terms.now c.loop-i.i c.loop-i.invariant c.loop-i-test.false, tt)
