@@ -34,9 +34,7 @@ pub(crate) fn is_word_of(kind: FileKind, keyword: Keyword) -> bool
             keyword,
             Keyword::Extension | Keyword::Use | Keyword::Plain | Keyword::To
         ),
-        FileKind::Extension => {
-            !matches!(keyword, Keyword::Sort | Keyword::Form | Keyword::Main)
-        }
+        FileKind::Extension => { !matches!(keyword, Keyword::Sort | Keyword::Form | Keyword::Main) }
     }
 }
 

@@ -76,12 +76,7 @@ fn alone(parts: &[&[u8]], row: Row) -> Result<Row, RowError>
 }
 
 /// The row of a word with the parts after it, in this line.
-fn row_of(
-    alloc: Global,
-    keyword: Keyword,
-    parts: &[&[u8]],
-    line: &[u8],
-) -> Result<Row, RowError>
+fn row_of(alloc: Global, keyword: Keyword, parts: &[&[u8]], line: &[u8]) -> Result<Row, RowError>
     ensures { MatchResult result (IsRowOf keyword line.now (texts parts.now)) (NoneIs (IsRowOf keyword line.now (texts parts.now))) }
 {
     match keyword {

@@ -141,8 +141,7 @@ one_variable part n m h k = sym h.0.0 ∙ k.0.0
 same_plain : (rest : List (List ℕ)) (p q : PlainLine) → IsPlainRow rest p → IsPlainRow rest q → (p.label ≡ q.label) × (p.names.items ≡ q.names.items)
 same_plain rest p q h k =
     let all : p.label ∷ h.names ≡ q.label ∷ k.names = sym h.parts_are ∙ k.parts_are in
-    let names : h.names ≡ k.names = tail_same p.label q.label h.names k.names all in
-    (
+    let names : h.names ≡ k.names = tail_same p.label q.label h.names k.names all in (
       head_same p.label q.label h.names k.names all,
       each_same IsVariable one_variable h.names p.names.items q.names.items h.names_are (subst (λ (z : List (List ℕ)). EachSpelled IsVariable z q.names.items) (sym names) k.names_are),
     )

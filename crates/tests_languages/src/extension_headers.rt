@@ -60,7 +60,10 @@ fn what_first_lines_state(rt: HostRuntime) {
             alloc,
             b"// let\r\n extension Let\nlanguage Lam-2\n\nuse Seq\n//\nuse Unit_1\nprod",
         ),
-        states_let(alloc, b"extension Let\nlanguage Lam-2\nuse Seq\nuse Unit_1\nuses Seq"),
+        states_let(
+            alloc,
+            b"extension Let\nlanguage Lam-2\nuse Seq\nuse Unit_1\nuses Seq",
+        ),
         uses_nothing(alloc, b"extension Let\nlanguage Lam"),
         uses_nothing(alloc, b"extension Let\nlanguage Lam\nrule\nuse Seq\n"),
     ];
@@ -99,9 +102,19 @@ fn bad_first_lines(rt: HostRuntime) {
         is_bad(alloc, b"language Let\n", 1, Kind::Head),
         is_bad(alloc, b"extension Let\n", 2, Kind::Head),
         is_bad(alloc, b"extension Let\n//\nuse Seq\n", 3, Kind::Head),
-        is_bad(alloc, b"extension Let\nlanguage Lam\nuse Seq\nuse Seq\n", 4, Kind::Shape),
+        is_bad(
+            alloc,
+            b"extension Let\nlanguage Lam\nuse Seq\nuse Seq\n",
+            4,
+            Kind::Shape,
+        ),
         is_bad(alloc, b"extension Let\nlanguage Lam\nuse\n", 3, Kind::Shape),
-        is_bad(alloc, b"extension Let\nlanguage Lam\nuse a-b\n", 3, Kind::Shape),
+        is_bad(
+            alloc,
+            b"extension Let\nlanguage Lam\nuse a-b\n",
+            3,
+            Kind::Shape,
+        ),
         is_no_text(alloc, b"extension Let\n\xff", 14),
     ];
     assert_eq!(rt; hold, [true; 10]);

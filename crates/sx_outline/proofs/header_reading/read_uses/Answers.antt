@@ -10,7 +10,7 @@ pub lines-preserved : goal.lines-preserved
 lines-preserved c = (
   c.in-Ok-true.ensures.found,
   using_more (kept_lines (left c.args.rest)) (kept_lines (left c.lines.left)) (kept_lines (left c.in-Ok.more)) c.lines.uses.names.items c.use_line.new.uses.names.items
-  c.in-Ok.line.number c.in-Ok.line.text.now c.in-Ok.more.bytes.now c.in-Ok-true.field-0 c.lines.invariant.1 c.in-Ok.ensures.first c.in-Ok-true.ensures.read c.in-Ok-true.field-0-test,
+      c.in-Ok.line.number c.in-Ok.line.text.now c.in-Ok.more.bytes.now c.in-Ok-true.field-0 c.lines.invariant.1 c.in-Ok.ensures.first c.in-Ok-true.ensures.read c.in-Ok-true.field-0-test,
 )
 
 pub returns-in-Ok-false : goal.returns-in-Ok-false

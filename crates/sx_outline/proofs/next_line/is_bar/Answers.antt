@@ -11,5 +11,5 @@ pub returns-in-None : goal.returns-in-None
 returns-in-None c = (
   λ f. absurd (false≢true f),
   λ e. absurd (where_none ((row : Row) → IsRow files.Language c.args.text.now row → ⊥) (λ row. IsRow files.Language c.args.text.now row) c.in_ok-row.field-0 c.in-None.is c.in_ok-row.ensures
-  Bar (bar_row files.Language c.args.text.now e)),
+      Bar (bar_row files.Language c.args.text.now e)),
 )
