@@ -1,17 +1,16 @@
 -- Searches by the base rules, and by these and the plain rules.
-use Rattle.std.proofs.Common.{◌≡◌, ℕ, ◌≤◌, Bool, true, false, List, [], ◌∷◌, map, length, Option, Some, None, refl, sym, ap, ◌∙◌, subst, if◌then◌else◌}
-use Rattle.std.specs.Prelude.{Result, Ok, Err, option_map}
+use Rattle.std.proofs.Common.{◌≡◌, ℕ, ◌≤◌, true, false, List, [], ◌∷◌, length, Option, Some, None, refl, sym, ap, ◌∙◌, subst, if◌then◌else◌}
+use Rattle.std.specs.Prelude.{Result, Ok}
 use Rattle.sx_term.specs.declared.sort.Sort.{Sort}
 use Rattle.sx_term.specs.Sorts.{Shape, HaveSorts}
-use Rattle.sx_term.specs.Term.{tree}
 use Rattle.sx_term.specs.Tree.{Tree}
 use Rattle.sx_rules.specs.Deep.{AreShallow}
 use Rattle.sx_rules.specs.declared.rule.Hyps.{Hyps}
 use Rattle.sx_rules.specs.ProofView.{proof}
 use Rattle.sx_rules.specs.Derivations.{Proof, Derives, height_of, HasShallowBinds}
 use Rattle.sx_rules.specs.Discipline.{subjects_of}
-use Rattle.sx_rules.specs.First.{Answer, IsFirst}
-use Rattle.sx_rules.specs.Modes.{Modes, outputs, goal_of, outputs_of}
+use Rattle.sx_rules.specs.First.{IsFirst}
+use Rattle.sx_rules.specs.Modes.{outputs}
 use Rattle.sx_rules.specs.Rules.{Rule, Judgement, Hypotheses}
 use Rattle.sx_rules.specs.Sets.{forms_in, shapes_in, bare_rules_in}
 use Rattle.sx_rules.specs.Views.{modes_of, subjects_in, hypotheses, judgement}
@@ -41,9 +40,9 @@ use Rattle.sx_rewrite.proofs.LongerTables.{plain_rules_stay}
 use Rattle.sx_rewrite.proofs.PlainSets.{plain_rules_are_accepted}
 use Rattle.sx_extcheck.specs.declared.checking.Checking.{Checking}
 use Rattle.sx_extcheck.specs.declared.flat_goal.FlatGoal.{FlatGoal}
-use Rattle.sx_extcheck.specs.Checks.{Check, has_base_syntax, by_base, search_for, over_for}
-use Rattle.sx_extcheck.specs.CheckView.{check_of, CanCheck, IsFlatRule}
-use Rattle.sx_extcheck.specs.Searches.{Search, search_of, ending_of, IsShallowSearch}
+use Rattle.sx_extcheck.specs.Checks.{has_base_syntax, by_base, search_for}
+use Rattle.sx_extcheck.specs.CheckView.{check_of, IsFlatRule}
+use Rattle.sx_extcheck.specs.Searches.{Search, search_of, ending_of}
 use Rattle.sx_extcheck.proofs.Ready.{search-shallow}
 
 module _ (k : Checking) (e : ExtRuleOf) (given : Hyps) (goal : FlatGoal) (flat : IsFlatRule k e given goal) where

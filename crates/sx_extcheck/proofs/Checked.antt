@@ -1,6 +1,6 @@
 -- What the check of one rule answers, from what its steps answer.
-use Rattle.std.proofs.Common.{◌≡◌, arith, ℕ, ◌+◌, ◌≤◌, ◌<◌, ◌-◌, ◌^◌, min, Bool, true, false, List, [], ◌∷◌, ◌⊎◌, inl, inr, map, length, Option, Some, None, refl, sym, ap, ◌∙◌, subst, if◌then◌else◌}
-use Rattle.std.specs.Prelude.{option_map, Result, Ok, Err, is_none, MatchOption, IfSome}
+use Rattle.std.proofs.Common.{◌≡◌, arith, ℕ, ◌+◌, ◌≤◌, Bool, true, false, List, [], ◌∷◌, inl, inr, Option, Some, None, refl, sym, subst}
+use Rattle.std.specs.Prelude.{option_map, Result, Ok, Err, MatchOption, IfSome}
 use Rattle.std.specs.List.{AllByRecursion}
 use Rattle.sx_term.specs.declared.term.Term.{Term}
 use Rattle.sx_term.specs.Tree.{Tree, depth_of}
@@ -13,36 +13,29 @@ use Rattle.sx_rules.specs.ProofView.{proof}
 use Rattle.sx_rules.specs.Views.{rule, judgement}
 use Rattle.sx_plain.specs.Plain.{Table, image}
 use Rattle.sx_derive.specs.Search.{found}
+use Rattle.sx_derive.proofs.Bounded.{shallow_outputs}
 use Rattle.sx_rewrite.specs.declared.ext_rule.ExtRule.{ExtRule as ExtRuleOf}
 use Rattle.sx_rewrite.specs.declared.flat.Flat.{Flat}
 use Rattle.sx_rewrite.specs.declared.lowered.Lowered.{Lowered}
 use Rattle.sx_rewrite.specs.declared.rewrite_error.RewriteError.{RewriteError}
 use Rattle.sx_rewrite.specs.declared.rewrite_error.RewriteError.TheVariants.{Memory as NoMemory, RewriteSpent as NodesSpent, RewriteDeep as Deep, TooDeep as DeepTerm, TooBig as BigTerm}
-use Rattle.sx_rewrite.specs.Accepted.{ExtRule, Checked}
 use Rattle.sx_rewrite.specs.ExtensionView.{ext_rule}
 use Rattle.sx_rewrite.specs.PlainRules.{plain_of, HasImage}
 use Rattle.sx_rewrite.specs.Puts.{Tells}
-use Rattle.sx_rewrite.specs.Rewriting.{Refusal, too_deep, too_big}
 use Rattle.sx_rewrite.specs.RewrittenView.{rewritten, IsRewriting}
 use Rattle.sx_rewrite.specs.Stored.{checked_with}
 use Rattle.sx_extcheck.specs.declared.check_error.CheckError.{CheckError}
 use Rattle.sx_extcheck.specs.declared.check_error.CheckError.TheVariants.{Memory, Defect}
 use Rattle.sx_extcheck.specs.declared.rule_defect.RuleDefect.TheVariants.{Rejected, BudgetSpent, DepthSpent, TooDeep, TooBig, RewriteSpent, RewriteDeep}
-use Rattle.sx_extcheck.specs.Checks.{Check, by_base, search_for, over_for, tries_for, IsStoredFor, IsRefusedFor}
+use Rattle.sx_extcheck.specs.Checks.{Check, by_base, search_for, over_for, IsStoredFor}
 use Rattle.sx_extcheck.specs.CheckView.{IsRuleChecked}
 use Rattle.sx_extcheck.specs.FlatTerms.{listed_term}
 use Rattle.sx_extcheck.specs.Limits.{defect_of}
-use Rattle.sx_extcheck.specs.Searches.{Search, ending_of, IsSearched, AreCounted}
+use Rattle.sx_extcheck.specs.Searches.{ending_of, IsSearched, AreCounted}
 
 -- the first of the subjects is shallow
-among-shallow : (bs : List Bool) (ts : List Tree) → AreShallow ts → AreShallow (outputs bs ts)
-among-shallow [] ts h = tt
-among-shallow (b ∷ bs) [] h = tt
-among-shallow (true ∷ bs) (t ∷ ts) h = (h.0, among-shallow bs ts h.1)
-among-shallow (false ∷ bs) (t ∷ ts) h = among-shallow bs ts h.1
-
 pub first-shallow : (bs : List Bool) (ts : List Tree) (t : Term) → AreShallow ts → (rest : List Tree) × (outputs bs ts ≡ tree t ∷ rest) → depth_of (tree t) ≤ 1000
-first-shallow bs ts t h (rest, e) = (subst (λ (us : List Tree). AreShallow us) e (among-shallow bs ts h)).0
+first-shallow bs ts t h (rest, e) = (subst (λ (us : List Tree). AreShallow us) e (shallow_outputs bs ts h)).0
 
 -- the flat body is shallow
 pub image-shallow : (table : Table) (body : Option Tree) (o : Option Term) → AllByRecursion (HasImage table) (listed_term body) → option_map tree o ≡ option_map (image table) body →

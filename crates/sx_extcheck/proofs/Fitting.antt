@@ -1,12 +1,12 @@
 -- Extensions that fit: each of their rules can be checked, and what is stored of them makes them sound.
-use Rattle.std.proofs.Common.{◌≡◌, ℕ, ◌+◌, ◌^◌, ◌<◌, ◌≤◌, List, [], ◌∷◌, ◌⊎◌, inl, inr, map, length, Option, Some, None, refl, sym, ap, ◌∙◌, subst}
+use Rattle.std.proofs.Common.{◌≡◌, ℕ, ◌^◌, ◌<◌, List, [], ◌∷◌, inl, inr, map, length, None}
 use Rattle.std.specs.List.{AllByRecursion}
-use Rattle.std.specs.Prelude.{Result, Ok, Err, option_map}
+use Rattle.std.specs.Prelude.{Ok, Err, option_map}
 use Rattle.sx_term.specs.Sorts.{Shape}
 use Rattle.sx_term.specs.Term.{tree}
 use Rattle.sx_rules.specs.Deep.{AreShallow, RulesAreShallow}
 use Rattle.sx_rules.specs.Modes.{AllModed}
-use Rattle.sx_rules.specs.Sets.{shapes_in, forms_in, bare_rules_in}
+use Rattle.sx_rules.specs.Sets.{shapes_in, bare_rules_in}
 use Rattle.sx_rules.specs.Sorts.{RulesAreSorted}
 use Rattle.sx_rules.specs.Views.{rule}
 use Rattle.sx_plain.specs.declared.table.PlainTable.{PlainTable}
@@ -14,14 +14,12 @@ use Rattle.sx_plain.specs.Views.{table_of}
 use Rattle.sx_derive.specs.declared.blame.Blame.{Blame}
 use Rattle.sx_rewrite.specs.declared.accepted.Accepted.{Accepted as AcceptedOf}
 use Rattle.sx_rewrite.specs.declared.ext_rule.ExtRule.{ExtRule as ExtRuleOf}
-use Rattle.sx_rewrite.specs.Accepted.{ExtRule, Checked, Accepted, rules_of, Signature, IsAccepted, AllDisciplined}
+use Rattle.sx_rewrite.specs.Accepted.{ExtRule, Checked, rules_of, IsAccepted, AllDisciplined}
 use Rattle.sx_rewrite.specs.AcceptedView.{accepted, signature}
 use Rattle.sx_rewrite.specs.Accepting.{AreStored}
-use Rattle.sx_rewrite.specs.Extensions.{with_table, GoesOn, BodiesFit, Fits, ComesAfter}
+use Rattle.sx_rewrite.specs.Extensions.{with_table, GoesOn, BodiesFit}
 use Rattle.sx_rewrite.specs.ExtensionView.{ext_rule}
 use Rattle.sx_rewrite.specs.PlainRules.{plain_of, RuleHasImage}
-use Rattle.sx_rewrite.proofs.Growing.{longer}
-use Rattle.sx_rewrite.proofs.PlainSets.{plain_rules_are_accepted}
 use Rattle.sx_rewrite.proofs.Sound.{rejected_is_unsound}
 use Rattle.sx_extcheck.specs.declared.accept_error.AcceptError.{AcceptError}
 use Rattle.sx_extcheck.specs.declared.accept_error.AcceptError.TheVariants.{Memory, Rule}

@@ -1,6 +1,6 @@
 -- What a search finds, and how it ends without an answer.
-use Rattle.std.proofs.Common.{◌≡◌, ℕ, zero, suc, ◌-◌, ◌≤◌, Bool, true, false, List, [], ◌∷◌, Option, Some, None, arith, subst}
-use Rattle.std.specs.Prelude.{Result, Ok, Err, IfOk}
+use Rattle.std.proofs.Common.{◌≡◌, ℕ, zero, suc, ◌-◌, ◌≤◌, Bool, true, false, List, [], ◌∷◌, Option, Some, subst}
+use Rattle.std.specs.Prelude.{Err}
 use Rattle.sx_term.specs.Tree.{Tree}
 use Rattle.sx_rules.specs.ProofView.{proof}
 use Rattle.sx_rules.specs.Derivations.{height_of, AreShallow, HasShallowBinds}
@@ -9,11 +9,10 @@ use Rattle.sx_derive.specs.Deriving.{answer_of, IsDerived}
 use Rattle.sx_derive.specs.declared.derive_error.DeriveError.{DeriveError}
 use Rattle.sx_derive.specs.declared.derive_error.DeriveError.TheVariants.{Memory, Underivable, BudgetSpent, DepthSpent, TooDeep, TooBig}
 use Rattle.sx_derive.specs.declared.derived.Derived.{Derived}
-use Rattle.sx_derive.specs.Search.{Ending, EachGiven, found, are_wanted, found_when, walk}
+use Rattle.sx_derive.specs.Search.{EachGiven, found, are_wanted, found_when, walk}
 use Rattle.sx_derive.specs.Walk.{Event, try, give, stop, events}
 use Rattle.sx_derive.proofs.Bounded.{answers_are_bounded}
-use Rattle.sx_extcheck.specs.declared.check_error.CheckError.{CheckError}
-use Rattle.sx_extcheck.specs.Searches.{Search, ending_of, tries_in, IsShallowSearch, IsSearched, defect_of}
+use Rattle.sx_extcheck.specs.Searches.{Search, ending_of, IsShallowSearch, IsSearched, defect_of}
 
 -- what is found is given
 found-now : (P : Answer → Type 0) (wanted : Option (List Tree)) (budget : ℕ) (a : Answer) (es : List (Event Answer)) (b : Answer) (w : Bool) → P a → (walk wanted budget es ≡ found b → P b) →

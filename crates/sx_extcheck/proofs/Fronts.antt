@@ -1,9 +1,9 @@
 -- Rules that are checked one after the other.
-use Rattle.std.proofs.Common.{◌≡◌, arith, ℕ, zero, suc, ◌+◌, ◌-◌, ◌<◌, ◌≤◌, drop, get_or, List, [], ◌∷◌, ◌++◌, ◌⊎◌, inl, inr, map, length, refl, sym, ap, ◌∙◌, subst}
+use Rattle.std.proofs.Common.{◌≡◌, arith, ℕ, ◌+◌, ◌-◌, ◌<◌, ◌≤◌, drop, get_or, List, [], ◌∷◌, ◌++◌, inl, inr, map, length, refl, sym, ap, ◌∙◌, subst}
 use Rattle.std.specs.Global.{Vec}
 use Rattle.std.specs.List.{AllByRecursion}
-use Rattle.std.proofs.lemmas.List.{drop_more}
-use Rattle.std.specs.Prelude.{Result, Ok, Err}
+use Rattle.std.proofs.lemmas.List.{drop_more, drop_all}
+use Rattle.std.specs.Prelude.{Ok, Err}
 use Rattle.sx_rules.specs.Views.{rule}
 use Rattle.sx_rewrite.specs.declared.ext_rule.ExtRule.{ExtRule as ExtRuleOf}
 use Rattle.sx_rewrite.specs.declared.flat.Flat.{Flat}
@@ -119,7 +119,7 @@ module _ (c : Check) (es : List ExtRuleOf) (first : ℕ) where
 
     pub front-end : length es ≤ i → (flats : Vec Flat) → flats.items ≡ fs → WereChecked c es first last (Ok flats)
     front-end l flats same =
-        let left = subst (λ (xs : List ExtRuleOf). AreFront c es fs so.0 xs) (all-dropped es i l) so.2 in
+        let left = subst (λ (xs : List ExtRuleOf). AreFront c es fs so.0 xs) (drop_all i es l) so.2 in
         let k = front-done c es fs so.0 left in (
           so.0,
           so.1,
@@ -127,9 +127,3 @@ module _ (c : Check) (es : List ExtRuleOf) (first : ℕ) where
           subst (λ (x : List Flat). AllByRecursion IsShallow x) (sym same) k.1,
           subst (λ (x : List Flat). length x ≡ length es) (sym same) k.2,
         )
-      where
-        all-dropped : (qs : List ExtRuleOf) (i : ℕ) → length qs ≤ i → drop i qs ≡ []
-        all-dropped [] zero l = refl
-        all-dropped [] (suc i) l = refl
-        all-dropped (q ∷ qs) zero l = absurd (omega (arith, l))
-        all-dropped (q ∷ qs) (suc i) l = all-dropped qs i (omega (arith, l))

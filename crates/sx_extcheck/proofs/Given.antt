@@ -1,9 +1,8 @@
 -- The plain premises of a rule are its flat premises, and they are hypotheses with small terms.
-use Rattle.std.proofs.Common.{◌≡◌, arith, ℕ, zero, suc, ◌+◌, ◌<◌, ◌≤◌, drop, get_or, length, Bool, true, false, List, [], ◌∷◌, ◌++◌, inl, inr, map, Option, Some, None, refl, sym, ap, ◌∙◌, subst}
+use Rattle.std.proofs.Common.{◌≡◌, arith, ℕ, ◌+◌, ◌<◌, ◌≤◌, drop, get_or, length, Bool, true, false, List, [], ◌∷◌, inl, inr, map, None, refl, sym, ap, ◌∙◌}
 use Rattle.std.specs.List.{AllByRecursion}
-use Rattle.std.specs.Prelude.{unwrap_or}
-use Rattle.std.proofs.lemmas.List.{drop_more}
-use Rattle.sx_term.specs.Tree.{Tree, hole, depth_of}
+use Rattle.std.proofs.lemmas.List.{drop_more, drop_all, append_assoc, append-nil}
+use Rattle.sx_term.specs.Tree.{Tree, hole}
 use Rattle.sx_rules.specs.Rules.{Judgement, Premise, holds, apart, Hypotheses, judgements_of}
 use Rattle.sx_rules.specs.Modes.{Modes, outputs}
 use Rattle.sx_rules.specs.Deep.{AreShallow}
@@ -65,24 +64,16 @@ plain-is-flat table subjects conclusion ps h =
     ap (λ (js : List Judgement). let k : Hypotheses = record { judgements = js; pairs = flat_pairs table ps } in k) (flat-all table subjects conclusion [] (judgements_of ps) h)
 
 -- hypotheses after others
-append-over : {X : Type 0} → (xs ys zs : List X) → (xs ++ ys) ++ zs ≡ xs ++ (ys ++ zs)
-append-over [] ys zs = refl
-append-over {X = X} (x ∷ xs) ys zs = ap (λ (us : List X). x ∷ us) (append-over xs ys zs)
-
-append-none : {X : Type 0} → (xs : List X) → xs ++ [] ≡ xs
-append-none [] = refl
-append-none {X = X} (x ∷ xs) = ap (λ (us : List X). x ∷ us) (append-none xs)
-
 pub given-over : (g h k : Hypotheses) → both_given (both_given g h) k ≡ both_given g (both_given h k)
 given-over g h k =
-    let a = append-over g.judgements h.judgements k.judgements in
-    let b = append-over g.pairs h.pairs k.pairs in
+    let a = append_assoc g.judgements h.judgements k.judgements in
+    let b = append_assoc g.pairs h.pairs k.pairs in
     λ i. record { judgements = a i; pairs = b i }
 
 pub given-none : (g : Hypotheses) (table : Table) → both_given g (plain_given table []) ≡ g
 given-none g table =
-    let a = append-none g.judgements in
-    let b = append-none g.pairs in
+    let a = append-nil g.judgements in
+    let b = append-nil g.pairs in
     λ i. record { judgements = a i; pairs = b i }
 
 pub given-first : (table : Table) (p : Premise) (ps : List Premise) → plain_given table (p ∷ ps) ≡ both_given (plain_given table (p ∷ [])) (plain_given table ps)
@@ -106,13 +97,7 @@ given-step table ps i p g h l e so here =
 
 pub given-end : (table : Table) (ps : List PremiseOf) (i : ℕ) (g : Hypotheses) → length ps ≤ i →
     both_given g (given_from table (drop i ps)) ≡ given_from table ps → g ≡ given_from table ps
-given-end table ps i g l so = sym (ap (λ (qs : List PremiseOf). both_given g (given_from table qs)) (all-dropped ps i l) ∙ given-none g table) ∙ so
-  where
-    all-dropped : (qs : List PremiseOf) (i : ℕ) → length qs ≤ i → drop i qs ≡ []
-    all-dropped [] zero l = refl
-    all-dropped [] (suc i) l = refl
-    all-dropped (q ∷ qs) zero l = absurd (omega (arith, l))
-    all-dropped (q ∷ qs) (suc i) l = all-dropped qs i (omega (arith, l))
+given-end table ps i g l so = sym (ap (λ (qs : List PremiseOf). both_given g (given_from table qs)) (drop_all i ps l) ∙ given-none g table) ∙ so
 
 -- small terms are shallow
 pub small-shallow : (ts : List Tree) → AllByRecursion IsSmall ts → AreShallow ts

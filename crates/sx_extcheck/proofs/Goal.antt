@@ -1,13 +1,15 @@
 -- The places of a flat conclusion, one after the other.
 use Rattle.std.proofs.Common.{◌≡◌, arith, ℕ, zero, suc, ◌+◌, ◌<◌, ◌≤◌, drop, get_or, length, Bool, true, false, List, [], ◌∷◌, ◌++◌, map, Option, Some, None, refl, sym, ap, ◌∙◌, subst, if◌then◌else◌}
 use Rattle.std.specs.List.{AllByRecursion}
-use Rattle.std.specs.Prelude.{unwrap_or, option_map}
+use Rattle.std.proofs.lemmas.List.{drop_all, append-nil, length-map}
+use Rattle.std.specs.Prelude.{unwrap_or}
 use Rattle.sx_term.specs.declared.term.Term.{Term}
 use Rattle.sx_term.specs.Term.{tree}
 use Rattle.sx_term.specs.Tree.{Tree}
 use Rattle.sx_rules.specs.Modes.{inputs, outputs}
 use Rattle.sx_rules.specs.Deep.{AreShallow}
 use Rattle.sx_plain.specs.Plain.{Table, image}
+use Rattle.sx_derive.proofs.Bounded.{shallow_outputs}
 use Rattle.sx_rewrite.specs.Flat.{flat_places}
 use Rattle.sx_rewrite.specs.Puts.{IsSmall}
 use Rattle.sx_extcheck.specs.FlatTerms.{listed_term}
@@ -93,15 +95,12 @@ module _ (table : Table) (body : Option Tree) where
 
   pub places-end : (outs subs : List Bool) (ts : List Term) (i : ℕ) → length ts ≤ i → (ins_from outs subs ts i ≡ []) × (outs_from outs subs ts i ≡ [])
   places-end outs subs ts i l = (
-    ap (λ (us : List Tree). inputs (drop i outs) (flat_places table body (drop i subs) us)) (all-dropped ts i l) ∙ no-ins (drop i outs) (drop i subs),
-    ap (λ (us : List Tree). outputs (drop i outs) (flat_places table body (drop i subs) us)) (all-dropped ts i l) ∙ no-outs (drop i outs) (drop i subs),
+    ap (λ (us : List Tree). inputs (drop i outs) (flat_places table body (drop i subs) us)) none-left ∙ no-ins (drop i outs) (drop i subs),
+    ap (λ (us : List Tree). outputs (drop i outs) (flat_places table body (drop i subs) us)) none-left ∙ no-outs (drop i outs) (drop i subs),
   )
     where
-      all-dropped : (ts : List Term) (i : ℕ) → length ts ≤ i → drop i (map tree ts) ≡ []
-      all-dropped [] zero l = refl
-      all-dropped [] (suc i) l = refl
-      all-dropped (q ∷ qs) zero l = absurd (omega (arith, l))
-      all-dropped (q ∷ qs) (suc i) l = all-dropped qs i (omega (arith, l))
+      none-left : drop i (map tree ts) ≡ []
+      none-left = drop_all i (map tree ts) (subst (λ (n : ℕ). n ≤ i) (sym (length-map ts tree)) l)
 
       no-ins : (outs subs : List Bool) → inputs outs (flat_places table body subs []) ≡ []
       no-ins [] [] = refl
@@ -131,19 +130,12 @@ small-inputs (true ∷ bs) (t ∷ ts) h = small-inputs bs ts h.1
 small-inputs (false ∷ bs) (t ∷ ts) h = (h.0.0, small-inputs bs ts h.1)
 
 pub small-outputs : (bs : List Bool) (ts : List Tree) → AllByRecursion IsSmall ts → AreShallow (outputs bs ts)
-small-outputs [] ts h = tt
-small-outputs (b ∷ bs) [] h = tt
-small-outputs (true ∷ bs) (t ∷ ts) h = (h.0.0, small-outputs bs ts h.1)
-small-outputs (false ∷ bs) (t ∷ ts) h = small-outputs bs ts h.1
+small-outputs bs ts h = shallow_outputs bs ts (small-shallow ts h)
 
 -- one place more
 append-one : (xs : List Term) (x : Term) (ys : List Tree) → map tree (xs ++ x ∷ []) ++ ys ≡ map tree xs ++ (tree x ∷ ys)
 append-one [] x ys = refl
 append-one (z ∷ xs) x ys = ap (λ (us : List Tree). tree z ∷ us) (append-one xs x ys)
-
-append-none : (xs : List Term) → map tree xs ++ [] ≡ map tree xs
-append-none [] = refl
-append-none (z ∷ xs) = ap (λ (us : List Tree). tree z ∷ us) (append-none xs)
 
 module _ (table : Table) (body : Option Tree) (outs subs : List Bool) (ts : List Term) (i : ℕ) (ins wanted : List Term)
     (so : (map tree ins ++ ins_from table body outs subs ts i ≡ ins_from table body outs subs ts 0) × (map tree wanted ++ outs_from table body outs subs ts i ≡ outs_from table body outs subs ts 0)) where
@@ -171,7 +163,7 @@ module _ (table : Table) (body : Option Tree) (outs subs : List Bool) (ts : List
 
   module _ (l : length ts ≤ i) where
     pub goal-inputs : map tree ins ≡ ins_from table body outs subs ts 0
-    goal-inputs = sym (append-none ins) ∙ ap (λ (us : List Tree). map tree ins ++ us) (sym (places-end table body outs subs ts i l).0) ∙ so.0
+    goal-inputs = sym (append-nil (map tree ins)) ∙ ap (λ (us : List Tree). map tree ins ++ us) (sym (places-end table body outs subs ts i l).0) ∙ so.0
 
     pub goal-outputs : map tree wanted ≡ outs_from table body outs subs ts 0
-    goal-outputs = sym (append-none wanted) ∙ ap (λ (us : List Tree). map tree wanted ++ us) (sym (places-end table body outs subs ts i l).1) ∙ so.1
+    goal-outputs = sym (append-nil (map tree wanted)) ∙ ap (λ (us : List Tree). map tree wanted ++ us) (sym (places-end table body outs subs ts i l).1) ∙ so.1

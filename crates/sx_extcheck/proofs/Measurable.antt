@@ -1,12 +1,12 @@
 -- The terms of a rule that fits can be measured, and where none of them passes a limit each has its plain image.
-use Rattle.std.proofs.Common.{◌≡◌, ℕ, ◌≤◌, Bool, true, false, List, [], ◌∷◌, ◌++◌, map, length, Option, Some, None, refl, sym, ap, ◌∙◌, subst}
-use Rattle.std.specs.Prelude.{option_map, unwrap_or}
+use Rattle.std.proofs.Common.{◌≡◌, ℕ, Bool, true, false, List, [], ◌∷◌, ◌++◌, map, length, Option, Some, None, refl, subst}
+use Rattle.std.specs.Prelude.{option_map}
 use Rattle.std.specs.List.{AllByRecursion}
 use Rattle.sx_term.specs.declared.sort.Sort.{Sort}
 use Rattle.sx_term.specs.declared.sort.Sort.TheVariants.{Lex}
-use Rattle.sx_term.specs.Tree.{Tree, depth_of}
+use Rattle.sx_term.specs.Tree.{Tree}
 use Rattle.sx_term.specs.Sorts.{Shape, HaveSorts}
-use Rattle.sx_rules.specs.Rules.{Judgement, Premise, holds, apart, Rule}
+use Rattle.sx_rules.specs.Rules.{Premise, holds, apart, Rule}
 use Rattle.sx_rules.specs.Modes.{Modes, inputs, outputs}
 use Rattle.sx_rules.specs.Deep.{AreShallow, PremisesAreShallow, RuleIsShallow}
 use Rattle.sx_rules.specs.Sorts.{FormSorts, PremisesAreSorted}
@@ -15,11 +15,10 @@ use Rattle.sx_plain.specs.Tables.{Desugars}
 use Rattle.sx_plain.proofs.Tables.{sorted-fits}
 use Rattle.sx_rewrite.specs.Accepted.{ExtRule, Accepted, Signature}
 use Rattle.sx_rewrite.specs.Extensions.{BodyFits, ComesAfter}
-use Rattle.sx_rewrite.specs.PlainRules.{image_premise, image_judgement, HasImage, PremiseHasImage, RuleHasImage}
+use Rattle.sx_rewrite.specs.PlainRules.{image_premise, HasImage, PremiseHasImage, RuleHasImage}
 use Rattle.sx_rewrite.specs.Puts.{IsSmall}
 use Rattle.sx_rewrite.specs.Rewriting.{first_over}
 use Rattle.sx_rewrite.proofs.BasedTerms.{small-here}
-use Rattle.sx_rewrite.proofs.PlainRules.{inputs-image, outputs-image}
 use Rattle.sx_extcheck.specs.FlatTerms.{premise_terms, listed_term, flat_terms, CanMeasure, PremiseCanMeasure, RuleCanMeasure}
 
 -- the terms of a rule can be measured

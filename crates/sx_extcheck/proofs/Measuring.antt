@@ -1,12 +1,11 @@
 -- The first of some terms that passes a limit, as they are measured in order.
-use Rattle.std.proofs.Common.{◌≡◌, arith, ℕ, zero, suc, ◌+◌, ◌<◌, ◌≤◌, drop, get_or, length, Bool, true, false, List, [], ◌∷◌, ◌++◌, map, Option, Some, None, refl, sym, ap, ◌∙◌, subst}
+use Rattle.std.proofs.Common.{◌≡◌, arith, ℕ, zero, suc, ◌+◌, ◌<◌, ◌≤◌, drop, get_or, length, Bool, true, false, List, [], ◌∷◌, ◌++◌, map, Option, None, refl, sym, ap, ◌∙◌, subst}
 use Rattle.std.specs.Prelude.{Result, Ok, Err, IsErrAnd}
-use Rattle.std.proofs.lemmas.List.{drop_more}
+use Rattle.std.proofs.lemmas.List.{drop_more, append-nil}
 use Rattle.sx_term.specs.declared.term.Term.{Term}
 use Rattle.sx_term.specs.Term.{tree}
 use Rattle.sx_term.specs.Tree.{Tree}
 use Rattle.sx_rules.specs.Rules.{Premise, holds, apart}
-use Rattle.sx_rules.specs.Modes.{inputs, outputs}
 use Rattle.sx_rules.specs.declared.rule.Premise.{Premise as PremiseOf}
 use Rattle.sx_rules.specs.Views.{premise}
 use Rattle.sx_plain.specs.Plain.{Table, image}
@@ -25,17 +24,9 @@ module _ (whole rest here more : List Tree) (so : first_over whole ≡ first_ove
   pub pass : first_over here ≡ None → first_over whole ≡ first_over more
   pass h = so ∙ ap first_over split ∙ over-right here more h
 
-append-over : (xs ys zs : List Tree) → (xs ++ ys) ++ zs ≡ xs ++ (ys ++ zs)
-append-over [] ys zs = refl
-append-over (x ∷ xs) ys zs = ap (λ (us : List Tree). x ∷ us) (append-over xs ys zs)
-
-append-none : (xs : List Tree) → xs ≡ xs ++ []
-append-none [] = refl
-append-none (x ∷ xs) = ap (λ (us : List Tree). x ∷ us) (append-none xs)
-
 -- the terms of a premise, and then those of the others
 pub premise-first : (p : Premise) (ps : List Premise) → premise_terms (p ∷ ps) ≡ premise_terms (p ∷ []) ++ premise_terms ps
-premise-first (holds j) ps = ap (λ (ts : List Tree). ts ++ premise_terms ps) (append-none j.places)
+premise-first (holds j) ps = ap (λ (ts : List Tree). ts ++ premise_terms ps) (sym (append-nil j.places))
 premise-first (apart t u) ps = refl
 
 abbrev pub premises_from : Table → List PremiseOf → List Tree

@@ -1,37 +1,33 @@
 -- What a rule that can be checked meets on the way.
-use Rattle.std.proofs.Common.{◌≡◌, arith, ℕ, ◌^◌, ◌<◌, ◌≤◌, Bool, true, false, List, [], ◌∷◌, map, length, Option, Some, None, refl, sym, ap, ◌∙◌, subst, if◌then◌else◌}
+use Rattle.std.proofs.Common.{◌≡◌, arith, ◌^◌, ◌<◌, [], map, length, Option, Some, None, sym, ap, ◌∙◌, subst}
 use Rattle.std.specs.Prelude.{option_map}
 use Rattle.std.specs.List.{AllByRecursion}
 use Rattle.std.proofs.lemmas.List.{length-map}
-use Rattle.sx_term.specs.Sorts.{Shape, HaveSorts}
 use Rattle.sx_term.specs.Term.{tree}
 use Rattle.sx_term.specs.Tree.{Tree}
-use Rattle.sx_rules.specs.Deep.{AreShallow}
 use Rattle.sx_rules.specs.Derivations.{ShallowJudgements}
 use Rattle.sx_rules.specs.declared.rule.Hyps.{Hyps}
-use Rattle.sx_rules.specs.Discipline.{subjects_of}
-use Rattle.sx_rules.specs.Modes.{Modes, inputs, outputs, goal_of, outputs_of}
-use Rattle.sx_rules.specs.Rules.{Rule, Judgement, Hypotheses, judgements_of}
-use Rattle.sx_rules.specs.Sets.{forms_in, shapes_in, bare_rules_in}
-use Rattle.sx_rules.specs.Views.{goal as goal_view, hypotheses, judgement, premise, rule, modes_of, subjects_in}
+use Rattle.sx_rules.specs.Modes.{Modes, outputs}
+use Rattle.sx_rules.specs.Rules.{Hypotheses, judgements_of}
+use Rattle.sx_rules.specs.Sets.{shapes_in}
+use Rattle.sx_rules.specs.Views.{goal as goal_view, hypotheses, judgement, premise, rule}
 use Rattle.sx_arena.specs.Entered.{ArePairsShallow}
 use Rattle.sx_plain.specs.Plain.{Table, image}
 use Rattle.sx_plain.specs.Views.{table_of}
 use Rattle.sx_rewrite.specs.declared.ext_rule.ExtRule.{ExtRule as ExtRuleOf}
-use Rattle.sx_rewrite.specs.Accepted.{ExtRule, Accepted, Signature, rules_of}
 use Rattle.sx_rewrite.specs.AcceptedView.{accepted, signature}
-use Rattle.sx_rewrite.specs.Extensions.{with_table, BodyFits}
+use Rattle.sx_rewrite.specs.Extensions.{BodyFits}
 use Rattle.sx_rewrite.specs.ExtensionView.{ext_rule}
 use Rattle.sx_rewrite.specs.Flat.{flat_places}
-use Rattle.sx_rewrite.specs.PlainRules.{plain_of, image_judgement, HasImage, PremiseHasImage}
+use Rattle.sx_rewrite.specs.PlainRules.{image_judgement, HasImage, PremiseHasImage}
 use Rattle.sx_rewrite.specs.Puts.{IsSmall}
 use Rattle.sx_extcheck.specs.declared.checking.Checking.{Checking}
 use Rattle.sx_extcheck.specs.declared.flat_goal.FlatGoal.{FlatGoal}
-use Rattle.sx_extcheck.specs.Checks.{Check, by_base, search_for, over_for}
+use Rattle.sx_extcheck.specs.Checks.{search_for, over_for}
 use Rattle.sx_extcheck.specs.CheckView.{check_of, CanCheck, IsFlatRule}
 use Rattle.sx_extcheck.specs.FlatTerms.{listed_term, RuleCanMeasure}
 use Rattle.sx_extcheck.specs.Hypotheses.{plain_given}
-use Rattle.sx_extcheck.specs.Searches.{Search, search_of, IsShallowSearch}
+use Rattle.sx_extcheck.specs.Searches.{Search, IsShallowSearch}
 use Rattle.sx_extcheck.proofs.Given.{plain-is-flat, given-shallow, given-few}
 use Rattle.sx_extcheck.proofs.Goal.{flat-small, small-inputs, small-outputs}
 use Rattle.sx_extcheck.proofs.Measurable.{rule-can, rule-images, own-body-images, small-premises, small-places, small-body}

@@ -1,26 +1,24 @@
 -- What is stored of a rule is its first derivation, or what that is lowered to; a rule that is rejected has none.
-use Rattle.std.proofs.Common.{◌≡◌, ℕ, ◌<◌, Bool, true, false, List, [], ◌∷◌, ◌⊎◌, inl, inr, Option, Some, None, refl, sym, ap, ◌∙◌, subst, if◌then◌else◌}
-use Rattle.std.specs.Prelude.{option_map, Result, Ok, Err, is_none, IsSome, nat_lt}
+use Rattle.std.proofs.Common.{◌≡◌, ℕ, ◌<◌, Bool, true, false, List, ◌⊎◌, inl, inr, Option, Some, None, refl, sym, ap, ◌∙◌, subst, if◌then◌else◌}
+use Rattle.std.specs.Prelude.{is_none, IsSome}
 use Rattle.std.proofs.lemmas.Bool.{lt-ltb}
 use Rattle.sx_term.specs.Tree.{Tree, Trees, node, lexeme, hole, none, ◌▹◌}
-use Rattle.sx_rules.specs.First.{Answer, IsFirst, IsUnderivable}
+use Rattle.sx_rules.specs.First.{IsFirst, IsUnderivable}
 use Rattle.sx_rules.specs.Derivations.{Proof}
-use Rattle.sx_rules.specs.Discipline.{subjects_of}
 use Rattle.sx_rules.specs.Modes.{AllModed}
 use Rattle.sx_rules.specs.Rules.{Rule}
-use Rattle.sx_plain.specs.Plain.{Body, Table, image}
+use Rattle.sx_plain.specs.Plain.{Body, Table}
 use Rattle.sx_plain.specs.Tables.{IsCovered, AreCovered}
 use Rattle.sx_plain.specs.Adds.{uncovered, or_else, first_uncovered, first_uncovered_of}
 use Rattle.sx_plain.proofs.AddLaws.{covered}
 use Rattle.sx_derive.specs.Search.{found, exhausted}
 use Rattle.sx_derive.proofs.Walked.{found_is_first, exhausted_means_none}
 use Rattle.sx_rewrite.specs.Accepted.{ExtRule, Checked, rules_of}
-use Rattle.sx_rewrite.specs.Accepting.{IsStored, IsRejected, IsStoredLowered as IsLoweredStored}
+use Rattle.sx_rewrite.specs.Accepting.{IsStored, IsRejected}
 use Rattle.sx_rewrite.specs.Lowers.{Lowers}
 use Rattle.sx_rewrite.specs.PlainRules.{plain_of}
-use Rattle.sx_rewrite.specs.Rewriting.{Rewritten}
 use Rattle.sx_rewrite.specs.Sound.{HasBaseSyntax, flat_given}
-use Rattle.sx_extcheck.specs.Checks.{Check, has_base_syntax, by_base, search_for, EndsSo, IsStoredFor, IsStoredByBase, IsStoredLowered}
+use Rattle.sx_extcheck.specs.Checks.{Check, has_base_syntax, by_base, search_for, EndsSo, IsStoredFor}
 use Rattle.sx_extcheck.specs.Searches.{Search, ending_of}
 
 -- whether the typed syntax of a body is base

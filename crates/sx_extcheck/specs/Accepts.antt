@@ -18,7 +18,10 @@ use Rattle.sx_extcheck.specs.declared.accept_error.AcceptError.{AcceptError}
 use Rattle.sx_extcheck.specs.declared.accept_error.AcceptError.TheVariants.{Memory, Rule}
 use Rattle.sx_extcheck.specs.declared.budgets.Budgets.{Budgets}
 use Rattle.sx_extcheck.specs.declared.check_error.CheckError.{CheckError}
-use Rattle.sx_extcheck.specs.declared.check_error.CheckError.TheVariants.{Memory as NoMemory, Defect}
+use Rattle.sx_extcheck.specs.declared.check_error.CheckError.TheVariants.{
+  Memory as NoMemory,
+  Defect,
+}
 use Rattle.sx_extcheck.specs.declared.refused.Refused.{Refused}
 use Rattle.sx_extcheck.specs.declared.rule_defect.RuleDefect.TheVariants.{Rejected}
 use Rattle.sx_extcheck.specs.CheckView.{check_with}
@@ -28,37 +31,54 @@ use Rattle.sx_extcheck.specs.Checks.{Check, tries_for, IsStoredFor, IsRefusedFor
 abbrev pub check_for : AcceptedOf → ExtensionData → Budgets → Check
 check_for set ext budgets = check_with set ext.plain budgets
 
--- The rules are checked in order, with so many tries in all: each is stored, or each up to the first that is refused; where memory
--- is lacking at a rule, each before it is stored, and some of its tries were made.
+-- The rules are checked in order, with so many tries in all: each is stored, or each up to the
+-- first that is refused; where memory is lacking at a rule, each before it is stored, and some of
+-- its tries were made.
 abbrev pub AreChecked : Check → List ExtRuleOf → ℕ → Result (List Checked) AcceptError → Type 0
 AreChecked c [] count (Ok []) = count ≡ 0
 AreChecked c [] count (Ok (s ∷ ss)) = ⊥
 AreChecked c [] count (Err Memory) = count ≡ 0
 AreChecked c [] count (Err (Rule name defect)) = ⊥
 AreChecked c (e ∷ es) count (Ok []) = ⊥
-AreChecked c (e ∷ es) count (Ok (s ∷ ss)) = IsStoredFor c (ext_rule e) s × (rest : ℕ) × (count ≡ tries_for c (ext_rule e) + rest) × AreChecked c es rest (Ok ss)
+AreChecked c (e ∷ es) count (Ok (s ∷ ss)) =
+    IsStoredFor c (ext_rule e) s
+    × (rest : ℕ) × (count ≡ tries_for c (ext_rule e) + rest) × AreChecked c es rest (Ok ss)
 AreChecked c (e ∷ es) count (Err Memory) =
     (count ≤ tries_for c (ext_rule e))
-    ⊎ ((s : Checked) × IsStoredFor c (ext_rule e) s × (rest : ℕ) × (count ≡ tries_for c (ext_rule e) + rest) × AreChecked c es rest (Err Memory))
+    ⊎ ((s : Checked) × IsStoredFor c (ext_rule e) s
+    × (rest : ℕ) × (count ≡ tries_for c (ext_rule e) + rest)
+    × AreChecked c es rest (Err Memory))
 AreChecked c (e ∷ es) count (Err (Rule name defect)) =
     ((name ≡ e.rule.name) × IsRefusedFor c (ext_rule e) defect × (count ≡ tries_for c (ext_rule e)))
-    ⊎ ((s : Checked) × IsStoredFor c (ext_rule e) s × (rest : ℕ) × (count ≡ tries_for c (ext_rule e) + rest) × AreChecked c es rest (Err (Rule name defect)))
+    ⊎ ((s : Checked) × IsStoredFor c (ext_rule e) s
+    × (rest : ℕ) × (count ≡ tries_for c (ext_rule e) + rest)
+    × AreChecked c es rest (Err (Rule name defect)))
 
--- each rule is checked and stored, and the set has them after its rules; or a rule is refused or memory is lacking, and the set is as it was
-abbrev pub IsOutcome : AcceptedOf → List Shape → ExtensionData → Check → ℕ → Result AcceptedOf Refused → Type 0
+-- each rule is checked and stored, and the set has them after its rules; or a rule is refused or
+-- memory is lacking, and the set is as it was
+abbrev pub IsOutcome : AcceptedOf → List Shape → ExtensionData → Check → ℕ →
+    Result AcceptedOf Refused → Type 0
 IsOutcome old all ext c count (Ok new) =
-    (flats : List Flat) × AreChecked c ext.rules.items count (Ok (checked_of (map (λ e. rule e.rule) ext.rules.items) flats)) × IsAdded old all ext flats (Ok new)
-IsOutcome old all ext c count (Err refused) = AreChecked c ext.rules.items count (Err refused.error) × IsAsBefore old refused.set
+    (flats : List Flat)
+    × AreChecked c ext.rules.items count
+    (Ok (checked_of (map (λ e. rule e.rule) ext.rules.items) flats))
+    × IsAdded old all ext flats (Ok new)
+IsOutcome old all ext c count (Err refused) =
+    AreChecked c ext.rules.items count (Err refused.error) × IsAsBefore old refused.set
 
 -- with the tries that the counter rose by
-abbrev pub IsAnswered : AcceptedOf → List Shape → ExtensionData → Check → ℕ → ℕ → Result AcceptedOf Refused → Type 0
-IsAnswered old all ext c first last result = (count : ℕ) × (last ≡ first + count) × IsOutcome old all ext c count result
+abbrev pub IsAnswered : AcceptedOf → List Shape → ExtensionData → Check → ℕ → ℕ →
+    Result AcceptedOf Refused → Type 0
+IsAnswered old all ext c first last result =
+    (count : ℕ) × (last ≡ first + count) × IsOutcome old all ext c count result
 
 -- one of the rules has the name, and nothing makes it sound
 abbrev pub HasUnsound : Check → List ExtRuleOf → List ℕ → Type 0
 HasUnsound c [] name = ⊥
 HasUnsound c (e ∷ es) name =
-    ((name ≡ e.rule.name) × ((s : Checked) → IsSoundBy c.sig.subjects c.labels c.set (ext_rule e) s → ⊥)) ⊎ HasUnsound c es name
+    ((name ≡ e.rule.name)
+    × ((s : Checked) → IsSoundBy c.sig.subjects c.labels c.set (ext_rule e) s → ⊥))
+    ⊎ HasUnsound c es name
 
 -- a rule is rejected only where it is sound by nothing
 abbrev pub RejectsUnsound : Check → List ExtRuleOf → AcceptError → Type 0
@@ -66,12 +86,15 @@ RejectsUnsound c es Memory = Unit {0}
 RejectsUnsound c es (Rule name (Rejected b)) = HasUnsound c es name
 RejectsUnsound c es (Rule name _) = Unit {0}
 
--- the rules were checked in order, with the tries that the counter rose by; what is stored of each is within the limits of certificates
+-- the rules were checked in order, with the tries that the counter rose by; what is stored of
+-- each is within the limits of certificates
 abbrev pub WereChecked : Check → List ExtRuleOf → ℕ → ℕ → Result (Vec Flat) AcceptError → Type 0
 WereChecked c es first last (Ok flats) =
-    (count : ℕ) × (last ≡ first + count) × AreChecked c es count (Ok (checked_of (map (λ e. rule e.rule) es) flats.items))
+    (count : ℕ) × (last ≡ first + count)
+    × AreChecked c es count (Ok (checked_of (map (λ e. rule e.rule) es) flats.items))
     × AllByRecursion IsShallow flats.items × (length flats.items ≡ length es)
-WereChecked c es first last (Err error) = (count : ℕ) × (last ≡ first + count) × AreChecked c es count (Err error)
+WereChecked c es first last (Err error) =
+    (count : ℕ) × (last ≡ first + count) × AreChecked c es count (Err error)
 
 -- the error is the defect of the rule with this name, or want of memory
 abbrev pub IsRefusal : List ℕ → CheckError → AcceptError → Type 0

@@ -1,5 +1,5 @@
 -- What the check of one rule answers.
-use Rattle.std.specs.Prelude.{◌≡◌, ℕ, ◌^◌, ◌<◌, List, length, map, option_map, None, Result, Ok, Err}
+use Rattle.std.specs.Prelude.{◌≡◌, ◌^◌, ◌<◌, List, length, map, option_map, None, Result, Ok, Err}
 use Rattle.sx_term.specs.Sorts.{Shape}
 use Rattle.sx_term.specs.Term.{tree}
 use Rattle.sx_rules.specs.Deep.{AreShallow, RuleIsShallow}
@@ -37,11 +37,12 @@ check_with set plain budgets = record {
 abbrev pub check_of : Checking → Check
 check_of k = check_with k.set.now k.plain.now k.budgets
 
--- The rule is of an extension after the set, with its table and the base labels of the set, no term of it or of its body is deeper
--- than 1,000, and it has fewer premises than 2^32.
+-- The rule is of an extension after the set, with its table and the base labels of the set, no
+-- term of it or of its body is deeper than 1,000, and it has fewer premises than 2^32.
 pub record CanCheck (set : AcceptedOf) (plain : PlainTable) (e : ExtRuleOf) : Type 0 where
   pub all : List Shape
-  pub after : ComesAfter (signature set) (shapes_in set.base) (shapes_in set.rules) all (accepted set) (table_of plain) (ext_rule e)
+  pub after : ComesAfter (signature set) (shapes_in set.base) (shapes_in set.rules) all
+      (accepted set) (table_of plain) (ext_rule e)
   pub labels : plain.base ≡ length (shapes_in set.base)
   pub shallow : RuleIsShallow (rule e.rule)
   pub body : AreShallow (listed_term (option_map tree e.body))
@@ -49,11 +50,13 @@ pub record CanCheck (set : AcceptedOf) (plain : PlainTable) (e : ExtRuleOf) : Ty
 
 -- what is stored of the rule is what its check finds, or it is refused, or memory is lacking
 abbrev pub IsRuleChecked : Check → ExtRuleOf → Result Flat CheckError → Type 0
-IsRuleChecked c e (Ok flat) = IsStoredFor c (ext_rule e) (checked_with (rule e.rule) flat) × IsShallow flat
+IsRuleChecked c e (Ok flat) =
+    IsStoredFor c (ext_rule e) (checked_with (rule e.rule) flat) × IsShallow flat
 IsRuleChecked c e (Err Memory) = Unit {0}
 IsRuleChecked c e (Err (Defect defect)) = IsRefusedFor c (ext_rule e) defect
 
--- the rule can be checked, no measured term of it passes a limit, and these are its flat premises and its flat conclusion
+-- the rule can be checked, no measured term of it passes a limit, and these are its flat premises
+-- and its flat conclusion
 pub record IsFlatRule (k : Checking) (e : ExtRuleOf) (given : Hyps) (goal : FlatGoal) : Type 0 where
   pub can : CanCheck k.set.now k.plain.now e
   pub within : over_for (check_of k) (ext_rule e) ≡ None

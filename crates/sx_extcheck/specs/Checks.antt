@@ -1,5 +1,27 @@
 -- How one extension rule is checked. The variables of the rule are constants.
-use Rattle.std.specs.Prelude.{◌≡◌, ℕ, ◌-◌, ◌^◌, ◌⊎◌, min, Bool, true, false, List, [], ◌∷◌, Option, Some, None, option_map, Result, Ok, Err, is_none, if◌then◌else◌}
+use Rattle.std.specs.Prelude.{
+  ◌≡◌,
+  ℕ,
+  ◌-◌,
+  ◌^◌,
+  ◌⊎◌,
+  min,
+  Bool,
+  true,
+  false,
+  List,
+  [],
+  ◌∷◌,
+  Option,
+  Some,
+  None,
+  option_map,
+  Result,
+  Ok,
+  Err,
+  is_none,
+  if◌then◌else◌,
+}
 use Rattle.sx_term.specs.Tree.{Tree}
 use Rattle.sx_rules.specs.Modes.{goal_of, outputs_of}
 use Rattle.sx_rules.specs.Discipline.{subjects_of}
@@ -11,15 +33,33 @@ use Rattle.sx_derive.specs.Search.{Ending, found, stopped, spent as no_tries, ex
 use Rattle.sx_derive.specs.Walk.{depth_spent, too_deep as deep_term, too_big as big_term}
 use Rattle.sx_rewrite.specs.Accepted.{ExtRule, Checked, Accepted, rules_of, Signature}
 use Rattle.sx_rewrite.specs.PlainRules.{plain_of}
-use Rattle.sx_rewrite.specs.Rewriting.{Refusal, Rewritten, IsRewritten, spent, deep, too_deep, too_big, first_over}
+use Rattle.sx_rewrite.specs.Rewriting.{
+  Refusal,
+  Rewritten,
+  IsRewritten,
+  spent,
+  deep,
+  too_deep,
+  too_big,
+  first_over,
+}
 use Rattle.sx_rewrite.specs.Sound.{flat_given, flat_goal}
 use Rattle.sx_extcheck.specs.declared.rule_defect.RuleDefect.{RuleDefect}
-use Rattle.sx_extcheck.specs.declared.rule_defect.RuleDefect.TheVariants.{Rejected, BudgetSpent, DepthSpent, TooDeep, TooBig, RewriteSpent, RewriteDeep}
+use Rattle.sx_extcheck.specs.declared.rule_defect.RuleDefect.TheVariants.{
+  Rejected,
+  BudgetSpent,
+  DepthSpent,
+  TooDeep,
+  TooBig,
+  RewriteSpent,
+  RewriteDeep,
+}
 use Rattle.sx_extcheck.specs.FlatTerms.{flat_terms}
 use Rattle.sx_extcheck.specs.Searches.{Search, ending_of, tries_in, StuckIn}
 
--- What a rule is checked against: the set before its extension, with the plain table of the extension; labels below the number are
--- base. A walk makes at most so many tries, and a lowered derivation has at most so many nodes.
+-- What a rule is checked against: the set before its extension, with the plain table of the
+-- extension; labels below the number are base. A walk makes at most so many tries, and a lowered
+-- derivation has at most so many nodes.
 pub record Check : Type 0 where
   pub sig : Signature
   pub labels : ℕ
@@ -37,7 +77,8 @@ module _ (c : Check) (ext : ExtRule) where
   abbrev pub by_base : Bool
   by_base = has_base_syntax c.labels c.set.table ext.body
 
-  -- what is searched for: the flat conclusion's outputs, from the flat premises, by the base rules, or by these and the plain rules of the set
+  -- what is searched for: the flat conclusion's outputs, from the flat premises, by the base
+  -- rules, or by these and the plain rules of the set
   abbrev pub search_for : Search
   search_for =
       let j = flat_goal c.set.table c.sig.subjects ext in
@@ -74,10 +115,12 @@ module _ (c : Check) (ext : ExtRule) where
       (by_base ≡ true) × (p : Proof) × (outs : List Tree) × EndsSo (found (p, outs))
       × (s ≡ record { rule = ext.rule; body = option_map (image c.set.table) ext.body; proof = p })
 
-  -- what the first derivation by base and plain rules is lowered to is stored, with the subject of what that derives
+  -- what the first derivation by base and plain rules is lowered to is stored, with the subject
+  -- of what that derives
   abbrev pub IsStoredLowered : Checked → Type 0
   IsStoredLowered s =
-      (x : Rewritten) × IsLowered (Ok x) × (t : Tree) × (subjects_of c.sig.subjects x.judgement ≡ t ∷ [])
+      (x : Rewritten) × IsLowered (Ok x)
+      × (t : Tree) × (subjects_of c.sig.subjects x.judgement ≡ t ∷ [])
       × (s ≡ record { rule = ext.rule; body = Some t; proof = x.proof })
 
   -- what is stored of the rule

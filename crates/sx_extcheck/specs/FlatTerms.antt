@@ -1,5 +1,19 @@
 -- The terms of a rule that are measured before it is checked.
-use Rattle.std.specs.Prelude.{◌≤◌, Bool, true, false, List, [], ◌∷◌, ◌++◌, Option, Some, None, map, option_map}
+use Rattle.std.specs.Prelude.{
+  ◌≤◌,
+  Bool,
+  true,
+  false,
+  List,
+  [],
+  ◌∷◌,
+  ◌++◌,
+  Option,
+  Some,
+  None,
+  map,
+  option_map,
+}
 use Rattle.std.specs.List.{AllByRecursion}
 use Rattle.sx_term.specs.Tree.{Tree, depth_of}
 use Rattle.sx_rules.specs.Rules.{Premise, holds, apart}
@@ -9,9 +23,10 @@ use Rattle.sx_rules.specs.Typed.{others_of}
 use Rattle.sx_plain.specs.Plain.{Table, image}
 use Rattle.sx_plain.specs.Tables.{FitsTable}
 use Rattle.sx_rewrite.specs.Accepted.{ExtRule}
-use Rattle.sx_rewrite.specs.PlainRules.{image_judgement, image_premise, plain_rule}
+use Rattle.sx_rewrite.specs.PlainRules.{image_judgement, image_premise}
 
--- the terms of the premises in order: the places of each judgement, and both sides where two terms are to be apart
+-- the terms of the premises in order: the places of each judgement, and both sides where two
+-- terms are to be apart
 abbrev pub premise_terms : List Premise → List Tree
 premise_terms [] = []
 premise_terms (holds j ∷ ps) = j.places ++ premise_terms ps
@@ -22,8 +37,9 @@ abbrev pub listed_term : Option Tree → List Tree
 listed_term None = []
 listed_term (Some t) = t ∷ []
 
--- The measured terms, in order: those of the plain rule's premises, the places of its conclusion that are no subjects, the body with
--- plain images, and the subject of the plain rule. The plain premises are the flat ones, since the subject of a premise is a variable.
+-- The measured terms, in order: those of the plain rule's premises, the places of its conclusion
+-- that are no subjects, the body with plain images, and the subject of the plain rule. The plain
+-- premises are the flat ones, since the subject of a premise is a variable.
 abbrev pub flat_terms : Table → Modes → ExtRule → List Tree
 flat_terms table subjects ext =
     premise_terms (map (image_premise table) ext.rule.premises)

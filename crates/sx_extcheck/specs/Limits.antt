@@ -1,9 +1,20 @@
 -- Limits that a rule passes.
 use Rattle.sx_rewrite.specs.declared.rewrite_error.RewriteError.{RewriteError}
-use Rattle.sx_rewrite.specs.declared.rewrite_error.RewriteError.TheVariants.{Memory as NoMemory, RewriteSpent as NodesSpent, RewriteDeep as Deep, TooDeep as DeepTerm, TooBig as BigTerm}
+use Rattle.sx_rewrite.specs.declared.rewrite_error.RewriteError.TheVariants.{
+  Memory as NoMemory,
+  RewriteSpent as NodesSpent,
+  RewriteDeep as Deep,
+  TooDeep as DeepTerm,
+  TooBig as BigTerm,
+}
 use Rattle.sx_extcheck.specs.declared.check_error.CheckError.{CheckError}
 use Rattle.sx_extcheck.specs.declared.check_error.CheckError.TheVariants.{Memory, Defect}
-use Rattle.sx_extcheck.specs.declared.rule_defect.RuleDefect.TheVariants.{TooDeep, TooBig, RewriteSpent, RewriteDeep}
+use Rattle.sx_extcheck.specs.declared.rule_defect.RuleDefect.TheVariants.{
+  TooDeep,
+  TooBig,
+  RewriteSpent,
+  RewriteDeep,
+}
 
 -- the error of a measure or of rewriting, as want of memory or as a defect
 abbrev pub defect_of : RewriteError → CheckError

@@ -16,15 +16,29 @@ use Rattle.sx_rules.specs.Views.{goal as goal_view, hypotheses, modes_of, subjec
 use Rattle.sx_arena.specs.Entered.{ArePairsShallow}
 use Rattle.sx_derive.specs.Blames.{blame_of}
 use Rattle.sx_derive.specs.declared.derive_error.DeriveError.{DeriveError}
-use Rattle.sx_derive.specs.declared.derive_error.DeriveError.TheVariants.{Memory as NoMemory, Underivable, BudgetSpent as TriesSpent, DepthSpent as DepthDone, TooDeep as DeepTerm, TooBig as BigTerm}
+use Rattle.sx_derive.specs.declared.derive_error.DeriveError.TheVariants.{
+  Memory as NoMemory,
+  Underivable,
+  BudgetSpent as TriesSpent,
+  DepthSpent as DepthDone,
+  TooDeep as DeepTerm,
+  TooBig as BigTerm,
+}
 use Rattle.sx_derive.specs.Search.{Ending, found, stopped, spent, exhausted, walk, tries_of}
 use Rattle.sx_derive.specs.Stuck.{Blame, IsStuck}
 use Rattle.sx_derive.specs.Walk.{depth_spent, too_deep, too_big, events}
 use Rattle.sx_extcheck.specs.declared.check_error.CheckError.{CheckError}
 use Rattle.sx_extcheck.specs.declared.check_error.CheckError.TheVariants.{Memory, Defect}
 use Rattle.sx_extcheck.specs.declared.flat_goal.FlatGoal.{FlatGoal}
-use Rattle.sx_extcheck.specs.declared.rule_defect.RuleDefect.{RuleDefect}
-use Rattle.sx_extcheck.specs.declared.rule_defect.RuleDefect.TheVariants.{Rejected, BudgetSpent, DepthSpent, TooDeep, TooBig, RewriteSpent, RewriteDeep}
+use Rattle.sx_extcheck.specs.declared.rule_defect.RuleDefect.TheVariants.{
+  Rejected,
+  BudgetSpent,
+  DepthSpent,
+  TooDeep,
+  TooBig,
+  RewriteSpent,
+  RewriteDeep,
+}
 
 -- what is searched for: a goal with these outputs, from hypotheses, by rules
 pub record Search : Type 0 where
@@ -65,16 +79,22 @@ pub record IsShallowSearch (s : Search) : Type 0 where
   pub goal : AreShallow s.goal.terms
   pub wanted : AreShallow s.wanted
 
--- the derivation that the walk finds, which is within the limits of derivations, or how the walk ends without one
+-- the derivation that the walk finds, which is within the limits of derivations, or how the walk
+-- ends without one
 abbrev pub IsSearched : Search → ℕ → Result (Box ProofOf) CheckError → Type 0
 IsSearched s tries (Ok p) =
-    ((outs : List Tree) × (ending_of s tries ≡ found (proof p.value, outs))) × (height_of (proof p.value) ≤ 3000) × HasShallowBinds (proof p.value)
+    ((outs : List Tree) × (ending_of s tries ≡ found (proof p.value, outs)))
+    × (height_of (proof p.value) ≤ 3000) × HasShallowBinds (proof p.value)
 IsSearched s tries (Err Memory) = Unit {0}
-IsSearched s tries (Err (Defect (Rejected b))) = (ending_of s tries ≡ exhausted) × StuckIn s (blame_of b)
+IsSearched s tries (Err (Defect (Rejected b))) =
+    (ending_of s tries ≡ exhausted) × StuckIn s (blame_of b)
 IsSearched s tries (Err (Defect (BudgetSpent n))) = (ending_of s tries ≡ spent) × (n ≡ tries)
-IsSearched s tries (Err (Defect (DepthSpent n))) = (ending_of s tries ≡ stopped depth_spent) × (n ≡ 3000)
-IsSearched s tries (Err (Defect (TooDeep n))) = (depth : ℕ) × (ending_of s tries ≡ stopped (too_deep depth)) × (n ≡ min depth (2 ^ 64 - 1))
-IsSearched s tries (Err (Defect (TooBig n))) = (size : ℕ) × (ending_of s tries ≡ stopped (too_big size)) × (n ≡ min size (2 ^ 64 - 1))
+IsSearched s tries (Err (Defect (DepthSpent n))) =
+    (ending_of s tries ≡ stopped depth_spent) × (n ≡ 3000)
+IsSearched s tries (Err (Defect (TooDeep n))) =
+    (depth : ℕ) × (ending_of s tries ≡ stopped (too_deep depth)) × (n ≡ min depth (2 ^ 64 - 1))
+IsSearched s tries (Err (Defect (TooBig n))) =
+    (size : ℕ) × (ending_of s tries ≡ stopped (too_big size)) × (n ≡ min size (2 ^ 64 - 1))
 IsSearched s tries (Err (Defect (RewriteSpent n))) = ⊥
 IsSearched s tries (Err (Defect RewriteDeep)) = ⊥
 

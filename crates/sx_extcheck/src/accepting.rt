@@ -12,7 +12,13 @@ ghost use Rattle.sx_plain.specs.Views.{table_of};
 ghost use Rattle.sx_rewrite.specs.AcceptedView.{signature};
 ghost use Rattle.sx_rewrite.specs.Extensions.{Fits};
 ghost use Rattle.sx_rewrite.specs.ExtensionView.{ext_rule, named_rules};
-ghost use Rattle.sx_extcheck.specs.Accepts.{check_for, WereChecked, IsRefusal, IsAnswered, RejectsUnsound};
+ghost use Rattle.sx_extcheck.specs.Accepts.{
+  check_for,
+  WereChecked,
+  IsRefusal,
+  IsAnswered,
+  RejectsUnsound,
+};
 ghost use Rattle.sx_extcheck.specs.CheckView.{CanCheck};
 ghost use Rattle.sx_extcheck.specs.FlatTerms.{listed_term};
 
@@ -27,10 +33,12 @@ use std::sync::ledger::Ledger;
 use sx_rewrite::{Accepted, ExtensionData, Flat};
 use sx_term::{Shapes, Steps, Text};
 
-/// Adds the extension, whose rules have the shapes, to the set. Its rules are checked one after the other against the set, and each
-/// is stored with its flat body and its certificate: the first derivation of its flat conclusion from its flat premises by the base
-/// rules, or, where its body has typed syntax of the extensions before, what the first derivation by these and the plain rules is
-/// lowered to. Each try is counted in `steps`, and at most `budgets.tries` are made for a rule.
+/// Adds the extension, whose rules have the shapes, to the set. Its rules are checked one after
+/// the other against the set, and each is stored with its flat body and its certificate: the
+/// first derivation of its flat conclusion from its flat premises by the base rules, or, where
+/// its body has typed syntax of the extensions before, what the first derivation by these and the
+/// plain rules is lowered to. Each try is counted in `steps`, and at most `budgets.tries` are
+/// made for a rule.
 ///
 /// The first rule that is refused ends it. After each refusal the set is as it was given:
 ///
@@ -44,15 +52,20 @@ pub fn accept<L: Ledger>(
     budgets: Budgets,
     steps: &mut Steps<L>,
 ) -> Result<Accepted, Refused>
-    requires good { IsRuleSet (shapes all.now) (forms_in so_far.rules) (rules_in so_far.rules ++ named_rules ext) }
+    requires good { IsRuleSet (shapes all.now) (forms_in so_far.rules)
+        (rules_in so_far.rules ++ named_rules ext) }
     requires shallow { RulesAreShallow (map (λ e. rule e.rule) ext.rules.items) }
-    requires bodies { AllByRecursion (λ e. AreShallow (listed_term (option_map tree e.body))) ext.rules.items }
+    requires bodies { AllByRecursion
+        (λ e. AreShallow (listed_term (option_map tree e.body))) ext.rules.items }
     requires few { AllByRecursion (λ e. length e.rule.premises.items < 2 ^ 32) ext.rules.items }
     requires labels { ext.plain.base ≡ so_far.plain.base }
-    requires fits { Fits (signature so_far) (shapes_in so_far.base) (shapes_in so_far.rules) (shapes all.now) (table_of so_far.plain) (table_of ext.plain)
+    requires fits { Fits (signature so_far) (shapes_in so_far.base) (shapes_in so_far.rules)
+        (shapes all.now) (table_of so_far.plain) (table_of ext.plain)
         (map ext_rule ext.rules.items) }
-    ensures answer { IsAnswered so_far (shapes all.now) ext (check_for so_far ext budgets) steps.old steps.new result }
-    ensures unsound { IfErr result (λ refused. RejectsUnsound (check_for so_far ext budgets) ext.rules.items refused.error) }
+    ensures answer { IsAnswered so_far (shapes all.now) ext (check_for so_far ext budgets)
+        steps.old steps.new result }
+    ensures unsound { IfErr result
+        (λ refused. RejectsUnsound (check_for so_far ext budgets) ext.rules.items refused.error) }
 {
     so_far.facts();
     so_far.base_rules().facts();
@@ -71,7 +84,8 @@ pub fn accept<L: Ledger>(
     }
 }
 
-/// What is stored of each rule of the extension, one after the other. The first rule that is refused ends it.
+/// What is stored of each rule of the extension, one after the other. The first rule that is
+/// refused ends it.
 fn check_rules<L: Ledger>(
     alloc: Global,
     set: &Accepted,
@@ -80,7 +94,8 @@ fn check_rules<L: Ledger>(
     steps: &mut Steps<L>,
 ) -> Result<Vec<Flat>, AcceptError>
     requires { AllByRecursion (CanCheck set.now ext.now.plain) ext.now.rules.items }
-    ensures { WereChecked (check_for set.now ext.now budgets) ext.now.rules.items steps.old steps.new result }
+    ensures { WereChecked (check_for set.now ext.now budgets) ext.now.rules.items
+        steps.old steps.new result }
 {
     let checking = Checking {
         alloc,

@@ -13,7 +13,8 @@ use sx_term::Term;
 /// Whether there is no body, or its typed syntax is base: each label of it is base or has an entry.
 pub(crate) fn has_base_syntax(plain: &PlainTable, body: &Option<Term>) -> bool
     requires { AreShallow (listed_term (option_map tree body.now)) }
-    ensures { result ≡ known.has_base_syntax plain.now.base (table_of plain.now) (option_map tree body.now) }
+    ensures { result
+        ≡ known.has_base_syntax plain.now.base (table_of plain.now) (option_map tree body.now) }
 {
     match body {
         Some(term) => first_later(plain, term).is_none(),

@@ -1,7 +1,14 @@
 //! The first derivation of a flat goal.
 
 ghost use Rattle.std.specs.Prelude.{◌≡◌, ◌^◌, ◌<◌, length};
-ghost use Rattle.sx_extcheck.specs.Searches.{search_of, tries_in, IsShallowSearch, IsSearched, AreCounted, defect_of};
+ghost use Rattle.sx_extcheck.specs.Searches.{
+  search_of,
+  tries_in,
+  IsShallowSearch,
+  IsSearched,
+  AreCounted,
+  defect_of,
+};
 
 use crate::check_error::CheckError;
 use crate::flat_goal::FlatGoal;
@@ -12,8 +19,8 @@ use sx_derive::{DeriveError, Derived, derive};
 use sx_rules::{Hyps, Proof, RuleSet};
 use sx_term::Steps;
 
-/// The first derivation of the goal with the wanted outputs, from the hypotheses. Each try is counted in `steps`, and at most
-/// `tries` are made.
+/// The first derivation of the goal with the wanted outputs, from the hypotheses. Each try is
+/// counted in `steps`, and at most `tries` are made.
 pub(crate) fn find<L: Ledger>(
     alloc: Global,
     rules: &RuleSet,
@@ -25,7 +32,8 @@ pub(crate) fn find<L: Ledger>(
     requires few { length given.now.holds.items < 2 ^ 32 }
     requires shallow { IsShallowSearch (search_of rules.now given.now goal.now) }
     ensures answer { IsSearched (search_of rules.now given.now goal.now) tries result }
-    ensures steps { AreCounted (tries_in (search_of rules.now given.now goal.now) tries) steps.old steps.new result }
+    ensures steps { AreCounted (tries_in (search_of rules.now given.now goal.now) tries)
+        steps.old steps.new result }
 {
     match derive(
         alloc,

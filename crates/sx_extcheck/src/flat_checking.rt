@@ -29,7 +29,10 @@ pub(crate) fn check_flat<L: Ledger>(
 ) -> Result<Flat, CheckError>
     requires { IsFlatRule checking.now ext.now given.now goal.now }
     ensures answer { IsRuleChecked (check_of checking.now) ext.now result }
-    ensures steps { AreCounted (tries_in (search_for (check_of checking.now) (ext_rule ext.now)) checking.now.budgets.tries) steps.old steps.new result }
+    ensures steps { AreCounted
+        (tries_in (search_for (check_of checking.now) (ext_rule ext.now))
+        checking.now.budgets.tries)
+        steps.old steps.new result }
 {
     if has_base_syntax(checking.plain, &ext.body) {
         return check_by_base(checking, ext, given, goal, steps);
@@ -37,8 +40,8 @@ pub(crate) fn check_flat<L: Ledger>(
     check_by_plain(checking, ext, given, goal, steps)
 }
 
-/// What is stored of a rule whose body has base typed syntax alone, or that has none: the first derivation by the base rules, and the
-/// plain image of the body.
+/// What is stored of a rule whose body has base typed syntax alone, or that has none: the first
+/// derivation by the base rules, and the plain image of the body.
 fn check_by_base<L: Ledger>(
     checking: &Checking,
     ext: &ExtRule,
@@ -49,7 +52,10 @@ fn check_by_base<L: Ledger>(
     requires flat { IsFlatRule checking.now ext.now given.now goal.now }
     requires base { by_base (check_of checking.now) (ext_rule ext.now) ≡ true }
     ensures answer { IsRuleChecked (check_of checking.now) ext.now result }
-    ensures steps { AreCounted (tries_in (search_for (check_of checking.now) (ext_rule ext.now)) checking.now.budgets.tries) steps.old steps.new result }
+    ensures steps { AreCounted
+        (tries_in (search_for (check_of checking.now) (ext_rule ext.now))
+        checking.now.budgets.tries)
+        steps.old steps.new result }
 {
     let rules = checking.set.base_rules();
     match find(
@@ -65,8 +71,8 @@ fn check_by_base<L: Ledger>(
     }
 }
 
-/// What is stored of a rule whose body has typed syntax of the extensions before: what the first derivation by the base rules and the
-/// plain rules is lowered to.
+/// What is stored of a rule whose body has typed syntax of the extensions before: what the first
+/// derivation by the base rules and the plain rules is lowered to.
 fn check_by_plain<L: Ledger>(
     checking: &Checking,
     ext: &ExtRule,
@@ -77,7 +83,10 @@ fn check_by_plain<L: Ledger>(
     requires flat { IsFlatRule checking.now ext.now given.now goal.now }
     requires plain { by_base (check_of checking.now) (ext_rule ext.now) ≡ false }
     ensures answer { IsRuleChecked (check_of checking.now) ext.now result }
-    ensures steps { AreCounted (tries_in (search_for (check_of checking.now) (ext_rule ext.now)) checking.now.budgets.tries) steps.old steps.new result }
+    ensures steps { AreCounted
+        (tries_in (search_for (check_of checking.now) (ext_rule ext.now))
+        checking.now.budgets.tries)
+        steps.old steps.new result }
 {
     checking.set.facts();
     let rules = checking.set.plain_rules();

@@ -1,6 +1,15 @@
 //! The flat conclusion of a rule, as a goal.
 
-ghost use Rattle.std.specs.Prelude.{◌≡◌, false, IfOk, map, get_or, option_map, unwrap_or, if◌then◌else◌};
+ghost use Rattle.std.specs.Prelude.{
+  ◌≡◌,
+  false,
+  IfOk,
+  map,
+  get_or,
+  option_map,
+  unwrap_or,
+  if◌then◌else◌,
+};
 ghost use Rattle.std.specs.List.{AllByRecursion};
 ghost use Rattle.sx_term.specs.Term.{tree};
 ghost use Rattle.sx_term.specs.Roles.{is_out};
@@ -21,18 +30,23 @@ use sx_rewrite::{ExtRule, is_subject, places_of, plain_term};
 use sx_rules::{Goal, Place, RuleSet};
 use sx_term::{NoMemory, Role, Term};
 
-/// The goal and the outputs of the flat conclusion: its places have plain images, and the subject gives way to the plain image of
-/// the body. The one refusal is want of memory.
+/// The goal and the outputs of the flat conclusion: its places have plain images, and the subject
+/// gives way to the plain image of the body. The one refusal is want of memory.
 pub(crate) fn flat_goal(
     alloc: Global,
     set: &RuleSet,
     plain: &PlainTable,
     ext: &ExtRule,
 ) -> Result<FlatGoal, NoMemory>
-    requires places { AllByRecursion (HasImage (table_of plain.now)) (judgement ext.now.rule.conclusion).places }
-    requires body { AllByRecursion (HasImage (table_of plain.now)) (listed_term (option_map tree ext.now.body)) }
-    ensures goal { IfOk result (λ g. goal g.goal ≡ known.goal_of (modes_of (forms_in set.now)) (flat.flat_goal (table_of plain.now) (subjects_in (forms_in set.now)) (ext_rule ext.now))) }
-    ensures wanted { IfOk result (λ g. map tree g.wanted.items ≡ known.outputs_of (modes_of (forms_in set.now)) (flat.flat_goal (table_of plain.now) (subjects_in (forms_in set.now)) (ext_rule ext.now))) }
+    requires places { AllByRecursion (HasImage (table_of plain.now))
+        (judgement ext.now.rule.conclusion).places }
+    requires body { AllByRecursion (HasImage (table_of plain.now))
+        (listed_term (option_map tree ext.now.body)) }
+    ensures goal { IfOk result (λ g. goal g.goal ≡ known.goal_of (modes_of (forms_in set.now))
+        (flat.flat_goal (table_of plain.now) (subjects_in (forms_in set.now)) (ext_rule ext.now))) }
+    ensures wanted { IfOk result
+        (λ g. map tree g.wanted.items ≡ known.outputs_of (modes_of (forms_in set.now))
+        (flat.flat_goal (table_of plain.now) (subjects_in (forms_in set.now)) (ext_rule ext.now))) }
 {
     let conclusion = &ext.rule.conclusion;
     let places = places_of(set, conclusion.form);
@@ -71,8 +85,8 @@ fn is_output(places: &[Place], place: usize) -> bool
     }
 }
 
-/// The plain image of the term; a subject gives way to the plain image of the body, where there is one, or stays as it is. The one
-/// refusal is want of memory.
+/// The plain image of the term; a subject gives way to the plain image of the body, where there
+/// is one, or stays as it is. The one refusal is want of memory.
 fn flat_term(
     alloc: Global,
     plain: &PlainTable,
@@ -81,8 +95,11 @@ fn flat_term(
     body: &Option<Term>,
 ) -> Result<Term, NoMemory>
     requires term { HasImage (table_of plain.now) (tree term.now) }
-    requires body { AllByRecursion (HasImage (table_of plain.now)) (listed_term (option_map tree body.now)) }
-    ensures { IfOk result (λ t. tree t ≡ (if subject then unwrap_or (option_map (image (table_of plain.now)) (option_map tree body.now)) (tree term.now)
+    requires body { AllByRecursion (HasImage (table_of plain.now))
+        (listed_term (option_map tree body.now)) }
+    ensures { IfOk result (λ t. tree t ≡ (if subject then
+        unwrap_or (option_map (image (table_of plain.now)) (option_map tree body.now))
+        (tree term.now)
         else image (table_of plain.now) (tree term.now))) }
 {
     if !subject {

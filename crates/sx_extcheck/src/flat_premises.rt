@@ -13,15 +13,16 @@ use sx_rewrite::{plain_judgement, plain_term};
 use sx_rules::{Hyps, Premise};
 use sx_term::NoMemory;
 
-/// The premises with plain images, as hypotheses: the judgements, and the pairs of terms that are to be apart. The one refusal is
-/// want of memory.
+/// The premises with plain images, as hypotheses: the judgements, and the pairs of terms that are
+/// to be apart. The one refusal is want of memory.
 pub(crate) fn plain_premises(
     alloc: Global,
     plain: &PlainTable,
     premises: &[Premise],
 ) -> Result<Hyps, NoMemory>
     requires { AllByRecursion (PremiseHasImage (table_of plain.now)) (map premise premises.now) }
-    ensures { IfOk result (λ h. hypotheses h ≡ plain_given (table_of plain.now) (map premise premises.now)) }
+    ensures { IfOk result
+        (λ h. hypotheses h ≡ plain_given (table_of plain.now) (map premise premises.now)) }
 {
     let mut given = Hyps {
         holds: Vec::new(alloc),
@@ -41,7 +42,8 @@ fn add_premise(
     given: &mut Hyps,
 ) -> Result<(), NoMemory>
     requires { PremiseHasImage (table_of plain.now) (premise from.now) }
-    ensures { OnOk result (hypotheses given.new ≡ both_given (hypotheses given.old) (plain_given (table_of plain.now) (premise from.now ∷ []))) }
+    ensures { OnOk result (hypotheses given.new ≡ both_given (hypotheses given.old)
+        (plain_given (table_of plain.now) (premise from.now ∷ []))) }
 {
     match from {
         Premise::Holds(it) => {

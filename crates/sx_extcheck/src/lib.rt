@@ -1,9 +1,11 @@
 //! Extensions are checked, rule by rule, and added to accepted sets.
 //!
-//! - `accept` adds an extension to an accepted set. Each of its rules is checked against the set: its flat terms are measured, and
-//!   the first derivation of its flat conclusion from its flat premises is searched for. The first rule that is refused ends it.
-//! - Where the typed syntax of a rule's body is base, the base rules alone are taken. Otherwise the plain rules of the set are taken
-//!   too, and what is found is lowered to a derivation by the base rules, whose subject is the flat body.
+//! - `accept` adds an extension to an accepted set. Each of its rules is checked against the set:
+//!   its flat terms are measured, and the first derivation of its flat conclusion from its flat
+//!   premises is searched for. The first rule that is refused ends it.
+//! - Where the typed syntax of a rule's body is base, the base rules alone are taken. Otherwise
+//!   the plain rules of the set are taken too, and what is found is lowered to a derivation by
+//!   the base rules, whose subject is the flat body.
 #![tactic(auto)]
 
 mod accept_error;

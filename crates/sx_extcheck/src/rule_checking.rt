@@ -16,9 +16,10 @@ use std::sync::ledger::Ledger;
 use sx_rewrite::{ExtRule, Flat};
 use sx_term::Steps;
 
-/// What is stored of the rule: its flat terms are measured, the first derivation of its flat conclusion from its flat premises is
-/// searched for, by the base rules alone where the typed syntax of its body is base, and else what is found by the base rules and
-/// the plain rules of the set is lowered.
+/// What is stored of the rule: its flat terms are measured, the first derivation of its flat
+/// conclusion from its flat premises is searched for, by the base rules alone where the typed
+/// syntax of its body is base, and else what is found by the base rules and the plain rules of
+/// the set is lowered.
 pub(crate) fn check_rule<L: Ledger>(
     checking: &Checking,
     ext: &ExtRule,
@@ -26,7 +27,8 @@ pub(crate) fn check_rule<L: Ledger>(
 ) -> Result<Flat, CheckError>
     requires { CanCheck checking.now.set.now checking.now.plain.now ext.now }
     ensures answer { IsRuleChecked (check_of checking.now) ext.now result }
-    ensures steps { AreCounted (tries_for (check_of checking.now) (ext_rule ext.now)) steps.old steps.new result }
+    ensures steps { AreCounted (tries_for (check_of checking.now) (ext_rule ext.now))
+        steps.old steps.new result }
 {
     let base = checking.set.base_rules();
     match measure_rule(base, checking.plain, ext) {

@@ -7,7 +7,8 @@ use thiserror::Error;
 /// Why a rule of an extension is refused.
 #[derive(Drop, Error)]
 pub enum RuleDefect {
-    /// The rule is not sound: its flat conclusion has no derivation from its flat premises, and this goal is stuck.
+    /// The rule is not sound: its flat conclusion has no derivation from its flat premises, and
+    /// this goal is stuck.
     #[error("the rule is not sound")]
     Rejected(Blame),
     /// The search needs more tries than these.
@@ -16,11 +17,13 @@ pub enum RuleDefect {
     /// The search comes to a goal that is deeper than this.
     #[error("a goal is too deep")]
     DepthSpent(u32),
-    /// A flat term of the rule, or else one that the search makes, or else one of the lowered derivation, has this depth, which is
-    /// more than 1,000. The number stays at the greatest u64.
+    /// A flat term of the rule, or else one that the search makes, or else one of the lowered
+    /// derivation, has this depth, which is more than 1,000. The number stays at the greatest
+    /// u64.
     #[error("a term is too deep")]
     TooDeep(u64),
-    /// Such a term has so many nodes, lexemes and variables, which are more than 1,000,000. The number stays at the greatest u64.
+    /// Such a term has so many nodes, lexemes and variables, which are more than 1,000,000. The
+    /// number stays at the greatest u64.
     #[error("a term has too many nodes")]
     TooBig(u64),
     /// The lowered derivation has more nodes than these.

@@ -20,15 +20,18 @@ use sx_rewrite::{Flat, Lowered, plain_term, subject_of};
 use sx_rules::{Judgement, Proof, RuleSet};
 use sx_term::{NoMemory, Term};
 
-/// The plain image of the body, where there is one, with the certificate. The one refusal is want of memory.
+/// The plain image of the body, where there is one, with the certificate. The one refusal is want
+/// of memory.
 pub(crate) fn with_image(
     alloc: Global,
     plain: &PlainTable,
     body: &Option<Term>,
     proof: Box<Proof>,
 ) -> Result<Flat, NoMemory>
-    requires { AllByRecursion (HasImage (table_of plain.now)) (listed_term (option_map tree body.now)) }
-    ensures { IfOk result (λ f. (option_map tree f.subject ≡ option_map (image (table_of plain.now)) (option_map tree body.now))
+    requires { AllByRecursion (HasImage (table_of plain.now))
+        (listed_term (option_map tree body.now)) }
+    ensures { IfOk result (λ f. (option_map tree f.subject
+        ≡ option_map (image (table_of plain.now)) (option_map tree body.now))
         × (view.proof f.proof.value ≡ view.proof proof.value)) }
 {
     match body {
@@ -52,8 +55,11 @@ pub(crate) fn with_image(
 /// The lowered derivation with the subject of what it derives. The one refusal is want of memory.
 pub(crate) fn with_subject(alloc: Global, set: &RuleSet, lowered: Lowered) -> Result<Flat, NoMemory>
     requires places { AreShallow (judgement lowered.judgement).places }
-    requires subject { (t : Tree) × (subjects_of (subjects_in (forms_in set.now)) (judgement lowered.judgement) ≡ t ∷ []) }
-    ensures { IfOk result (λ f. MatchOption f.subject ⊥ (λ t. subjects_of (subjects_in (forms_in set.now)) (judgement lowered.judgement) ≡ tree t ∷ [])
+    requires subject { (t : Tree)
+        × (subjects_of (subjects_in (forms_in set.now)) (judgement lowered.judgement) ≡ t ∷ []) }
+    ensures { IfOk result (λ f. MatchOption f.subject ⊥
+        (λ t. subjects_of (subjects_in (forms_in set.now)) (judgement lowered.judgement)
+        ≡ tree t ∷ [])
         × (view.proof f.proof.value ≡ view.proof lowered.proof.value)) }
 {
     let Lowered {
@@ -80,8 +86,10 @@ pub(crate) fn with_subject(alloc: Global, set: &RuleSet, lowered: Lowered) -> Re
 /// An equal term to the subject of the judgement. The one refusal is want of memory.
 fn subject_copy(alloc: Global, set: &RuleSet, from: &Judgement) -> Result<Term, NoMemory>
     requires places { AreShallow (judgement from.now).places }
-    requires subject { (t : Tree) × (subjects_of (subjects_in (forms_in set.now)) (judgement from.now) ≡ t ∷ []) }
-    ensures { IfOk result (λ t. subjects_of (subjects_in (forms_in set.now)) (judgement from.now) ≡ tree t ∷ []) }
+    requires subject { (t : Tree)
+        × (subjects_of (subjects_in (forms_in set.now)) (judgement from.now) ≡ t ∷ []) }
+    ensures { IfOk result
+        (λ t. subjects_of (subjects_in (forms_in set.now)) (judgement from.now) ≡ tree t ∷ []) }
 {
     match subject_of(set, from) {
         Some(term) => term.copy(alloc),

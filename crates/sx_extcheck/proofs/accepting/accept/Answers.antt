@@ -1,5 +1,4 @@
-use Rattle.std.proofs.Common.{◌≡◌, sym, ◌∙◌, subst, ap, map, length}
-use Rattle.std.specs.Prelude.{Ok, Err}
+use Rattle.std.proofs.Common.{◌∙◌, subst, map}
 use Rattle.sx_term.specs.Shapes.{shapes}
 use Rattle.sx_rules.specs.declared.rule_set.RuleSet.{RuleSet}
 use Rattle.sx_rules.specs.Modes.{AllModed}

@@ -1,5 +1,5 @@
-use Rattle.std.proofs.Common.{◌≡◌, ◌+◌, List, refl, sym, subst, arith}
-use Rattle.std.specs.Prelude.{Ok, Err}
+use Rattle.std.proofs.Common.{◌+◌, List, refl, sym, subst, arith}
+use Rattle.std.specs.Prelude.{Err}
 use Rattle.sx_rewrite.proofs.Instanced.{err_is}
 use Rattle.sx_rewrite.proofs.PlainGood.{held-in}
 use Rattle.sx_rewrite.specs.declared.flat.Flat.{Flat}

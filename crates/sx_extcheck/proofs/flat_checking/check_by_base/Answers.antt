@@ -1,5 +1,5 @@
-use Rattle.std.proofs.Common.{◌≡◌, sym, ◌∙◌, subst, ap}
-use Rattle.std.specs.Prelude.{Ok, Err, option_map}
+use Rattle.std.proofs.Common.{sym, ◌∙◌, subst, ap}
+use Rattle.std.specs.Prelude.{Ok, option_map}
 use Rattle.sx_rules.specs.declared.rule_set.RuleSet.{RuleSet}
 use Rattle.sx_rules.specs.ProofView.{proof}
 use Rattle.sx_term.specs.Term.{tree}

@@ -1,4 +1,4 @@
-use Rattle.std.proofs.Common.{◌≡◌, ℕ, sym, ◌∙◌, ◌+◌, subst, ap, ◌∷◌, []}
+use Rattle.std.proofs.Common.{◌≡◌, sym, ◌∙◌, ◌+◌, subst, ap, ◌∷◌, []}
 use Rattle.std.specs.Prelude.{Ok, Err}
 use Rattle.std.specs.Global.{Box}
 use Rattle.sx_rules.specs.declared.proof.Proof.{Proof as ProofOf}

@@ -1,16 +1,12 @@
-use Rattle.std.proofs.Common.{◌≡◌, List, map, subst, None}
-use Rattle.std.specs.Prelude.{option_map, Bool, true, false}
+use Rattle.std.specs.Prelude.{option_map, true, false}
 use Rattle.sx_term.specs.Term.{tree}
-use Rattle.sx_term.specs.Tree.{Tree}
 use Rattle.sx_rules.specs.Sets.{forms_in}
-use Rattle.sx_rules.specs.Views.{premise, subjects_in}
+use Rattle.sx_rules.specs.Views.{subjects_in}
 use Rattle.sx_plain.specs.Plain.{image}
 use Rattle.sx_plain.specs.Views.{table_of}
 use Rattle.sx_rewrite.specs.ExtensionView.{ext_rule}
-use Rattle.sx_rewrite.specs.PlainRules.{image_premise}
-use Rattle.sx_rewrite.specs.Puts.{Tells, Answers}
 use Rattle.sx_rewrite.specs.Rewriting.{first_over}
-use Rattle.sx_extcheck.specs.FlatTerms.{premise_terms, listed_term, flat_terms, picked}
+use Rattle.sx_extcheck.specs.FlatTerms.{listed_term, flat_terms, picked}
 use Rattle.sx_extcheck.proofs.Measuring.{told, first-tell, second-tell, third-tell, fourth-answers, premises_from, images_from}
 use Rattle.sx_extcheck.proofs.flat_terms.measure_rule.Goals as goal
 

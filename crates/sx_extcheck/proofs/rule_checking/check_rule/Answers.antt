@@ -1,9 +1,3 @@
-use Rattle.std.proofs.Common.{◌≡◌, sym, ◌∙◌, subst, None, map}
-use Rattle.std.specs.List.{AllByRecursion}
-use Rattle.sx_rules.specs.declared.rule.Premise.{Premise}
-use Rattle.sx_rules.specs.Views.{premise}
-use Rattle.sx_plain.specs.Views.{table_of}
-use Rattle.sx_rewrite.specs.PlainRules.{PremiseHasImage}
 use Rattle.sx_extcheck.proofs.Ready.{can-measure, premises-ready, places-ready, body-ready, flat-ready}
 use Rattle.sx_extcheck.proofs.rule_checking.check_rule.Goals as goal
 
