@@ -9,3 +9,5 @@ pub mod ByRules
 pub mod StoredRules
 pub mod Fronts
 pub mod Fitting
+pub mod Verdicts
+pub mod OneOutcome

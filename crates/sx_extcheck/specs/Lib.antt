@@ -5,4 +5,5 @@ pub mod Limits
 pub mod Searches
 pub mod CheckView
 pub mod Accepts
+pub mod Agree
 pub mod Laws

@@ -1,5 +1,6 @@
 //! What holds of rules that are checked.
 
+ghost use Rattle.sx_extcheck.specs.Agree.{OneOutcomeIsDue};
 ghost use Rattle.sx_extcheck.specs.Laws.{CheckedRulesAreStored, RejectedRulesAreUnsound};
 
 /// What is stored of a rule is a first derivation, or what a first derivation is lowered to.
@@ -10,4 +11,9 @@ pub fn checked_rules_are_stored()
 /// A rule that is rejected is sound by nothing.
 pub fn rejected_rules_are_unsound()
     ensures { RejectedRulesAreUnsound }
+{}
+
+/// Two outcomes for the same set, shapes, extension and budgets agree, out of memory aside.
+pub fn one_outcome_is_due()
+    ensures { OneOutcomeIsDue }
 {}

@@ -7,8 +7,8 @@ use thiserror::Error;
 /// Why a rule of an extension is refused.
 #[derive(Drop, Error)]
 pub enum RuleDefect {
-    /// The rule is not sound: its flat conclusion has no derivation from its flat premises, and
-    /// this goal is stuck.
+    /// The rule is not sound: by the rules that it is checked by, its flat conclusion has no
+    /// derivation from its flat premises, and this goal is stuck.
     #[error("the rule is not sound")]
     Rejected(Blame),
     /// The search needs more tries than these.
