@@ -29,8 +29,7 @@ module _ (s : Source) (tries before after : ℕ) where
   counted_short errors.DepthSpent counted = just counted
   counted_short (errors.TooDeep depth) counted = just counted
   counted_short (errors.TooBig size) counted = just counted
-  counted_short (errors.PrintLimit part limit) counted = just counted
-  counted_short (errors.PrintAmbiguous part one other) counted = just counted
+  counted_short (errors.Print part defect) counted = just counted
 
   -- they rose by those of the walk, where the module was compiled
   pub counted_unit : (c : Compiled) → IsCounted s tries (Ok c) before after → RisesBy (HasWalked s tries) before after
@@ -46,8 +45,7 @@ module _ (s : Source) (tries before after : ℕ) where
   counted_stop file errors.DepthSpent stop is counted = counted
   counted_stop file (errors.TooDeep depth) stop is counted = counted
   counted_stop file (errors.TooBig size) stop is counted = counted
-  counted_stop file (errors.PrintLimit part limit) stop is counted = counted
-  counted_stop file (errors.PrintAmbiguous part one other) stop is counted = counted
+  counted_stop file (errors.Print part defect) stop is counted = counted
 
 -- a refusal and its stop
 pub uncompiled : (file : List ℕ) (s : Source) (tries : ℕ) (e : ModuleError) (stop : Stop) → IsBadModule s tries e → module_stop file e ≡ Some stop → IsUncompiled file s tries stop

@@ -109,8 +109,7 @@ module _ (Q : Type 0) where
   no_module file s tries module_error.DepthSpent followed h so = λ error. absurd error
   no_module file s tries (module_error.TooDeep n) followed h so = λ error. absurd error
   no_module file s tries (module_error.TooBig n) followed h so = λ error. absurd error
-  no_module file s tries (module_error.PrintLimit part limit) followed h so = λ error. absurd error
-  no_module file s tries (module_error.PrintAmbiguous part one other) followed h so = λ error. absurd error
+  no_module file s tries (module_error.Print part defect) followed h so = λ error. absurd error
 
   -- ---- steps
 

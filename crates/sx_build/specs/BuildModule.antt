@@ -25,22 +25,28 @@ unit_plan name unit = built_plan name unit.base unit.derivation unit.interface u
 
 -- the module is compiled over the language, and then the three files and the line
 abbrev pub BuildsUnit : List ℕ → ℕ → Module → Stated → Result Plan StepError → ℕ → Type 0
-BuildsUnit name budget m l = AndThen (Trying (CompilingTries budget m l) (Compiles (module_file name) budget m l)) (λ unit. Untried (λ result. result ≡ Ok (unit_plan name unit)))
+BuildsUnit name budget m l =
+    AndThen (Trying (CompilingTries budget m l) (Compiles (module_file name) budget m l))
+    (λ unit. Untried (λ result. result ≡ Ok (unit_plan name unit)))
 
 -- the language that the header names, and then the unit
 abbrev pub BuildsOver : List ℕ → ℕ → Files → Module → Result Plan StepError → ℕ → Type 0
-BuildsOver name budget files m = AndThen (Untried (ReadsLanguage m.header.language files)) (BuildsUnit name budget m)
+BuildsOver name budget files m =
+    AndThen (Untried (ReadsLanguage m.header.language files)) (BuildsUnit name budget m)
 
 -- a module without `use` and `import` lines, and then the language and the unit
 abbrev pub BuildsRead : List ℕ → ℕ → Files → Module → Result Plan StepError → ℕ → Type 0
-BuildsRead name budget files m = AndThen (Untried (IsAlone (module_file name) m.header)) (λ done. BuildsOver name budget files m)
+BuildsRead name budget files m =
+    AndThen (Untried (IsAlone (module_file name) m.header)) (λ done. BuildsOver name budget files m)
 
 -- the steps of the command, with so many tries to spend
 abbrev pub BuildsModule : List ℕ → ℕ → Files → Result Plan StepError → ℕ → Type 0
-BuildsModule name budget files = AndThen (Untried (ReadsModule (module_file name) name files)) (BuildsRead name budget files)
+BuildsModule name budget files =
+    AndThen (Untried (ReadsModule (module_file name) name files)) (BuildsRead name budget files)
 
--- The three files hold the texts of the unit that the module NAME.mod gives over the language that its header names, as L.lang states it. All other
--- files are as before, and the line tells the number of the derivation's nodes.
+-- The three files hold the texts of the unit that the module NAME.mod gives over the language that
+-- its header names, as L.lang states it. All other files are as before, and the line tells the
+-- number of the derivation's nodes.
 pub record BuiltModule (name : List ℕ) (old new : Files) (lines : List ℕ) : Type 0 where
   pub bytes : List ℕ
   pub header : HeaderParts
@@ -52,9 +58,11 @@ pub record BuiltModule (name : List ℕ) (old new : Files) (lines : List ℕ) : 
   pub alone : StandsAlone header
   pub language_held : old (language_file header.language) ≡ Some language_bytes
   pub stated : States header.language language_bytes language
-  pub compiled : IsUnit (source_of (record { bytes = bytes; header = header }) (record { language = language_data language; digest = sha256 language_bytes })) unit
+  pub compiled : IsUnit (source_of (record { bytes = bytes; header = header })
+      (record { language = language_data language; digest = sha256 language_bytes })) unit
   pub base : new (base_file name) ≡ Some unit.base
   pub list : new (list_file name) ≡ Some unit.derivation
   pub interface : new (interface_file name) ≡ Some unit.interface
-  pub others : (other : List ℕ) → other ≢ base_file name → other ≢ list_file name → other ≢ interface_file name → new other ≡ old other
+  pub others : (other : List ℕ) → other ≢ base_file name → other ≢ list_file name →
+      other ≢ interface_file name → new other ≡ old other
   pub line : lines ≡ built_line name unit.nodes

@@ -17,7 +17,14 @@ empty_environment language = node (language.main.empty) none
 
 -- what is compiled: the module over the language, in its empty environment
 abbrev pub source_of : Module → Stated → Source
-source_of m l = record { language = l.language; digest = l.digest; bytes = m.bytes; header = m.header; marks = []; environment = empty_environment l.language }
+source_of m l = record {
+  language = l.language;
+  digest = l.digest;
+  bytes = m.bytes;
+  header = m.header;
+  marks = [];
+  environment = empty_environment l.language;
+}
 
 -- the module is refused
 pub record IsUncompiled (file : List ℕ) (source : Source) (budget : ℕ) (stop : Stop) : Type 0 where

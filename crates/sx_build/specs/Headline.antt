@@ -37,7 +37,8 @@ use Rattle.sx_build.specs.CompileModule.{empty_environment}
 use Rattle.sx_build.specs.ModuleFiles.{module_file, language_file}
 
 -- the tokens that the text is cut into are read as the sort by the reading
-pub record ReadsBy (p : Parts) (sort : Sort) (text : Text) (tokens : List Token) (reading : Reading) : Type 0 where
+pub record ReadsBy (p : Parts) (sort : Sort) (text : Text) (tokens : List Token)
+    (reading : Reading) : Type 0 where
   pub cut : IsCut p text tokens
   pub reads : ReadsWhole (numbered p) (plain_tokens [] tokens) (number_of sort) reading
 
@@ -47,17 +48,21 @@ pub record ReadsOneWay (p : Parts) (sort : Sort) (text : Text) (t : Tree) : Type
   pub reading : Reading
   pub by : ReadsBy p sort text tokens reading
   pub term : term_of (plain_tokens [] tokens) [] reading ≡ t
-  pub only : (others : List Token) (other : Reading) → ReadsBy p sort text others other → (others ≡ tokens) × (other ≡ reading)
+  pub only : (others : List Token) (other : Reading) → ReadsBy p sort text others other →
+      (others ≡ tokens) × (other ≡ reading)
 
--- The body of the base file reads in exactly one way, as the subject; the signature of the interface reads in exactly one way; the rules alone derive
--- the main judgement of the environment, the subject and the signature; and the list is that of this derivation.
-pub record HasDerivation (d : LanguageData) (environment : Tree) (header : HeaderParts) (parts : InterfaceParts) (list : List ℕ) : Type 0 where
+-- The body of the base file reads in exactly one way, as the subject; the signature of the
+-- interface reads in exactly one way; the rules alone derive the main judgement of the environment,
+-- the subject and the signature; and the list is that of this derivation.
+pub record HasDerivation (d : LanguageData) (environment : Tree) (header : HeaderParts)
+    (parts : InterfaceParts) (list : List ℕ) : Type 0 where
   pub subject : Tree
   pub signature : Tree
   pub proof : Proof
   pub body : ReadsOneWay d.parts (main_sort d Sub) header.body subject
   pub signed : ReadsOneWay d.parts (main_sort d Out) parts.signature signature
-  pub derives : DerivesGoal (modes_of d.forms) (rules_of d) no_hypotheses (main_goal d.forms d.main.form environment subject) (proof, signature ∷ [])
+  pub derives : DerivesGoal (modes_of d.forms) (rules_of d) no_hypotheses
+      (main_goal d.forms d.main.form environment subject) (proof, signature ∷ [])
   pub listed : list ≡ derivation_text d.rules (order_of proof)
 
 -- the header of the base file is that of the module without its `use` lines
@@ -87,8 +92,10 @@ pub record HasHeadline (name : List ℕ) (old new : Files) : Type 0 where
   pub interface_held : new (interface_file name) ≡ Some (written (interface_lines interface))
   pub digest : interface.base ≡ sha256 base
   pub list_held : new (list_file name) ≡ Some list
-  pub derivation : HasDerivation (language_data language) (empty_environment (language_data language)) base_header interface list
+  pub derivation : HasDerivation (language_data language)
+      (empty_environment (language_data language)) base_header interface list
 
 -- what `build NAME` leaves has the headline
 abbrev pub Headline : Type 0
-Headline = (name : List ℕ) (old new : Files) (lines : List ℕ) → is_name false name ≡ true → BuiltModule name old new lines → HasHeadline name old new
+Headline = (name : List ℕ) (old new : Files) (lines : List ℕ) → is_name false name ≡ true →
+    BuiltModule name old new lines → HasHeadline name old new

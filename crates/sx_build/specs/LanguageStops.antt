@@ -30,20 +30,24 @@ at_line file line what = at (Line line) file (defect.Text what)
 abbrev pub at_place : List ℕ → ℕ → ℕ → TextDefect → Stop
 at_place file line place what = at (Spot line (place + 1)) file (defect.Text what)
 
--- a line is not cut into tokens; want of memory is no stop
+-- a line is not cut into tokens; out of memory is no stop
 abbrev pub uncut_line : List ℕ → ℕ → TokenError → Option Stop
 uncut_line file line token_error.Memory = None
-uncut_line file line (token_error.NotUtf8 place) = Some (at (Line line) file (defect.File (file_defect.NotUtf8 place)))
-uncut_line file line (token_error.BadToken place) = Some (at_place file line place text_defect.BadToken)
+uncut_line file line (token_error.NotUtf8 place) =
+    Some (at (Line line) file (defect.File (file_defect.NotUtf8 place)))
+uncut_line file line (token_error.BadToken place) =
+    Some (at_place file line place text_defect.BadToken)
 uncut_line file line token_error.TooManyTokens = Some (at_line file line text_defect.TooManyTokens)
-uncut_line file line (token_error.OpenString place) = Some (at_place file line place text_defect.OpenString)
+uncut_line file line (token_error.OpenString place) =
+    Some (at_place file line place text_defect.OpenString)
 
 -- the tokens of a line have not one reading
 abbrev pub unread_line : List ℕ → ℕ → Unread → Stop
 unread_line file line unread.TooHard = at_line file line text_defect.TooHard
 unread_line file line (unread.NoReading place) = at_place file line place text_defect.NoReading
 unread_line file line (unread.TooDeep depth) = at_line file line (text_defect.TooDeep depth)
-unread_line file line (unread.Ambiguous one other) = at_line file line (text_defect.Ambiguous one other)
+unread_line file line (unread.Ambiguous one other) =
+    at_line file line (text_defect.Ambiguous one other)
 
 -- ---- grammars
 
@@ -74,7 +78,7 @@ metavariable (Some name) = codes "~" ++ name
 abbrev pub bad_language_rules : List ℕ → RuleError → Option (List ℕ) → Option Stop
 bad_language_rules file e variable = bad_rules file (λ number. metavariable variable) e
 
--- the stop of a language's refusal; want of memory has none
+-- the stop of a language's refusal; out of memory has none
 abbrev pub language_stop : List ℕ → NotationError → Option Stop
 language_stop file notation_error.Memory = None
 language_stop file (notation_error.NotUtf8 before) = Some (not_utf8 file before)

@@ -41,12 +41,13 @@ pub record IsHeaded (m : Module) : Type 0 where
 abbrev pub bad_header : List ℕ → ℕ → Stop
 bad_header file line = at (Line line) file (defect.File file_defect.Header)
 
--- the stop of a header's refusal; want of memory has none
+-- the stop of a header's refusal; out of memory has none
 abbrev pub header_stop : List ℕ → HeaderError → Option Stop
 header_stop file header_error.Memory = None
 header_stop file (header_error.NotUtf8 before) = Some (not_utf8 file before)
 header_stop file (header_error.Header line) = Some (bad_header file line)
-header_stop file (header_error.Version number) = Some (about file (defect.File (file_defect.Version number)))
+header_stop file (header_error.Version number) =
+    Some (about file (defect.File (file_defect.Version number)))
 
 -- a module of a kind that is not read yet
 abbrev pub not_yet : List ℕ → Stop
@@ -60,12 +61,14 @@ pub record HasHeader (name bytes : List ℕ) (m : Module) : Type 0 where
   pub utf8 : IsUtf8 bytes
   pub states : StatesHeader name (kept (lines_from 1 bytes)) m.header
 
--- the header that the bytes state; or they are not UTF-8, or else the first line that is not as defined
+-- the header that the bytes state; or they are not UTF-8, or else the first line that is not as
+-- defined
 abbrev pub StatesModule : List ℕ → List ℕ → List ℕ → Result Module Stop → Type 0
 StatesModule file name bytes (Ok m) = HasHeader name bytes m
 StatesModule file name bytes (Err stop) =
     ((IsUtf8 bytes → ⊥) × (stop ≡ not_utf8 file (utf8_valid_len bytes)))
-    ⊎ (IsUtf8 bytes × ((line : ℕ) × IsFirstBad (StatesHeader name) (kept (lines_from 1 bytes)) line × (stop ≡ bad_header file line)))
+    ⊎ (IsUtf8 bytes × ((line : ℕ) × IsFirstBad (StatesHeader name) (kept (lines_from 1 bytes)) line
+    × (stop ≡ bad_header file line)))
 
 -- the header in the file
 abbrev pub ReadsModule : List ℕ → List ℕ → Files → Result Module Stop → Type 0

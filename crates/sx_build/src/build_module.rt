@@ -13,7 +13,8 @@ ghost use Rattle.sx_build.specs.ReadModule.{module_of, IsHeaded};
 ghost use Rattle.sx_build.specs.ReadLanguage.{stated_of};
 ghost use Rattle.sx_build.specs.CompileModule as spec;
 ghost use Rattle.sx_build.specs.CompileModule.{Compiles, CompilingTries};
-ghost use Rattle.sx_build.specs.BuildModule.{unit_plan, BuildsUnit, BuildsOver, BuildsRead, BuildsModule};
+ghost use Rattle.sx_build.specs.BuildModule.{unit_plan, BuildsUnit, BuildsOver, BuildsRead};
+ghost use Rattle.sx_build.specs.BuildModule.{BuildsModule};
 
 use crate::module_stops::bad_module;
 use crate::read_language::{LanguageFile, read_language_file};
@@ -50,9 +51,11 @@ fn compile_module<L: Ledger>(
     requires language { IsLanguage language.now.language }
     requires stated { IsSource source.now.bytes.items (module_of source.now).header [] }
     requires short { length source.now.bytes.items ≤ 262144 }
-    ensures step { Gives unit_of (Compiles file.now budget (module_of source.now) (stated_of language.now)) result }
+    ensures step { Gives unit_of
+        (Compiles file.now budget (module_of source.now) (stated_of language.now)) result }
     ensures no_fault { IsNoFault result }
-    ensures tries { Counts (CompilingTries budget (module_of source.now) (stated_of language.now)) result steps.old steps.new }
+    ensures tries { Counts (CompilingTries budget (module_of source.now) (stated_of language.now))
+        result steps.old steps.new }
     ensures most { RisesWithin budget steps.old steps.new }
 {
     let environment = empty_environment(alloc, &language.language);
@@ -89,7 +92,9 @@ fn build_unit<L: Ledger>(
     requires language { IsLanguage language.now.language }
     requires stated { IsSource source.now.bytes.items (module_of source.now).header [] }
     requires short { length source.now.bytes.items ≤ 262144 }
-    ensures step { Does plan_of (BuildsUnit name.now budget (module_of source.now) (stated_of language.now)) result steps.old steps.new }
+    ensures step { Does plan_of
+        (BuildsUnit name.now budget (module_of source.now) (stated_of language.now)) result
+        steps.old steps.new }
     ensures no_fault { IsNoFault result }
 {
     match compile_module(alloc, file, source, language, budget, steps) {
@@ -121,7 +126,9 @@ fn build_over<S: Shelf, L: Ledger>(
     requires file { file.now ≡ module_file name.now }
     requires stated { IsSource source.now.bytes.items (module_of source.now).header [] }
     requires short { length source.now.bytes.items ≤ 262144 }
-    ensures step { WhereTold (S.content shelf.old) (λ files. Does plan_of (BuildsOver name.now budget files (module_of source.now)) result steps.old steps.new) }
+    ensures step { WhereTold (S.content shelf.old)
+        (λ files. Does plan_of (BuildsOver name.now budget files (module_of source.now)) result
+        steps.old steps.new) }
     ensures reads { OnlyReads (S.content shelf.old) (S.content shelf.new)
         (S.read_faults shelf.old) (S.read_faults shelf.new)
         (S.write_faults shelf.old) (S.write_faults shelf.new) result }
@@ -145,7 +152,9 @@ fn build_read<S: Shelf, L: Ledger>(
     requires file { file.now ≡ module_file name.now }
     requires headed { IsHeaded (module_of source.now) }
     requires short { length source.now.bytes.items ≤ 262144 }
-    ensures step { WhereTold (S.content shelf.old) (λ files. Does plan_of (BuildsRead name.now budget files (module_of source.now)) result steps.old steps.new) }
+    ensures step { WhereTold (S.content shelf.old)
+        (λ files. Does plan_of (BuildsRead name.now budget files (module_of source.now)) result
+        steps.old steps.new) }
     ensures reads { OnlyReads (S.content shelf.old) (S.content shelf.new)
         (S.read_faults shelf.old) (S.read_faults shelf.new)
         (S.write_faults shelf.old) (S.write_faults shelf.new) result }
@@ -164,7 +173,8 @@ pub fn plan_build_module<S: Shelf, L: Ledger>(
     shelf: &mut S,
     steps: &mut Steps<L>,
 ) -> Result<Work, StepError>
-    ensures step { WhereTold (S.content shelf.old) (λ files. Does plan_of (BuildsModule name.now budget files) result steps.old steps.new) }
+    ensures step { WhereTold (S.content shelf.old)
+        (λ files. Does plan_of (BuildsModule name.now budget files) result steps.old steps.new) }
     ensures reads { OnlyReads (S.content shelf.old) (S.content shelf.new)
         (S.read_faults shelf.old) (S.read_faults shelf.new)
         (S.write_faults shelf.old) (S.write_faults shelf.new) result }

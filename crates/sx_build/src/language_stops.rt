@@ -114,7 +114,8 @@ fn grammar_defect(error: GrammarError) -> Result<GrammarDefect, NoMemory>
 
 /// The refusal of sorts, productions and forms that are no grammar.
 fn bad_grammar(alloc: Global, file: &Text, error: GrammarError) -> Result<Stop, NoMemory>
-    ensures { IfOk result (λ stop. stops.bad_grammar file.now (stops.grammar_defect_of error) ≡ Some stop) }
+    ensures { IfOk result (λ stop.
+        stops.bad_grammar file.now (stops.grammar_defect_of error) ≡ Some stop) }
 {
     let what = grammar_defect(error)?;
     refused(alloc, file, Defect::Grammar(what))
@@ -140,7 +141,8 @@ fn bad_language_rules(
     error: RuleError,
     variable: &Option<Text>,
 ) -> Result<Stop, NoMemory>
-    ensures { IfOk result (λ stop. stops.bad_language_rules file.now error variable.now ≡ Some stop) }
+    ensures { IfOk result (λ stop.
+        stops.bad_language_rules file.now error variable.now ≡ Some stop) }
 {
     let variable = metavariable(alloc, variable)?;
     bad_rules(alloc, file, error, &variable)

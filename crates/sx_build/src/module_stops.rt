@@ -4,14 +4,12 @@ ghost use Rattle.std.specs.Prelude.{◌≡◌, IfOk, Some};
 ghost use Rattle.sx_build.specs.ModuleStops as stops;
 
 use std::alloc::Global;
-use sx_module::{Limit, ModuleError, Part, StuckText};
+use sx_module::ModuleError;
 use sx_notation::Unread;
 use sx_steps::{Stop, refused, refused_at};
 use sx_term::{NoMemory, Text};
 use sx_token::TokenError;
-use sx_words::{
-    BudgetDefect, Defect, FileDefect, GoalDefect, Place, PrintDefect, PrintedPart, TextDefect,
-};
+use sx_words::{BudgetDefect, Defect, FileDefect, GoalDefect, Place, TextDefect};
 
 /// A defect of the text at a line and a column.
 fn at_spot(
@@ -73,82 +71,17 @@ fn unread_body(
     refused(alloc, file, Defect::Text(what))
 }
 
-/// Why a goal has no derivation.
-fn stuck_goal(why: StuckText) -> GoalDefect
-    ensures { result ≡ stops.stuck_goal why }
-{
-    match why {
-        StuckText::NoRule { goal } => GoalDefect::NoRule { goal },
-        StuckText::Equal {
-            goal,
-            premise,
-            rule,
-        } => GoalDefect::Equal {
-            goal,
-            premise,
-            rule,
-        },
-        StuckText::Mismatch {
-            goal,
-            premise,
-            rule,
-        } => GoalDefect::Mismatch {
-            goal,
-            premise,
-            rule,
-        },
-        StuckText::NotStated { goal } => GoalDefect::NotStated { goal },
-    }
-}
-
 /// The refusal of a body without a type.
 fn untyped(
     alloc: Global,
     file: &Text,
     line: u64,
     column: u64,
-    why: StuckText,
+    why: GoalDefect,
 ) -> Result<Stop, NoMemory>
     ensures { IfOk result (λ stop. stop ≡ stops.untyped file.now line column why) }
 {
-    let goal = stuck_goal(why);
-    refused_at(
-        alloc,
-        file,
-        Place::Spot { line, column },
-        Defect::Goal(goal),
-    )
-}
-
-/// Which text was printed.
-fn printed_part(part: Part) -> PrintedPart
-    ensures { result ≡ stops.printed_part part }
-{
-    match part {
-        Part::Body => PrintedPart::Body,
-        Part::Signature => PrintedPart::Signature,
-        Part::Stated => PrintedPart::Stated,
-    }
-}
-
-/// The limit that a printed text passes.
-fn passed_limit(limit: Limit) -> PrintDefect
-    ensures { result ≡ stops.passed_limit limit }
-{
-    match limit {
-        Limit::Bytes(number) => PrintDefect::Bytes(number),
-        Limit::Tokens(number) => PrintDefect::Tokens(number),
-        Limit::Items => PrintDefect::Items,
-        Limit::Depth(depth) => PrintDefect::Depth(depth),
-    }
-}
-
-/// The refusal of a printed text that cannot be written.
-fn unprinted(alloc: Global, file: &Text, part: Part, defect: PrintDefect) -> Result<Stop, NoMemory>
-    ensures { IfOk result (λ stop. stop ≡ stops.unprinted file.now part defect) }
-{
-    let part = printed_part(part);
-    refused(alloc, file, Defect::Print { part, defect })
+    refused_at(alloc, file, Place::Spot { line, column }, Defect::Goal(why))
 }
 
 /// The refusal of a module that is not compiled.
@@ -176,12 +109,7 @@ pub fn bad_module(alloc: Global, file: &Text, error: ModuleError) -> Result<Stop
         ModuleError::DepthSpent => Defect::Budget(BudgetDefect::Depth),
         ModuleError::TooDeep(depth) => Defect::Text(TextDefect::TooDeep(depth)),
         ModuleError::TooBig(size) => Defect::Text(TextDefect::TooBig(size)),
-        ModuleError::PrintLimit { part, limit } => {
-            return unprinted(alloc, file, part, passed_limit(limit));
-        }
-        ModuleError::PrintAmbiguous { part, one, other } => {
-            return unprinted(alloc, file, part, PrintDefect::Ambiguous { one, other });
-        }
+        ModuleError::Print { part, defect } => Defect::Print { part, defect },
     };
     refused(alloc, file, defect)
 }

@@ -54,7 +54,8 @@ pub fn read_language_file<S: Shelf>(
     name: &Text,
     shelf: &mut S,
 ) -> Result<LanguageFile, StepError>
-    ensures step { WhereTold (S.content shelf.old) (λ files. Gives stated_of (ReadsLanguage name.now files) result) }
+    ensures step { WhereTold (S.content shelf.old)
+        (λ files. Gives stated_of (ReadsLanguage name.now files) result) }
     ensures fit { IfOk result (λ l. IsLanguage l.language) }
     ensures reads { OnlyReads (S.content shelf.old) (S.content shelf.new)
         (S.read_faults shelf.old) (S.read_faults shelf.new)

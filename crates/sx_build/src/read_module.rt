@@ -5,7 +5,8 @@ ghost use Rattle.sx_outside.specs.Told.{WhereTold};
 ghost use Rattle.sx_interface.specs.HeaderView.{header_view};
 ghost use Rattle.sx_steps.specs.Stop.{Gives, OnlyReads, IsNoFault};
 ghost use Rattle.sx_build.specs.ReadModule as spec;
-ghost use Rattle.sx_build.specs.ReadModule.{module_of, IsHeaded, StatesModule, ReadsModule, IsAlone};
+ghost use Rattle.sx_build.specs.ReadModule.{module_of, IsHeaded, StatesModule, ReadsModule};
+ghost use Rattle.sx_build.specs.ReadModule.{IsAlone};
 
 use std::alloc::Global;
 use sx_interface::{Header, HeaderError, read_header};
@@ -72,7 +73,8 @@ pub fn read_module<S: Shelf>(
     name: &Text,
     shelf: &mut S,
 ) -> Result<ModuleFile, StepError>
-    ensures step { WhereTold (S.content shelf.old) (λ files. Gives module_of (ReadsModule file.now name.now files) result) }
+    ensures step { WhereTold (S.content shelf.old)
+        (λ files. Gives module_of (ReadsModule file.now name.now files) result) }
     ensures headed { IfOk result (λ m. IsHeaded (module_of m)) }
     ensures short { IfOk result (λ m. length m.bytes.items ≤ 262144) }
     ensures reads { OnlyReads (S.content shelf.old) (S.content shelf.new)
@@ -87,7 +89,8 @@ pub fn read_module<S: Shelf>(
 
 /// The header has no `use` line and no `import` line. Any other is not read yet.
 pub fn check_alone(alloc: Global, file: &Text, source: &ModuleFile) -> Result<(), StepError>
-    ensures step { Gives (λ done. done) (IsAlone file.now (header_view source.now.bytes.items source.now.header)) result }
+    ensures step { Gives (λ done. done)
+        (IsAlone file.now (header_view source.now.bytes.items source.now.header)) result }
     ensures no_fault { IsNoFault result }
 {
     if source.header.uses.is_empty() && source.header.imports.is_empty() {

@@ -23,12 +23,12 @@ use Rattle.sx_derive.proofs.Walked.{found_is_first}
 use Rattle.sx_earley.specs.Completed.{IsSort}
 use Rattle.sx_module.specs.declared.given.Given.{Given}
 use Rattle.sx_module.specs.declared.typed.Typed.{Typed}
-use Rattle.sx_module.specs.declared.print_check.PrintRefusal.TheVariants.{Memory, Limit, Ambiguous}
-use Rattle.sx_module.specs.declared.print_limit.Part.{Part}
-use Rattle.sx_module.specs.declared.print_limit.Part.TheVariants.{Body, Signature, Stated}
-use Rattle.sx_module.specs.declared.print_limit.Limit.TheVariants.{Bytes}
+use Rattle.sx_module.specs.declared.print_check.PrintRefusal.TheVariants.{Memory, Defect}
+use Rattle.sx_words.specs.declared.print_defect.PrintedPart.{PrintedPart}
+use Rattle.sx_words.specs.declared.print_defect.PrintedPart.TheVariants.{Body, Signature, Stated}
+use Rattle.sx_words.specs.declared.print_defect.PrintDefect.TheVariants.{Bytes}
 use Rattle.sx_module.specs.declared.module_error.ModuleError.{ModuleError}
-use Rattle.sx_module.specs.declared.module_error.ModuleError.TheVariants.{PrintLimit}
+use Rattle.sx_module.specs.declared.module_error.ModuleError.TheVariants.{Print}
 use Rattle.sx_module.specs.Source.{Source}
 use Rattle.sx_module.specs.Outcomes.{bare, no_hypotheses}
 use Rattle.sx_module.specs.Texts.{printed, base_of, derivation_text}
@@ -81,22 +81,20 @@ made s tries tokens reading subject t u read b base interface list derivation no
 }
 
 -- a part that is due is refused
-pub refused : (s : Source) (tries : ℕ) (tokens : List Token) (reading : Reading) (subject : Tree) (t : Typed) (part : Part) (e : ModuleError) → IsBody s tokens reading subject → IsTypedBy s tries subject t
+pub refused : (s : Source) (tries : ℕ) (tokens : List Token) (reading : Reading) (subject : Tree) (t : Typed) (part : PrintedPart) (e : ModuleError) → IsBody s tokens reading subject → IsTypedBy s tries subject t
     → IsDue s subject (tree t.signature) part → IsBadPart s subject (tree t.signature) part e → IsBadModule s tries e
 refused s tries tokens reading subject t part e read b due (Memory, is, bad) = subst (IsBadModule s tries) (sym is) tt
-refused s tries tokens reading subject t part e read b due (Limit limit, is, bad) = subst (IsBadModule s tries) (sym is)
-    (record { body = record { tokens = tokens; reading = reading; subject = subject; read = read }; signature = tree t.signature; answer = b.answer; typed = b.typed }, due, bad)
-refused s tries tokens reading subject t part e read b due (Ambiguous one other, is, bad) = subst (IsBadModule s tries) (sym is)
+refused s tries tokens reading subject t part e read b due (Defect defect, is, bad) = subst (IsBadModule s tries) (sym is)
     (record { body = record { tokens = tokens; reading = reading; subject = subject; read = read }; signature = tree t.signature; answer = b.answer; typed = b.typed }, due, bad)
 
 -- the sort as which a part is printed is one of the grammar
-pub part_is_sort : (g : Given) → CanCompile g → (part : Part) → IsSort (source_of g).language.parts (sort_of (source_of g) part)
+pub part_is_sort : (g : Given) → CanCompile g → (part : PrintedPart) → IsSort (source_of g).language.parts (sort_of (source_of g) part)
 part_is_sort g can Body = (subject_is_sort g.language.now can.language).0
 part_is_sort g can Signature = (signature_is_sort g.language.now can.language).0
 part_is_sort g can Stated = (signature_is_sort g.language.now can.language).0
 
 -- the file and the printed text are those of the part
-module _ (s : Source) (subject signature : Tree) (part : Part) (file shown : List ℕ) (size : ℕ) (is : file ≡ file_of s subject signature part) (size_is : size ≡ file_size s subject signature part)
+module _ (s : Source) (subject signature : Tree) (part : PrintedPart) (file shown : List ℕ) (size : ℕ) (is : file ≡ file_of s subject signature part) (size_is : size ≡ file_size s subject signature part)
     (printed_as : shown ≡ shown_of s subject signature part) where
   pub good_part : size ≤ 262144 → ReadsOnly s.language.parts (sort_of s part) shown (term_of subject signature part) → IsGoodPart s subject signature part file
   good_part short read = record {
@@ -117,8 +115,8 @@ module _ (s : Source) (subject signature : Tree) (file : List ℕ) (size : ℕ) 
   pub good_stated : size ≤ 262144 → IsGoodPart s subject signature Stated file
   good_stated short = record { text = good.text; writable = (subst (λ (n : ℕ). n ≤ 262144) stated_size short, good.writable.1) }
 
-  pub bad_stated : (e : ModuleError) → (262144 < size) × (e ≡ PrintLimit Stated (Bytes size)) → IsBadPart s subject signature Stated e
-  bad_stated e h = (Limit (Bytes size), h.1, (subst (λ (n : ℕ). 262144 < n) stated_size h.0, stated_size))
+  pub bad_stated : (e : ModuleError) → (262144 < size) × (e ≡ Print Stated (Bytes size)) → IsBadPart s subject signature Stated e
+  bad_stated e h = (Defect (Bytes size), h.1, (subst (λ (n : ℕ). 262144 < n) stated_size h.0, stated_size))
 
 -- how many bytes stand before the line of the stated signature
 pub unstated_is : (whole other stated shown : List ℕ) (size : ℕ) → size ≡ length whole - (length stated + 1) → whole ≡ other → stated ≡ shown → size ≡ length other - (length shown + 1)

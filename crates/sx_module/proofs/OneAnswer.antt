@@ -12,15 +12,17 @@ use Rattle.sx_grammar.specs.Grammar.{Text}
 use Rattle.sx_grammar.specs.Parts.{Parts, literals, numbered}
 use Rattle.sx_grammar.specs.Print.{term_of}
 use Rattle.sx_grammar.specs.Reading.{Reading}
-use Rattle.sx_grammar.specs.ReadOne.{ReadAnswer, IsAnswer, SameAnswer, only, too_hard, no_reading, too_deep, ambiguous}
+use Rattle.sx_grammar.specs.ReadOne.{ReadAnswer, IsAnswer, SameAnswer, only}
 use Rattle.sx_grammar.specs.Tables.{literals_of}
 use Rattle.sx_grammar.proofs.Answering.{answers_agree}
 use Rattle.sx_grammar.proofs.Finding.{distinct_are}
 use Rattle.sx_earley.specs.Tokens.{plain_tokens}
 use Rattle.sx_earley.specs.Completed.{number_of}
 use Rattle.sx_notation.specs.declared.unread.Unread.{Unread}
-use Rattle.sx_notation.specs.declared.unread.Unread.TheVariants.{TooHard, NoReading, TooDeep, Ambiguous}
-use Rattle.sx_notation.specs.WhyUnread.{IsUnreadAs, place_in}
+use Rattle.sx_notation.specs.WhyUnread.{IsUnreadAs}
+use Rattle.sx_notation.specs.OneReason.{HaveThree, ShowTwo}
+use Rattle.sx_notation.proofs.OneReasons.{one_reason}
+use Rattle.sx_module.specs.Alike.{HasThree}
 use Rattle.sx_module.specs.Body.{IsCut, HasDefect, ReadsAs}
 use Rattle.sx_module.proofs.OneBody.{one_cut}
 
@@ -56,15 +58,6 @@ module _ (p : Parts) (text : Text) where
       let b = told d k in
       a.is ∙ ap (λ o. defect_of (Some o)) (outcome_one a.outcome b.outcome a.holds b.holds) ∙ sym b.is
 
--- both show two readings
-pub record ShowTwo (u v : Unread) : Type 0 where
-  pub one : List ℕ
-  pub other : List ℕ
-  pub some : List ℕ
-  pub more : List ℕ
-  pub first : u ≡ Ambiguous one other
-  pub second : v ≡ Ambiguous some more
-
 module _ (p : Parts) (sort : Sort) (text : Text) where
   abbrev Answers : List Token → ReadAnswer → Type 0
   Answers ts a = IsAnswer (numbered p) (plain_tokens [] ts) (number_of sort) a
@@ -90,30 +83,11 @@ module _ (p : Parts) (sort : Sort) (text : Text) where
       }
 
   -- why tokens have not one reading
-  module _ (size : ℕ) (ts us : List Token) (cut : IsCut p text ts) (other : IsCut p text us) where
-    same_tokens_here : ts ≡ us
-    same_tokens_here = one_cut p text ts us cut other
-
-    pub unread_one : (u v : Unread) → IsUnreadAs p [] sort ts size u → IsUnreadAs p [] sort us size v → (u ≡ v) ⊎ ShowTwo u v
-    unread_one TooHard TooHard h k = inl refl
-    unread_one TooHard (NoReading place) h k = let e : too_hard ≡ no_reading k.0 = answer_one ts us too_hard (no_reading k.0) cut other h k.1 in absurd (cc)
-    unread_one TooHard (TooDeep depth) h k = let e : too_hard ≡ too_deep depth = answer_one ts us too_hard (too_deep depth) cut other h k in absurd (cc)
-    unread_one TooHard (Ambiguous some more) h k = let e : too_hard ≡ ambiguous k.0 k.1 = answer_one ts us too_hard (ambiguous k.0 k.1) cut other h k.2 in absurd (cc)
-    unread_one (NoReading place) TooHard h k = let e : no_reading h.0 ≡ too_hard = answer_one ts us (no_reading h.0) too_hard cut other h.1 k in absurd (cc)
-    unread_one (NoReading place) (NoReading there) h k =
-        let e : no_reading h.0 ≡ no_reading k.0 = answer_one ts us (no_reading h.0) (no_reading k.0) cut other h.1 k.1 in
-        let ends : h.0 ≡ k.0 = cc in
-        inl (ap NoReading (h.2 ∙ (λ i. place_in (same_tokens_here i) size (ends i)) ∙ sym k.2))
-    unread_one (NoReading place) (TooDeep depth) h k = let e : no_reading h.0 ≡ too_deep depth = answer_one ts us (no_reading h.0) (too_deep depth) cut other h.1 k in absurd (cc)
-    unread_one (NoReading place) (Ambiguous some more) h k = let e : no_reading h.0 ≡ ambiguous k.0 k.1 = answer_one ts us (no_reading h.0) (ambiguous k.0 k.1) cut other h.1 k.2 in absurd (cc)
-    unread_one (TooDeep depth) TooHard h k = let e : too_deep depth ≡ too_hard = answer_one ts us (too_deep depth) too_hard cut other h k in absurd (cc)
-    unread_one (TooDeep depth) (NoReading place) h k = let e : too_deep depth ≡ no_reading k.0 = answer_one ts us (too_deep depth) (no_reading k.0) cut other h k.1 in absurd (cc)
-    unread_one (TooDeep depth) (TooDeep that) h k =
-        let e : too_deep depth ≡ too_deep that = answer_one ts us (too_deep depth) (too_deep that) cut other h k in
-        let same : depth ≡ that = cc in
-        inl (ap TooDeep same)
-    unread_one (TooDeep depth) (Ambiguous some more) h k = let e : too_deep depth ≡ ambiguous k.0 k.1 = answer_one ts us (too_deep depth) (ambiguous k.0 k.1) cut other h k.2 in absurd (cc)
-    unread_one (Ambiguous one two) TooHard h k = let e : ambiguous h.0 h.1 ≡ too_hard = answer_one ts us (ambiguous h.0 h.1) too_hard cut other h.2 k in absurd (cc)
-    unread_one (Ambiguous one two) (NoReading place) h k = let e : ambiguous h.0 h.1 ≡ no_reading k.0 = answer_one ts us (ambiguous h.0 h.1) (no_reading k.0) cut other h.2 k.1 in absurd (cc)
-    unread_one (Ambiguous one two) (TooDeep depth) h k = let e : ambiguous h.0 h.1 ≡ too_deep depth = answer_one ts us (ambiguous h.0 h.1) (too_deep depth) cut other h.2 k in absurd (cc)
-    unread_one (Ambiguous one two) (Ambiguous some more) h k = inr (record { one = one; other = two; some = some; more = more; first = refl; second = refl })
+  pub unread_one : (size : ℕ) (ts us : List Token) (u v : Unread) → IsCut p text ts → IsCut p text us → IsUnreadAs p [] sort ts size u → IsUnreadAs p [] sort us size v →
+      (u ≡ v) ⊎ (ShowTwo u v × HasThree p sort text)
+  unread_one size ts us u v cut other h k =
+      in_text us u v other (one_reason p [] sort us size u v (subst (λ (l : List Token). IsUnreadAs p [] sort l size u) (one_cut p text ts us cut other) h) k)
+    where
+      in_text : (us : List Token) (u v : Unread) → IsCut p text us → (u ≡ v) ⊎ (ShowTwo u v × HaveThree p [] sort us) → (u ≡ v) ⊎ (ShowTwo u v × HasThree p sort text)
+      in_text us u v other (inl same) = inl same
+      in_text us u v other (inr two) = inr (two.0, (us, other, two.1))

@@ -1,4 +1,4 @@
--- A text has one cutting, and what is read is not refused.
+-- A text has one cutting.
 use Rattle.std.proofs.Common.{◌≡◌, ℕ, zero, suc, ◌≤◌, Bool, false, List, [], ◌∷◌, slice_get, length, map, refl, ap, ◌∙◌, sym, arith}
 use Rattle.std.specs.List.{AllByRecursion}
 use Rattle.sx_term.specs.declared.sort.Sort.{Sort}
@@ -9,14 +9,9 @@ use Rattle.sx_token.specs.declared.token_error.TokenError.{TokenError}
 use Rattle.sx_token.specs.declared.token_error.TokenError.TheVariants as token
 use Rattle.sx_token.specs.Tokens.{pieces}
 use Rattle.sx_grammar.specs.Grammar.{Text}
-use Rattle.sx_grammar.specs.Parts.{Parts, numbered, literals}
+use Rattle.sx_grammar.specs.Parts.{Parts, literals}
 use Rattle.sx_grammar.specs.Tables.{literals_of}
-use Rattle.sx_grammar.specs.Reading.{Reading}
-use Rattle.sx_grammar.specs.ReadOne.{IsAnswer, only, too_hard, no_reading, too_deep, ambiguous}
 use Rattle.sx_grammar.proofs.Finding.{distinct_are}
-use Rattle.sx_grammar.proofs.Answering.{answers_agree}
-use Rattle.sx_earley.specs.Tokens.{plain_tokens}
-use Rattle.sx_earley.specs.Completed.{number_of}
 use Rattle.sx_notation.specs.declared.unread.Unread.{Unread}
 use Rattle.sx_notation.specs.declared.unread.Unread.TheVariants as unread
 use Rattle.sx_notation.specs.WhyUnread.{begin_of, place_in, IsUnreadAs}
@@ -54,18 +49,6 @@ module _ (p : Parts) (text : Text) where
   defect_or_cut (token.BadToken place) ts h c = let e : bad_token place ≡ tokens (pieces ts) = same (bad_token place) (tokens (pieces ts)) h c in cc
   defect_or_cut token.TooManyTokens ts h c = let e : too_many ≡ tokens (pieces ts) = same too_many (tokens (pieces ts)) h c in cc
   defect_or_cut (token.OpenString place) ts h c = let e : open_string place ≡ tokens (pieces ts) = same (open_string place) (tokens (pieces ts)) h c in cc
-
--- tokens that have not one reading have not one
-pub unread_or_read : (p : Parts) (sort : Sort) (ts : List Token) (size : ℕ) (u : Unread) (r : Reading) → IsUnreadAs p [] sort ts size u →
-    IsAnswer (numbered p) (plain_tokens [] ts) (number_of sort) (only r) → ⊥
-unread_or_read p sort ts size unread.TooHard r h k =
-    let e : too_hard ≡ only r = answers_agree (numbered p) (plain_tokens [] ts) (number_of sort) too_hard (only r) h k in cc
-unread_or_read p sort ts size (unread.NoReading place) r h k =
-    let e : no_reading h.0 ≡ only r = answers_agree (numbered p) (plain_tokens [] ts) (number_of sort) (no_reading h.0) (only r) h.1 k in cc
-unread_or_read p sort ts size (unread.TooDeep depth) r h k =
-    let e : too_deep depth ≡ only r = answers_agree (numbered p) (plain_tokens [] ts) (number_of sort) (too_deep depth) (only r) h k in cc
-unread_or_read p sort ts size (unread.Ambiguous one other) r h k =
-    let e : ambiguous h.0 h.1 ≡ only r = answers_agree (numbered p) (plain_tokens [] ts) (number_of sort) (ambiguous h.0 h.1) (only r) h.2 k in cc
 
 -- ---- places
 

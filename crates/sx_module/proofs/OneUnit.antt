@@ -1,4 +1,4 @@
--- A module has one unit or one refusal, but for the two readings that a refusal may show.
+-- A module has one unit or one refusal, but for the readings that a refusal may show of a text with more than two.
 use Rattle.std.proofs.Common.{◌≡◌, ◌≢◌, ℕ, ◌-◌, ◌^◌, ◌≤◌, List, [], ◌∷◌, ◌⊎◌, inl, inr, ◌+◌, length, min, refl, sym, ap, ◌∙◌, subst, arith}
 use Rattle.std.specs.Prelude.{Some, None}
 use Rattle.sx_term.specs.Tree.{Tree}
@@ -16,22 +16,25 @@ use Rattle.sx_derive.specs.Stuck.{Blame}
 use Rattle.sx_derive.proofs.BlamedOnce.{stuck_goal_is_unique}
 use Rattle.sx_notation.specs.declared.unread.Unread.{Unread}
 use Rattle.sx_notation.specs.WhyUnread.{IsUnreadAs, place_in}
-use Rattle.sx_module.specs.declared.stuck_text.StuckText.{StuckText}
-use Rattle.sx_module.specs.declared.print_limit.Part.{Part}
-use Rattle.sx_module.specs.declared.print_limit.Part.TheVariants.{Body, Signature, Stated}
-use Rattle.sx_module.specs.declared.print_limit.Limit.{Limit}
+use Rattle.sx_notation.specs.OneReason.{ShowTwo}
+use Rattle.sx_notation.proofs.OneReasons.{unread_or_read}
+use Rattle.sx_words.specs.declared.goal_defect.GoalDefect.{GoalDefect}
+use Rattle.sx_words.specs.declared.print_defect.PrintedPart.{PrintedPart}
+use Rattle.sx_words.specs.declared.print_defect.PrintedPart.TheVariants.{Body, Signature, Stated}
+use Rattle.sx_words.specs.declared.print_defect.PrintDefect.{PrintDefect}
+use Rattle.sx_words.specs.declared.print_defect.PrintDefect.TheVariants as print_defect
 use Rattle.sx_module.specs.declared.module_error.ModuleError.{ModuleError}
-use Rattle.sx_module.specs.declared.module_error.ModuleError.TheVariants.{Memory, Token as BadTokens, Read, TypeError, BudgetSpent, DepthSpent, TooDeep, TooBig, PrintLimit, PrintAmbiguous}
-use Rattle.sx_module.specs.Alike.{AreAlike, OneUnit}
+use Rattle.sx_module.specs.declared.module_error.ModuleError.TheVariants.{Memory, Token as BadTokens, Read, TypeError, BudgetSpent, DepthSpent, TooDeep, TooBig, Print}
+use Rattle.sx_module.specs.Alike.{HasThree, AreAlike, OneUnit}
 use Rattle.sx_module.specs.Body.{IsCut, HasDefect}
 use Rattle.sx_module.specs.Outcomes.{no_hypotheses}
-use Rattle.sx_module.specs.Refused.{IsSpot, defect_place, unread_place, stuck_text, IsStuckGoal, IsStuckAt, IsLimit, IsAmbiguous, file_size, sort_of, term_of, shown_of, stated_text, IsWritable, IsDue, HasBody, IsBadModule, HasWalked}
+use Rattle.sx_module.specs.Refused.{IsSpot, defect_place, unread_place, stuck_text, IsStuckGoal, IsStuckAt, IsUnprintable, file_size, sort_of, term_of, shown_of, stated_text, IsWritable, IsDue, HasBody, IsBadModule, HasWalked}
 use Rattle.sx_module.specs.Source.{Source, main_sort}
 use Rattle.sx_module.specs.Texts.{interface_text, derivation_text}
 use Rattle.sx_module.specs.Unit.{UnitData, rules_of, goal, goal_events, IsTyped, IsWritten, IsMade}
-use Rattle.sx_module.proofs.OneBody.{one_cut, defect_or_cut, unread_or_read}
-use Rattle.sx_module.proofs.OneAnswer.{ShowTwo, SameBody, body_one, defect_one, unread_one}
-use Rattle.sx_module.proofs.OnePrint.{limit_one, limit_two, limit_none, two_none}
+use Rattle.sx_module.proofs.OneBody.{one_cut, defect_or_cut}
+use Rattle.sx_module.proofs.OneAnswer.{SameBody, body_one, defect_one, unread_one}
+use Rattle.sx_module.proofs.OnePrint.{ShowPairs, defect_one as print_one, defect_none}
 
 some_same : {A : Type 0} (x y : A) → Some x ≡ Some y → x ≡ y
 some_same x y e = cc
@@ -67,7 +70,7 @@ module _ (s : Source) (tries : ℕ) where
     unread : IsUnreadAs s.language.parts [] (main_sort s.language Sub) tokens (length s.header.body) why
     at : IsSpot s (unread_place why) line column
 
-  uncut_one : (e d : ModuleError) → IsUncut e → IsUncut d → AreAlike e d
+  uncut_one : (e d : ModuleError) → IsUncut e → IsUncut d → AreAlike s tries e d
   uncut_one e d h k =
       let same = defect_one s.language.parts s.header.body h.defect k.defect h.has k.has in
       let there = subst (λ (x : TokenError). IsSpot s (defect_place x) h.line h.column) same h.at in
@@ -77,11 +80,12 @@ module _ (s : Source) (tries : ℕ) where
   uncut_unread e d h k = defect_or_cut s.language.parts s.header.body h.defect k.tokens h.has k.cut
 
   reads_alike : (u v : Unread) (e d : ModuleError) (line column row place : ℕ) → e ≡ Read line column u → d ≡ Read row place v →
-      IsSpot s (unread_place u) line column → IsSpot s (unread_place v) row place → (u ≡ v) ⊎ ShowTwo u v → AreAlike e d
+      IsSpot s (unread_place u) line column → IsSpot s (unread_place v) row place →
+      (u ≡ v) ⊎ (ShowTwo u v × HasThree s.language.parts (main_sort s.language Sub) s.header.body) → AreAlike s tries e d
   reads_alike u v e d line column row place h k at other (inl same) =
       let there = subst (λ (x : Unread). IsSpot s (unread_place x) line column) same at in
       inl (h ∙ (λ i. Read ((there.0 ∙ sym other.0) i) ((there.1 ∙ sym other.1) i) (same i)) ∙ sym k)
-  reads_alike u v e d line column row place h k at other (inr two) =
+  reads_alike u v e d line column row place h k at other (inr (two, three)) =
       let here = subst (λ (x : Unread). IsSpot s (unread_place x) line column) two.first at in
       let there = subst (λ (x : Unread). IsSpot s (unread_place x) row place) two.second other in
       inr (inl (record {
@@ -93,12 +97,13 @@ module _ (s : Source) (tries : ℕ) where
         more = two.more;
         first = h ∙ ap (Read line column) two.first;
         second = k ∙ (λ i. Read ((there.0 ∙ sym here.0) i) ((there.1 ∙ sym here.1) i) (two.second i));
+        three = three;
       }))
 
-  unreads_one : (e d : ModuleError) → IsUnread e → IsUnread d → AreAlike e d
+  unreads_one : (e d : ModuleError) → IsUnread e → IsUnread d → AreAlike s tries e d
   unreads_one e d h k =
       reads_alike h.why k.why e d h.line h.column k.line k.column h.is k.is h.at k.at
-      (unread_one s.language.parts (main_sort s.language Sub) s.header.body (length s.header.body) h.tokens k.tokens h.cut k.cut h.why k.why h.unread k.unread)
+      (unread_one s.language.parts (main_sort s.language Sub) s.header.body (length s.header.body) h.tokens k.tokens h.why k.why h.cut k.cut h.unread k.unread)
 
   same_body : (b c : HasBody s) → SameBody s.language.parts (main_sort s.language Sub) s.header.body b.tokens c.tokens b.reading c.reading b.subject c.subject
   same_body b c = body_one s.language.parts (main_sort s.language Sub) s.header.body b.tokens c.tokens b.reading c.reading b.subject c.subject b.read c.read
@@ -106,7 +111,7 @@ module _ (s : Source) (tries : ℕ) where
   abbrev IsUnbodied : ModuleError → Type 0
   IsUnbodied e = IsUncut e ⊎ IsUnread e
 
-  unbodied_one : (e d : ModuleError) → IsUnbodied e → IsUnbodied d → AreAlike e d
+  unbodied_one : (e d : ModuleError) → IsUnbodied e → IsUnbodied d → AreAlike s tries e d
   unbodied_one e d (inl h) (inl k) = uncut_one e d h k
   unbodied_one e d (inl h) (inr k) = absurd (uncut_unread e d h k)
   unbodied_one e d (inr h) (inl k) = absurd (uncut_unread d e k h)
@@ -117,70 +122,78 @@ module _ (s : Source) (tries : ℕ) where
   unbodied_none e (inr h) b =
       let there = subst (λ (ts : List Token). IsUnreadAs s.language.parts [] (main_sort s.language Sub) ts (length s.header.body) h.why)
       (one_cut s.language.parts s.header.body h.tokens b.tokens h.cut b.read.cut) h.unread in
-      unread_or_read s.language.parts (main_sort s.language Sub) b.tokens (length s.header.body) h.why b.reading there b.read.answer
+      unread_or_read s.language.parts [] (main_sort s.language Sub) b.tokens (length s.header.body) h.why b.reading there b.read.answer
 
   -- ---- what is printed
 
   module _ (subject signature : Tree) where
-    -- the printed part passes a limit, or has two readings
-    record PassesLimit (part : Part) (e : ModuleError) : Type 0 where
-      limit : Limit
-      is : e ≡ PrintLimit part limit
-      passes : IsLimit s.language.parts (sort_of s part) (file_size s subject signature part) (shown_of s subject signature part) (term_of subject signature part) limit
+    -- the printed part cannot be written
+    record IsUnprinted (part : PrintedPart) (e : ModuleError) : Type 0 where
+      defect : PrintDefect
+      is : e ≡ Print part defect
+      why : IsUnprintable s.language.parts (sort_of s part) (file_size s subject signature part) (shown_of s subject signature part) (term_of subject signature part) defect
 
-    record HasTwo (part : Part) (e : ModuleError) : Type 0 where
+    -- both show two readings of a printed part that has more than two
+    record ShowPrinted (e d : ModuleError) : Type 0 where
+      part : PrintedPart
+      due : IsDue s subject signature part
       one : Text
       other : Text
-      is : e ≡ PrintAmbiguous part one other
-      two : IsAmbiguous s.language.parts (sort_of s part) (file_size s subject signature part) (shown_of s subject signature part) one other
+      some : Text
+      more : Text
+      first : e ≡ Print part (print_defect.Ambiguous one other)
+      second : d ≡ Print part (print_defect.Ambiguous some more)
+      three : HasThree s.language.parts (sort_of s part) (shown_of s subject signature part)
 
-    abbrev IsUnprinted : Part → ModuleError → Type 0
-    IsUnprinted part e = PassesLimit part e ⊎ HasTwo part e
+    defects_alike : (part : PrintedPart) (a b : PrintDefect) (e d : ModuleError) → IsDue s subject signature part → e ≡ Print part a → d ≡ Print part b →
+        (a ≡ b) ⊎ (ShowPairs a b × HasThree s.language.parts (sort_of s part) (shown_of s subject signature part)) → (e ≡ d) ⊎ ShowPrinted e d
+    defects_alike part a b e d due h k (inl same) = inl (h ∙ ap (Print part) same ∙ sym k)
+    defects_alike part a b e d due h k (inr (pairs, three)) = inr (record {
+      part = part;
+      due = due;
+      one = pairs.one;
+      other = pairs.other;
+      some = pairs.some;
+      more = pairs.more;
+      first = h ∙ ap (Print part) pairs.first;
+      second = k ∙ ap (Print part) pairs.second;
+      three = three;
+    })
 
-    unprinted_one : (part : Part) (e d : ModuleError) → IsUnprinted part e → IsUnprinted part d → AreAlike e d
-    unprinted_one part e d (inl h) (inl k) =
-        inl (h.is ∙ ap (PrintLimit part) (limit_one s.language.parts (sort_of s part) (file_size s subject signature part) (shown_of s subject signature part) (term_of subject signature part)
-        h.limit k.limit h.passes k.passes) ∙ sym k.is)
-    unprinted_one part e d (inl h) (inr k) =
-        absurd (limit_two s.language.parts (sort_of s part) (file_size s subject signature part) (shown_of s subject signature part) (term_of subject signature part)
-        h.limit k.one k.other h.passes k.two)
-    unprinted_one part e d (inr h) (inl k) =
-        absurd (limit_two s.language.parts (sort_of s part) (file_size s subject signature part) (shown_of s subject signature part) (term_of subject signature part)
-        k.limit h.one h.other k.passes h.two)
-    unprinted_one part e d (inr h) (inr k) =
-        inr (inr (record { part = part; one = h.one; other = h.other; some = k.one; more = k.other; first = h.is; second = k.is }))
+    unprinted_one : (part : PrintedPart) (e d : ModuleError) → IsDue s subject signature part → IsUnprinted part e → IsUnprinted part d → (e ≡ d) ⊎ ShowPrinted e d
+    unprinted_one part e d due h k =
+        defects_alike part h.defect k.defect e d due h.is k.is
+        (print_one s.language.parts (sort_of s part) (file_size s subject signature part) (shown_of s subject signature part) (term_of subject signature part) h.defect k.defect h.why k.why)
 
     -- a part that can be written is not refused
-    part_none : (part : Part) (e : ModuleError) → IsUnprinted part e → IsWritable s subject signature part → ⊥
-    part_none part e (inl h) w =
-        limit_none s.language.parts (sort_of s part) (file_size s subject signature part) (shown_of s subject signature part) (term_of subject signature part) h.limit w.0 h.passes w.1
-    part_none part e (inr h) w =
-        two_none s.language.parts (sort_of s part) (file_size s subject signature part) (shown_of s subject signature part) (term_of subject signature part) h.one h.other h.two w.1
+    part_none : (part : PrintedPart) (e : ModuleError) → IsUnprinted part e → IsWritable s subject signature part → ⊥
+    part_none part e h w =
+        defect_none s.language.parts (sort_of s part) (file_size s subject signature part) (shown_of s subject signature part) (term_of subject signature part) h.defect w.0 h.why w.1
 
     record IsUnwritten (e : ModuleError) : Type 0 where
-      part : Part
+      part : PrintedPart
       due : IsDue s subject signature part
       unprinted : IsUnprinted part e
 
-    parts_one : (part more : Part) (e d : ModuleError) → IsDue s subject signature part → IsDue s subject signature more → IsUnprinted part e → IsUnprinted more d → AreAlike e d
-    parts_one Body Body e d due other h k = unprinted_one Body e d h k
+    parts_one : (part more : PrintedPart) (e d : ModuleError) → IsDue s subject signature part → IsDue s subject signature more → IsUnprinted part e → IsUnprinted more d → (e ≡ d) ⊎ ShowPrinted e d
+    parts_one Body Body e d due other h k = unprinted_one Body e d due h k
     parts_one Body Signature e d due other h k = absurd (part_none Body e h other)
     parts_one Body Stated e d due other h k = absurd (part_none Body e h other.0)
     parts_one Signature Body e d due other h k = absurd (part_none Body d k due)
-    parts_one Signature Signature e d due other h k = unprinted_one Signature e d h k
+    parts_one Signature Signature e d due other h k = unprinted_one Signature e d due h k
     parts_one Signature Stated e d due other h k = absurd (part_none Signature e h other.1)
     parts_one Stated Body e d due other h k = absurd (part_none Body d k due.0)
     parts_one Stated Signature e d due other h k = absurd (part_none Signature d k due.1)
-    parts_one Stated Stated e d due other h k = unprinted_one Stated e d h k
+    parts_one Stated Stated e d due other h k = unprinted_one Stated e d due h k
 
     -- each part of what is written can be written
-    all_writable : (part : Part) (answer : Answer) (u : UnitData) → IsWritten s subject signature answer u → IsWritable s subject signature part
+    all_writable : (part : PrintedPart) (answer : Answer) (u : UnitData) → IsWritten s subject signature answer u → IsWritable s subject signature part
     all_writable Body answer u w = (subst (λ (l : List ℕ). length l ≤ 262144) w.base w.base_short, w.body)
     all_writable Signature answer u w =
         (less_short (length (interface_text s subject signature)) (length (stated_text s signature) + 1) (subst (λ (l : List ℕ). length l ≤ 262144) w.interface w.interface_short), w.signature_read)
     all_writable Stated answer u w = (subst (λ (l : List ℕ). length l ≤ 262144) w.interface w.interface_short, w.signature_read)
 
-    unwritten_none : (part : Part) (e : ModuleError) (answer : Answer) (u : UnitData) → IsUnprinted part e → IsWritten s subject signature answer u → ⊥
+    unwritten_none : (part : PrintedPart) (e : ModuleError) (answer : Answer) (u : UnitData) → IsUnprinted part e → IsWritten s subject signature answer u → ⊥
     unwritten_none part e answer u h w = part_none part e h (all_writable part answer u w)
 
     written_one : (answer : Answer) (u v : UnitData) → IsWritten s subject signature answer u → IsWritten s subject signature answer v → u.source_tokens ≡ v.source_tokens → u ≡ v
@@ -203,7 +216,7 @@ module _ (s : Source) (tries : ℕ) where
   record IsMistyped (ts : List Token) (r : Reading) (subject : Tree) (e : ModuleError) : Type 0 where
     line : ℕ
     column : ℕ
-    text : StuckText
+    text : GoalDefect
     is : e ≡ TypeError line column text
     blame : Blame
     stuck : IsStuckGoal s subject blame
@@ -224,11 +237,27 @@ module _ (s : Source) (tries : ℕ) where
   Tells ts r subject spent e = e ≡ BudgetSpent tries
   Tells ts r subject exhausted e = IsMistyped ts r subject e
 
-  outputs_one : (subject : Tree) (answer : Answer) (e d : ModuleError) → IsBadOutput subject answer e → IsBadOutput subject answer d → AreAlike e d
-  outputs_one subject answer e d h k =
+  outputs_alike : (b : HasBody s) (signature : Tree) (answer : Answer) (e d : ModuleError) → IsTyped s tries b.subject signature answer →
+      (e ≡ d) ⊎ ShowPrinted b.subject signature e d → AreAlike s tries e d
+  outputs_alike b signature answer e d typed (inl same) = inl same
+  outputs_alike b signature answer e d typed (inr show) = inr (inr (record {
+    part = show.part;
+    one = show.one;
+    other = show.other;
+    some = show.some;
+    more = show.more;
+    first = show.first;
+    second = show.second;
+    three = (record { body = b; signature = signature; answer = answer; typed = typed }, show.due, show.three);
+  }))
+
+  outputs_one : (b : HasBody s) (answer : Answer) (e d : ModuleError) → walk None tries (goal_events s b.subject) ≡ found answer →
+      IsBadOutput b.subject answer e → IsBadOutput b.subject answer d → AreAlike s tries e d
+  outputs_one b answer e d ends h k =
       let same = same_head h.signature k.signature (sym h.output ∙ k.output) in
-      let there = subst (λ (t : Tree). IsUnwritten subject t e) same h.unwritten in
-      parts_one subject k.signature there.part k.unwritten.part e d there.due k.unwritten.due there.unprinted k.unwritten.unprinted
+      let there = subst (λ (t : Tree). IsUnwritten b.subject t e) same h.unwritten in
+      outputs_alike b k.signature answer e d (record { finds = ends; output = k.output })
+      (parts_one b.subject k.signature there.part k.unwritten.part e d there.due k.unwritten.due there.unprinted k.unwritten.unprinted)
 
   module _ (moded : AllModed (modes_of s.language.forms) (rules_of s.language)) where
     mistyped_one : (ts : List Token) (r : Reading) (subject : Tree) (e d : ModuleError) → IsMistyped ts r subject e → IsMistyped ts r subject d → e ≡ d
@@ -240,13 +269,14 @@ module _ (s : Source) (tries : ℕ) where
         let text = h.told ∙ (λ i. stuck_text s.language (same i).goal (same i).reason) ∙ sym k.told in
         h.is ∙ (λ i. TypeError ((spot.0 ∙ sym k.at.2.0) i) ((spot.1 ∙ sym k.at.2.1) i) (text i)) ∙ sym k.is
 
-    tells_one : (ts : List Token) (r : Reading) (subject : Tree) (x : Ending) (e d : ModuleError) → Tells ts r subject x e → Tells ts r subject x d → AreAlike e d
-    tells_one ts r subject (found answer) e d h k = outputs_one subject answer e d h k
-    tells_one ts r subject (stopped depth_spent) e d h k = inl (h ∙ sym k)
-    tells_one ts r subject (stopped (too_deep depth)) e d h k = inl (h ∙ sym k)
-    tells_one ts r subject (stopped (too_big size)) e d h k = inl (h ∙ sym k)
-    tells_one ts r subject spent e d h k = inl (h ∙ sym k)
-    tells_one ts r subject exhausted e d h k = inl (mistyped_one ts r subject e d h k)
+    tells_one : (b : HasBody s) (x : Ending) (e d : ModuleError) → walk None tries (goal_events s b.subject) ≡ x →
+        Tells b.tokens b.reading b.subject x e → Tells b.tokens b.reading b.subject x d → AreAlike s tries e d
+    tells_one b (found answer) e d ends h k = outputs_one b answer e d ends h k
+    tells_one b (stopped depth_spent) e d ends h k = inl (h ∙ sym k)
+    tells_one b (stopped (too_deep depth)) e d ends h k = inl (h ∙ sym k)
+    tells_one b (stopped (too_big size)) e d ends h k = inl (h ∙ sym k)
+    tells_one b spent e d ends h k = inl (h ∙ sym k)
+    tells_one b exhausted e d ends h k = inl (mistyped_one b.tokens b.reading b.subject e d h k)
 
   -- ---- all of it
 
@@ -271,12 +301,9 @@ module _ (s : Source) (tries : ℕ) where
   refusals DepthSpent (b, ends) = told_by DepthSpent b (stopped depth_spent) ends refl
   refusals (TooDeep n) (b, depth, ends, is) = told_by (TooDeep n) b (stopped (too_deep depth)) ends (ap TooDeep is)
   refusals (TooBig n) (b, size, ends, is) = told_by (TooBig n) b (stopped (too_big size)) ends (ap TooBig is)
-  refusals (PrintLimit part limit) (t, due, passes) =
-      told_by (PrintLimit part limit) t.body (found t.answer) t.typed.finds
-      (record { signature = t.signature; output = t.typed.output; unwritten = record { part = part; due = due; unprinted = inl (record { limit = limit; is = refl; passes = passes }) } })
-  refusals (PrintAmbiguous part one other) (t, due, two) =
-      told_by (PrintAmbiguous part one other) t.body (found t.answer) t.typed.finds
-      (record { signature = t.signature; output = t.typed.output; unwritten = record { part = part; due = due; unprinted = inr (record { one = one; other = other; is = refl; two = two }) } })
+  refusals (Print part defect) (t, due, why) =
+      told_by (Print part defect) t.body (found t.answer) t.typed.finds
+      (record { signature = t.signature; output = t.typed.output; unwritten = record { part = part; due = due; unprinted = record { defect = defect; is = refl; why = why } } })
 
   abbrev TellsOf : List Token → Reading → Tree → ModuleError → Type 0
   TellsOf ts r subject e = Tells ts r subject (walk None tries (goal_events s subject)) e
@@ -288,14 +315,14 @@ module _ (s : Source) (tries : ℕ) where
       (subst (λ (r : Reading). TellsOf c.tokens r b.subject e) same.reading_same (subst (λ (ts : List Token). TellsOf ts b.reading b.subject e) same.tokens_same h))
 
   refused_one : AllModed (modes_of s.language.forms) (rules_of s.language) → (e d : ModuleError) → (e ≡ Memory) ⊎ IsUnbodied e ⊎ IsUncompiled e → (d ≡ Memory) ⊎ IsUnbodied d ⊎ IsUncompiled d →
-      e ≢ Memory → d ≢ Memory → AreAlike e d
+      e ≢ Memory → d ≢ Memory → AreAlike s tries e d
   refused_one moded e d (inl h) k n m = absurd (n h)
   refused_one moded e d (inr h) (inl k) n m = absurd (m k)
   refused_one moded e d (inr (inl h)) (inr (inl k)) n m = unbodied_one e d h k
   refused_one moded e d (inr (inl h)) (inr (inr k)) n m = absurd (unbodied_none e h k.body)
   refused_one moded e d (inr (inr h)) (inr (inl k)) n m = absurd (unbodied_none d k h.body)
   refused_one moded e d (inr (inr h)) (inr (inr k)) n m =
-      tells_one moded k.body.tokens k.body.reading k.body.subject (walk None tries (goal_events s k.body.subject)) e d (tells_there e h.body k.body h.tells) k.tells
+      tells_one moded k.body (walk None tries (goal_events s k.body.subject)) e d refl (tells_there e h.body k.body h.tells) k.tells
 
   abbrev body_of : (u : UnitData) → IsMade s tries u → HasBody s
   body_of u m = record { tokens = m.tokens; reading = m.reading; subject = m.subject; read = m.read }

@@ -9,9 +9,9 @@ use Rattle.sx_token.specs.declared.token_error.TokenError.{TokenError}
 use Rattle.sx_token.specs.declared.token_error.TokenError.TheVariants as defect
 use Rattle.sx_token.specs.Tokens.{outcome_of}
 use Rattle.sx_grammar.specs.Parts.{Parts}
-use Rattle.sx_module.specs.declared.print_limit.Limit.TheVariants.{Bytes, Tokens, Items, Depth}
+use Rattle.sx_words.specs.declared.print_defect.PrintDefect.TheVariants.{Bytes, Tokens, Items, Depth, Ambiguous}
 use Rattle.sx_module.specs.declared.print_check.PrintRefusal.{PrintRefusal}
-use Rattle.sx_module.specs.declared.print_check.PrintRefusal.TheVariants.{Memory, Limit, Ambiguous}
+use Rattle.sx_module.specs.declared.print_check.PrintRefusal.TheVariants.{Memory, Defect}
 use Rattle.sx_module.specs.Body.{IsCut}
 use Rattle.sx_module.specs.PrintRefused.{IsPrintRefusal, IsUnreadPrint}
 
@@ -29,8 +29,8 @@ same_pieces one other e = cc
 -- tokens that have not one reading are a refusal of the text
 pub refused : (p : Parts) (sort : Sort) (size : ℕ) (shown : List ℕ) (t : Tree) (ts : List Token) (e : PrintRefusal) → size ≤ 262144 → IsCut p shown ts → IsUnreadPrint p sort ts e → IsPrintRefusal p sort size shown t e
 refused p sort size shown t ts Memory short cut h = tt
-refused p sort size shown t ts (Limit Items) short cut h = (short, (ts, cut, h))
-refused p sort size shown t ts (Limit (Depth n)) short cut h = (short, (ts, cut, h))
-refused p sort size shown t ts (Limit (Bytes n)) short cut h = absurd h
-refused p sort size shown t ts (Limit (Tokens n)) short cut h = absurd h
-refused p sort size shown t ts (Ambiguous one other) short cut h = (short, (ts, cut, h))
+refused p sort size shown t ts (Defect Items) short cut h = (short, (ts, cut, h))
+refused p sort size shown t ts (Defect (Depth n)) short cut h = (short, (ts, cut, h))
+refused p sort size shown t ts (Defect (Bytes n)) short cut h = absurd h
+refused p sort size shown t ts (Defect (Tokens n)) short cut h = absurd h
+refused p sort size shown t ts (Defect (Ambiguous one other)) short cut h = (short, (ts, cut, h))

@@ -27,8 +27,7 @@ module _ (s : Source) (tries : ℕ) where
   all_counted made first last walked h (Err module_error.DepthSpent) = (made, walked, h)
   all_counted made first last walked h (Err (module_error.TooDeep n)) = (made, walked, h)
   all_counted made first last walked h (Err (module_error.TooBig n)) = (made, walked, h)
-  all_counted made first last walked h (Err (module_error.PrintLimit part limit)) = (made, walked, h)
-  all_counted made first last walked h (Err (module_error.PrintAmbiguous part one other)) = (made, walked, h)
+  all_counted made first last walked h (Err (module_error.Print part defect)) = (made, walked, h)
 
   -- where the body is refused there are none
   pub unread_counted : (e : ModuleError) (at : ℕ) → (e ≡ module_error.Memory) ⊎ (HasBody s → ⊥) → IsCounted s tries (Err e) at at
@@ -53,8 +52,7 @@ module _ (s : Source) (tries : ℕ) where
     untyped_counted first last module_error.DepthSpent h = (tries_of None tries (goal_events s b.subject), walked, h)
     untyped_counted first last (module_error.TooDeep n) h = (tries_of None tries (goal_events s b.subject), walked, h)
     untyped_counted first last (module_error.TooBig n) h = (tries_of None tries (goal_events s b.subject), walked, h)
-    untyped_counted first last (module_error.PrintLimit part limit) h = (tries_of None tries (goal_events s b.subject), walked, h)
-    untyped_counted first last (module_error.PrintAmbiguous part one other) h = (tries_of None tries (goal_events s b.subject), walked, h)
+    untyped_counted first last (module_error.Print part defect) h = (tries_of None tries (goal_events s b.subject), walked, h)
 
 -- the steps rise by no more than the tries that may be made
 pub tried_most : (made first last tries : ℕ) (r : Result Typed ModuleError) → made ≤ tries → IsTried made first last r → last ≤ first + tries
@@ -67,8 +65,7 @@ tried_most made first last tries (Err (module_error.BudgetSpent n)) few h = omeg
 tried_most made first last tries (Err module_error.DepthSpent) few h = omega (arith, few, h)
 tried_most made first last tries (Err (module_error.TooDeep n)) few h = omega (arith, few, h)
 tried_most made first last tries (Err (module_error.TooBig n)) few h = omega (arith, few, h)
-tried_most made first last tries (Err (module_error.PrintLimit part limit)) few h = omega (arith, few, h)
-tried_most made first last tries (Err (module_error.PrintAmbiguous part one other)) few h = omega (arith, few, h)
+tried_most made first last tries (Err (module_error.Print part defect)) few h = omega (arith, few, h)
 
 -- what holds of an error that is passed on
 pub err_is : {T E : Type 0} (Q : Result T E → Type 0) (r : Result T E) (P : E → Type 0) → IsErrAnd r P → ((e : E) → P e → Q (Err e)) → Q r

@@ -145,8 +145,7 @@ exact made first last (module_error.BudgetSpent n) h = h
 exact made first last module_error.DepthSpent h = h
 exact made first last (module_error.TooDeep n) h = h
 exact made first last (module_error.TooBig n) h = h
-exact made first last (module_error.PrintLimit part limit) h = h
-exact made first last (module_error.PrintAmbiguous part one other) h = h
+exact made first last (module_error.Print part defect) h = h
 
 -- the tries of a search that finds nothing are those of the refusal
 pub tried : (made first last : ℕ) (e : DeriveError) (r : ModuleError) → AreCounted {X = Listed} made first last (Err e) → (e ≡ derive_error.Memory → r ≡ module_error.Memory) → IsTried {X = Typed} made first last (Err r)

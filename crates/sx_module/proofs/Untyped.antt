@@ -26,5 +26,4 @@ final_if s tries (Err (module_error.BudgetSpent n)) moded h = tt
 final_if s tries (Err module_error.DepthSpent) moded h = tt
 final_if s tries (Err (module_error.TooDeep n)) moded h = tt
 final_if s tries (Err (module_error.TooBig n)) moded h = tt
-final_if s tries (Err (module_error.PrintLimit part limit)) moded h = tt
-final_if s tries (Err (module_error.PrintAmbiguous part one other)) moded h = tt
+final_if s tries (Err (module_error.Print part defect)) moded h = tt

@@ -25,8 +25,10 @@ abbrev pub HasDefect : Parts → (text : Text) → TokenError → Type 0
 HasDefect p text token.Memory = ⊥
 HasDefect p text e = IfSome (outcome_of (Err e)) (IsOutcome (literals_of p) false text)
 
--- the text is cut into the tokens, these have only this reading as the sort, and its term is this one
-pub record ReadsAs (p : Parts) (sort : Sort) (text : Text) (ts : List Token) (r : Reading) (t : Tree) : Type 0 where
+-- the text is cut into the tokens, these have only this reading as the sort, and its term is this
+-- one
+pub record ReadsAs (p : Parts) (sort : Sort) (text : Text) (ts : List Token) (r : Reading)
+    (t : Tree) : Type 0 where
   pub cut : IsCut p text ts
   pub answer : IsAnswer (numbered p) (plain_tokens [] ts) (number_of sort) (only r)
   pub term : t ≡ term_of (plain_tokens [] ts) [] r

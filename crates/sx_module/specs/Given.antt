@@ -28,7 +28,8 @@ use Rattle.sx_module.specs.declared.module_error.ModuleError.TheVariants.{Memory
 
 -- what a module is compiled from, as plain data
 abbrev pub source_of : Given → Source
-source_of g = source g.language.now g.digest.now g.bytes.now g.header.now g.imports.now g.environment.now
+source_of g = source g.language.now g.digest.now g.bytes.now g.header.now g.imports.now
+    g.environment.now
 
 -- the conditions of compiling
 pub record CanCompile (g : Given) : Type 0 where
@@ -43,7 +44,8 @@ pub record IsShowable (p : Parts) (sort : Sort) (t : Tree) : Type 0 where
   pub depth : depth_of t ≤ 1000
   pub lexemes : HasLexemes (literals_of p) t
 
--- the list is that of the answer that the walk of the subject's goal finds, and the signature its output
+-- the list is that of the answer that the walk of the subject's goal finds, and the signature its
+-- output
 pub record IsTypedBy (s : Source) (tries : ℕ) (subject : Tree) (t : Typed) : Type 0 where
   pub answer : Answer
   pub typed : IsTyped s tries subject (tree t.signature) answer
@@ -53,7 +55,8 @@ pub record IsTypedBy (s : Source) (tries : ℕ) (subject : Tree) (t : Typed) : T
 -- what is found says how the walk of the subject's goal ends
 abbrev pub IsFoundBy : Source → ℕ → Tree → Result Listed DeriveError → Type 0
 IsFoundBy s tries subject found =
-    IsListed (modes_of s.language.forms) (subjects_in s.language.forms) (rules_of s.language) no_hypotheses (goal s subject) None tries found
+    IsListed (modes_of s.language.forms) (subjects_in s.language.forms)
+    (rules_of s.language) no_hypotheses (goal s subject) None tries found
 
 -- each of so many tries was counted; without memory some of them were
 abbrev pub IsTried : {X : Type 0} → ℕ → ℕ → ℕ → Result X ModuleError → Type 0

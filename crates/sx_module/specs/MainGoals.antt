@@ -31,31 +31,42 @@ main_terms places environment subject = flat_map (λ p. input_at environment sub
 
 -- the goal of the form with this number
 abbrev pub main_goal : List FormData → ℕ → Tree → Tree → Goal
-main_goal forms form environment subject = record { form = form; terms = main_terms (places_at forms form) environment subject }
+main_goal forms form environment subject =
+    record { form = form; terms = main_terms (places_at forms form) environment subject }
 
--- The form has one input, one subject and one output, of these sorts. Then the goal is well sorted where the terms are, the empty path leads to
--- its subject, and outputs that are well sorted are one term.
+-- The form has one input, one subject and one output, of these sorts. Then the goal is well sorted
+-- where the terms are, the empty path leads to its subject, and outputs that are well sorted are
+-- one term.
 abbrev pub MainGoalsFit : Type 0
 MainGoalsFit =
-    (shapes : List Shape) (forms : List FormData) (vars : List Sort) (number : ℕ) (form : FormData) (input sort output : Sort) (environment subject : Tree) →
-    slice_get forms number ≡ Some form → sorts_with In form.places ≡ input ∷ [] → sorts_with Sub form.places ≡ sort ∷ [] → sorts_with Out form.places ≡ output ∷ [] →
+    (shapes : List Shape) (forms : List FormData) (vars : List Sort) (number : ℕ) (form : FormData)
+    (input sort output : Sort) (environment subject : Tree) →
+    slice_get forms number ≡ Some form → sorts_with In form.places ≡ input ∷ [] →
+    sorts_with Sub form.places ≡ sort ∷ [] → sorts_with Out form.places ≡ output ∷ [] →
     HasSort shapes vars environment input → HasSort shapes vars subject sort →
-    GoalIsSorted shapes (sorts_of forms) (modes_of forms) vars (main_goal forms number environment subject)
+    GoalIsSorted shapes (sorts_of forms) (modes_of forms) vars
+    (main_goal forms number environment subject)
     × LeadsTo forms subject [] (main_goal forms number environment subject)
-    × ((outs : List Tree) → HaveSorts shapes vars outs (outputs (modes_of forms number) (sorts_of forms number)) → (t : Tree) × (outs ≡ t ∷ []) × HasSort shapes vars t output)
+    × ((outs : List Tree) → HaveSorts shapes vars outs
+    (outputs (modes_of forms number) (sorts_of forms number)) → (t : Tree) × (outs ≡ t ∷ []) ×
+    HasSort shapes vars t output)
 
--- where the lexemes of the environment and of the subject are tokens, so are those of each of the terms; so it is with their depth
+-- where the lexemes of the environment and of the subject are tokens, so are those of each of the
+-- terms; so it is with their depth
 abbrev pub MainGoalsHaveLexemes : Type 0
 MainGoalsHaveLexemes =
-    (literals : List Text) (places : List Place) (environment subject : Tree) → HasLexemes literals environment → HasLexemes literals subject →
+    (literals : List Text) (places : List Place) (environment subject : Tree) →
+    HasLexemes literals environment → HasLexemes literals subject →
     AllByRecursion (HasLexemes literals) (main_terms places environment subject)
 
 abbrev pub MainGoalsAreShallow : Type 0
 MainGoalsAreShallow =
-    (places : List Place) (environment subject : Tree) → depth_of environment ≤ 1000 → depth_of subject ≤ 1000 → AreShallow (main_terms places environment subject)
+    (places : List Place) (environment subject : Tree) → depth_of environment ≤ 1000 →
+    depth_of subject ≤ 1000 → AreShallow (main_terms places environment subject)
 
 -- a path that leads to a part of the term that was read leads to a place of the reading
 abbrev pub PartsHavePlaces : Type 0
 PartsHavePlaces =
-    (tokens : List Token) (names : List Text) (r : Reading) (path : List ℕ) (part : Tree) → part_at (term_of tokens names r) path ≡ Some part →
+    (tokens : List Token) (names : List Text) (r : Reading) (path : List ℕ) (part : Tree) →
+    part_at (term_of tokens names r) path ≡ Some part →
     (place : ℕ) × (place_at r path ≡ Some place)

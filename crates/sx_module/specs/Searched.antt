@@ -24,8 +24,10 @@ use Rattle.sx_derive.specs.BlameTerms.{BlameIsShallow}
 use Rattle.sx_notation.specs.Language.{RuleHasLexemes}
 use Rattle.sx_module.specs.Outcomes.{bare, no_hypotheses, LeadsTo, IsBlameIn}
 
--- the goal is of one of the forms and well sorted, its lexemes are tokens, it is no deeper than 1,000, and its subject is this term
-pub record IsGoalFor (literals : List Text) (shapes : List Shape) (forms : List FormData) (vars : List Sort) (top : Tree) (goal : Goal) : Type 0 where
+-- the goal is of one of the forms and well sorted, its lexemes are tokens, it is no deeper than
+-- 1,000, and its subject is this term
+pub record IsGoalFor (literals : List Text) (shapes : List Shape) (forms : List FormData)
+    (vars : List Sort) (top : Tree) (goal : Goal) : Type 0 where
   pub form : FormData
   pub is : slice_get forms goal.form ≡ Some form
   pub sorted : GoalIsSorted shapes (sorts_of forms) (modes_of forms) vars goal
@@ -34,29 +36,38 @@ pub record IsGoalFor (literals : List Text) (shapes : List Shape) (forms : List 
   pub leads : LeadsTo forms top [] goal
 
 -- the outputs are well sorted and no deeper than 1,000, and their lexemes are tokens
-pub record AreOutputsFor (literals : List Text) (shapes : List Shape) (forms : List FormData) (vars : List Sort) (goal : Goal) (outs : List Tree) : Type 0 where
-  pub sorted : HaveSorts shapes vars outs (outputs (modes_of forms goal.form) (sorts_of forms goal.form))
+pub record AreOutputsFor (literals : List Text) (shapes : List Shape) (forms : List FormData)
+    (vars : List Sort) (goal : Goal) (outs : List Tree) : Type 0 where
+  pub sorted : HaveSorts shapes vars outs
+      (outputs (modes_of forms goal.form) (sorts_of forms goal.form))
   pub lexemes : AllByRecursion (HasLexemes literals) outs
   pub shallow : AreShallow outs
 
 -- so it is of the outputs that are found for such a goal
 abbrev pub FoundOutputsFit : Type 0
 FoundOutputsFit =
-    (literals : List Text) (shapes : List Shape) (forms : List FormData) (rules : List NamedRule) → IsRuleSet shapes forms rules → AllByRecursion (RuleHasLexemes literals) rules →
+    (literals : List Text) (shapes : List Shape) (forms : List FormData) (rules : List NamedRule) →
+    IsRuleSet shapes forms rules → AllByRecursion (RuleHasLexemes literals) rules →
     (vars : List Sort) (top : Tree) (goal : Goal) → IsGoalFor literals shapes forms vars top goal →
-    (wanted : Option (List Tree)) (budget : ℕ) (a : Answer) → walk wanted budget (events (modes_of forms) (bare rules) no_hypotheses goal 1) ≡ found a →
+    (wanted : Option (List Tree)) (budget : ℕ) (a : Answer) →
+    walk wanted budget (events (modes_of forms) (bare rules) no_hypotheses goal 1) ≡ found a →
     AreOutputsFor literals shapes forms vars goal a.1
 
--- where nothing is found, the stuck goal of such a goal is well sorted and no deeper than 1,000, and its path leads to its subject
+-- where nothing is found, the stuck goal of such a goal is well sorted and no deeper than 1,000,
+-- and its path leads to its subject
 abbrev pub ExhaustedGoalsFit : Type 0
 ExhaustedGoalsFit =
-    (literals : List Text) (shapes : List Shape) (forms : List FormData) (rules : List NamedRule) → IsRuleSet shapes forms rules →
+    (literals : List Text) (shapes : List Shape) (forms : List FormData) (rules : List NamedRule) →
+    IsRuleSet shapes forms rules →
     (vars : List Sort) (top : Tree) (goal : Goal) → IsGoalFor literals shapes forms vars top goal →
-    (wanted : Option (List Tree)) (budget : ℕ) (blame : Blame) → walk wanted budget (events (modes_of forms) (bare rules) no_hypotheses goal 1) ≡ exhausted →
-    IsStuck (modes_of forms) (subjects_in forms) (bare rules) no_hypotheses 3000 goal [] blame → IsBlameIn shapes forms vars top blame × BlameIsShallow blame
+    (wanted : Option (List Tree)) (budget : ℕ) (blame : Blame) →
+    walk wanted budget (events (modes_of forms) (bare rules) no_hypotheses goal 1) ≡ exhausted →
+    IsStuck (modes_of forms) (subjects_in forms) (bare rules) no_hypotheses 3000 goal [] blame →
+    IsBlameIn shapes forms vars top blame × BlameIsShallow blame
 
 -- the list of a derivation has an entry for each node, and names rules that are there
 abbrev pub ListsFit : Type 0
 ListsFit =
-    (modes : Modes) (rules : List NamedRule) (goal : Goal) (a : Answer) (list : List EntryOf) → DerivesGoal modes (bare rules) no_hypotheses goal a → entries list ≡ order_of a.0 →
+    (modes : Modes) (rules : List NamedRule) (goal : Goal) (a : Answer) (list : List EntryOf) →
+    DerivesGoal modes (bare rules) no_hypotheses goal a → entries list ≡ order_of a.0 →
     AllByRecursion (IsEntry (map (λ r. r.name) rules)) list × (length list ≡ nodes_of a.0)

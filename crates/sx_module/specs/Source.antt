@@ -26,7 +26,8 @@ use Rattle.sx_notation.specs.declared.language.Language.{Language}
 use Rattle.sx_notation.specs.Language.{LanguageData, language_data, sorts_with}
 use Rattle.sx_module.specs.declared.import.Import.{Import}
 
--- the language with the digest of its file, the bytes and the header of the module's file, the digests of the imports' interfaces, and the environment
+-- the language with the digest of its file, the bytes and the header of the module's file, the
+-- digests of the imports' interfaces, and the environment
 pub record Source : Type 0 where
   pub language : LanguageData
   pub digest : List ℕ
@@ -42,7 +43,14 @@ mark i = record { name = i.interface.module; digest = i.digest.bytes }
 -- what is handed in to compile a module, without where it lies in memory
 abbrev pub source : Language → Digest → List ℕ → headers.Header → List Import → Term → Source
 source l digest bytes h imports t =
-    record { language = language_data l; digest = digest.bytes; bytes = bytes; header = header_view bytes h; marks = map mark imports; environment = tree t }
+    record {
+      language = language_data l;
+      digest = digest.bytes;
+      bytes = bytes;
+      header = header_view bytes h;
+      marks = map mark imports;
+      environment = tree t;
+    }
 
 -- the header is that of the bytes, without extensions, and these are its imports in order
 pub record IsSource (bytes : List ℕ) (header : HeaderParts) (marks : List Mark) : Type 0 where
@@ -60,7 +68,8 @@ only_sort (sort ∷ sorts) = sort
 abbrev pub main_sort : LanguageData → Role → Sort
 main_sort d role = only_sort (sorts_with role (places_at d.forms d.main.form))
 
--- a term of the sort of environments, without variables and at most 1,000 deep, whose lexemes are tokens
+-- a term of the sort of environments, without variables and at most 1,000 deep, whose lexemes are
+-- tokens
 pub record IsEnvironment (d : LanguageData) (t : Tree) : Type 0 where
   pub sorted : HasSort (shapes_of d.parts) [] t (main_sort d In)
   pub depth : depth_of t ≤ 1000

@@ -6,7 +6,8 @@ abbrev pub feeds_in : List ℕ → ℕ
 feeds_in [] = 0
 feeds_in (b ∷ bs) = (if nat_eq b 10 then 1 else 0) + feeds_in bs
 
--- how many bytes stand behind the last line feed, or behind the beginning, with so many before them where there is no line feed
+-- how many bytes stand behind the last line feed, or behind the beginning, with so many before them
+-- where there is no line feed
 abbrev pub behind_feed : ℕ → List ℕ → ℕ
 behind_feed before [] = before
 behind_feed before (b ∷ bs) = behind_feed (if nat_eq b 10 then 0 else before + 1) bs

@@ -28,14 +28,17 @@ print_line p t = print_text p t ++ 10 ∷ []
 -- the header without extensions, `---`, and the printed text
 abbrev pub base_of : HeaderParts → (shown : List ℕ) → List ℕ
 base_of h shown =
-    written ((codes "module " ++ h.name) ∷ (codes "language " ++ h.language) ∷ (row_lines (codes "import ") h.imports ++ codes "---" ∷ [])) ++ (shown ++ 10 ∷ [])
+    written ((codes "module " ++ h.name) ∷ (codes "language " ++ h.language) ∷ (row_lines
+    (codes "import ") h.imports ++ codes "---" ∷ [])) ++ (shown ++ 10 ∷ [])
 
 abbrev pub base_text : Source → (subject : Tree) → List ℕ
 base_text s subject = base_of s.header (print_text s.language.parts subject)
 
 -- what importers read of a module: the digests of the language and of the base file, those of the
--- imports, and the signature. A module without extensions has no uses, and its stated signature is its signature.
-abbrev pub interface_of : HeaderParts → (language base : List ℕ) → List Mark → (signature : List ℕ) → InterfaceParts
+-- imports, and the signature. A module without extensions has no uses, and its stated signature is
+-- its signature.
+abbrev pub interface_of : HeaderParts → (language base : List ℕ) → List Mark →
+    (signature : List ℕ) → InterfaceParts
 interface_of h language base marks signature =
     record {
       name = h.name;
@@ -49,7 +52,8 @@ interface_of h language base marks signature =
 
 abbrev pub interface_text : Source → (subject signature : Tree) → List ℕ
 interface_text s subject signature =
-    written (interface_lines (interface_of s.header s.digest (sha256 (base_text s subject)) s.marks (print_text s.language.parts signature)))
+    written (interface_lines (interface_of s.header s.digest (sha256 (base_text s subject)) s.marks
+    (print_text s.language.parts signature)))
 
 -- the name of a rule, or `given` and the number of a hypothesis from 1
 abbrev pub entry_text : (names : List Text) → Entry → List ℕ
@@ -57,4 +61,5 @@ entry_text names (of_rule number) = slice_index_or names number []
 entry_text names (of_given number) = codes "given " ++ decimal (number + 1)
 
 abbrev pub derivation_text : List NamedRule → List Entry → List ℕ
-derivation_text rules entries = written (codes "sxder 1" ∷ map (entry_text (map (λ r. r.name) rules)) entries)
+derivation_text rules entries =
+    written (codes "sxder 1" ∷ map (entry_text (map (λ r. r.name) rules)) entries)

@@ -12,7 +12,7 @@ use Rattle.sx_derive.specs.Stuck.{Blame, Reason, no_rule, unequal, mismatch}
 use Rattle.sx_notation.specs.Forms.{HasForms, GoalFits}
 use Rattle.sx_notation.specs.Language.{LanguageData}
 use Rattle.sx_notation.specs.WhyUnread.{place_in}
-use Rattle.sx_module.specs.declared.stuck_text.StuckText.{StuckText}
+use Rattle.sx_words.specs.declared.goal_defect.GoalDefect.{GoalDefect}
 use Rattle.sx_module.specs.declared.module_error.ModuleError.{ModuleError}
 use Rattle.sx_module.specs.declared.module_error.ModuleError.TheVariants.{TypeError}
 use Rattle.sx_module.specs.Spots.{line_at, column_at}
@@ -25,7 +25,8 @@ shown_got (unequal rule premise) = None
 shown_got (mismatch by got) = Some got
 
 -- the goal can be printed by the grammar of rules, with the outputs that were got, where some were
-pub record CanShow (p : Parts) (forms : List FormData) (goal : Goal) (got : Option (List Tree)) : Type 0 where
+pub record CanShow (p : Parts) (forms : List FormData) (goal : Goal)
+    (got : Option (List Tree)) : Type 0 where
   pub follow : HasForms p forms
   pub fits : GoalFits (numbered p) 0 forms goal got
   pub inputs : AreShallow goal.terms
@@ -33,13 +34,16 @@ pub record CanShow (p : Parts) (forms : List FormData) (goal : Goal) (got : Opti
 
 -- where the part begins that the path leads to, in a text of so many bytes
 abbrev pub IsPlace : List Token → Reading → (path : List ℕ) → (size : ℕ) → ℕ → Type 0
-IsPlace ts r path size place = (number : ℕ) × (place_at r path ≡ Some number) × (place ≡ place_in ts size number)
+IsPlace ts r path size place = (number : ℕ) × (place_at r path ≡ Some number) ×
+    (place ≡ place_in ts size number)
 
--- the refusal of a file that ends with a body of so many bytes: where the part begins that the stuck goal speaks of, and the text
-pub record IsTypeError (d : LanguageData) (file : List ℕ) (before size : ℕ) (ts : List Token) (r : Reading) (blame : Blame) (e : ModuleError) : Type 0 where
+-- the refusal of a file that ends with a body of so many bytes: where the part begins that the
+-- stuck goal speaks of, and the text
+pub record IsTypeError (d : LanguageData) (file : List ℕ) (before size : ℕ) (ts : List Token)
+    (r : Reading) (blame : Blame) (e : ModuleError) : Type 0 where
   pub line : ℕ
   pub column : ℕ
-  pub text : StuckText
+  pub text : GoalDefect
   pub is : e ≡ TypeError line column text
   pub place : ℕ
   pub at : IsPlace ts r blame.path size place

@@ -19,7 +19,8 @@ use Rattle.sx_module.specs.Source.{Source, main_sort}
 use Rattle.sx_module.specs.Outcomes.{bare, no_hypotheses}
 use Rattle.sx_module.specs.MainGoals.{main_goal}
 use Rattle.sx_module.specs.Body.{ReadsAs, ReadsOnly}
-use Rattle.sx_module.specs.Texts.{printed, print_text, print_line, base_text, interface_text, derivation_text}
+use Rattle.sx_module.specs.Texts.{printed, print_text, print_line, base_text, interface_text}
+use Rattle.sx_module.specs.Texts.{derivation_text}
 
 -- what was compiled, without where it lies in memory
 pub record UnitData : Type 0 where
@@ -53,31 +54,40 @@ goal s subject = main_goal s.language.forms s.language.main.form s.environment s
 
 -- the events of the walk of that goal
 abbrev pub goal_events : Source → (subject : Tree) → List (Event Answer)
-goal_events s subject = events (modes_of s.language.forms) (rules_of s.language) no_hypotheses (goal s subject) 1
+goal_events s subject = events (modes_of s.language.forms) (rules_of s.language) no_hypotheses
+    (goal s subject) 1
 
 -- the body has only this reading, whose term is the subject
 abbrev pub IsBody : Source → List Token → Reading → (subject : Tree) → Type 0
-IsBody s ts r subject = ReadsAs s.language.parts (main_sort s.language Sub) s.header.body ts r subject
+IsBody s ts r subject = ReadsAs s.language.parts (main_sort s.language Sub) s.header.body ts r
+    subject
 
--- the walk of its goal, with so many tries to spend, finds this answer, whose output is the signature
-pub record IsTyped (s : Source) (tries : ℕ) (subject signature : Tree) (answer : Answer) : Type 0 where
+-- the walk of its goal, with so many tries to spend, finds this answer, whose output is the
+-- signature
+pub record IsTyped (s : Source) (tries : ℕ) (subject signature : Tree)
+    (answer : Answer) : Type 0 where
   pub finds : walk None tries (goal_events s subject) ≡ found answer
   pub output : answer.1 ≡ signature ∷ []
 
--- the texts are those of this subject, this signature and this derivation; each file is short enough, and what is printed has only one reading
-pub record IsWritten (s : Source) (subject signature : Tree) (answer : Answer) (u : UnitData) : Type 0 where
+-- the texts are those of this subject, this signature and this derivation; each file is short
+-- enough, and what is printed has only one reading
+pub record IsWritten (s : Source) (subject signature : Tree) (answer : Answer)
+    (u : UnitData) : Type 0 where
   pub base : u.base ≡ base_text s subject
   pub base_short : length u.base ≤ 262144
-  pub body : ReadsOnly s.language.parts (main_sort s.language Sub) (print_line s.language.parts subject) subject
+  pub body : ReadsOnly s.language.parts (main_sort s.language Sub)
+      (print_line s.language.parts subject) subject
   pub interface : u.interface ≡ interface_text s subject signature
   pub interface_short : length u.interface ≤ 262144
-  pub signature_read : ReadsOnly s.language.parts (main_sort s.language Out) (print_text s.language.parts signature) signature
+  pub signature_read : ReadsOnly s.language.parts (main_sort s.language Out)
+      (print_text s.language.parts signature) signature
   pub list : u.list ≡ order_of answer.0
   pub derivation : u.derivation ≡ derivation_text s.language.rules u.list
   pub nodes : u.nodes ≡ nodes_of answer.0
   pub base_tokens : u.base_tokens ≡ length (printed s.language.parts subject)
 
--- the module's body has only one reading; its goal has this first derivation; and the texts are theirs
+-- the module's body has only one reading; its goal has this first derivation; and the texts are
+-- theirs
 pub record IsUnit (s : Source) (u : UnitData) : Type 0 where
   pub tokens : List Token
   pub reading : Reading
@@ -85,7 +95,8 @@ pub record IsUnit (s : Source) (u : UnitData) : Type 0 where
   pub read : IsBody s tokens reading subject
   pub signature : Tree
   pub answer : Answer
-  pub first : IsFirst (modes_of s.language.forms) (rules_of s.language) no_hypotheses (goal s subject) None answer
+  pub first : IsFirst (modes_of s.language.forms) (rules_of s.language) no_hypotheses
+      (goal s subject) None answer
   pub output : answer.1 ≡ signature ∷ []
   pub written : IsWritten s subject signature answer u
   pub source_tokens : u.source_tokens ≡ length tokens
@@ -104,4 +115,5 @@ pub record IsMade (s : Source) (tries : ℕ) (u : UnitData) : Type 0 where
 
 -- what is made by rules that can be followed is the unit of the module
 abbrev pub UnitsAreMade : Type 0
-UnitsAreMade = (s : Source) (tries : ℕ) (u : UnitData) → AllModed (modes_of s.language.forms) (rules_of s.language) → IsMade s tries u → IsUnit s u
+UnitsAreMade = (s : Source) (tries : ℕ) (u : UnitData) →
+    AllModed (modes_of s.language.forms) (rules_of s.language) → IsMade s tries u → IsUnit s u

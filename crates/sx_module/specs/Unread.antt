@@ -16,8 +16,10 @@ abbrev pub of_token_error : TokenError → BodyError
 of_token_error token.Memory = Memory
 of_token_error e = BadTokens e
 
--- the text has this first defect, or its tokens have not one reading as the sort; want of memory is free
+-- the text has this first defect, or its tokens have not one reading as the sort; out of memory is
+-- free
 abbrev pub IsUnreadBody : Parts → Sort → (text : Text) → BodyError → Type 0
 IsUnreadBody p sort text Memory = Unit {0}
 IsUnreadBody p sort text (BadTokens e) = HasDefect p text e
-IsUnreadBody p sort text (Read u) = (ts : List Token) × IsCut p text ts × IsUnreadAs p [] sort ts (length text) u
+IsUnreadBody p sort text (Read u) = (ts : List Token) × IsCut p text ts ×
+    IsUnreadAs p [] sort ts (length text) u

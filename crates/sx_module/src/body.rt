@@ -70,7 +70,8 @@ fn token_error(error: TokenError) -> BodyError
 fn cut_text(alloc: Global, grammar: &Grammar, text: &[u8]) -> Result<Vec<Token>, BodyError>
     requires { length text.now ≤ 262144 }
     ensures cut { IfOk result (λ ts. IsCut grammar.now.parts text.now ts.items) }
-    ensures refused { IfErr result (λ e. (sort : Sort) → IsUnreadBody grammar.now.parts sort text.now e) }
+    ensures refused { IfErr result (λ e. (sort : Sort) →
+        IsUnreadBody grammar.now.parts sort text.now e) }
 {
     grammar.facts();
     match tokens(alloc, text, grammar.literals(), false) {
@@ -88,7 +89,9 @@ fn read_error(
     error: ReadError,
 ) -> Result<Unread, NoMemory>
     requires { (sort : Sort) × IsReadError grammar.now.parts [] sort tokens.now error }
-    ensures { IfOk result (λ u. (sort : Sort) → IsReadError grammar.now.parts [] sort tokens.now error → IsUnreadAs grammar.now.parts [] sort tokens.now size u) }
+    ensures { IfOk result (λ u. (sort : Sort) →
+        IsReadError grammar.now.parts [] sort tokens.now error →
+        IsUnreadAs grammar.now.parts [] sort tokens.now size u) }
 {
     why_unread(alloc, grammar, tokens, size, error)
 }
@@ -103,8 +106,11 @@ fn reading_of(
 ) -> Result<Reading, BodyError>
     requires sort { IsSort grammar.now.parts sort }
     requires cut { (text : List ℕ) × IsCut grammar.now.parts text tokens.now }
-    ensures only { IfOk result (λ r. IsAnswer (numbered grammar.now.parts) (plain_tokens [] tokens.now) (number_of sort) (only (plain_reading r))) }
-    ensures refused { IfErr result (λ e. (text : List ℕ) → IsCut grammar.now.parts text tokens.now → length text ≡ size → IsUnreadBody grammar.now.parts sort text e) }
+    ensures only { IfOk result
+        (λ r. IsAnswer (numbered grammar.now.parts) (plain_tokens [] tokens.now) (number_of sort)
+        (only (plain_reading r))) }
+    ensures refused { IfErr result (λ e. (text : List ℕ) → IsCut grammar.now.parts text tokens.now →
+        length text ≡ size → IsUnreadBody grammar.now.parts sort text e) }
 {
     let metas = no_metas(alloc);
     match read_one(alloc, grammar, sort, &metas, tokens) {
@@ -116,7 +122,8 @@ fn reading_of(
     }
 }
 
-/// Reads the text as the sort, without metavariables. It is refused where it has no tokens, and where these have not one reading.
+/// Reads the text as the sort, without metavariables. It is refused where it has no tokens, and
+/// where these have not one reading.
 pub(crate) fn read_body(
     alloc: Global,
     grammar: &Grammar,
@@ -125,7 +132,9 @@ pub(crate) fn read_body(
 ) -> Result<Body, BodyError>
     requires sort { IsSort grammar.now.parts sort }
     requires short { length text.now ≤ 262144 }
-    ensures read { IfOk result (λ b. ReadsAs grammar.now.parts sort text.now b.tokens.items (plain_reading b.reading) (tree b.term)) }
+    ensures read { IfOk result
+        (λ b. ReadsAs grammar.now.parts sort text.now b.tokens.items (plain_reading b.reading)
+        (tree b.term)) }
     ensures refused { IfErr result (IsUnreadBody grammar.now.parts sort text.now) }
 {
     let tokens = cut_text(alloc, grammar, text)?;

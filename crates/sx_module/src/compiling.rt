@@ -34,8 +34,10 @@ fn compile_body<L: Ledger>(
     steps: &mut Steps<L>,
 ) -> Result<Compiled, ModuleError>
     requires can { CanCompile given.now }
-    requires body { IsBody (source_of given.now) body.now.tokens.items (plain_reading body.now.reading) (tree body.now.term) }
-    requires shown { IsShowable (source_of given.now).language.parts (main_sort (source_of given.now).language Sub) (tree body.now.term) }
+    requires body { IsBody (source_of given.now) body.now.tokens.items
+        (plain_reading body.now.reading) (tree body.now.term) }
+    requires shown { IsShowable (source_of given.now).language.parts
+        (main_sort (source_of given.now).language Sub) (tree body.now.term) }
     ensures answer { IsCompiled (source_of given.now) tries result }
     ensures tries { IsCounted (source_of given.now) tries result steps.old steps.new }
     ensures most { steps.new ≤ steps.old + tries }
@@ -60,11 +62,13 @@ fn compile_given<L: Ledger>(
     compile_body(alloc, given, &body, tries, steps)
 }
 
-/// Compiles a module without extensions: its body is read by the language's grammar, and the first derivation of the main form's goal, with
-/// the environment and the body's term, is found with at most `tries` tries. What comes of it are the base program, the interface and the
-/// derivation as texts. The refusals come in the order of `ModuleError`.
+/// Compiles a module without extensions: its body is read by the language's grammar, and the first
+/// derivation of the main form's goal, with the environment and the body's term, is found with at
+/// most `tries` tries. What comes of it are the base program, the interface and the derivation as
+/// texts. The refusals come in the order of `ModuleError`.
 ///
-/// The header is that of the bytes, the imports are the header's in order, and the environment is well sorted.
+/// The header is that of the bytes, the imports are the header's in order, and the environment is
+/// well sorted.
 pub fn compile<L: Ledger>(
     alloc: Global,
     language: &Language,
@@ -82,13 +86,20 @@ pub fn compile<L: Ledger>(
     requires environment { IsEnvironment (language_data language.now) (tree environment.now) }
 
     // The module is made as its definition says, or the refusal is the one that is due.
-    ensures answer { IsCompiled (source language.now language_digest.now bytes.now header.now imports.now environment.now) tries result }
+    ensures answer { IsCompiled
+        (source language.now language_digest.now bytes.now header.now imports.now environment.now)
+        tries result }
     // What is made are the texts of the first derivation among all.
-    ensures unit { IfOk result (λ c. IsUnit (source language.now language_digest.now bytes.now header.now imports.now environment.now) (unit_of c)) }
+    ensures unit { IfOk result
+        (λ c. IsUnit (source language.now language_digest.now bytes.now header.now imports.now
+        environment.now) (unit_of c)) }
     // A type error comes only where the main goal has no derivation at all.
-    ensures untyped { IfErr result (IsFinal (source language.now language_digest.now bytes.now header.now imports.now environment.now)) }
+    ensures untyped { IfErr result
+        (IsFinal (source language.now language_digest.now bytes.now header.now imports.now
+        environment.now)) }
     // The steps rise by the tries of the goal's walk.
-    ensures tries { IsCounted (source language.now language_digest.now bytes.now header.now imports.now environment.now) tries result steps.old steps.new }
+    ensures tries { IsCounted (source language.now language_digest.now bytes.now header.now
+        imports.now environment.now) tries result steps.old steps.new }
     ensures most { steps.new ≤ steps.old + tries }
 {
     language.rules.facts();

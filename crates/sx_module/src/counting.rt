@@ -16,7 +16,9 @@ use sx_term::Term;
 
 /// How many brackets stand round a node of the production where this least level is asked for.
 fn count_brackets(grammar: &Grammar, production: &NumberedProduction, least: u8) -> u64
-    ensures { result ≡ length (in_brackets (brackets_below (numbered grammar.now.parts) production.now.sort production.now.level least) []) }
+    ensures { result ≡ length (in_brackets
+        (brackets_below (numbered grammar.now.parts) production.now.sort production.now.level least)
+        []) }
 {
     if production.level < least {
         match grammar.brackets(production.sort) {
@@ -28,12 +30,15 @@ fn count_brackets(grammar: &Grammar, production: &NumberedProduction, least: u8)
     }
 }
 
-/// How many tokens are printed of the term where this least level is asked for, or the greatest number where they are more.
+/// How many tokens are printed of the term where this least level is asked for, or the greatest
+/// number where they are more.
 #[cycle(count)]
 fn count_at(grammar: &Grammar, term: &Term, least: u8) -> u64
     requires depth { depth_of (tree term.now) ≤ 1000 }
     requires built { IsBuilt (numbered grammar.now.parts) 0 (tree term.now) }
-    ensures { (place : Stem) → result ≡ min (length (print (numbered grammar.now.parts) [] (tree term.now) place least)) (2 ^ 64 - 1) }
+    ensures { (place : Stem) →
+        result ≡ min (length (print (numbered grammar.now.parts) [] (tree term.now) place least))
+        (2 ^ 64 - 1) }
 {
     match term {
         Term::Node { label, kids } => {
@@ -50,10 +55,12 @@ fn count_at(grammar: &Grammar, term: &Term, least: u8) -> u64
 #[cycle(count)]
 fn count_symbols(grammar: &Grammar, symbols: &[NumberedSymbol], kids: &[Term]) -> u64
     requires depth { greatest_depth (forest (map tree kids.now)) ≤ 1000 }
-    requires many { parts_in (map (symbol (literals_of grammar.now.parts)) symbols.now) ≡ length kids.now }
+    requires many { parts_in (map (symbol (literals_of grammar.now.parts)) symbols.now) ≡ length
+        kids.now }
     requires built { AreBuilt (numbered grammar.now.parts) 0 (forest (map tree kids.now)) }
     ensures { result ≡ min
-        (length (print_symbols (map (symbol (literals_of grammar.now.parts)) symbols.now) (print_each (numbered grammar.now.parts) [] (forest (map tree kids.now)))))
+        (length (print_symbols (map (symbol (literals_of grammar.now.parts)) symbols.now)
+        (print_each (numbered grammar.now.parts) [] (forest (map tree kids.now)))))
         (2 ^ 64 - 1) }
 {
     let mut total: u64 = 0;
@@ -74,10 +81,12 @@ fn count_symbols(grammar: &Grammar, symbols: &[NumberedSymbol], kids: &[Term]) -
     total
 }
 
-/// How many tokens are printed of a term without variables, or the greatest number where they are more.
+/// How many tokens are printed of a term without variables, or the greatest number where they are
+/// more.
 pub(crate) fn count_tokens(grammar: &Grammar, term: &Term) -> u64
     requires depth { depth_of (tree term.now) ≤ 1000 }
-    requires fits { (sort : ℕ) × Fits (numbered grammar.now.parts) [] (of_sort sort) (tree term.now) }
+    requires fits { (sort : ℕ) ×
+        Fits (numbered grammar.now.parts) [] (of_sort sort) (tree term.now) }
     ensures { result ≡ min (length (printed grammar.now.parts (tree term.now))) (2 ^ 64 - 1) }
 {
     count_at(grammar, term, 0)

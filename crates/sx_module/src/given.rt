@@ -5,7 +5,8 @@ use sx_interface::{Digest, Header};
 use sx_notation::Language;
 use sx_term::Term;
 
-/// The language with the digest of its file, the header and the bytes of the module's file, its imports in order, and its environment.
+/// The language with the digest of its file, the header and the bytes of the module's file, its
+/// imports in order, and its environment.
 #[derive(Clone, Copy)]
 pub(crate) struct Given<'a> {
     pub language: &'a Language,

@@ -14,7 +14,8 @@ pub fn type_errors_are_final()
     ensures { TypeErrorsAreFinal }
 {}
 
-/// What compiling answers is determined by what it is compiled from, want of memory and the readings that a refusal shows aside.
+/// What compiling answers is determined by what it is compiled from, out of memory aside. Only of a
+/// text with more than two readings it is free which two a refusal shows.
 pub fn one_unit()
     ensures { OneUnit }
 {}

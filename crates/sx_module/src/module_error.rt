@@ -1,15 +1,15 @@
 //! Why a module is not compiled.
 
-use crate::print_limit::{Limit, Part};
-use crate::stuck_text::StuckText;
 use std::alloc::AllocError;
 use std::fmt;
 use sx_notation::Unread;
-use sx_term::{NoMemory, Text};
+use sx_term::NoMemory;
 use sx_token::TokenError;
+use sx_words::{GoalDefect, PrintDefect, PrintedPart};
 use thiserror::Error;
 
-/// Why a module is not compiled. Lines and columns are those of the module's file, from 1; a column counts bytes.
+/// Why a module is not compiled. Lines and columns are those of the module's file, from 1; a column
+/// counts bytes.
 #[derive(Drop, Error)]
 pub enum ModuleError {
     /// Memory is lacking.
@@ -29,12 +29,13 @@ pub enum ModuleError {
         column: u64,
         error: Unread,
     },
-    /// The main goal has no derivation: the stuck goal, and where the part begins that it speaks of.
+    /// The main goal has no derivation: the stuck goal, and where the part begins that it speaks
+    /// of.
     #[error("a type error")]
     TypeError {
         line: u64,
         column: u64,
-        stuck: StuckText,
+        stuck: GoalDefect,
     },
     /// The walk needs more tries than it may take, so many.
     #[error("the tries are spent")]
@@ -48,18 +49,11 @@ pub enum ModuleError {
     /// A term of the walk has so many nodes, over 1,000,000.
     #[error("a term has too many nodes")]
     TooBig(u64),
-    /// A printed text passes a limit.
-    #[error("a printed text passes a limit")]
-    PrintLimit {
-        part: Part,
-        limit: Limit,
-    },
-    /// A printed text has two readings: the tree texts of two of them.
-    #[error("a printed text with two readings")]
-    PrintAmbiguous {
-        part: Part,
-        one: Text,
-        other: Text,
+    /// A printed text cannot be written: it passes a limit, or has two readings.
+    #[error("a printed text cannot be written")]
+    Print {
+        part: PrintedPart,
+        defect: PrintDefect,
     },
 }
 

@@ -24,14 +24,14 @@ ghost use Rattle.sx_module.specs.PrintRefused.{IsPrintRefusal, IsUnreadPrint};
 ghost use Rattle.sx_module.specs.Texts.{printed, print_text};
 
 use crate::counting::count_tokens;
-use crate::print_limit::Limit;
 use std::alloc::Global;
 use sx_earley::Metas;
 use sx_forest::{ReadError, read_one};
 use sx_grammar::Grammar;
 use sx_notation::{Unread, why_unread};
-use sx_term::{NoMemory, Sort, Term, Text};
+use sx_term::{NoMemory, Sort, Term};
 use sx_token::{Token, TokenError, tokens};
+use sx_words::PrintDefect;
 
 /// The most bytes that a file may have.
 pub(crate) const MOST_BYTES: usize = 262_144;
@@ -44,10 +44,8 @@ const MOST_TOKENS: u64 = 10_000;
 pub(crate) enum PrintRefusal {
     /// Memory is lacking.
     Memory,
-    /// The text passes a limit.
-    Limit(Limit),
-    /// It has two readings: the tree texts of two of them.
-    Ambiguous(Text, Text),
+    /// The text passes a limit, or has two readings.
+    Defect(PrintDefect),
 }
 
 impl From<NoMemory> for PrintRefusal {
@@ -64,9 +62,12 @@ impl From<NoMemory> for PrintRefusal {
 /// The tokens of a text that has tokens.
 fn cut_print(alloc: Global, grammar: &Grammar, shown: &[u8]) -> Result<Vec<Token>, NoMemory>
     requires short { length shown.now ≤ 262144 }
-    requires cut { (ps : List Piece) × IsOutcome (literals_of grammar.now.parts) false shown.now (cutting.tokens ps) }
+    requires cut { (ps : List Piece) ×
+        IsOutcome (literals_of grammar.now.parts) false shown.now (cutting.tokens ps) }
     ensures cut { IfOk result (λ v. IsCut grammar.now.parts shown.now v.items) }
-    ensures only { IfOk result (λ v. (ps : List Piece) → IsOutcome (literals_of grammar.now.parts) false shown.now (cutting.tokens ps) → pieces v.items ≡ ps) }
+    ensures only { IfOk result (λ v. (ps : List Piece) →
+        IsOutcome (literals_of grammar.now.parts) false shown.now (cutting.tokens ps) →
+        pieces v.items ≡ ps) }
 {
     grammar.facts();
     match tokens(alloc, shown, grammar.literals(), false) {
@@ -85,16 +86,20 @@ fn print_refusal(
     tokens: &[Token],
     error: ReadError,
 ) -> PrintRefusal
-    requires { (sort : Sort) × (r : Reading) × ReadsWhole (numbered grammar.now.parts) (plain_tokens [] tokens.now) (number_of sort) r
+    requires { (sort : Sort) × (r : Reading) ×
+        ReadsWhole (numbered grammar.now.parts) (plain_tokens [] tokens.now) (number_of sort) r
         × IsReadError grammar.now.parts [] sort tokens.now error }
-    ensures { (sort : Sort) → IsReadError grammar.now.parts [] sort tokens.now error → IsUnreadPrint grammar.now.parts sort tokens.now result }
+    ensures { (sort : Sort) → IsReadError grammar.now.parts [] sort tokens.now error →
+        IsUnreadPrint grammar.now.parts sort tokens.now result }
 {
     match why_unread(alloc, grammar, tokens, 0, error) {
         Err(NoMemory::Memory) => PrintRefusal::Memory,
-        Ok(Unread::TooHard) => PrintRefusal::Limit(Limit::Items),
+        Ok(Unread::TooHard) => PrintRefusal::Defect(PrintDefect::Items),
         Ok(Unread::NoReading(_)) => unreachable!(),
-        Ok(Unread::TooDeep(depth)) => PrintRefusal::Limit(Limit::Depth(depth)),
-        Ok(Unread::Ambiguous(one, other)) => PrintRefusal::Ambiguous(one, other),
+        Ok(Unread::TooDeep(depth)) => PrintRefusal::Defect(PrintDefect::Depth(depth)),
+        Ok(Unread::Ambiguous(one, other)) => {
+            PrintRefusal::Defect(PrintDefect::Ambiguous { one, other })
+        }
     }
 }
 
@@ -108,8 +113,11 @@ fn read_print(
     requires sort { IsSort grammar.now.parts sort }
     requires short { length tokens.now ≤ 10000 }
     requires known { AreKnown (literals_of grammar.now.parts) [] tokens.now }
-    requires read { (r : Reading) × ReadsWhole (numbered grammar.now.parts) (plain_tokens [] tokens.now) (number_of sort) r }
-    ensures only { IfOk result (λ _. (r : Reading) × IsAnswer (numbered grammar.now.parts) (plain_tokens [] tokens.now) (number_of sort) (only r)) }
+    requires read { (r : Reading) ×
+        ReadsWhole (numbered grammar.now.parts) (plain_tokens [] tokens.now) (number_of sort) r }
+    ensures only { IfOk result (λ _. (r : Reading) ×
+        IsAnswer (numbered grammar.now.parts) (plain_tokens [] tokens.now) (number_of sort)
+        (only r)) }
     ensures refused { IfErr result (IsUnreadPrint grammar.now.parts sort tokens.now) }
 {
     let metas = Metas {
@@ -121,10 +129,11 @@ fn read_print(
     }
 }
 
-/// How many tokens are printed of the term as the sort. The text shown is what is printed, with any blanks behind it, in a file of so
-/// many bytes. It is refused where the file has more than 262,144 bytes, where there are more than 10,000 tokens, where reading them
-/// needs more than 2,000,000 items, where a reading is deeper than 1,000, and where there are two readings, in this order. Otherwise
-/// its only reading is that of the term.
+/// How many tokens are printed of the term as the sort. The text shown is what is printed, with any
+/// blanks behind it, in a file of so many bytes. It is refused where the file has more than 262,144
+/// bytes, where there are more than 10,000 tokens, where reading them needs more than 2,000,000
+/// items, where a reading is deeper than 1,000, and where there are two readings, in this order.
+/// Otherwise its only reading is that of the term.
 pub(crate) fn check_print(
     alloc: Global,
     grammar: &Grammar,
@@ -135,21 +144,26 @@ pub(crate) fn check_print(
 ) -> Result<u32, PrintRefusal>
     requires sort { IsSort grammar.now.parts sort }
     requires depth { depth_of (tree term.now) ≤ 1000 }
-    requires fits { Fits (numbered grammar.now.parts) [] (of_sort (number_of sort)) (tree term.now) }
+    requires fits { Fits (numbered grammar.now.parts) [] (of_sort (number_of sort))
+        (tree term.now) }
     requires lexemes { HasLexemes (literals_of grammar.now.parts) (tree term.now) }
-    requires text { (blanks : List ℕ) × AreBlanks blanks × (shown.now ≡ print_text grammar.now.parts (tree term.now) ++ blanks) }
+    requires text { (blanks : List ℕ) × AreBlanks blanks ×
+        (shown.now ≡ print_text grammar.now.parts (tree term.now) ++ blanks) }
     requires utf8 { IsUtf8 shown.now }
     requires within { length shown.now ≤ size }
-    ensures ok { IfOk result (λ n. (size ≤ 262144) × ReadsOnly grammar.now.parts sort shown.now (tree term.now) × (n ≡ length (printed grammar.now.parts (tree term.now)))) }
-    ensures err { IfErr result (IsPrintRefusal grammar.now.parts sort size shown.now (tree term.now)) }
+    ensures ok { IfOk result (λ n. (size ≤ 262144) ×
+        ReadsOnly grammar.now.parts sort shown.now (tree term.now) ×
+        (n ≡ length (printed grammar.now.parts (tree term.now)))) }
+    ensures err { IfErr result
+        (IsPrintRefusal grammar.now.parts sort size shown.now (tree term.now)) }
 {
     grammar.facts();
     if size > MOST_BYTES {
-        return Err(PrintRefusal::Limit(Limit::Bytes(size as u64)));
+        return Err(PrintRefusal::Defect(PrintDefect::Bytes(size as u64)));
     }
     let count = count_tokens(grammar, term);
     if count > MOST_TOKENS {
-        return Err(PrintRefusal::Limit(Limit::Tokens(count)));
+        return Err(PrintRefusal::Defect(PrintDefect::Tokens(count)));
     }
     let tokens = cut_print(alloc, grammar, shown)?;
     read_print(alloc, grammar, sort, &tokens)?;

@@ -92,7 +92,8 @@ fn unread_place(unread: &Unread) -> usize
 
 /// The refusal of the body, with its place.
 fn refusal(given: &Given, error: BodyError) -> ModuleError
-    requires { IsUnreadBody (source_of given.now).language.parts (main_sort (source_of given.now).language Sub) (source_of given.now).header.body error }
+    requires { IsUnreadBody (source_of given.now).language.parts
+        (main_sort (source_of given.now).language Sub) (source_of given.now).header.body error }
     ensures bad { (tries : ℕ) → IsBadModule (source_of given.now) tries result }
     ensures none { (result ≡ Memory) ⊎ (HasBody (source_of given.now) → ⊥) }
 {
@@ -120,7 +121,8 @@ fn refusal(given: &Given, error: BodyError) -> ModuleError
 /// Reads the body.
 pub(crate) fn read_source(alloc: Global, given: &Given) -> Result<Body, ModuleError>
     requires { CanCompile given.now }
-    ensures read { IfOk result (λ b. IsBody (source_of given.now) b.tokens.items (plain_reading b.reading) (tree b.term)) }
+    ensures read { IfOk result
+        (λ b. IsBody (source_of given.now) b.tokens.items (plain_reading b.reading) (tree b.term)) }
     ensures refused { IfErr result (λ e. (tries : ℕ) → IsBadModule (source_of given.now) tries e) }
     ensures none { IfErr result (λ e. (e ≡ Memory) ⊎ (HasBody (source_of given.now) → ⊥)) }
 {

@@ -17,8 +17,10 @@ use sx_term::{NoMemory, Term, Vars};
 /// The printed text of a term without variables.
 pub(crate) fn show(alloc: Global, grammar: &Grammar, term: &Term) -> Result<Vec<u8>, NoMemory>
     requires depth { depth_of (tree term.now) ≤ 1000 }
-    requires fits { (sort : ℕ) × Fits (numbered grammar.now.parts) [] (of_sort sort) (tree term.now) }
-    ensures { IfOk result (λ v. (v.items ≡ print_text grammar.now.parts (tree term.now)) × IsUtf8 v.items) }
+    requires fits { (sort : ℕ) ×
+        Fits (numbered grammar.now.parts) [] (of_sort sort) (tree term.now) }
+    ensures { IfOk result (λ v. (v.items ≡ print_text grammar.now.parts (tree term.now)) ×
+        IsUtf8 v.items) }
 {
     let vars = Vars::new(alloc);
     let mut shown = Vec::new(alloc);

@@ -13,7 +13,8 @@ pub(crate) struct Spot {
 /// The line of the place and its column.
 pub(crate) fn spot_of(bytes: &[u8], place: usize) -> Spot
     requires { place ≤ length bytes.now }
-    ensures { (result.line ≡ line_at bytes.now place) × (result.column ≡ column_at bytes.now place) }
+    ensures { (result.line ≡ line_at bytes.now place) ×
+        (result.column ≡ column_at bytes.now place) }
 {
     let before = &bytes[..place];
     let mut feeds: u64 = 0;

@@ -33,7 +33,8 @@ fn put_row(front: &[u8], name: &[u8], into: &mut Vec<u8>) -> Result<(), NoMemory
 
 /// Appends a line for each import.
 fn put_imports(imports: &[Text], into: &mut Vec<u8>) -> Result<(), NoMemory>
-    ensures { OnOk result (into.new.items ≡ into.old.items ++ written (row_lines (codes "import ") imports.now)) }
+    ensures { OnOk result (into.new.items ≡ into.old.items ++ written
+        (row_lines (codes "import ") imports.now)) }
 {
     for i in 0..imports.len() {
         let name = &imports[i];
@@ -44,7 +45,8 @@ fn put_imports(imports: &[Text], into: &mut Vec<u8>) -> Result<(), NoMemory>
 
 /// The base file: the header without extensions, `---`, and the printed body on a line.
 pub(crate) fn base_text(alloc: Global, header: &Header, shown: &[u8]) -> Result<Vec<u8>, NoMemory>
-    ensures { (bytes : List ℕ) → IfOk result (λ v. v.items ≡ base_of (header_view bytes header.now) shown.now) }
+    ensures { (bytes : List ℕ) →
+        IfOk result (λ v. v.items ≡ base_of (header_view bytes header.now) shown.now) }
 {
     let mut text = Vec::with_capacity(alloc, shown.len())?;
     put_row(b"module ", header.name.bytes(), &mut text)?;
@@ -80,7 +82,10 @@ fn interface(
     signature: &[u8],
 ) -> Result<Interface, NoMemory>
     requires { IsUtf8 signature.now }
-    ensures { (bytes : List ℕ) → IfOk result (λ it. interface_view it ≡ interface_of (header_view bytes header.now) language.now.bytes (sha256 base.now) (map mark imports.now) signature.now) }
+    ensures { (bytes : List ℕ) →
+        IfOk result (λ it. interface_view it ≡ interface_of
+        (header_view bytes header.now) language.now.bytes (sha256 base.now)
+        (map mark imports.now) signature.now) }
 {
     Ok(Interface {
         module: header.name.copy(alloc)?,
@@ -104,7 +109,10 @@ pub(crate) fn interface_text(
     signature: &[u8],
 ) -> Result<Vec<u8>, NoMemory>
     requires { IsUtf8 signature.now }
-    ensures { (bytes : List ℕ) → IfOk result (λ v. v.items ≡ written (interface_lines (interface_of (header_view bytes header.now) language.now.bytes (sha256 base.now) (map mark imports.now) signature.now))) }
+    ensures { (bytes : List ℕ) →
+        IfOk result (λ v. v.items ≡ written
+        (interface_lines (interface_of (header_view bytes header.now) language.now.bytes
+        (sha256 base.now) (map mark imports.now) signature.now))) }
 {
     let it = interface(alloc, header, language, base, imports, signature)?;
     let mut text = Vec::new(alloc);

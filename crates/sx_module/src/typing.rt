@@ -30,7 +30,8 @@ fn add_term(
 ) -> Result<(), NoMemory>
     requires environment { depth_of (tree environment.now) ≤ 1000 }
     requires subject { depth_of (tree subject.now) ≤ 1000 }
-    ensures { IfOk result (λ x. map tree into.new.items ≡ map tree into.old.items ++ input_at (tree environment.now) (tree subject.now) role) }
+    ensures { IfOk result (λ x. map tree into.new.items ≡ map tree into.old.items ++ input_at
+        (tree environment.now) (tree subject.now) role) }
 {
     match role {
         Role::In => into.push(environment.copy(alloc)?)?,
@@ -49,7 +50,8 @@ fn main_terms(
 ) -> Result<Vec<Term>, NoMemory>
     requires environment { depth_of (tree environment.now) ≤ 1000 }
     requires subject { depth_of (tree subject.now) ≤ 1000 }
-    ensures { IfOk result (λ v. map tree v.items ≡ main_terms places.now (tree environment.now) (tree subject.now)) }
+    ensures { IfOk result (λ v. map tree v.items ≡ main_terms places.now (tree environment.now)
+        (tree subject.now)) }
 {
     let mut terms = Vec::with_capacity(alloc, 2)?;
     for i in 0..places.len() {
@@ -69,7 +71,9 @@ pub(crate) fn main_goal(
     requires form { language.now.main.form < length (forms_in language.now.rules) }
     requires environment { depth_of (tree environment.now) ≤ 1000 }
     requires subject { depth_of (tree subject.now) ≤ 1000 }
-    ensures { IfOk result (λ g. goal_of g ≡ main_goal (forms_in language.now.rules) language.now.main.form (tree environment.now) (tree subject.now)) }
+    ensures { IfOk result (λ g.
+        goal_of g ≡ main_goal (forms_in language.now.rules) language.now.main.form
+        (tree environment.now) (tree subject.now)) }
 {
     let form = language.main.form;
     let places = &language.rules.forms()[form as usize].places;
@@ -88,7 +92,8 @@ fn nothing_given(alloc: Global) -> Hyps
     }
 }
 
-/// The list of the first derivation of the goal by the rules alone, and its outputs, or why there is none. At most `tries` tries are made.
+/// The list of the first derivation of the goal by the rules alone, and its outputs, or why there
+/// is none. At most `tries` tries are made.
 pub(crate) fn find_derivation<L: Ledger>(
     alloc: Global,
     rules: &RuleSet,
@@ -97,8 +102,12 @@ pub(crate) fn find_derivation<L: Ledger>(
     steps: &mut Steps<L>,
 ) -> Result<Listed, DeriveError>
     requires { AreShallow (goal_of goal.now).terms }
-    ensures answer { IsListed (modes_of (forms_in rules.now)) (subjects_in (forms_in rules.now)) (bare (rules_in rules.now)) no_hypotheses (goal_of goal.now) None tries result }
-    ensures steps { AreCounted (tries_of None tries (events (modes_of (forms_in rules.now)) (bare (rules_in rules.now)) no_hypotheses (goal_of goal.now) 1)) steps.old steps.new result }
+    ensures answer { IsListed (modes_of (forms_in rules.now)) (subjects_in (forms_in rules.now))
+        (bare (rules_in rules.now)) no_hypotheses (goal_of goal.now) None tries result }
+    ensures steps { AreCounted
+        (tries_of None tries (events (modes_of (forms_in rules.now))
+        (bare (rules_in rules.now)) no_hypotheses (goal_of goal.now) 1)) steps.old steps.new
+        result }
 {
     let given = nothing_given(alloc);
     derive_list(alloc, rules, &given, goal, None, tries, steps)

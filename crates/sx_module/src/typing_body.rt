@@ -1,7 +1,8 @@
 //! Typing a module's body.
 
 ghost use Rattle.std.specs.Prelude.{◌≡◌, ℕ, [], ◌∷◌, length, None, Err, IfOk, IfErr};
-ghost use Rattle.sx_derive.specs.declared.derive_error.DeriveError.TheVariants.{Underivable, Memory as NoRoom};
+ghost use Rattle.sx_derive.specs.declared.derive_error.DeriveError.TheVariants.{Underivable};
+ghost use Rattle.sx_derive.specs.declared.derive_error.DeriveError.TheVariants.{Memory as NoRoom};
 ghost use Rattle.sx_module.specs.declared.module_error.ModuleError.TheVariants.{Memory};
 ghost use Rattle.sx_term.specs.Term.{tree};
 ghost use Rattle.sx_term.specs.declared.role.Role.TheVariants.{Sub};
@@ -9,7 +10,8 @@ ghost use Rattle.sx_derive.specs.Search.{tries_of};
 ghost use Rattle.sx_forest.specs.Readings.{plain_reading};
 ghost use Rattle.sx_module.specs.Source.{main_sort};
 ghost use Rattle.sx_module.specs.Unit.{IsBody, goal_events};
-ghost use Rattle.sx_module.specs.Given.{source_of, CanCompile, IsShowable, IsTypedBy, IsTried, IsFoundBy};
+ghost use Rattle.sx_module.specs.Given.{source_of, CanCompile, IsShowable, IsTypedBy, IsTried};
+ghost use Rattle.sx_module.specs.Given.{IsFoundBy};
 ghost use Rattle.sx_module.specs.Refused.{IsBadModule};
 
 use crate::body::Body;
@@ -27,10 +29,15 @@ use sx_term::{NoMemory, Steps};
 /// The type error of the stuck goal.
 fn stuck(alloc: Global, given: &Given, body: &Body, blame: &Blame) -> Result<ModuleError, NoMemory>
     requires can { CanCompile given.now }
-    requires body { IsBody (source_of given.now) body.now.tokens.items (plain_reading body.now.reading) (tree body.now.term) }
-    requires shown { IsShowable (source_of given.now).language.parts (main_sort (source_of given.now).language Sub) (tree body.now.term) }
-    requires blame { (tries : ℕ) × IsFoundBy (source_of given.now) tries (tree body.now.term) (Err (Underivable blame.now)) }
-    ensures { IfOk result (λ e. (tries : ℕ) → IsFoundBy (source_of given.now) tries (tree body.now.term) (Err (Underivable blame.now)) → IsBadModule (source_of given.now) tries e) }
+    requires body { IsBody (source_of given.now) body.now.tokens.items
+        (plain_reading body.now.reading) (tree body.now.term) }
+    requires shown { IsShowable (source_of given.now).language.parts
+        (main_sort (source_of given.now).language Sub) (tree body.now.term) }
+    requires blame { (tries : ℕ) ×
+        IsFoundBy (source_of given.now) tries (tree body.now.term) (Err (Underivable blame.now)) }
+    ensures { IfOk result (λ e. (tries : ℕ) →
+        IsFoundBy (source_of given.now) tries (tree body.now.term) (Err (Underivable blame.now)) →
+        IsBadModule (source_of given.now) tries e) }
 {
     given.language.rules.facts();
     let before = given.bytes.len() - body_of(given.bytes, given.header).len();
@@ -48,10 +55,15 @@ fn stuck(alloc: Global, given: &Given, body: &Body, blame: &Blame) -> Result<Mod
 /// Why the body's goal has no derivation.
 fn no_derivation(alloc: Global, given: &Given, body: &Body, error: DeriveError) -> ModuleError
     requires can { CanCompile given.now }
-    requires body { IsBody (source_of given.now) body.now.tokens.items (plain_reading body.now.reading) (tree body.now.term) }
-    requires shown { IsShowable (source_of given.now).language.parts (main_sort (source_of given.now).language Sub) (tree body.now.term) }
-    requires error { (tries : ℕ) × IsFoundBy (source_of given.now) tries (tree body.now.term) (Err error) }
-    ensures bad { (tries : ℕ) → IsFoundBy (source_of given.now) tries (tree body.now.term) (Err error) → IsBadModule (source_of given.now) tries result }
+    requires body { IsBody (source_of given.now) body.now.tokens.items
+        (plain_reading body.now.reading) (tree body.now.term) }
+    requires shown { IsShowable (source_of given.now).language.parts
+        (main_sort (source_of given.now).language Sub) (tree body.now.term) }
+    requires error { (tries : ℕ) ×
+        IsFoundBy (source_of given.now) tries (tree body.now.term) (Err error) }
+    ensures bad { (tries : ℕ) →
+        IsFoundBy (source_of given.now) tries (tree body.now.term) (Err error) →
+        IsBadModule (source_of given.now) tries result }
     ensures memory { error ≡ NoRoom → result ≡ Memory }
 {
     match error {
@@ -94,11 +106,14 @@ pub(crate) fn type_source<L: Ledger>(
     steps: &mut Steps<L>,
 ) -> Result<Typed, ModuleError>
     requires can { CanCompile given.now }
-    requires body { IsBody (source_of given.now) body.now.tokens.items (plain_reading body.now.reading) (tree body.now.term) }
-    requires shown { IsShowable (source_of given.now).language.parts (main_sort (source_of given.now).language Sub) (tree body.now.term) }
+    requires body { IsBody (source_of given.now) body.now.tokens.items
+        (plain_reading body.now.reading) (tree body.now.term) }
+    requires shown { IsShowable (source_of given.now).language.parts
+        (main_sort (source_of given.now).language Sub) (tree body.now.term) }
     ensures typed { IfOk result (IsTypedBy (source_of given.now) tries (tree body.now.term)) }
     ensures refused { IfErr result (IsBadModule (source_of given.now) tries) }
-    ensures tries { IsTried (tries_of None tries (goal_events (source_of given.now) (tree body.now.term))) steps.old steps.new result }
+    ensures tries { IsTried (tries_of None tries
+        (goal_events (source_of given.now) (tree body.now.term))) steps.old steps.new result }
 {
     given.language.rules.facts();
     let goal = main_goal(alloc, given.language, given.environment, &body.term)?;

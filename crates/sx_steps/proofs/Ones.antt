@@ -1,5 +1,5 @@
 -- Steps have one result, read faults aside.
-use Rattle.std.proofs.Common.{◌≡◌, ◌≢◌, ℕ, ◌+◌, ◌≤◌, List, length, ap, ◌∙◌, sym, subst, inl, inr, arith}
+use Rattle.std.proofs.Common.{◌≡◌, ◌≢◌, ℕ, ◌+◌, ◌≤◌, List, length, refl, ap, ◌∙◌, sym, subst, inl, inr, arith}
 use Rattle.std.specs.Prelude.{Result, Ok, Err, Option, Some, None}
 use Rattle.sx_outside.specs.Files.{Files}
 use Rattle.sx_steps.specs.declared.stop.Stop.{Stop}
@@ -10,7 +10,7 @@ use Rattle.sx_steps.specs.declared.step_error.StepError.TheVariants as errors
 use Rattle.sx_steps.specs.Steps.{Then, Goes, NoTries, Trying, GoesOn, AndThen}
 use Rattle.sx_steps.specs.Held.{Held, IsLong}
 use Rattle.sx_steps.specs.Lower.{Lower}
-use Rattle.sx_steps.specs.Agree.{IsNoReadFault, Agree, IsSure, NearlySame, AnswersBy}
+use Rattle.sx_steps.specs.Agree.{IsNoReadFault, AreReadings, Agree, IsSure, AnswersBy}
 
 -- ---- steps
 
@@ -85,7 +85,7 @@ module _ {A B : Type 0} (first : Result A Stop → Type 0) (next : A → Result 
 
 -- ---- steps with tries
 
--- the step has one answer, but for stops that are so related, and one number of tries; read faults and want of memory aside
+-- the step has one answer, but for stops that are so related, and one number of tries; read faults and out of memory aside
 abbrev pub IsOneBy : {A : Type 0} → (Stop → Stop → Type 0) → (Result A StepError → ℕ → Type 0) → Type 0
 IsOneBy {A} Related step = (x y : Result A StepError) (m n : ℕ) → step x m → step y n → IsSure x → IsSure y → AnswersBy Related x y × (m ≡ n)
 
@@ -96,7 +96,7 @@ IsOneNumber Walks = (m n : ℕ) → Walks m → Walks n → m ≡ n
 pub no_tries_one : IsOneNumber NoTries
 no_tries_one m n h k = h ∙ sym k
 
--- what a step without want of memory answers
+-- the answer of a step, as of one that may be out of memory
 abbrev pub as_answer : {A : Type 0} → Result A Stop → Result A StepError
 as_answer (Ok x) = Ok x
 as_answer (Err stop) = Err (errors.Stopped stop)
@@ -144,26 +144,31 @@ module _ (Related : Stop → Stop → Type 0) where
         let both = goes_on_by h.given k.given x y h.before h.after k.before k.after h.begins k.begins h.goes k.goes p q in
         (both.0, sums m n h.before h.after k.before k.after h.sum k.sum both.1 both.2)
 
--- answers of one step, and of one but for readings
-same_answers : {A : Type 0} (x y : Result A Stop) → x ≡ y → AnswersBy ◌≡◌ (as_answer x) (as_answer y)
-same_answers (Ok a) (Ok b) same = ok_same a b same
-same_answers (Ok a) (Err t) same = ok_no_err a t same
-same_answers (Err s) (Ok b) same = ok_no_err b s (sym same)
-same_answers (Err s) (Err t) same = err_same s t same
+-- a step with one answer, and one with one answer but for stops that are so related
+module _ (Related : Stop → Stop → Type 0) (same : (s : Stop) → Related s s) where
+  equal_by : {A : Type 0} (x y : Result A Stop) → x ≡ y → AnswersBy Related (as_answer x) (as_answer y)
+  equal_by (Ok a) (Ok b) e = ok_same a b e
+  equal_by (Ok a) (Err t) e = ok_no_err a t e
+  equal_by (Err s) (Ok b) e = ok_no_err b s (sym e)
+  equal_by (Err s) (Err t) e = subst (Related s) (err_same s t e) (same s)
 
-near_answers : {A : Type 0} (x y : Result A Stop) → Agree x y → AnswersBy NearlySame (as_answer x) (as_answer y)
-near_answers (Ok a) (Ok b) agree = both_values a b agree
-near_answers (Ok a) (Err t) agree = value_stop a t agree
-near_answers (Err s) (Ok b) (inl same) = ok_no_err b s (sym same)
-near_answers (Err s) (Ok b) (inr none) = none
-near_answers (Err s) (Err t) (inl same) = inl (err_same s t same)
-near_answers (Err s) (Err t) (inr show) = inr show
+  pub trying_same : {A : Type 0} (Walks : ℕ → Type 0) (step : Result A Stop → Type 0) → IsOneNumber Walks → IsOne step → IsOneBy Related (Trying Walks step)
+  trying_same Walks step one is_one = trying_by Related Walks step one (λ x y h k n m. equal_by x y (is_one x y h k n m))
+
+  module _ {A : Type 0} (step : Result A Stop → Type 0) (free : (s t : Stop) → step (Err s) → step (Err t) → AreReadings s t → Related s t) where
+    agree_by : (x y : Result A Stop) → step x → step y → Agree x y → AnswersBy Related (as_answer x) (as_answer y)
+    agree_by (Ok a) (Ok b) h k agree = both_values a b agree
+    agree_by (Ok a) (Err t) h k agree = value_stop a t agree
+    agree_by (Err s) (Ok b) h k (inl e) = ok_no_err b s (sym e)
+    agree_by (Err s) (Ok b) h k (inr none) = none
+    agree_by (Err s) (Err t) h k (inl e) = subst (Related s) (err_same s t e) (same s)
+    agree_by (Err s) (Err t) h k (inr show) = free s t h k show
+
+    pub trying_nearly : (Walks : ℕ → Type 0) → IsOneNumber Walks → IsNearlyOne step → IsOneBy Related (Trying Walks step)
+    trying_nearly Walks one nearly_one = trying_by Related Walks step one (λ x y h k n m. agree_by x y h k (nearly_one x y h k n m))
 
 pub trying_one : {A : Type 0} (Walks : ℕ → Type 0) (step : Result A Stop → Type 0) → IsOneNumber Walks → IsOne step → IsOneBy ◌≡◌ (Trying Walks step)
-trying_one Walks step one is_one = trying_by ◌≡◌ Walks step one (λ x y h k n m. same_answers x y (is_one x y h k n m))
-
-pub trying_nearly : {A : Type 0} (Walks : ℕ → Type 0) (step : Result A Stop → Type 0) → IsOneNumber Walks → IsNearlyOne step → IsOneBy NearlySame (Trying Walks step)
-trying_nearly Walks step one nearly_one = trying_by NearlySame Walks step one (λ x y h k n m. near_answers x y (nearly_one x y h k n m))
+trying_one Walks step one is_one = trying_same ◌≡◌ (λ s. refl) Walks step one is_one
 
 -- answers that are one, as equal ones
 pub answers_same : {A : Type 0} (x y : Result A StepError) → AnswersBy ◌≡◌ x y → x ≡ y
@@ -174,14 +179,15 @@ answers_same (Err (errors.Stopped s)) (Ok b) same = absurd same
 answers_same (Err (errors.Stopped s)) (Err errors.Memory) same = absurd same
 answers_same (Err (errors.Stopped s)) (Err (errors.Stopped t)) same = ap (λ (v : Stop). Err (errors.Stopped v)) same
 
--- answers that are one are nearly so
-pub answers_near : {A : Type 0} (x y : Result A StepError) → AnswersBy ◌≡◌ x y → AnswersBy NearlySame x y
-answers_near (Ok a) (Ok b) same = same
-answers_near (Ok a) (Err e) same = same
-answers_near (Err errors.Memory) y same = same
-answers_near (Err (errors.Stopped s)) (Ok b) same = same
-answers_near (Err (errors.Stopped s)) (Err errors.Memory) same = same
-answers_near (Err (errors.Stopped s)) (Err (errors.Stopped t)) same = inl same
+-- answers whose stops are related in one way, where this is another
+module _ (P Q : Stop → Stop → Type 0) (so : (s t : Stop) → P s t → Q s t) where
+  pub answers_so : {A : Type 0} (x y : Result A StepError) → AnswersBy P x y → AnswersBy Q x y
+  answers_so (Ok a) (Ok b) same = same
+  answers_so (Ok a) (Err e) same = absurd same
+  answers_so (Err errors.Memory) y same = absurd same
+  answers_so (Err (errors.Stopped s)) (Ok b) same = absurd same
+  answers_so (Err (errors.Stopped s)) (Err errors.Memory) same = absurd same
+  answers_so (Err (errors.Stopped s)) (Err (errors.Stopped t)) same = so s t same
 
 -- ---- files
 
@@ -214,7 +220,7 @@ module _ (limit : ℕ) (name : List ℕ) (files : Files) where
 
 -- ---- calls below
 
--- where a call below has one answer, want of memory aside, so has the step
+-- where a call below has one answer, out of memory aside, so has the step
 module _ {A E : Type 0} (stop_of : E → Option Stop) (Answers : Result A E → Type 0) (memory : E) (none : stop_of memory ≡ None)
     (one : (x y : Result A E) → Answers x → Answers y → (x ≢ Err memory) → (y ≢ Err memory) → x ≡ y) where
   not_lacking : (e : E) (stop : Stop) → stop_of e ≡ Some stop → ◌≢◌ {A = Result A E} (Err e) (Err memory)

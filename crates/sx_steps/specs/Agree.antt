@@ -15,10 +15,13 @@ abbrev pub IsNoReadFault : {A : Type 0} → Result A Stop → Type 0
 IsNoReadFault (Ok x) = Unit {0}
 IsNoReadFault (Err stop) = status_of stop ≡ statuses.ReadFault → ⊥
 
--- both defects are that a text has more than one reading, of a read text or of the same part that was printed, and show two of them
+-- both defects are that a text has more than one reading, of a read text or of the same part that
+-- was printed, and show two of them
 abbrev pub ShowReadings : Defect → Defect → Type 0
-ShowReadings (defect.Text (text_defect.Ambiguous a b)) (defect.Text (text_defect.Ambiguous c d)) = Unit {0}
-ShowReadings (defect.Print part (print_defect.Ambiguous a b)) (defect.Print other (print_defect.Ambiguous c d)) = part ≡ other
+ShowReadings (defect.Text (text_defect.Ambiguous a b)) (defect.Text (text_defect.Ambiguous c d)) =
+    Unit {0}
+ShowReadings (defect.Print part (print_defect.Ambiguous a b))
+    (defect.Print other (print_defect.Ambiguous c d)) = part ≡ other
 ShowReadings one other = ⊥
 
 -- both stops show two readings of one text
@@ -36,18 +39,15 @@ DifferInReadings x y = ⊥
 abbrev pub Agree : {A : Type 0} → Result A Stop → Result A Stop → Type 0
 Agree x y = (x ≡ y) ⊎ DifferInReadings x y
 
--- memory did not lack, and no read failed
+-- memory was not out, and no read failed
 abbrev pub IsSure : {A : Type 0} → Result A StepError → Type 0
 IsSure (Ok x) = Unit {0}
 IsSure (Err errors.Memory) = ⊥
 IsSure (Err (errors.Stopped stop)) = status_of stop ≡ statuses.ReadFault → ⊥
 
--- the stops are one, but for the two readings that they show
-abbrev pub NearlySame : Stop → Stop → Type 0
-NearlySame s t = (s ≡ t) ⊎ AreReadings s t
-
 -- both gave the same, or both stopped, with stops that are so related
-abbrev pub AnswersBy : {A : Type 0} → (Stop → Stop → Type 0) → Result A StepError → Result A StepError → Type 0
+abbrev pub AnswersBy : {A : Type 0} → (Stop → Stop → Type 0) → Result A StepError →
+    Result A StepError → Type 0
 AnswersBy Related (Ok x) (Ok y) = x ≡ y
 AnswersBy Related (Err (errors.Stopped s)) (Err (errors.Stopped t)) = Related s t
 AnswersBy Related x y = ⊥

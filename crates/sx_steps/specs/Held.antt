@@ -9,11 +9,13 @@ use Rattle.sx_steps.specs.Stops.{too_long}
 abbrev pub IsLong : ℕ → Files → List ℕ → Type 0
 IsLong limit files name = (bytes : List ℕ) × (files name ≡ Some bytes) × (limit < length bytes)
 
--- The bytes that are held under the name; there are none, or there are more than the limit, or reading them failed.
+-- The bytes that are held under the name; there are none, or there are more than the limit, or
+-- reading them failed.
 abbrev pub Held : ℕ → List ℕ → Files → Result (List ℕ) Stop → Type 0
 Held limit name files (Ok bytes) = (files name ≡ Some bytes) × (length bytes ≤ limit)
 Held limit name files (Err stop) =
-    ((stop ≡ absent name) × (files name ≡ None)) ⊎ ((stop ≡ too_long name) × IsLong limit files name) ⊎ (stop ≡ read_fault name)
+    ((stop ≡ absent name) × (files name ≡ None)) ⊎
+    ((stop ≡ too_long name) × IsLong limit files name) ⊎ (stop ≡ read_fault name)
 
 -- the most bytes of a file, and of a derivation list
 abbrev pub most_bytes : ℕ

@@ -1,7 +1,8 @@
 -- The exit code of a status.
 use Rattle.std.specs.Prelude.{ℕ}
 use Rattle.sx_steps.specs.declared.status.Status.{Status}
-use Rattle.sx_steps.specs.declared.status.Status.TheVariants.{Done, Refused, Words, ReadFault, WriteFault, NoMemory, Spent}
+use Rattle.sx_steps.specs.declared.status.Status.TheVariants.{Done, Refused, Words, ReadFault}
+use Rattle.sx_steps.specs.declared.status.Status.TheVariants.{WriteFault, NoMemory, Spent}
 
 -- the exit code
 abbrev pub code_of : Status → ℕ

@@ -16,7 +16,8 @@ Gives view step (Err errors.Memory) = Unit {0}
 Gives view step (Err (errors.Stopped stop)) = step (Err stop)
 
 -- the result is about one of the step's, unless memory lacked
-abbrev pub GivesFor : {X A : Type 0} → (X → A → Type 0) → (Result A Stop → Type 0) → Result X StepError → Type 0
+abbrev pub GivesFor : {X A : Type 0} → (X → A → Type 0) → (Result A Stop → Type 0) →
+    Result X StepError → Type 0
 GivesFor {A = A} Is step (Ok x) = (a : A) × Is x a × step (Ok a)
 GivesFor Is step (Err errors.Memory) = Unit {0}
 GivesFor Is step (Err (errors.Stopped stop)) = step (Err stop)
@@ -29,10 +30,14 @@ IsStopped status (Err (errors.Stopped stop)) = status_of stop ≡ status
 
 -- no read and no write failed
 abbrev pub IsNoFault : {X : Type 0} → Result X StepError → Type 0
-IsNoFault result = (IsStopped statuses.ReadFault result → ⊥) × (IsStopped statuses.WriteFault result → ⊥)
+IsNoFault result = (IsStopped statuses.ReadFault result → ⊥) ×
+    (IsStopped statuses.WriteFault result → ⊥)
 
--- nothing was written, and the count of read faults rose where a read fault stopped it, and nowhere else
-pub record OnlyReads {X : Type 0} (old new : Option Files) (reads_before reads_after writes_before writes_after : ℕ) (result : Result X StepError) : Type 0 where
+-- nothing was written, and the count of read faults rose where a read fault stopped it, and nowhere
+-- else
+pub record OnlyReads {X : Type 0} (old new : Option Files)
+    (reads_before reads_after writes_before writes_after : ℕ)
+    (result : Result X StepError) : Type 0 where
   pub content : new ≡ old
   pub reads : reads_before ≤ reads_after
   pub writes : writes_after ≡ writes_before
@@ -46,9 +51,11 @@ RisesBy Walks before after = (tries : ℕ) × Walks tries × (after ≡ before +
 
 -- the steps rose by at most the tries of these walks
 abbrev pub RisesUpTo : (ℕ → Type 0) → ℕ → ℕ → Type 0
-RisesUpTo Walks before after = (tries : ℕ) × Walks tries × (before ≤ after) × (after ≤ before + tries)
+RisesUpTo Walks before after = (tries : ℕ) × Walks tries × (before ≤ after) ×
+    (after ≤ before + tries)
 
--- the steps rose by the tries of these walks, and where memory lacked not at all, or by at most as many
+-- the steps rose by the tries of these walks, and where memory lacked not at all, or by at most as
+-- many
 abbrev pub Counts : {X : Type 0} → (ℕ → Type 0) → Result X StepError → ℕ → ℕ → Type 0
 Counts Walks (Ok x) before after = RisesBy Walks before after
 Counts Walks (Err errors.Memory) before after = (after ≡ before) ⊎ RisesUpTo Walks before after
@@ -60,8 +67,10 @@ seen_by view (Ok x) = Ok (view x)
 seen_by view (Err e) = Err e
 
 -- the answer, seen by view, is one of the step's, and the steps rose by the tries that it makes
-abbrev pub Does : {X A : Type 0} → (X → A) → (Result A StepError → ℕ → Type 0) → Result X StepError → ℕ → ℕ → Type 0
-Does view step result before after = (tries : ℕ) × step (seen_by view result) tries × (after ≡ before + tries)
+abbrev pub Does : {X A : Type 0} → (X → A) → (Result A StepError → ℕ → Type 0) →
+    Result X StepError → ℕ → ℕ → Type 0
+Does view step result before after = (tries : ℕ) × step (seen_by view result) tries ×
+    (after ≡ before + tries)
 
 -- the steps rose by at most so many
 abbrev pub RisesWithin : ℕ → ℕ → ℕ → Type 0

@@ -57,15 +57,20 @@ too_big file size = about file (defect.Text (text_defect.TooBig size))
 abbrev pub of_rule : List ℕ → List ℕ → RuleDefect → Stop
 of_rule file name what = at (Rule name) file (defect.Rule what)
 
--- the rules are no rule set, with the names of variables as they are told; want of memory is none of these
+-- the rules are no rule set, with the names of variables as they are told; out of memory is none
+-- of these
 abbrev pub bad_rules : List ℕ → (ℕ → List ℕ) → RuleError → Option Stop
 bad_rules file told rule_error.Memory = None
-bad_rules file told rule_error.TooManyRules = Some (about file (defect.Rule rule_defect.TooManyRules))
-bad_rules file told (rule_error.SameRule name) = Some (about file (defect.Rule (rule_defect.SameRule name)))
+bad_rules file told rule_error.TooManyRules =
+    Some (about file (defect.Rule rule_defect.TooManyRules))
+bad_rules file told (rule_error.SameRule name) =
+    Some (about file (defect.Rule (rule_defect.SameRule name)))
 bad_rules file told (rule_error.TooManyVars name) = Some (of_rule file name rule_defect.TooManyVars)
 bad_rules file told (rule_error.SortDiffers name) = Some (of_rule file name rule_defect.SortDiffers)
-bad_rules file told (rule_error.Discipline name part premise) = Some (of_rule file name (rule_defect.Discipline part premise))
-bad_rules file told (rule_error.NotModed name variable) = Some (of_rule file name (rule_defect.NotModed (told variable)))
+bad_rules file told (rule_error.Discipline name part premise) =
+    Some (of_rule file name (rule_defect.Discipline part premise))
+bad_rules file told (rule_error.NotModed name variable) =
+    Some (of_rule file name (rule_defect.NotModed (told variable)))
 
 -- ---- walks
 

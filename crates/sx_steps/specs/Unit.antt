@@ -14,11 +14,15 @@ interface_file name = name ++ codes ".int"
 
 -- the line that tells how many nodes the derivation has
 abbrev pub built_line : List ℕ → ℕ → List ℕ
-built_line name nodes = codes "built " ++ name ++ codes ": " ++ decimal nodes ++ codes " nodes" ++ 10 ∷ []
+built_line name nodes =
+    codes "built " ++ name ++ codes ": " ++ decimal nodes ++ codes " nodes" ++ 10 ∷ []
 
 -- the three files, with these bytes, and the line
 abbrev pub built_plan : List ℕ → List ℕ → List ℕ → List ℕ → ℕ → Plan
 built_plan name base list interface nodes = record {
-  files = record { name = base_file name; bytes = base } ∷ record { name = list_file name; bytes = list } ∷ record { name = interface_file name; bytes = interface } ∷ [];
+  files =
+      record { name = base_file name; bytes = base } ∷
+      record { name = list_file name; bytes = list } ∷
+      record { name = interface_file name; bytes = interface } ∷ [];
   lines = built_line name nodes;
 }

@@ -25,7 +25,8 @@ pub fn read_file<S: Shelf>(
     limit: u32,
     shelf: &mut S,
 ) -> Result<Vec<u8>, StepError>
-    ensures step { WhereTold (S.content shelf.old) (λ files. Gives (λ bytes. bytes.items) (Held limit file.now files) result) }
+    ensures step { WhereTold (S.content shelf.old)
+        (λ files. Gives (λ bytes. bytes.items) (Held limit file.now files) result) }
     ensures short { IfOk result (λ bytes. length bytes.items ≤ limit) }
     ensures reads { OnlyReads (S.content shelf.old) (S.content shelf.new)
         (S.read_faults shelf.old) (S.read_faults shelf.new)

@@ -1,10 +1,12 @@
-//! Steps of commands: what a step answers, why a command ends early, files that are read, and files that are to be written.
+//! Steps of commands: what a step answers, why a command ends early, files that are read, and files
+//! that are to be written.
 //!
-//! - `Stop` is why a command ends early, with the file that it is about: `status` and `line` say what it then answers. `StepError` is that or
-//!   want of memory.
+//! - `Stop` is why a command ends early, with the file that it is about: `status` and `line` say
+//!   what it then answers. `StepError` is that or out of memory.
 //! - `refused`, `refused_at`, `bad_line`, `bad_rules`: stops that more than one command has.
 //! - `read_file`: the bytes of a file on the shelf.
-//! - `Work` is what is left to do where no step stopped; `built_work` is that of a unit that was built.
+//! - `Work` is what is left to do where no step stopped; `built_work` is that of a unit that was
+//!   built.
 #![tactic(auto)]
 
 mod held;

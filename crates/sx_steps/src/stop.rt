@@ -1,7 +1,8 @@
 //! Why a command ends early.
 
 ghost use Rattle.std.specs.Prelude.{◌≡◌, IfOk};
-ghost use Rattle.sx_steps.specs.Refusal.{about as stop_about, file_status as status_of_file, defect_status as status_of_defect, status_of, line_of};
+ghost use Rattle.sx_steps.specs.Refusal.{about as stop_about, file_status as status_of_file};
+ghost use Rattle.sx_steps.specs.Refusal.{defect_status as status_of_defect, status_of, line_of};
 ghost use Rattle.sx_words.specs.Lines.{line_text};
 ghost use Rattle.sx_words.specs.RefusalText.{refusal_text};
 
@@ -10,7 +11,8 @@ use std::alloc::Global;
 use sx_term::{NoMemory, Text};
 use sx_words::{Defect, FileDefect, Place, Refusal, write_refusal};
 
-/// Why a command ends early: a refusal, or a fault of reading a file, with the file that it is about.
+/// Why a command ends early: a refusal, or a fault of reading a file, with the file that it is
+/// about.
 #[derive(Debug, Drop)]
 pub struct Stop {
     pub file: Text,

@@ -84,7 +84,8 @@ pub fn bad_rules(
     error: RuleError,
     variable: &Text,
 ) -> Result<Stop, NoMemory>
-    ensures { IfOk result (λ stop. stops.bad_rules file.now (λ number. variable.now) error ≡ Some stop) }
+    ensures { IfOk result (λ stop.
+        stops.bad_rules file.now (λ number. variable.now) error ≡ Some stop) }
 {
     match error {
         RuleError::Memory => Err(NoMemory::Memory),

@@ -11,7 +11,8 @@ use sx_term::{NoMemory, Text};
 
 /// A file to write, under the name with a suffix.
 fn output(alloc: Global, name: &Text, suffix: &str, bytes: Vec<u8>) -> Result<Output, NoMemory>
-    ensures { IfOk result (λ file. file_of file ≡ record { name = name.now ++ suffix.now; bytes = bytes.items }) }
+    ensures { IfOk result (λ file.
+        file_of file ≡ record { name = name.now ++ suffix.now; bytes = bytes.items }) }
 {
     let name = with_suffix(alloc, name, suffix)?;
     Ok(Output { name, bytes })
@@ -55,7 +56,8 @@ pub fn built_work(
     interface: Vec<u8>,
     nodes: u64,
 ) -> Result<Work, NoMemory>
-    ensures { IfOk result (λ work. plan_of work ≡ built_plan name.now base.items list.items interface.items nodes) }
+    ensures { IfOk result (λ work.
+        plan_of work ≡ built_plan name.now base.items list.items interface.items nodes) }
 {
     let base = output(alloc, name, ".base", base)?;
     let list = output(alloc, name, ".der", list)?;

@@ -1,4 +1,4 @@
--- There are steps for each command that the words may spell by now, and it has at most 1,000,000 tries to spend.
+-- There are steps for each command that the words may spell so far, and it has at most 1,000,000 tries to spend.
 use Rattle.std.proofs.Common.{ℕ, Bool, true, false, List, sym, subst, inl, inr}
 use Rattle.std.specs.Prelude.{Result}
 use Rattle.sx_outside.specs.Files.{Files}

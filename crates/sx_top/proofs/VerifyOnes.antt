@@ -1,5 +1,5 @@
 -- Runs have one outcome, read faults aside.
-use Rattle.std.proofs.Common.{◌≡◌, ◌≢◌, ℕ, true, false, List, length, refl, sym, ap, ◌∙◌}
+use Rattle.std.proofs.Common.{◌≡◌, ◌≢◌, ℕ, true, false, List, length, refl, sym, ap, ◌∙◌, inl, inr}
 use Rattle.std.specs.Prelude.{Result, Ok, Err}
 use Rattle.sx_outside.specs.Files.{Files}
 use Rattle.sx_term.specs.Tree.{Tree}
@@ -35,14 +35,13 @@ use Rattle.sx_top.specs.VerifyCore.{verified_plan, Replays, VerifiesOutputs, Ver
 use Rattle.sx_steps.specs.Refusal.{bad_word}
 use Rattle.sx_words.proofs.CommandLaws.{one_command}
 use Rattle.sx_words.proofs.OneAnswer.{one_misfit, no_misfit}
-use Rattle.sx_top.specs.Commands.{by_now, Commands}
+use Rattle.sx_top.specs.Commands.{by_now, Commands, Spelled}
 use Rattle.sx_top.specs.Outcome.{Runs, Outcome}
-use Rattle.sx_top.specs.Laws.{IsNoBuild, OneCoreOutcome, OneOutcome}
+use Rattle.sx_top.specs.Laws.{IsNoBuild, SameFor, SameStops, OneCoreOutcome, OneOutcome}
 use Rattle.sx_steps.proofs.StepsOn.{went}
-use Rattle.sx_build.proofs.Agreeing.{builds_nearly}
-use Rattle.sx_steps.specs.Agree.{NearlySame}
+use Rattle.sx_build.proofs.Agreeing.{builds_by}
 use Rattle.sx_steps.specs.Steps.{NoTries, Trying, Untried}
-use Rattle.sx_steps.proofs.Ones.{IsOne, IsOneBy, nearly, then_one, and_then_by, trying_one, trying_nearly, no_tries_one, answers_same, answers_near, held_one, lower_but, ok_same}
+use Rattle.sx_steps.proofs.Ones.{IsOne, IsOneBy, then_one, and_then_by, trying_one, trying_same, no_tries_one, answers_same, answers_so, held_one, lower_but, ok_same}
 use Rattle.sx_top.proofs.WholeOnes.{compares_one, searches_one}
 use Rattle.sx_top.proofs.Propers.{proper}
 use Rattle.sx_top.proofs.FirstBads.{bad_not_good, one_bad}
@@ -142,16 +141,24 @@ module _ (core_one : (bytes : List ℕ) (a b : Result Problem CoreFileError) →
       let one = and_then_by ◌≡◌ (Untried (Commands words)) (λ command. Runs command files) (trying_one NoTries (Commands words) no_tries_one (commands_one words)) (λ command before read. runs_one command files (none command read.0)) a b m n h k p q in
       (answers_same a b one.0, one.1)
 
-  runs_nearly : (command : Meant) (files : Files) → IsOneBy NearlySame (Runs command files)
-  runs_nearly (builds true name tries nodes audits) files x y a b h k n m = let one = builds_one name tries files x y a b h k n m in (answers_near x y one.0, one.1)
-  runs_nearly (builds false name tries nodes audits) files x y a b h k n m = builds_nearly name tries files x y a b h k n m
-  runs_nearly (compiles name tries nodes audits) files x y a b h k n m = absurd h
-  runs_nearly (checks name tries nodes) files x y a b h k n m = absurd h
-  runs_nearly (verifies true name) files x y a b h k n m = trying_nearly NoTries (VerifiesWhole name files) no_tries_one (nearly (VerifiesWhole name files) (verifies_one name files)) x y a b h k n m
-  runs_nearly (verifies false name) files x y a b h k n m = absurd h
-  runs_nearly (samples number) files x y a b h k n m = absurd h
+  -- the steps of a command have one answer for it
+  runs_by : (command : Meant) (files : Files) → IsOneBy (SameFor command files) (Runs command files)
+  runs_by (builds true name tries nodes audits) files x y a b h k n m = builds_one name tries files x y a b h k n m
+  runs_by (builds false name tries nodes audits) files x y a b h k n m = builds_by name tries files x y a b h k n m
+  runs_by (compiles name tries nodes audits) files x y a b h k n m = absurd h
+  runs_by (checks name tries nodes) files x y a b h k n m = absurd h
+  runs_by (verifies true name) files x y a b h k n m = trying_one NoTries (VerifiesWhole name files) no_tries_one (verifies_one name files) x y a b h k n m
+  runs_by (verifies false name) files x y a b h k n m = absurd h
+  runs_by (samples number) files x y a b h k n m = absurd h
+
+  -- and so for the words that spell it
+  spelled_by : (words : List (List ℕ)) (files : Files) (command : Meant) → Spelled words command → IsOneBy (SameStops words files) (Runs command files)
+  spelled_by words files command spelled x y a b h k n m =
+      let one = runs_by command files x y a b h k n m in
+      (answers_so (SameFor command files) (SameStops words files) (λ s t same. inr (command, spelled, same)) x y one.0, one.1)
 
   pub one_outcome_by : OneOutcome
   unfolding Outcome
   one_outcome_by words files =
-      and_then_by NearlySame (Untried (Commands words)) (λ command. Runs command files) (trying_nearly NoTries (Commands words) no_tries_one (nearly (Commands words) (commands_one words))) (λ command before read. runs_nearly command files)
+      and_then_by (SameStops words files) (Untried (Commands words)) (λ command. Runs command files)
+      (trying_same (SameStops words files) (λ s. inl refl) NoTries (Commands words) no_tries_one (commands_one words)) (λ command before read. spelled_by words files command read.0)

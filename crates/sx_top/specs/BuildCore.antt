@@ -18,23 +18,26 @@ use Rattle.sx_steps.specs.Work.{Plan}
 -- the three files and the line
 unfoldable pub core_plan : List ℕ → Problem → Answer → Plan
 core_plan name problem answer =
-    built_plan name (subject_text problem.forms problem.goal) (list_text problem.rules (order_of answer.0)) (term_lines answer.1) (nodes_of answer.0)
+    built_plan name (subject_text problem.forms problem.goal)
+    (list_text problem.rules (order_of answer.0)) (term_lines answer.1) (nodes_of answer.0)
 
 -- the first derivation of the problem's goal, and then the three files and the line
 abbrev pub BuildsGoal : List ℕ → List ℕ → ℕ → Problem → Result Plan StepError → ℕ → Type 0
 BuildsGoal name file budget problem =
-    AndThen (Trying (HasWalked budget problem) (Searches file budget problem)) (λ answer. Untried (λ result. result ≡ Ok (core_plan name problem answer)))
+    AndThen (Trying (HasWalked budget problem) (Searches file budget problem))
+    (λ answer. Untried (λ result. result ≡ Ok (core_plan name problem answer)))
 
 -- the steps of the command, with the name of its file
 abbrev pub BuildsFrom : List ℕ → List ℕ → ℕ → Files → Result Plan StepError → ℕ → Type 0
-BuildsFrom name file budget files = AndThen (Untried (Reads file files)) (BuildsGoal name file budget)
+BuildsFrom name file budget files =
+    AndThen (Untried (Reads file files)) (BuildsGoal name file budget)
 
 -- the steps of the command, with so many tries to spend
 abbrev pub BuildsWhole : List ℕ → ℕ → Files → Result Plan StepError → ℕ → Type 0
 BuildsWhole name budget files = BuildsFrom name (core_file name) budget files
 
--- The three files are those of the first derivation of the goal that NAME.core states, all other files are as before,
--- and the line tells the number of its nodes.
+-- The three files are those of the first derivation of the goal that NAME.core states, all other
+-- files are as before, and the line tells the number of its nodes.
 pub record BuiltUnit (name : List ℕ) (old new : Files) (lines : List ℕ) : Type 0 where
   pub bytes : List ℕ
   pub problem : Problem
@@ -45,5 +48,6 @@ pub record BuiltUnit (name : List ℕ) (old new : Files) (lines : List ℕ) : Ty
   pub base : new (base_file name) ≡ Some (subject_text problem.forms problem.goal)
   pub list : new (list_file name) ≡ Some (list_text problem.rules (order_of answer.0))
   pub interface : new (interface_file name) ≡ Some (term_lines answer.1)
-  pub others : (other : List ℕ) → other ≢ base_file name → other ≢ list_file name → other ≢ interface_file name → new other ≡ old other
+  pub others : (other : List ℕ) → other ≢ base_file name → other ≢ list_file name →
+      other ≢ interface_file name → new other ≡ old other
   pub line : lines ≡ built_line name (nodes_of answer.0)

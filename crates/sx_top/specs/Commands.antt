@@ -1,4 +1,4 @@
--- The step that reads the words, and the commands that there are by now.
+-- The step that reads the words, and the commands that there are so far.
 use Rattle.std.specs.Prelude.{◌≡◌, ℕ, ◌≤◌, true, List, Result, Ok, Err}
 use Rattle.sx_words.specs.Commands.{Meant, builds, verifies, SpellsAt, IsMisfitAt}
 use Rattle.sx_words.specs.declared.stage.Stage.{Stage}
@@ -6,11 +6,12 @@ use Rattle.sx_words.specs.declared.stage.Stage.TheVariants.{Now}
 use Rattle.sx_steps.specs.declared.stop.Stop.{Stop}
 use Rattle.sx_steps.specs.Refusal.{bad_word}
 
--- the commands that there are by now: `build` and `build --core`, with `--tries`, and `verify --core`
+-- the commands that there are so far: `build` and `build --core`, with `--tries`, and `verify
+-- --core`
 abbrev pub by_now : Stage
 by_now = Now
 
--- the words spell the command, of those that there are by now
+-- the words spell the command, of those that there are so far
 abbrev pub Spelled : List (List ℕ) → Meant → Type 0
 Spelled words command = SpellsAt by_now words command
 

@@ -1,5 +1,6 @@
 -- The course of a run: how far it went, what stands on the shelf after it, and what the sink got.
-use Rattle.std.specs.Prelude.{◌≡◌, ◌≢◌, ℕ, zero, suc, ◌<◌, List, [], ◌∷◌, length, take, Result, Ok, Err, Option}
+use Rattle.std.specs.Prelude.{◌≡◌, ◌≢◌, ℕ, zero, suc, ◌<◌, List, [], ◌∷◌, length, take, Result, Ok}
+use Rattle.std.specs.Prelude.{Err, Option}
 use Rattle.sx_outside.specs.Files.{Files, File, after, SameBut}
 use Rattle.sx_outside.specs.Faults.{RoseWhere}
 use Rattle.sx_outside.specs.Told.{Told}
@@ -14,7 +15,8 @@ use Rattle.sx_steps.specs.Refusal.{write_fault, line_of, status_of}
 use Rattle.sx_steps.specs.declared.status.Status.{Status}
 use Rattle.sx_steps.specs.declared.status.Status.TheVariants as statuses
 
--- what is seen of a shelf and of a sink: the files and the bytes, where they are told, and the counts of faults
+-- what is seen of a shelf and of a sink: the files and the bytes, where they are told, and the
+-- counts of faults
 pub record Seen : Type 0 where
   pub files : Option Files
   pub bytes : Option (List ℕ)
@@ -24,11 +26,14 @@ pub record Seen : Type 0 where
 
 -- so much is seen
 abbrev pub seen : Option Files → Option (List ℕ) → ℕ → ℕ → ℕ → Seen
-seen files bytes reads writes sends = record { files = files; bytes = bytes; reads = reads; writes = writes; sends = sends }
+seen files bytes reads writes sends =
+    record { files = files; bytes = bytes; reads = reads; writes = writes; sends = sends }
 
--- How far a run went. Memory lacked before anything was written; or a stop ended it, and the sink answered so to the stop's line; or memory
--- lacked for the file of the plan with this number; or writing that file failed, and the sink answered so to the line of the failed write; or all
--- files were written, and the sink answered so to the plan's lines. Where memory lacks for a line, that is answered in the sink's place.
+-- How far a run went. Memory lacked before anything was written; or a stop ended it, and the sink
+-- answered so to the stop's line; or memory lacked for the file of the plan with this number; or
+-- writing that file failed, and the sink answered so to the line of the failed write; or all files
+-- were written, and the sink answered so to the plan's lines. Where memory lacks for a line, that
+-- is answered in the sink's place.
 pub data Course : Type 0 where
   lacking : Course
   stopped : Stop → WriteAnswer → Course
@@ -60,12 +65,15 @@ Begins Holds (written plan answer) = Holds (Ok plan)
 
 -- ---- what is left
 
--- the text was sent, and the sink answered so: its count of faults rose where it failed, and nowhere else
-pub record Sent (text : List ℕ) (answer : WriteAnswer) (old new : Option (List ℕ)) (before after : ℕ) : Type 0 where
+-- the text was sent, and the sink answered so: its count of faults rose where it failed, and
+-- nowhere else
+pub record Sent (text : List ℕ) (answer : WriteAnswer) (old new : Option (List ℕ))
+    (before after : ℕ) : Type 0 where
   pub bytes : IsAppending old text answer new
   pub faults : RoseWhere (answer ≡ write.Failed) before after
 
--- nothing was written, and the stop is no failed write; the count of read faults rose where it is a failed read, and nowhere else
+-- nothing was written, and the stop is no failed write; the count of read faults rose where it is a
+-- failed read, and nowhere else
 pub record WasStopped (stop : Stop) (answer : WriteAnswer) (old new : Seen) : Type 0 where
   pub files : new.files ≡ old.files
   pub reads : RoseWhere (status_of stop ≡ statuses.ReadFault) old.reads new.reads
@@ -88,13 +96,18 @@ name_at [] number = []
 name_at (file ∷ files) zero = file.name
 name_at (file ∷ files) (suc number) = name_at files number
 
--- the files before this number were written, this one may hold anything, and all others are as before; the count of write faults rose
-pub record HasFailed (plan : Plan) (number : ℕ) (answer : WriteAnswer) (old new : Seen) : Type 0 where
+-- the files before this number were written, this one may hold anything, and all others are as
+-- before; the count of write faults rose
+pub record HasFailed (plan : Plan) (number : ℕ) (answer : WriteAnswer)
+    (old new : Seen) : Type 0 where
   pub below : number < length plan.files
-  pub files : Told (λ before now. SameBut (name_at plan.files number) (after (take number plan.files) before) now) old.files new.files
+  pub files : Told (λ before now.
+      SameBut (name_at plan.files number) (after (take number plan.files) before) now) old.files
+      new.files
   pub reads : new.reads ≡ old.reads
   pub writes : RoseWhere (Unit {0}) old.writes new.writes
-  pub line : Sent (line_of (write_fault (name_at plan.files number))) answer old.bytes new.bytes old.sends new.sends
+  pub line : Sent (line_of (write_fault (name_at plan.files number))) answer old.bytes new.bytes
+      old.sends new.sends
 
 -- all files of the plan were written
 pub record HasWritten (plan : Plan) (answer : WriteAnswer) (old new : Seen) : Type 0 where

@@ -15,32 +15,42 @@ use Rattle.sx_words.specs.Commands.{Meant}
 use Rattle.sx_steps.specs.declared.status.Status.{Status}
 use Rattle.sx_steps.specs.declared.status.Status.TheVariants as statuses
 
--- by the words and the files, where these are told, the steps come to this, and the tries that they make were counted
+-- by the words and the files, where these are told, the steps come to this, and the tries that they
+-- make were counted
 abbrev pub ComesTo : List (List ℕ) → Option Files → ℕ → ℕ → Result Plan StepError → Type 0
-ComesTo words told before after result = WhereTold told (λ files. (tries : ℕ) × Outcome words files result tries × (after ≡ before + tries))
+ComesTo words told before after result =
+    WhereTold told (λ files. (tries : ℕ) × Outcome words files result tries ×
+    (after ≡ before + tries))
 
 -- the course of the run: its status, what its steps came to, with their tries, and what it leaves
-pub record Ends (words : List (List ℕ)) (status : Status) (old new : Seen) (before after : ℕ) : Type 0 where
+pub record Ends (words : List (List ℕ)) (status : Status) (old new : Seen)
+    (before after : ℕ) : Type 0 where
   pub course : Course
   pub is : status_after course ≡ status
   pub begins : Begins (ComesTo words old.files before after) course
   pub leaves : Leaves course old new
 
--- the command that the words are keeps its promise, with lines that the sink got where it tells what it got
+-- the command that the words are keeps its promise, with lines that the sink got where it tells
+-- what it got
 abbrev pub KeepsFor : Meant → Option (List ℕ) → Option (List ℕ) → Files → Files → Type 0
-KeepsFor command out out' old new = (lines : List ℕ) × Promises command old new lines × Told (λ sent sent'. sent' ≡ sent ++ lines) out out'
+KeepsFor command out out' old new = (lines : List ℕ) × Promises command old new lines ×
+    Told (λ sent sent'. sent' ≡ sent ++ lines) out out'
 
 -- where the run is done, the command keeps its promise
-abbrev pub KeepsPromise : List (List ℕ) → Status → Option (List ℕ) → Option (List ℕ) → Files → Files → Type 0
-KeepsPromise words status out out' old new = status ≡ statuses.Done → (command : Meant) → Spelled words command → KeepsFor command out out' old new
+abbrev pub KeepsPromise : List (List ℕ) → Status → Option (List ℕ) → Option (List ℕ) → Files →
+    Files → Type 0
+KeepsPromise words status out out' old new = status ≡ statuses.Done → (command : Meant) →
+    Spelled words command → KeepsFor command out out' old new
 
 -- a read failed: the status says so, unless the sink failed on the line, or memory lacked for it
 abbrev pub IsAfterRead : Status → ℕ → ℕ → Type 0
-IsAfterRead status before after = (status ≡ statuses.ReadFault) ⊎ ((status ≡ statuses.WriteFault) × Rose before after) ⊎ (status ≡ statuses.NoMemory)
+IsAfterRead status before after = (status ≡ statuses.ReadFault) ⊎
+    ((status ≡ statuses.WriteFault) × Rose before after) ⊎ (status ≡ statuses.NoMemory)
 
 -- the words and files have no defect: nothing but a failed read stops their steps
 abbrev pub HasNoDefect : List (List ℕ) → Files → Type 0
-HasNoDefect words files = (stop : Stop) (tries : ℕ) → Outcome words files (Err (errors.Stopped stop)) tries → status_of stop ≡ statuses.ReadFault
+HasNoDefect words files = (stop : Stop) (tries : ℕ) →
+    Outcome words files (Err (errors.Stopped stop)) tries → status_of stop ≡ statuses.ReadFault
 
 -- done, or memory lacked
 abbrev pub IsDoneOrShort : Status → Type 0

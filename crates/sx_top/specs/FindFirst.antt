@@ -15,4 +15,5 @@ rules_of problem = map (λ r. r.rule) problem.rules
 
 -- the first derivation of the problem's goal by its rules, with the outputs that it gives
 abbrev pub IsFirstOf : Problem → Answer → Type 0
-IsFirstOf problem answer = IsFirst (modes_of problem.forms) (rules_of problem) no_hypotheses problem.goal None answer
+IsFirstOf problem answer =
+    IsFirst (modes_of problem.forms) (rules_of problem) no_hypotheses problem.goal None answer

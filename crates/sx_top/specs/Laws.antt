@@ -1,5 +1,5 @@
 -- Laws of what runs come to.
-use Rattle.std.specs.Prelude.{◌≡◌, ℕ, true, false, List, Result, Ok, Err, None}
+use Rattle.std.specs.Prelude.{◌≡◌, ◌⊎◌, ℕ, true, false, List, Result, Ok, Err, None}
 use Rattle.sx_outside.specs.Files.{Files}
 use Rattle.sx_rules.specs.Views.{modes_of}
 use Rattle.sx_rules.specs.First.{IsUnderivable}
@@ -8,9 +8,9 @@ use Rattle.sx_words.specs.Commands.{Meant, builds}
 use Rattle.sx_steps.specs.declared.stop.Stop.{Stop}
 use Rattle.sx_steps.specs.declared.step_error.StepError.{StepError}
 use Rattle.sx_steps.specs.declared.step_error.StepError.TheVariants as errors
-use Rattle.sx_steps.specs.Agree.{IsSure, NearlySame, AnswersBy}
+use Rattle.sx_steps.specs.Agree.{IsSure, AnswersBy}
 use Rattle.sx_steps.specs.Work.{Plan}
-use Rattle.sx_build.specs.Laws.{IsTypeError, HasNoType}
+use Rattle.sx_build.specs.Laws.{SameButShown, IsTypeError, HasNoType}
 use Rattle.sx_top.specs.Commands.{Spelled}
 use Rattle.sx_top.specs.FindFirst.{no_hypotheses, rules_of}
 use Rattle.sx_top.specs.Outcome.{Outcome}
@@ -23,17 +23,32 @@ abbrev pub IsNoBuild : Meant → Type 0
 IsNoBuild (builds false name tries nodes audits) = ⊥
 IsNoBuild command = Unit {0}
 
--- words that build no module have with the files one outcome and one number of tries, read faults and want of memory aside
+-- words that build no module have with the files one outcome and one number of tries, read faults
+-- and out of memory aside
 abbrev pub OneCoreOutcome : Type 0
 OneCoreOutcome =
-    (words : List (List ℕ)) → ((command : Meant) → Spelled words command → IsNoBuild command) → (files : Files) (a b : Result Plan StepError) (m n : ℕ) →
+    (words : List (List ℕ)) → ((command : Meant) → Spelled words command → IsNoBuild command) →
+    (files : Files) (a b : Result Plan StepError) (m n : ℕ) →
     Outcome words files a m → Outcome words files b n → IsSure a → IsSure b → (a ≡ b) × (m ≡ n)
 
--- Words and files have one outcome and one number of tries, read faults and want of memory aside. Where a text has more than one reading, which two a refusal shows is free.
+-- the stops of the command are the same; for a module, but for readings that they show where it is
+-- free which these are
+abbrev pub SameFor : Meant → Files → Stop → Stop → Type 0
+SameFor (builds false name tries nodes audits) files s t = SameButShown name tries files s t
+SameFor command files s t = s ≡ t
+
+-- the stops are the same, or so for the command that the words spell
+abbrev pub SameStops : (words : List (List ℕ)) → Files → Stop → Stop → Type 0
+SameStops words files s t = (s ≡ t) ⊎
+    ((command : Meant) × Spelled words command × SameFor command files s t)
+
+-- words and files have one outcome and one number of tries, but for read faults, out of memory and
+-- such readings
 abbrev pub OneOutcome : Type 0
 OneOutcome =
     (words : List (List ℕ)) (files : Files) (a b : Result Plan StepError) (m n : ℕ) →
-    Outcome words files a m → Outcome words files b n → IsSure a → IsSure b → AnswersBy NearlySame a b × (m ≡ n)
+    Outcome words files a m → Outcome words files b n → IsSure a → IsSure b →
+    AnswersBy (SameStops words files) a b × (m ≡ n)
 
 -- ---- type errors
 
@@ -41,7 +56,8 @@ OneOutcome =
 pub record HasNoDerivation (name : List ℕ) (files : Files) : Type 0 where
   pub problem : Problem
   pub reads : Reads (core_file name) files (Ok problem)
-  pub none : IsUnderivable (modes_of problem.forms) (rules_of problem) no_hypotheses problem.goal None
+  pub none : IsUnderivable (modes_of problem.forms) (rules_of problem) no_hypotheses problem.goal
+      None
 
 -- the goal that the command derives has no derivation; `verify --core` derives none
 abbrev pub IsUntyped : Meant → Files → Type 0
@@ -52,5 +68,6 @@ IsUntyped command files = ⊥
 -- a run stops with a type error only where the command's goal has no derivation at all
 abbrev pub TypeErrorsAreFinal : Type 0
 TypeErrorsAreFinal =
-    (words : List (List ℕ)) (files : Files) (stop : Stop) (tries : ℕ) → Outcome words files (Err (errors.Stopped stop)) tries → IsTypeError stop →
+    (words : List (List ℕ)) (files : Files) (stop : Stop) (tries : ℕ) →
+    Outcome words files (Err (errors.Stopped stop)) tries → IsTypeError stop →
     (command : Meant) × Spelled words command × IsUntyped command files

@@ -11,9 +11,11 @@ use Rattle.sx_replay.specs.declared.replay_error.ReplayError.TheVariants as repl
 use Rattle.sx_words.specs.declared.list_defect.ListDefect.TheVariants as list_defect
 use Rattle.sx_steps.specs.declared.stop.Stop.{Stop}
 use Rattle.sx_top.specs.CoreStops.{variable_name, underivable, unfit_list}
-use Rattle.sx_steps.specs.Stops.{kind_text, not_utf8, bad_line, too_deep, too_big, bad_rules, tries_spent, depth_spent}
+use Rattle.sx_steps.specs.Stops.{kind_text, not_utf8, bad_line, too_deep, too_big, bad_rules}
+use Rattle.sx_steps.specs.Stops.{tries_spent, depth_spent}
 
--- the stop of a core file's refusal; want of memory has none, and the text of a term that is too deep names no line
+-- the stop of a core file's refusal; out of memory has none, and the text of a term that is too
+-- deep names no line
 abbrev pub core_stop : List ℕ → CoreFileError → Option Stop
 core_stop file core_error.Memory = None
 core_stop file (core_error.NotUtf8 before) = Some (not_utf8 file before)
@@ -21,7 +23,7 @@ core_stop file (core_error.Notation line what) = Some (bad_line file line (kind_
 core_stop file (core_error.TooDeep line depth) = Some (too_deep file depth)
 core_stop file (core_error.Rules e) = bad_rules file variable_name e
 
--- the stop of a list's refusal; want of memory has none
+-- the stop of a list's refusal; out of memory has none
 abbrev pub replay_stop : List ℕ → ReplayError → Option Stop
 replay_stop file replay_error.Memory = None
 replay_stop file (replay_error.WrongAt entry) = Some (unfit_list file (list_defect.WrongAt entry))
@@ -31,10 +33,11 @@ replay_stop file (replay_error.TooDeep depth) = Some (too_deep file depth)
 replay_stop file (replay_error.TooBig size) = Some (too_big file size)
 replay_stop file (replay_error.DeepList entry) = Some (unfit_list file (list_defect.DeepList entry))
 
--- the stop of a search without an answer; want of memory has none
+-- the stop of a search without an answer; out of memory has none
 abbrev pub derive_stop : List ℕ → Problem → DeriveError → Option Stop
 derive_stop file problem derive_error.Memory = None
-derive_stop file problem (derive_error.Underivable blame) = Some (underivable file problem (blame_of blame))
+derive_stop file problem (derive_error.Underivable blame) =
+    Some (underivable file problem (blame_of blame))
 derive_stop file problem (derive_error.BudgetSpent budget) = Some (tries_spent file budget)
 derive_stop file problem (derive_error.DepthSpent depth) = Some (depth_spent file)
 derive_stop file problem (derive_error.TooDeep depth) = Some (too_deep file depth)

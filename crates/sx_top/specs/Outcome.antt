@@ -12,8 +12,10 @@ use Rattle.sx_top.specs.VerifyCore.{VerifiesWhole, VerifiedUnit}
 
 -- the steps of each command; a command that is not there yet has none
 abbrev pub Runs : Meant → Files → Result Plan StepError → ℕ → Type 0
-Runs (builds true name tries nodes audits) files result made = BuildsWhole name tries files result made
-Runs (builds false name tries nodes audits) files result made = BuildsModule name tries files result made
+Runs (builds true name tries nodes audits) files result made =
+    BuildsWhole name tries files result made
+Runs (builds false name tries nodes audits) files result made =
+    BuildsModule name tries files result made
 Runs (verifies true name) files result made = Untried (VerifiesWhole name files) result made
 Runs command files result made = ⊥
 

@@ -11,14 +11,16 @@ use Rattle.sx_derive.specs.Blames.{blame_of}
 use Rattle.sx_derive.specs.BlameTerms.{got_in}
 use Rattle.sx_derive.specs.Listing.{Lists}
 use Rattle.sx_derive.specs.declared.derive_error.DeriveError.{DeriveError}
-use Rattle.sx_derive.specs.declared.derive_error.DeriveError.TheVariants.{Memory, Underivable, BudgetSpent, DepthSpent, TooDeep, TooBig}
+use Rattle.sx_derive.specs.declared.derive_error.DeriveError.TheVariants.{Memory, Underivable}
+use Rattle.sx_derive.specs.declared.derive_error.DeriveError.TheVariants.{BudgetSpent, DepthSpent}
+use Rattle.sx_derive.specs.declared.derive_error.DeriveError.TheVariants.{TooDeep, TooBig}
 use Rattle.sx_derive.specs.declared.listed.Listed.{Listed}
 use Rattle.sx_top.specs.FindFirst.{no_hypotheses, rules_of}
 use Rattle.sx_top.specs.ReadCore.{rule_names}
 use Rattle.sx_top.specs.Terms.{AreTerms}
 
--- The rules are moded and have distinct names, the terms of rules and goal have core texts, and those of the goal are no
--- deeper than 1,000.
+-- The rules are moded and have distinct names, the terms of rules and goal have core texts, and
+-- those of the goal are no deeper than 1,000.
 pub record IsProper (problem : Problem) : Type 0 where
   pub moded : AllModed (modes_of problem.forms) (rules_of problem)
   pub names : AreNames (rule_names problem)
@@ -29,7 +31,8 @@ pub record IsProper (problem : Problem) : Type 0 where
 
 -- the answer derives the goal, is no higher than 3,000, and its outputs can be written
 pub record IsGiven (problem : Problem) (answer : Answer) : Type 0 where
-  pub derives : DerivesGoal (modes_of problem.forms) (rules_of problem) no_hypotheses problem.goal answer
+  pub derives : DerivesGoal (modes_of problem.forms) (rules_of problem) no_hypotheses problem.goal
+      answer
   pub height : height_of answer.0 ≤ 3000
   pub outputs : AreTerms answer.1
 
@@ -41,7 +44,8 @@ pub record ListsGiven (problem : Problem) (listed : Listed) (answer : Answer) : 
 -- the terms of a stuck goal can be written
 abbrev pub HasTerms : DeriveError → Type 0
 HasTerms Memory = Unit {0}
-HasTerms (Underivable blame) = AreTerms (blame_of blame).goal.terms × AreTerms (got_in (blame_of blame).reason)
+HasTerms (Underivable blame) = AreTerms (blame_of blame).goal.terms ×
+    AreTerms (got_in (blame_of blame).reason)
 HasTerms (BudgetSpent budget) = Unit {0}
 HasTerms (DepthSpent depth) = Unit {0}
 HasTerms (TooDeep depth) = Unit {0}

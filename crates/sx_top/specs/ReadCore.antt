@@ -19,4 +19,5 @@ rule_names problem = map (λ r. r.name) problem.rules
 
 -- the bytes of the file, and then the problem that they state
 abbrev pub Reads : List ℕ → Files → Result Problem Stop → Type 0
-Reads file files = Then (Held most_bytes file files) (λ bytes. Lower (core_stop file) (IsCoreAnswer bytes))
+Reads file files = Then (Held most_bytes file files)
+    (λ bytes. Lower (core_stop file) (IsCoreAnswer bytes))

@@ -3,7 +3,8 @@ use Rattle.std.specs.Prelude.{◌≡◌, ℕ, ◌≤◌, ◌^◌, ◌-◌, min, 
 use Rattle.sx_rules.specs.Views.{modes_of, subjects_in}
 use Rattle.sx_rules.specs.First.{Answer}
 use Rattle.sx_core.specs.Problem.{Problem}
-use Rattle.sx_derive.specs.Walk.{Event, Cause, depth_spent as passes_depth, too_deep as passes_terms, too_big as passes_size, events}
+use Rattle.sx_derive.specs.Walk.{Event, Cause, depth_spent as passes_depth}
+use Rattle.sx_derive.specs.Walk.{too_deep as passes_terms, too_big as passes_size, events}
 use Rattle.sx_derive.specs.Search.{Ending, found, stopped, spent, exhausted, walk, tries_of}
 use Rattle.sx_derive.specs.Stuck.{Blame, IsStuck}
 use Rattle.sx_steps.specs.declared.stop.Stop.{Stop}
@@ -13,12 +14,14 @@ use Rattle.sx_steps.specs.Stops.{tries_spent, depth_spent, too_deep, too_big}
 
 -- the events of the problem's goal, without hypotheses
 abbrev pub goal_events : Problem → List (Event Answer)
-goal_events problem = events (modes_of problem.forms) (rules_of problem) no_hypotheses problem.goal 1
+goal_events problem = events (modes_of problem.forms) (rules_of problem) no_hypotheses problem.goal
+    1
 
 -- the stuck goal of the problem's goal
 abbrev pub IsStuckGoal : Problem → Blame → Type 0
 IsStuckGoal problem blame =
-    IsStuck (modes_of problem.forms) (subjects_in problem.forms) (rules_of problem) no_hypotheses 3000 problem.goal [] blame
+    IsStuck (modes_of problem.forms) (subjects_in problem.forms)
+    (rules_of problem) no_hypotheses 3000 problem.goal [] blame
 
 -- the limit that the walk passed
 abbrev pub passed : List ℕ → Cause → Stop
@@ -31,11 +34,13 @@ abbrev pub ComesTo : List ℕ → Problem → ℕ → Ending → Result Answer S
 ComesTo file problem budget (found answer) result = result ≡ Ok answer
 ComesTo file problem budget (stopped cause) result = result ≡ Err (passed file cause)
 ComesTo file problem budget spent result = result ≡ Err (tries_spent file budget)
-ComesTo file problem budget exhausted result = (blame : Blame) × IsStuckGoal problem blame × (result ≡ Err (underivable file problem blame))
+ComesTo file problem budget exhausted result = (blame : Blame) × IsStuckGoal problem blame ×
+    (result ≡ Err (underivable file problem blame))
 
 -- the walk of the problem's goal, with so many tries to spend
 abbrev pub Searches : List ℕ → ℕ → Problem → Result Answer Stop → Type 0
-Searches file budget problem result = ComesTo file problem budget (walk None budget (goal_events problem)) result
+Searches file budget problem result =
+    ComesTo file problem budget (walk None budget (goal_events problem)) result
 
 -- the walk makes so many tries
 abbrev pub HasWalked : ℕ → Problem → ℕ → Type 0
@@ -43,4 +48,5 @@ HasWalked budget problem tries = tries ≡ tries_of None budget (goal_events pro
 
 -- a walk makes no more tries than it may spend
 abbrev pub WalksAreWithin : Type 0
-WalksAreWithin = (budget : ℕ) (problem : Problem) (tries : ℕ) → HasWalked budget problem tries → tries ≤ budget
+WalksAreWithin = (budget : ℕ) (problem : Problem) (tries : ℕ) → HasWalked budget problem tries →
+    tries ≤ budget

@@ -25,7 +25,8 @@ use Rattle.sx_steps.specs.Work.{Plan}
 
 -- the line that tells how many entries the list has
 abbrev pub verified_line : List ℕ → ℕ → List ℕ
-verified_line name nodes = codes "verified " ++ name ++ codes ": " ++ decimal nodes ++ codes " nodes" ++ 10 ∷ []
+verified_line name nodes =
+    codes "verified " ++ name ++ codes ": " ++ decimal nodes ++ codes " nodes" ++ 10 ∷ []
 
 -- no file, and the line
 abbrev pub verified_plan : List ℕ → ℕ → Plan
@@ -34,32 +35,39 @@ verified_plan name nodes = record { files = []; lines = verified_line name nodes
 -- the outputs of the derivation with the list, or why it fits none
 abbrev pub Replays : List ℕ → Problem → List EntryOf → Result (List Tree) Stop → Type 0
 Replays file problem list =
-    Lower (replay_stop file) (IsReplayAnswer (modes_of problem.forms) (rules_of problem) no_hypotheses problem.goal (entries list))
+    Lower (replay_stop file) (IsReplayAnswer (modes_of problem.forms)
+    (rules_of problem) no_hypotheses problem.goal (entries list))
 
 -- the outputs are compared
 abbrev pub VerifiesOutputs : List ℕ → Files → ℕ → List Tree → Result Plan Stop → Type 0
 VerifiesOutputs name files nodes outputs =
-    Then (Compares (interface_file name) (term_lines outputs) files) (λ done result. result ≡ Ok (verified_plan name nodes))
+    Then (Compares (interface_file name) (term_lines outputs) files)
+    (λ done result. result ≡ Ok (verified_plan name nodes))
 
 -- the list is replayed, and then the outputs are compared
 abbrev pub VerifiesEntries : List ℕ → Files → Problem → List EntryOf → Result Plan Stop → Type 0
-VerifiesEntries name files problem list = Then (Replays (list_file name) problem list) (VerifiesOutputs name files (length list))
+VerifiesEntries name files problem list =
+    Then (Replays (list_file name) problem list) (VerifiesOutputs name files (length list))
 
 -- the list is read, replayed, and then the outputs are compared
 abbrev pub VerifiesList : List ℕ → Files → Problem → Result Plan Stop → Type 0
-VerifiesList name files problem = Then (ReadsEntries (list_file name) (rule_names problem) files) (VerifiesEntries name files problem)
+VerifiesList name files problem =
+    Then (ReadsEntries (list_file name) (rule_names problem) files)
+    (VerifiesEntries name files problem)
 
 -- the subject is compared, and then the list is verified
 abbrev pub VerifiesSubject : List ℕ → Files → Problem → Result Plan Stop → Type 0
 VerifiesSubject name files problem =
-    Then (Compares (base_file name) (subject_text problem.forms problem.goal) files) (λ done. VerifiesList name files problem)
+    Then (Compares (base_file name) (subject_text problem.forms problem.goal) files)
+    (λ done. VerifiesList name files problem)
 
 -- the file, then its subject, its list and its outputs
 abbrev pub VerifiesWhole : List ℕ → Files → Result Plan Stop → Type 0
 VerifiesWhole name files = Then (Reads (core_file name) files) (VerifiesSubject name files)
 
--- NAME.base is the text of the goal's subject, the list of NAME.der is that of a derivation of the goal, and NAME.int has the
--- texts of its outputs. All files are as before, and the line tells the number of entries.
+-- NAME.base is the text of the goal's subject, the list of NAME.der is that of a derivation of the
+-- goal, and NAME.int has the texts of its outputs. All files are as before, and the line tells the
+-- number of entries.
 pub record VerifiedUnit (name : List ℕ) (old new : Files) (lines : List ℕ) : Type 0 where
   pub bytes : List ℕ
   pub problem : Problem
@@ -71,7 +79,8 @@ pub record VerifiedUnit (name : List ℕ) (old new : Files) (lines : List ℕ) :
   pub base : old (base_file name) ≡ Some (subject_text problem.forms problem.goal)
   pub listed : old (list_file name) ≡ Some list_bytes
   pub states_list : StatesList (rule_names problem) (texts (lines_from 1 list_bytes)) list
-  pub derives : DerivesGoal (modes_of problem.forms) (rules_of problem) no_hypotheses problem.goal answer
+  pub derives : DerivesGoal (modes_of problem.forms) (rules_of problem) no_hypotheses problem.goal
+      answer
   pub in_order : order_of answer.0 ≡ entries list
   pub interface : old (interface_file name) ≡ Some (term_lines answer.1)
   pub files : new ≡ old

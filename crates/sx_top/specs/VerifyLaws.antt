@@ -19,18 +19,24 @@ use Rattle.sx_top.specs.CoreTexts.{term_lines}
 use Rattle.sx_top.specs.BuildCore.{core_plan}
 use Rattle.sx_top.specs.VerifyCore.{verified_plan, VerifiesWhole}
 
--- what a walk finds is within the limits of replaying: no term that it makes passes one, and no entry stands deeper than 3,000
+-- what a walk finds is within the limits of replaying: no term that it makes passes one, and no
+-- entry stands deeper than 3,000
 abbrev pub FoundIsWithin : Type 0
 FoundIsWithin =
-    (modes : Modes) (rules : List Rule) (hyps : Hypotheses) → AllModed modes rules → ShallowJudgements hyps.judgements →
-    (goal : Goal) → AreShallow goal.terms → (wanted : Option (List Tree)) (budget : ℕ) (a : Answer) →
-    walk wanted budget (events modes rules hyps goal 1) ≡ found a → IsWithin modes rules hyps goal (whole a.1) (order_of a.0)
+    (modes : Modes) (rules : List Rule) (hyps : Hypotheses) → AllModed modes rules →
+    ShallowJudgements hyps.judgements →
+    (goal : Goal) → AreShallow goal.terms →
+    (wanted : Option (List Tree)) (budget : ℕ) (a : Answer) →
+    walk wanted budget (events modes rules hyps goal 1) ≡ found a →
+    IsWithin modes rules hyps goal (whole a.1) (order_of a.0)
 
--- What was built is verified, with as many entries as the derivation has nodes, where the text of its outputs is short enough
--- to be read. A walk takes 1,000,000 tries at most.
+-- What was built is verified, with as many entries as the derivation has nodes, where the text of
+-- its outputs is short enough to be read. A walk takes 1,000,000 tries at most.
 abbrev pub BuiltIsVerified : Type 0
 BuiltIsVerified =
     (name : List ℕ) (budget : ℕ) (files : Files) (problem : Problem) (answer : Answer) →
-    Reads (core_file name) files (Ok problem) → Searches (core_file name) budget problem (Ok answer) →
+    Reads (core_file name) files (Ok problem) →
+    Searches (core_file name) budget problem (Ok answer) →
     budget ≤ 1000000 → length (term_lines answer.1) ≤ most_bytes →
-    VerifiesWhole name (after ((core_plan name problem answer).files) files) (Ok (verified_plan name (nodes_of answer.0)))
+    VerifiesWhole name (after ((core_plan name problem answer).files) files)
+    (Ok (verified_plan name (nodes_of answer.0)))

@@ -8,7 +8,8 @@ use Rattle.sx_top.specs.declared.perform.WriteEnd.TheVariants as write_ends
 -- what stands on the shelf after the writes; a file whose write failed may hold anything
 abbrev pub Wrote : List File → WriteEnd → Files → Files → Type 0
 Wrote outputs write_ends.All old new = new ≡ after outputs old
-Wrote outputs (write_ends.Failed number) old new = SameBut (name_at outputs number) (after (take number outputs) old) new
+Wrote outputs (write_ends.Failed number) old new =
+    SameBut (name_at outputs number) (after (take number outputs) old) new
 Wrote outputs (write_ends.NoMemory number) old new = new ≡ after (take number outputs) old
 
 -- a write failed

@@ -23,11 +23,13 @@ Compares file text files = Then (Held most_bytes file files) (Equals file text)
 
 -- ---- a derivation list
 
--- the list that the bytes state, by rules with these names, or the first line that is not as defined
+-- the list that the bytes state, by rules with these names, or the first line that is not as
+-- defined
 abbrev pub StatesEntries : List ℕ → List (List ℕ) → List ℕ → Result (List Entry) Stop → Type 0
 StatesEntries file names bytes (Ok list) = StatesList names (texts (lines_from 1 bytes)) list
 StatesEntries file names bytes (Err stop) =
-    (line : ℕ) × IsFirstBad (StatesList names) (texts (lines_from 1 bytes)) line × (stop ≡ bad_entry file line)
+    (line : ℕ) × IsFirstBad (StatesList names) (texts (lines_from 1 bytes)) line ×
+    (stop ≡ bad_entry file line)
 
 -- the list in the file
 abbrev pub ReadsEntries : List ℕ → List (List ℕ) → Files → Result (List Entry) Stop → Type 0

@@ -32,7 +32,8 @@ fn make_work(
 ) -> Result<Work, NoMemory>
     requires goal { AreTerms (map tree problem.now.goal.inputs.items) }
     requires given { (answer : Answer) × ListsGiven (problem_data problem.now) listed.now answer }
-    ensures { IfOk result (λ work. (answer : Answer) → Lists listed.now answer → plan_of work ≡ core_plan name.now (problem_data problem.now) answer) }
+    ensures { IfOk result (λ work. (answer : Answer) → Lists listed.now answer →
+        plan_of work ≡ core_plan name.now (problem_data problem.now) answer) }
 {
     let list = &listed.entries;
     let base = base_text(alloc, problem.rules.forms(), &problem.goal)?;
@@ -52,7 +53,8 @@ fn plan_goal<L: Ledger>(
     steps: &mut Steps<L>,
 ) -> Result<Work, StepError>
     requires { IsProper (problem_data problem.now) }
-    ensures step { Does plan_of (BuildsGoal name.now file.now budget (problem_data problem.now)) result steps.old steps.new }
+    ensures step { Does plan_of (BuildsGoal name.now file.now budget (problem_data problem.now))
+        result steps.old steps.new }
     ensures no_fault { IsNoFault result }
 {
     match find_first(alloc, file, problem, budget, steps) {
@@ -73,7 +75,9 @@ fn plan_file<S: Shelf, L: Ledger>(
     shelf: &mut S,
     steps: &mut Steps<L>,
 ) -> Result<Work, StepError>
-    ensures step { WhereTold (S.content shelf.old) (λ files. Does plan_of (BuildsFrom name.now file.now budget files) result steps.old steps.new) }
+    ensures step { WhereTold (S.content shelf.old)
+        (λ files. Does plan_of (BuildsFrom name.now file.now budget files) result steps.old
+        steps.new) }
     ensures reads { OnlyReads (S.content shelf.old) (S.content shelf.new)
         (S.read_faults shelf.old) (S.read_faults shelf.new)
         (S.write_faults shelf.old) (S.write_faults shelf.new) result }
@@ -92,7 +96,8 @@ pub fn plan_build_core<S: Shelf, L: Ledger>(
     shelf: &mut S,
     steps: &mut Steps<L>,
 ) -> Result<Work, StepError>
-    ensures step { WhereTold (S.content shelf.old) (λ files. Does plan_of (BuildsWhole name.now budget files) result steps.old steps.new) }
+    ensures step { WhereTold (S.content shelf.old)
+        (λ files. Does plan_of (BuildsWhole name.now budget files) result steps.old steps.new) }
     ensures reads { OnlyReads (S.content shelf.old) (S.content shelf.new)
         (S.read_faults shelf.old) (S.read_faults shelf.new)
         (S.write_faults shelf.old) (S.write_faults shelf.new) result }

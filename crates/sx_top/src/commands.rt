@@ -1,4 +1,4 @@
-//! The words, and the commands that there are by now.
+//! The words, and the commands that there are so far.
 
 ghost use Rattle.std.specs.Prelude.{◌≡◌, IfOk};
 ghost use Rattle.sx_words.specs.View.{command_view};
@@ -11,7 +11,7 @@ use sx_steps::{StepError, Stop, about};
 use sx_term::{NoMemory, Text};
 use sx_words::{Command, Defect, FileDefect, Stage, WordsError, read_words_at};
 
-/// Which commands there are by now. The one place that says so.
+/// Which commands there are so far. The one place that says so.
 fn by_now() -> Stage
     ensures { result ≡ stage_by_now }
 {
@@ -26,7 +26,7 @@ fn bad_word(alloc: Global, place: u64) -> Result<Stop, NoMemory>
     Ok(about(file, Defect::File(FileDefect::Word(place))))
 }
 
-/// The command that the words spell, of those that there are by now.
+/// The command that the words spell, of those that there are so far.
 pub fn read_command(alloc: Global, words: &[Text]) -> Result<Command, StepError>
     ensures step { Gives command_view (Commands words.now) result }
     ensures no_fault { IsNoFault result }

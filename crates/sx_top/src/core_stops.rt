@@ -22,7 +22,9 @@ fn variable_name(alloc: Global, variable: u32) -> Result<Text, NoMemory>
 
 /// The name of the variable that the error names; empty where it names none.
 fn named_variable(alloc: Global, error: &RuleError) -> Result<Text, NoMemory>
-    ensures { (file : List ℕ) → IfOk result (λ name. shared.bad_rules file (λ number. name) error.now ≡ shared.bad_rules file stops.variable_name error.now) }
+    ensures { (file : List ℕ) →
+        IfOk result (λ name. shared.bad_rules file (λ number. name) error.now ≡ shared.bad_rules
+        file stops.variable_name error.now) }
 {
     match error {
         RuleError::NotModed(_, variable) => variable_name(alloc, *variable),
@@ -32,7 +34,8 @@ fn named_variable(alloc: Global, error: &RuleError) -> Result<Text, NoMemory>
 
 /// The refusal of rules that are no rule set.
 fn bad_core_rules(alloc: Global, file: &Text, error: RuleError) -> Result<Stop, NoMemory>
-    ensures { IfOk result (λ stop. shared.bad_rules file.now stops.variable_name error ≡ Some stop) }
+    ensures { IfOk result (λ stop.
+        shared.bad_rules file.now stops.variable_name error ≡ Some stop) }
 {
     let variable = named_variable(alloc, &error)?;
     bad_rules(alloc, file, error, &variable)

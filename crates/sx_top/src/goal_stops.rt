@@ -29,7 +29,8 @@ fn rule_name(alloc: Global, rules: &RuleSet, number: u32) -> Result<Text, NoMemo
     }
 }
 
-/// The number of a premise in a printed line, from 1. No rule in memory has a premise whose number is past the greatest u64.
+/// The number of a premise in a printed line, from 1. No rule in memory has a premise whose number is
+/// past the greatest u64.
 fn premise_number(premise: usize) -> Result<u64, NoMemory>
     ensures { MatchResult result (λ number. number ≡ premise + 1) (λ _. 2 ^ 64 ≤ premise + 1) }
 {
@@ -42,7 +43,8 @@ fn premise_number(premise: usize) -> Result<u64, NoMemory>
 /// No rule concludes the goal.
 fn no_rule(alloc: Global, file: &Text, rules: &RuleSet, goal: &Goal) -> Result<Stop, NoMemory>
     requires { AreTerms (map tree goal.now.inputs.items) }
-    ensures { IfOk result (λ stop. stop ≡ stuck file.now (forms_in rules.now) (rules_in rules.now) (goal_data goal.now) reasons.no_rule) }
+    ensures { IfOk result (λ stop. stop ≡ stuck file.now (forms_in rules.now) (rules_in rules.now)
+        (goal_data goal.now) reasons.no_rule) }
 {
     let file = file.copy(alloc)?;
     let goal = open_goal(alloc, rules.forms(), goal)?;
@@ -59,7 +61,8 @@ fn not_apart(
     premise: usize,
 ) -> Result<Stop, NoMemory>
     requires { AreTerms (map tree goal.now.inputs.items) }
-    ensures { IfOk result (λ stop. stop ≡ stuck file.now (forms_in rules.now) (rules_in rules.now) (goal_data goal.now) (reasons.unequal rule premise)) }
+    ensures { IfOk result (λ stop. stop ≡ stuck file.now (forms_in rules.now) (rules_in rules.now)
+        (goal_data goal.now) (reasons.unequal rule premise)) }
 {
     let file = file.copy(alloc)?;
     let goal = open_goal(alloc, rules.forms(), goal)?;
@@ -84,7 +87,8 @@ fn not_asked(
 ) -> Result<Stop, NoMemory>
     requires inputs { AreTerms (map tree goal.now.inputs.items) }
     requires got { AreTerms (map tree got.now) }
-    ensures { IfOk result (λ stop. stop ≡ stuck file.now (forms_in rules.now) (rules_in rules.now) (goal_data goal.now) (reasons.mismatch (Some by) (map tree got.now))) }
+    ensures { IfOk result (λ stop. stop ≡ stuck file.now (forms_in rules.now) (rules_in rules.now)
+        (goal_data goal.now) (reasons.mismatch (Some by) (map tree got.now))) }
 {
     let file = file.copy(alloc)?;
     let goal = whole_goal(alloc, rules.forms(), goal, got)?;
@@ -109,7 +113,8 @@ fn not_stated(
 ) -> Result<Stop, NoMemory>
     requires inputs { AreTerms (map tree goal.now.inputs.items) }
     requires got { AreTerms (map tree got.now) }
-    ensures { IfOk result (λ stop. stop ≡ stuck file.now (forms_in rules.now) (rules_in rules.now) (goal_data goal.now) (reasons.mismatch None (map tree got.now))) }
+    ensures { IfOk result (λ stop. stop ≡ stuck file.now (forms_in rules.now) (rules_in rules.now)
+        (goal_data goal.now) (reasons.mismatch None (map tree got.now))) }
 {
     let file = file.copy(alloc)?;
     let goal = whole_goal(alloc, rules.forms(), goal, got)?;
@@ -125,7 +130,8 @@ pub fn stuck_goal(
 ) -> Result<Stop, NoMemory>
     requires goal { AreTerms (blame_of blame.now).goal.terms }
     requires got { AreTerms (got_in (blame_of blame.now).reason) }
-    ensures { IfOk result (λ stop. stop ≡ stuck file.now (forms_in rules.now) (rules_in rules.now) (blame_of blame.now).goal (blame_of blame.now).reason) }
+    ensures { IfOk result (λ stop. stop ≡ stuck file.now (forms_in rules.now) (rules_in rules.now)
+        (blame_of blame.now).goal (blame_of blame.now).reason) }
 {
     match &blame.cause {
         Cause::NoRule => no_rule(alloc, file, rules, &blame.goal),

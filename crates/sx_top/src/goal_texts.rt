@@ -31,7 +31,8 @@ fn write_open(
     into: &mut Vec<u8>,
 ) -> Result<(), NoMemory>
     requires { AreTerms (map tree inputs.now) }
-    ensures { OnOk result (into.new.items ≡ into.old.items ++ places_text (map (λ place. role_is_out place.role) places.now) (map tree inputs.now) None) }
+    ensures { OnOk result (into.new.items ≡ into.old.items ++ places_text
+        (map (λ place. role_is_out place.role) places.now) (map tree inputs.now) None) }
 {
     let mut rest = inputs;
     for place in places {
@@ -60,7 +61,9 @@ fn write_whole(
 ) -> Result<(), NoMemory>
     requires inputs { AreTerms (map tree inputs.now) }
     requires got { AreTerms (map tree got.now) }
-    ensures { OnOk result (into.new.items ≡ into.old.items ++ places_text (map (λ place. role_is_out place.role) places.now) (map tree inputs.now) (Some (map tree got.now))) }
+    ensures { OnOk result (into.new.items ≡ into.old.items ++ places_text
+        (map (λ place. role_is_out place.role) places.now) (map tree inputs.now)
+        (Some (map tree got.now))) }
 {
     let mut rest = inputs;
     let mut left = got;
@@ -100,7 +103,8 @@ pub fn open_goal(alloc: Global, all: &[Form], goal: &Goal) -> Result<Text, NoMem
 pub fn whole_goal(alloc: Global, all: &[Form], goal: &Goal, got: &[Term]) -> Result<Text, NoMemory>
     requires inputs { AreTerms (map tree goal.now.inputs.items) }
     requires got { AreTerms (map tree got.now) }
-    ensures { IfOk result (λ text. text ≡ goal_text (forms all.now) (goal_data goal.now) (Some (map tree got.now))) }
+    ensures { IfOk result (λ text. text ≡ goal_text (forms all.now) (goal_data goal.now)
+        (Some (map tree got.now))) }
 {
     let mut bytes = Vec::from_slice(alloc, name_of(all, goal.form))?;
     write_whole(

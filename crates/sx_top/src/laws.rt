@@ -3,14 +3,17 @@
 ghost use Rattle.sx_top.specs.Laws.{OneCoreOutcome, OneOutcome, TypeErrorsAreFinal};
 ghost use Rattle.sx_top.specs.Search.{WalksAreWithin};
 
-/// By the words and the files there is one outcome, read faults and want of memory aside: what is to be written, or one refusal, and
-/// one number of tries. For a module the two readings that a refusal shows of a text with more than one are free.
+/// By the words and the files there is one outcome, but for read faults and out of memory: what is
+/// to be written, or one refusal, and one number of tries. Two readings that a refusal shows of a
+/// text of a module are the same two in the same order, unless it has more than two; of a line of a
+/// language's file it is free which two are shown.
 pub fn one_outcome()
     ensures core { OneCoreOutcome }
     ensures whole { OneOutcome }
 {}
 
-/// A type error comes only where the command's goal has no derivation at all, of whatever depth and size.
+/// A type error comes only where the command's goal has no derivation at all, of whatever depth and
+/// size.
 pub fn type_errors_are_final()
     ensures { TypeErrorsAreFinal }
 {}

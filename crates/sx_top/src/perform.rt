@@ -26,10 +26,12 @@ pub enum WriteEnd {
 
 /// Writes the files in order.
 pub fn write_files<S: Shelf>(files: &[Output], shelf: &mut S) -> WriteEnd
-    ensures wrote { Told (Wrote (map file_of files.now) result) (S.content shelf.old) (S.content shelf.new) }
+    ensures wrote { Told (Wrote (map file_of files.now) result) (S.content shelf.old)
+        (S.content shelf.new) }
     ensures below { IsBelow (length files.now) result }
     ensures reads { S.read_faults shelf.new ≡ S.read_faults shelf.old }
-    ensures writes { RoseWhere (IsFailed result) (S.write_faults shelf.old) (S.write_faults shelf.new) }
+    ensures writes { RoseWhere (IsFailed result) (S.write_faults shelf.old)
+        (S.write_faults shelf.new) }
 {
     for i in 0..files.len() {
         let file = &files[i];
@@ -44,7 +46,8 @@ pub fn write_files<S: Shelf>(files: &[Output], shelf: &mut S) -> WriteEnd
 
 /// Sends the line of a failed write.
 fn send_fault<K: Sink>(alloc: Global, name: &Text, out: &mut K) -> WriteAnswer
-    ensures { Sent (line_of (write_fault name.now)) result (K.content out.old) (K.content out.new) (K.faults out.old) (K.faults out.new) }
+    ensures { Sent (line_of (write_fault name.now)) result (K.content out.old) (K.content out.new)
+        (K.faults out.old) (K.faults out.new) }
 {
     let refusal = Refusal {
         place: Place::Nowhere,
@@ -61,8 +64,10 @@ fn send_fault<K: Sink>(alloc: Global, name: &Text, out: &mut K) -> WriteAnswer
 /// Writes the files of the plan and then its lines.
 pub fn perform<S: Shelf, K: Sink>(alloc: Global, work: &Work, shelf: &mut S, out: &mut K) -> Status
     ensures { Performs (plan_of work.now) result
-        (seen (S.content shelf.old) (K.content out.old) (S.read_faults shelf.old) (S.write_faults shelf.old) (K.faults out.old))
-        (seen (S.content shelf.new) (K.content out.new) (S.read_faults shelf.new) (S.write_faults shelf.new) (K.faults out.new)) }
+        (seen (S.content shelf.old) (K.content out.old) (S.read_faults shelf.old)
+        (S.write_faults shelf.old) (K.faults out.old))
+        (seen (S.content shelf.new) (K.content out.new) (S.read_faults shelf.new)
+        (S.write_faults shelf.new) (K.faults out.new)) }
 {
     match write_files(&work.files, shelf) {
         WriteEnd::All => answered(Status::Done, out.write(&work.lines)),

@@ -18,7 +18,7 @@ use sx_steps::{StepError, Work};
 use sx_term::{Steps, Text};
 use sx_words::Command;
 
-/// The steps of a command that there is by now.
+/// The steps of a command that there is so far.
 fn run_command<S: Shelf, L: Ledger>(
     alloc: Global,
     command: &Command,
@@ -26,7 +26,8 @@ fn run_command<S: Shelf, L: Ledger>(
     steps: &mut Steps<L>,
 ) -> Result<Work, StepError>
     requires { IsThere (command_view command.now) }
-    ensures step { WhereTold (S.content shelf.old) (λ files. Does plan_of (Runs (command_view command.now) files) result steps.old steps.new) }
+    ensures step { WhereTold (S.content shelf.old)
+        (λ files. Does plan_of (Runs (command_view command.now) files) result steps.old steps.new) }
     ensures reads { OnlyReads (S.content shelf.old) (S.content shelf.new)
         (S.read_faults shelf.old) (S.read_faults shelf.new)
         (S.write_faults shelf.old) (S.write_faults shelf.new) result }
@@ -58,7 +59,8 @@ pub fn plan<S: Shelf, L: Ledger>(
     shelf: &mut S,
     steps: &mut Steps<L>,
 ) -> Result<Work, StepError>
-    ensures outcome { WhereTold (S.content shelf.old) (λ files. Does plan_of (Outcome words.now files) result steps.old steps.new) }
+    ensures outcome { WhereTold (S.content shelf.old)
+        (λ files. Does plan_of (Outcome words.now files) result steps.old steps.new) }
     ensures reads { OnlyReads (S.content shelf.old) (S.content shelf.new)
         (S.read_faults shelf.old) (S.read_faults shelf.new)
         (S.write_faults shelf.old) (S.write_faults shelf.new) result }

@@ -36,7 +36,8 @@ pub fn read_problem<S: Shelf>(
     file: &Text,
     shelf: &mut S,
 ) -> Result<CoreProblem, StepError>
-    ensures step { WhereTold (S.content shelf.old) (λ files. Gives problem (Reads file.now files) result) }
+    ensures step { WhereTold (S.content shelf.old)
+        (λ files. Gives problem (Reads file.now files) result) }
     ensures proper { IfOk result (λ p. IsProper (problem p)) }
     ensures reads { OnlyReads (S.content shelf.old) (S.content shelf.new)
         (S.read_faults shelf.old) (S.read_faults shelf.new)

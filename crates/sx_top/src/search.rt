@@ -38,7 +38,8 @@ fn no_answer(
     error: DeriveError,
 ) -> Result<Stop, NoMemory>
     requires { HasTerms error }
-    ensures { IfOk result (λ stop. derive_stop file.now (problem_data problem.now) error ≡ Some stop) }
+    ensures { IfOk result (λ stop.
+        derive_stop file.now (problem_data problem.now) error ≡ Some stop) }
 {
     let defect = match error {
         DeriveError::Memory => return Err(NoMemory::Memory),
@@ -51,8 +52,8 @@ fn no_answer(
     Ok(about(file.copy(alloc)?, defect))
 }
 
-/// The list of the first derivation of the goal that the file states, and its outputs, or why there is none. At most `budget`
-/// tries are made.
+/// The list of the first derivation of the goal that the file states, and its outputs, or why there
+/// is none. At most `budget` tries are made.
 pub fn find_first<L: Ledger>(
     alloc: Global,
     file: &Text,
@@ -61,9 +62,11 @@ pub fn find_first<L: Ledger>(
     steps: &mut Steps<L>,
 ) -> Result<Listed, StepError>
     requires { IsProper (problem_data problem.now) }
-    ensures step { GivesFor (ListsGiven (problem_data problem.now)) (Searches file.now budget (problem_data problem.now)) result }
+    ensures step { GivesFor (ListsGiven (problem_data problem.now))
+        (Searches file.now budget (problem_data problem.now)) result }
     ensures no_fault { IsNoFault result }
-    ensures tries { Counts (HasWalked budget (problem_data problem.now)) result steps.old steps.new }
+    ensures tries { Counts (HasWalked budget (problem_data problem.now)) result steps.old
+        steps.new }
     ensures most { RisesWithin budget steps.old steps.new }
 {
     let given = nothing_given(alloc);

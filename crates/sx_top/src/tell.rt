@@ -22,7 +22,8 @@ pub fn answered(status: Status, answer: WriteAnswer) -> Status
 
 /// Sends the line of a stop.
 fn send_line<K: Sink>(alloc: Global, stop: &Stop, out: &mut K) -> WriteAnswer
-    ensures { Sent (line_of stop.now) result (K.content out.old) (K.content out.new) (K.faults out.old) (K.faults out.new) }
+    ensures { Sent (line_of stop.now) result (K.content out.old) (K.content out.new)
+        (K.faults out.old) (K.faults out.new) }
 {
     match stop.line(alloc) {
         Ok(line) => out.write(&line),
@@ -32,7 +33,8 @@ fn send_line<K: Sink>(alloc: Global, stop: &Stop, out: &mut K) -> WriteAnswer
 
 /// Tells why nothing was written.
 pub fn tell<K: Sink>(alloc: Global, error: &StepError, out: &mut K) -> Status
-    ensures { IsTold error.now result (K.content out.old) (K.content out.new) (K.faults out.old) (K.faults out.new) }
+    ensures { IsTold error.now result (K.content out.old) (K.content out.new) (K.faults out.old)
+        (K.faults out.new) }
 {
     match error {
         StepError::Memory => Status::NoMemory,

@@ -7,7 +7,8 @@ ghost use Rattle.sx_rules.specs.EntryView.{entries};
 ghost use Rattle.sx_rules.specs.ListText.{IsEntry};
 ghost use Rattle.sx_rules.specs.Sets.{names_in, rules_in};
 ghost use Rattle.sx_rules.specs.Views.{is_out as role_is_out, forms, goal as goal_data};
-ghost use Rattle.sx_top.specs.CoreTexts.{subjects, term_lines, subject_text, list_text as text_of_list};
+ghost use Rattle.sx_top.specs.CoreTexts.{subjects, term_lines, subject_text};
+ghost use Rattle.sx_top.specs.CoreTexts.{list_text as text_of_list};
 ghost use Rattle.sx_top.specs.Terms.{AreTerms};
 
 use crate::forms::places_of;
@@ -43,7 +44,8 @@ fn write_subjects(
     into: &mut Vec<u8>,
 ) -> Result<(), NoMemory>
     requires { AreTerms (map tree inputs.now) }
-    ensures { OnOk result (into.new.items ≡ into.old.items ++ term_lines (subjects (map (λ place. place.role) places.now) (map tree inputs.now))) }
+    ensures { OnOk result (into.new.items ≡ into.old.items ++ term_lines
+        (subjects (map (λ place. place.role) places.now) (map tree inputs.now))) }
 {
     let mut rest = inputs;
     for place in places {
@@ -68,7 +70,8 @@ fn write_subjects(
 /// The text of the `.base` file: the core text of the goal's subject, on a line.
 pub fn base_text(alloc: Global, all: &[Form], goal: &Goal) -> Result<Vec<u8>, NoMemory>
     requires { AreTerms (map tree goal.now.inputs.items) }
-    ensures { IfOk result (λ bytes. bytes.items ≡ subject_text (forms all.now) (goal_data goal.now)) }
+    ensures { IfOk result (λ bytes.
+        bytes.items ≡ subject_text (forms all.now) (goal_data goal.now)) }
 {
     let mut bytes = Vec::new(alloc);
     write_subjects(alloc, places_of(all, goal.form), &goal.inputs, &mut bytes)?;
@@ -90,7 +93,8 @@ pub fn interface_text(alloc: Global, outputs: &[Term]) -> Result<Vec<u8>, NoMemo
 /// The text of the `.der` file: the first line, and then each entry on a line.
 pub fn list_text(alloc: Global, rules: &RuleSet, list: &[Entry]) -> Result<Vec<u8>, NoMemory>
     requires { AllByRecursion (IsEntry (names_in rules.now)) list.now }
-    ensures { IfOk result (λ bytes. bytes.items ≡ text_of_list (rules_in rules.now) (entries list.now)) }
+    ensures { IfOk result (λ bytes.
+        bytes.items ≡ text_of_list (rules_in rules.now) (entries list.now)) }
 {
     let mut bytes = Vec::new(alloc);
     write_list(alloc, rules, list, &mut bytes)?;

@@ -1,6 +1,7 @@
 //! The steps of `verify --core NAME`.
 
-ghost use Rattle.std.specs.Prelude.{◌≡◌, ◌++◌, ◌∷◌, [], ◌<◌, ◌-◌, ◌^◌, IfOk, Some, codes, decimal, length, map};
+ghost use Rattle.std.specs.Prelude.{◌≡◌, ◌++◌, ◌∷◌, [], ◌<◌, ◌-◌, ◌^◌, IfOk, Some, codes, decimal};
+ghost use Rattle.std.specs.Prelude.{length, map};
 ghost use Rattle.sx_outside.specs.Told.{WhereTold};
 ghost use Rattle.sx_term.specs.Term.{tree};
 ghost use Rattle.sx_core.specs.Problem.{problem as problem_data};
@@ -10,7 +11,9 @@ ghost use Rattle.sx_steps.specs.Unit.{list_file};
 ghost use Rattle.sx_steps.specs.Refusal.{status_of};
 ghost use Rattle.sx_steps.specs.Stop.{Gives, OnlyReads, IsNoFault};
 ghost use Rattle.sx_top.specs.Terms.{AreTerms};
-ghost use Rattle.sx_top.specs.VerifyCore.{verified_line, verified_plan, Replays, VerifiesOutputs, VerifiesEntries, VerifiesList, VerifiesSubject, VerifiesWhole};
+ghost use Rattle.sx_top.specs.VerifyCore.{verified_line, verified_plan, Replays, VerifiesOutputs};
+ghost use Rattle.sx_top.specs.VerifyCore.{VerifiesEntries, VerifiesList, VerifiesSubject};
+ghost use Rattle.sx_top.specs.VerifyCore.{VerifiesWhole};
 ghost use Rattle.sx_steps.specs.Work.{plan_of};
 ghost use Rattle.sx_steps.specs.declared.status.Status.TheVariants as statuses;
 
@@ -53,7 +56,8 @@ fn replay_list(
 ) -> Result<Vec<Term>, StepError>
     requires proper { IsProper (problem_data problem.now) }
     requires short { length list.now < 2 ^ 32 - 1 }
-    ensures step { Gives (λ outputs. map tree outputs.items) (Replays file.now (problem_data problem.now) list.now) result }
+    ensures step { Gives (λ outputs. map tree outputs.items)
+        (Replays file.now (problem_data problem.now) list.now) result }
     ensures terms { IfOk result (λ outputs. AreTerms (map tree outputs.items)) }
     ensures no_fault { IsNoFault result }
 {
@@ -97,7 +101,9 @@ fn verify_outputs<S: Shelf>(
     shelf: &mut S,
 ) -> Result<Work, StepError>
     requires { AreTerms (map tree outputs.now) }
-    ensures step { WhereTold (S.content shelf.old) (λ files. Gives plan_of (VerifiesOutputs name.now files nodes (map tree outputs.now)) result) }
+    ensures step { WhereTold (S.content shelf.old)
+        (λ files. Gives plan_of (VerifiesOutputs name.now files nodes (map tree outputs.now))
+        result) }
     ensures reads { OnlyReads (S.content shelf.old) (S.content shelf.new)
         (S.read_faults shelf.old) (S.read_faults shelf.new)
         (S.write_faults shelf.old) (S.write_faults shelf.new) result }
@@ -122,7 +128,9 @@ fn verify_entries<S: Shelf>(
     requires file { file.now ≡ list_file name.now }
     requires proper { IsProper (problem_data problem.now) }
     requires short { length list.now < 2 ^ 32 - 1 }
-    ensures step { WhereTold (S.content shelf.old) (λ files. Gives plan_of (VerifiesEntries name.now files (problem_data problem.now) list.now) result) }
+    ensures step { WhereTold (S.content shelf.old)
+        (λ files. Gives plan_of (VerifiesEntries name.now files (problem_data problem.now) list.now)
+        result) }
     ensures reads { OnlyReads (S.content shelf.old) (S.content shelf.new)
         (S.read_faults shelf.old) (S.read_faults shelf.new)
         (S.write_faults shelf.old) (S.write_faults shelf.new) result }
@@ -141,7 +149,8 @@ fn verify_list<S: Shelf>(
     shelf: &mut S,
 ) -> Result<Work, StepError>
     requires { IsProper (problem_data problem.now) }
-    ensures step { WhereTold (S.content shelf.old) (λ files. Gives plan_of (VerifiesList name.now files (problem_data problem.now)) result) }
+    ensures step { WhereTold (S.content shelf.old)
+        (λ files. Gives plan_of (VerifiesList name.now files (problem_data problem.now)) result) }
     ensures reads { OnlyReads (S.content shelf.old) (S.content shelf.new)
         (S.read_faults shelf.old) (S.read_faults shelf.new)
         (S.write_faults shelf.old) (S.write_faults shelf.new) result }
@@ -161,7 +170,9 @@ fn verify_subject<S: Shelf>(
     shelf: &mut S,
 ) -> Result<Work, StepError>
     requires { IsProper (problem_data problem.now) }
-    ensures step { WhereTold (S.content shelf.old) (λ files. Gives plan_of (VerifiesSubject name.now files (problem_data problem.now)) result) }
+    ensures step { WhereTold (S.content shelf.old)
+        (λ files. Gives plan_of (VerifiesSubject name.now files (problem_data problem.now))
+        result) }
     ensures reads { OnlyReads (S.content shelf.old) (S.content shelf.new)
         (S.read_faults shelf.old) (S.read_faults shelf.new)
         (S.write_faults shelf.old) (S.write_faults shelf.new) result }
@@ -180,7 +191,8 @@ pub fn plan_verify_core<S: Shelf>(
     name: &Text,
     shelf: &mut S,
 ) -> Result<Work, StepError>
-    ensures step { WhereTold (S.content shelf.old) (λ files. Gives plan_of (VerifiesWhole name.now files) result) }
+    ensures step { WhereTold (S.content shelf.old)
+        (λ files. Gives plan_of (VerifiesWhole name.now files) result) }
     ensures reads { OnlyReads (S.content shelf.old) (S.content shelf.new)
         (S.read_faults shelf.old) (S.read_faults shelf.new)
         (S.write_faults shelf.old) (S.write_faults shelf.new) result }

@@ -7,7 +7,8 @@ pub fn found_is_within()
     ensures { FoundIsWithin }
 {}
 
-/// What `build --core` leaves is verified by `verify --core`, where the texts of the outputs are short enough to be read.
+/// What `build --core` leaves is verified by `verify --core`, where the texts of the outputs are
+/// short enough to be read.
 pub fn built_is_verified()
     ensures { BuiltIsVerified }
 {}

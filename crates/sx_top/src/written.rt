@@ -34,7 +34,8 @@ pub fn compare<S: Shelf>(
     text: &[u8],
     shelf: &mut S,
 ) -> Result<(), StepError>
-    ensures step { WhereTold (S.content shelf.old) (λ files. Gives (λ done. done) (Compares file.now text.now files) result) }
+    ensures step { WhereTold (S.content shelf.old)
+        (λ files. Gives (λ done. done) (Compares file.now text.now files) result) }
     ensures reads { OnlyReads (S.content shelf.old) (S.content shelf.new)
         (S.read_faults shelf.old) (S.read_faults shelf.new)
         (S.write_faults shelf.old) (S.write_faults shelf.new) result }
@@ -67,7 +68,8 @@ fn state_entries(
 ) -> Result<Vec<Entry>, StepError>
     requires names { AreNames (names_in rules.now) }
     requires short { length bytes.now ≤ 67108864 }
-    ensures step { Gives (λ list. list.items) (StatesEntries file.now (names_in rules.now) bytes.now) result }
+    ensures step { Gives (λ list. list.items)
+        (StatesEntries file.now (names_in rules.now) bytes.now) result }
     ensures few { IfOk result (λ list. length list.items ≤ 67108864) }
     ensures no_fault { IsNoFault result }
 {
@@ -86,7 +88,9 @@ pub fn read_entries<S: Shelf>(
     shelf: &mut S,
 ) -> Result<Vec<Entry>, StepError>
     requires { AreNames (names_in rules.now) }
-    ensures step { WhereTold (S.content shelf.old) (λ files. Gives (λ list. list.items) (ReadsEntries file.now (names_in rules.now) files) result) }
+    ensures step { WhereTold (S.content shelf.old)
+        (λ files. Gives (λ list. list.items) (ReadsEntries file.now (names_in rules.now) files)
+        result) }
     ensures few { IfOk result (λ list. length list.items ≤ 67108864) }
     ensures reads { OnlyReads (S.content shelf.old) (S.content shelf.new)
         (S.read_faults shelf.old) (S.read_faults shelf.new)

@@ -1,5 +1,5 @@
-use Rattle.sx_build.proofs.Agreeing.{builds_nearly}
+use Rattle.sx_build.proofs.Agreeing.{builds_by}
 use Rattle.sx_build.proofs.laws.builds_agree.Goals as goal
 
 pub returns : goal.returns
-returns c = builds_nearly
+returns c = builds_by

@@ -1,4 +1,4 @@
-use Rattle.std.proofs.Common.{◌≡◌, ◌+◌, List, [], ◌++◌, length, sym, subst, ap, arith}
+use Rattle.std.proofs.Common.{◌≡◌, List, [], ◌++◌, length, sym, subst, ap, arith}
 use Rattle.sx_term.specs.Term.{tree}
 use Rattle.sx_token.specs.declared.token.Token.{Token}
 use Rattle.sx_grammar.specs.Grammar.{Text}

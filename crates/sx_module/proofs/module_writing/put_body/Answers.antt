@@ -4,7 +4,7 @@ use Rattle.sx_term.specs.Tree.{Tree}
 use Rattle.sx_term.specs.Term.{tree}
 use Rattle.sx_notation.proofs.TextReading.{err_if}
 use Rattle.sx_module.specs.declared.module_error.ModuleError.{ModuleError}
-use Rattle.sx_module.specs.declared.print_limit.Part.TheVariants.{Body}
+use Rattle.sx_words.specs.declared.print_defect.PrintedPart.TheVariants.{Body}
 use Rattle.sx_module.specs.Given.{source_of}
 use Rattle.sx_module.specs.PrintedParts.{IsBadPart}
 use Rattle.sx_module.specs.Texts.{base_of}

@@ -6,7 +6,7 @@ use Rattle.sx_lines.specs.Reading.{written}
 use Rattle.sx_interface.specs.Interfaces.{interface_lines}
 use Rattle.sx_notation.proofs.TextReading.{err_if}
 use Rattle.sx_module.specs.declared.module_error.ModuleError.{ModuleError}
-use Rattle.sx_module.specs.declared.print_limit.Part.TheVariants.{Signature}
+use Rattle.sx_words.specs.declared.print_defect.PrintedPart.TheVariants.{Signature}
 use Rattle.sx_module.specs.Given.{source_of}
 use Rattle.sx_module.specs.PrintedParts.{IsBadPart}
 use Rattle.sx_module.specs.Texts.{base_text, interface_of}

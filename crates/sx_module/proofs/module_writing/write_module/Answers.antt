@@ -3,7 +3,7 @@ use Rattle.sx_term.specs.Term.{tree}
 use Rattle.sx_forest.specs.Readings.{plain_reading}
 use Rattle.sx_notation.proofs.TextReading.{err_if}
 use Rattle.sx_module.specs.declared.module_error.ModuleError.{ModuleError}
-use Rattle.sx_module.specs.declared.print_limit.Part.TheVariants.{Body, Signature, Stated}
+use Rattle.sx_words.specs.declared.print_defect.PrintedPart.TheVariants.{Body, Signature, Stated}
 use Rattle.sx_module.specs.Given.{source_of, IsTypedBy}
 use Rattle.sx_module.specs.Refused.{IsBadModule}
 use Rattle.sx_module.proofs.ModuleTexts.{size_of, made, refused, good_stated, bad_stated}

@@ -5,10 +5,11 @@ use Rattle.sx_grammar.specs.ReadOne.{IsAnswer, only}
 use Rattle.sx_earley.specs.Tokens.{plain_tokens}
 use Rattle.sx_earley.specs.Completed.{number_of}
 use Rattle.sx_term.specs.declared.role.Role.TheVariants.{Sub}
+use Rattle.sx_notation.proofs.OneReasons.{unread_or_read}
 use Rattle.sx_module.specs.Source.{main_sort}
 use Rattle.sx_module.specs.Unread.{IsUnreadBody}
 use Rattle.sx_module.specs.Given.{source_of}
-use Rattle.sx_module.proofs.OneBody.{one_cut, defect_or_cut, unread_or_read, unread_within}
+use Rattle.sx_module.proofs.OneBody.{one_cut, defect_or_cut, unread_within}
 use Rattle.sx_module.proofs.reading.refusal.Goals as goal
 
 pub body_spot-spot-requires-in-Read : goal.body_spot-spot-requires-in-Read
@@ -35,5 +36,5 @@ returns-in-Read-clause-none c =
     let h = subst (IsUnreadBody p sort s.header.body) c.in-Read.is c.requires in
     inr (λ b.
     let same : b.tokens ≡ h.0 = one_cut p s.header.body b.tokens h.0 b.read.cut h.1 in
-    unread_or_read p sort h.0 (length s.header.body) c.in-Read.error b.reading h.2
+    unread_or_read p [] sort h.0 (length s.header.body) c.in-Read.error b.reading h.2
     (subst (λ (ts : List Token). IsAnswer (numbered p) (plain_tokens [] ts) (number_of sort) (only b.reading)) same b.read.answer))

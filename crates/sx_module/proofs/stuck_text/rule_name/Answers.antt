@@ -2,7 +2,7 @@ use Rattle.std.proofs.Common.{◌≡◌, ◌∙◌, ℕ, List, sym, subst}
 use Rattle.std.specs.Prelude.{IfOk}
 use Rattle.sx_rules.specs.Sets.{rules_in}
 use Rattle.sx_module.proofs.TypeErrors.{no_rule_name}
-use Rattle.sx_module.proofs.stuck_goal.rule_name.Goals as goal
+use Rattle.sx_module.proofs.stuck_text.rule_name.Goals as goal
 
 pub returns-in-None : goal.returns-in-None
 returns-in-None c =
