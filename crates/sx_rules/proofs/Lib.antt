@@ -5,6 +5,7 @@ pub mod ModeLaws
 pub mod PassLaws
 pub mod SubjectLaws
 pub mod SetLaws
+pub mod AdmitLaws
 pub mod Decided
 pub mod ProofRows
 pub mod Instancing

@@ -1,5 +1,5 @@
 -- Names in a set of texts.
-use Rattle.std.proofs.Common.{◌≡◌, ℕ, zero, suc, map, get_or, Bool, true, false, ◌||◌, List, [], ◌∷◌, ◌++◌, inl, inr, Option, Some, None, MatchOption, if◌then◌else◌, refl, sym, ap, ◌∙◌, subst, true≢false, is_some}
+use Rattle.std.proofs.Common.{◌≡◌, ℕ, zero, suc, map, get_or, IsTrue, ◌↔◌, Bool, true, false, ◌||◌, List, [], ◌∷◌, ◌++◌, inl, inr, Option, Some, None, MatchOption, if◌then◌else◌, refl, sym, ap, ◌∙◌, subst, true≢false, is_some}
 use Rattle.std.specs.Prelude.{slice_get, option_map}
 use Rattle.std.specs.Global.{Vec}
 use Rattle.std.specs.List.{list_any, position}
@@ -85,3 +85,33 @@ module _ (names : List (List ℕ)) (name : List ℕ) where
   pub none_among : (r : Option ℕ) → MatchOption r (IsAmong name names → ⊥) (λ n. slice_get names n ≡ Some name) → is_some r ≡ false → IsAmong name names → ⊥
   none_among None h e = h
   none_among (Some n) h e = absurd (true≢false e)
+
+-- names among those of two lists
+among_front : (name : List ℕ) (xs ys : List (List ℕ)) → IsAmong name xs → IsAmong name (xs ++ ys)
+among_front name [] ys h = absurd h
+among_front name (x ∷ xs) ys (inl e) = inl e
+among_front name (x ∷ xs) ys (inr h) = inr (among_front name xs ys h)
+
+pub among_back : (name : List ℕ) (xs ys : List (List ℕ)) → IsAmong name ys → IsAmong name (xs ++ ys)
+among_back name [] ys h = h
+among_back name (x ∷ xs) ys h = inr (among_back name xs ys h)
+
+not_both : (name : List ℕ) (xs ys : List (List ℕ)) → (IsAmong name xs → ⊥) → IsAmong name (xs ++ ys) → IsAmong name ys
+not_both name [] ys n h = h
+not_both name (x ∷ xs) ys n (inl e) = absurd (n (inl e))
+not_both name (x ∷ xs) ys n (inr h) = not_both name xs ys (λ k. n (inr k)) h
+
+module _ (before seen : List (List ℕ)) (name : List ℕ) where
+  pub taken_before : (b : Bool) → b ≡ true → IsAmong name before → IsTrue b ↔ IsAmong name (before ++ seen)
+  taken_before b t h = (λ x. among_front name before seen h, λ x. t)
+
+  pub taken_after : (r : Option ℕ) (b : Bool) → (IsAmong name before → ⊥) → MatchOption r (IsAmong name seen → ⊥) (λ n. slice_get seen n ≡ Some name) → is_some r ≡ b →
+      IsTrue b ↔ IsAmong name (before ++ seen)
+  taken_after r b n h e = (
+    λ t. among_back name before seen (some_among seen name r h (e ∙ t)),
+    λ k. found b e (not_both name before seen n k),
+  )
+    where
+      found : (b : Bool) → is_some r ≡ b → IsAmong name seen → IsTrue b
+      found true e k = refl
+      found false e k = absurd (none_among seen name r h e k)

@@ -1,11 +1,11 @@
 -- Copies of derivations, kid by kid.
-use Rattle.std.proofs.Common.{◌≡◌, ℕ, zero, suc, ◌+◌, ◌<◌, ◌≤◌, length, take, take_all, get_or, List, [], ◌∷◌, Vec, Box, map, ap, sym, refl, ◌∙◌, subst, arith}
+use Rattle.std.proofs.Common.{◌≡◌, ℕ, zero, suc, ◌<◌, ◌≤◌, length, take, take_all, get_or, List, [], ◌∷◌, Vec, Box, map, ap, sym, refl, ◌∙◌, subst, arith}
 use Rattle.std.specs.declared.alloc.Global.{Global}
 use Rattle.sx_term.specs.declared.term.Term.{Term}
 use Rattle.sx_term.specs.Term.{tree}
 use Rattle.sx_term.specs.Tree.{Tree}
 use Rattle.sx_rules.specs.declared.proof.Proof.{Proof as ProofOf, By}
-use Rattle.sx_rules.specs.Derivations.{Proof, Proofs, by, ◌⊳◌, HasShallowBinds, HaveShallowBinds, AreShallow}
+use Rattle.sx_rules.specs.Derivations.{Proof, by, HasShallowBinds, HaveShallowBinds, AreShallow}
 use Rattle.sx_rules.specs.ProofView.{proof, row_of, boxed}
 use Rattle.sx_rules.proofs.ProofRows.{proof-at_by}
 

@@ -1,5 +1,5 @@
 -- Rules checked one after the other, and the laws of good rules.
-use Rattle.std.proofs.Common.{◌≡◌, ℕ, zero, suc, ◌+◌, ◌<◌, ◌≤◌, ◌↔◌, IsTrue, length, map, drop, take, get_or, Bool, true, false, List, [], ◌∷◌, ◌++◌, ◌⊎◌, inl, inr, refl, ap, ◌∙◌, sym, subst, arith, Option, Some, None, Err}
+use Rattle.std.proofs.Common.{◌≡◌, ℕ, zero, suc, ◌+◌, ◌<◌, ◌≤◌, ◌↔◌, IsTrue, length, map, drop, take, get_or, Bool, true, false, List, [], ◌∷◌, ◌++◌, ◌⊎◌, inl, inr, refl, ap, ◌∙◌, sym, subst, arith, append_assoc, Option, Some, None, Err}
 use Rattle.std.specs.Prelude.{slice_get, option_map}
 use Rattle.std.proofs.lemmas.Option.{slice_get-map, slice_get_read}
 use Rattle.sx_rules.specs.declared.rule.Rule.{Rule as RuleOf}
@@ -53,6 +53,10 @@ not_among b name names t f k = let w : b ≡ true = f.1 k in true_is_false (sym 
 pub not_fits : (b : Bool) (S : List Shape) (F : List FormData) (r : Rule) → b ≡ false → (IsTrue b ↔ RuleFits S F r) → RuleFits S F r → ⊥
 not_fits b S F r t f k = let w : b ≡ true = f.1 k in true_is_false (sym w ∙ t)
 
+pub nothing_more : (names : List (List ℕ)) → names ++ [] ≡ names
+nothing_more [] = refl
+nothing_more (n ∷ names) = ap (λ (ns : List (List ℕ)). n ∷ ns) (nothing_more names)
+
 module _ (S : List Shape) (F : List FormData) where
   pub is_good : (names : List (List ℕ)) (r : NamedRule) → length r.rule.sorts ≤ 64 → (IsAmong r.name names → ⊥) → RuleFits S F r.rule → broken_part F r.rule ≡ None → unbound F r.rule ≡ None → IsGood S F names r
   is_good names r few fresh fits d m = record { few = few; fresh = fresh; fits = fits; disciplined = disciplined_of_none F r.rule d; moded = moded_of_none F S r.rule fits m }
@@ -65,39 +69,55 @@ module _ (S : List Shape) (F : List FormData) where
   one_more : (i : ℕ) → suc i ≡ i + 1
   one_more i = omega arith
 
-  names-more : (rs : List RuleOf) (i : ℕ) (r : RuleOf) → i < length rs → r ≡ get_or rs i r → names_of (take (i + 1) rs) ≡ names_of (take i rs) ++ r.name ∷ []
+  pub names-more : (rs : List RuleOf) (i : ℕ) (r : RuleOf) → i < length rs → r ≡ get_or rs i r → names_of (take (i + 1) rs) ≡ names_of (take i rs) ++ r.name ∷ []
   names-more rs i r h e = sym (ap (λ n. names_of (take n rs)) (one_more i)) ∙ names-suc rs i r h e
 
-  module _ (rs : List RuleOf) (i : ℕ) (r : RuleOf) (h : i < length rs) (e : r ≡ get_or rs i r) where
-    all_here : IsGood S F (names_of (take i rs)) (named r) → AllGood S F (names_of (take (i + 1) rs)) (map named (drop (i + 1) rs)) → AllGood S F (names_of (take i rs)) (map named (drop i rs))
-    all_here g a = subst (AllGood S F (names_of (take i rs))) (sym (map_drop named rs i r h e)) (g, subst (λ (x : List (List ℕ)). AllGood S F x (map named (drop (i + 1) rs))) (names-more rs i r h e) a)
+  module _ (start : List (List ℕ)) where
+    -- the names before the rule with this number
+    abbrev pub before : List RuleOf → ℕ → List (List ℕ)
+    before rs i = start ++ names_of (take i rs)
 
-    pub all_on : (AllGood S F (names_of (take i rs)) (map named (drop i rs)) → AllGood S F [] (map named rs)) → IsGood S F (names_of (take i rs)) (named r)
-        → AllGood S F (names_of (take (i + 1) rs)) (map named (drop (i + 1) rs)) → AllGood S F [] (map named rs)
-    all_on k g a = k (all_here g a)
+    before-more : (rs : List RuleOf) (i : ℕ) (r : RuleOf) → i < length rs → r ≡ get_or rs i r →
+        before rs (i + 1) ≡ before rs i ++ r.name ∷ []
+    before-more rs i r h e = ap (λ (ns : List (List ℕ)). start ++ ns) (names-more rs i r h e)
+        ∙ sym (append_assoc start (names_of (take i rs)) (r.name ∷ []))
 
-    breach_here : (x : RuleError) → IsBreach S F (names_of (take i rs)) (named r) x → IsFirstBreach S F (names_of (take i rs)) (map named (drop i rs)) x
-    breach_here x b = subst (λ (l : List NamedRule). IsFirstBreach S F (names_of (take i rs)) l x) (sym (map_drop named rs i r h e)) (inl b)
+    module _ (rs : List RuleOf) (i : ℕ) (r : RuleOf) (h : i < length rs) (e : r ≡ get_or rs i r) where
+      all_here : IsGood S F (before rs i) (named r) → AllGood S F (before rs (i + 1)) (map named (drop (i + 1) rs)) → AllGood S F (before rs i) (map named (drop i rs))
+      all_here g a = subst (AllGood S F (before rs i)) (sym (map_drop named rs i r h e)) (g, subst (λ (x : List (List ℕ)). AllGood S F x (map named (drop (i + 1) rs))) (before-more rs i r h e) a)
 
-    pub breach_on : ((x : RuleError) → IsFirstBreach S F (names_of (take i rs)) (map named (drop i rs)) x → IsFirstBreach S F [] (map named rs) x) → IsGood S F (names_of (take i rs)) (named r)
-        → (x : RuleError) → IsFirstBreach S F (names_of (take (i + 1) rs)) (map named (drop (i + 1) rs)) x → IsFirstBreach S F [] (map named rs) x
-    breach_on k g x b = k x (subst (λ (l : List NamedRule). IsFirstBreach S F (names_of (take i rs)) l x) (sym (map_drop named rs i r h e))
-        (inr (g, subst (λ (ns : List (List ℕ)). IsFirstBreach S F ns (map named (drop (i + 1) rs)) x) (names-more rs i r h e) b)))
+      pub all_on : (AllGood S F (before rs i) (map named (drop i rs)) → AllGood S F start (map named rs)) → IsGood S F (before rs i) (named r)
+          → AllGood S F (before rs (i + 1)) (map named (drop (i + 1) rs)) → AllGood S F start (map named rs)
+      all_on k g a = k (all_here g a)
 
-    pub refused_here : ((x : RuleError) → IsFirstBreach S F (names_of (take i rs)) (map named (drop i rs)) x → IsFirstBreach S F [] (map named rs) x)
-        → (x : RuleError) → IsChecked S F (names_of (take i rs)) (named r) (Err x) → AreChecked S F (map named rs) (Err x)
-    refused_here k Memory b = tt
-    refused_here k TooManyRules b = b
-    refused_here k (TooManyVars n) b = k (TooManyVars n) (breach_here (TooManyVars n) b)
-    refused_here k (SameRule n) b = k (SameRule n) (breach_here (SameRule n) b)
-    refused_here k (SortDiffers n) b = k (SortDiffers n) (breach_here (SortDiffers n) b)
-    refused_here k (Discipline n p q) b = k (Discipline n p q) (breach_here (Discipline n p q) b)
-    refused_here k (NotModed n v) b = k (NotModed n v) (breach_here (NotModed n v) b)
+      breach_here : (x : RuleError) → IsBreach S F (before rs i) (named r) x → IsFirstBreach S F (before rs i) (map named (drop i rs)) x
+      breach_here x b = subst (λ (l : List NamedRule). IsFirstBreach S F (before rs i) l x) (sym (map_drop named rs i r h e)) (inl b)
 
-  pub all_done : (rs : List RuleOf) (i : ℕ) → length rs ≤ i → (AllGood S F (names_of (take i rs)) (map named (drop i rs)) → AllGood S F [] (map named rs)) → AllGood S F [] (map named rs)
-  all_done rs i h k = k (subst (AllGood S F (names_of (take i rs))) (sym (map_drop_all named rs i h)) tt)
+      pub breach_on : ((x : RuleError) → IsFirstBreach S F (before rs i) (map named (drop i rs)) x → IsFirstBreach S F start (map named rs) x) → IsGood S F (before rs i) (named r)
+          → (x : RuleError) → IsFirstBreach S F (before rs (i + 1)) (map named (drop (i + 1) rs)) x → IsFirstBreach S F start (map named rs) x
+      breach_on k g x b = k x (subst (λ (l : List NamedRule). IsFirstBreach S F (before rs i) l x) (sym (map_drop named rs i r h e))
+          (inr (g, subst (λ (ns : List (List ℕ)). IsFirstBreach S F ns (map named (drop (i + 1) rs)) x) (before-more rs i r h e) b)))
 
-  pub refused_all : (rs : List NamedRule) (x : RuleError) → length rs ≤ 4096 → AreChecked S F rs (Err x) → IsRefused S F rs x
+      pub refused_here : ((x : RuleError) → IsFirstBreach S F (before rs i) (map named (drop i rs)) x → IsFirstBreach S F start (map named rs) x)
+          → (x : RuleError) → IsChecked S F (before rs i) (named r) (Err x) → AreChecked S F start (map named rs) (Err x)
+      refused_here k Memory b = tt
+      refused_here k TooManyRules b = b
+      refused_here k (TooManyVars n) b = k (TooManyVars n) (breach_here (TooManyVars n) b)
+      refused_here k (SameRule n) b = k (SameRule n) (breach_here (SameRule n) b)
+      refused_here k (SortDiffers n) b = k (SortDiffers n) (breach_here (SortDiffers n) b)
+      refused_here k (Discipline n p q) b = k (Discipline n p q) (breach_here (Discipline n p q) b)
+      refused_here k (NotModed n v) b = k (NotModed n v) (breach_here (NotModed n v) b)
+
+    pub all_done : (rs : List RuleOf) (i : ℕ) → length rs ≤ i → (AllGood S F (before rs i) (map named (drop i rs)) → AllGood S F start (map named rs)) → AllGood S F start (map named rs)
+    all_done rs i h k = k (subst (AllGood S F (before rs i)) (sym (map_drop_all named rs i h)) tt)
+
+    pub all_begin : (rs : List RuleOf) → AllGood S F (before rs 0) (map named rs) → AllGood S F start (map named rs)
+    all_begin rs a = subst (λ (ns : List (List ℕ)). AllGood S F ns (map named rs)) (nothing_more start) a
+
+    pub breach_begin : (rs : List RuleOf) (x : RuleError) → IsFirstBreach S F (before rs 0) (map named rs) x → IsFirstBreach S F start (map named rs) x
+    breach_begin rs x b = subst (λ (ns : List (List ℕ)). IsFirstBreach S F ns (map named rs) x) (nothing_more start) b
+
+  pub refused_all : (rs : List NamedRule) (x : RuleError) → length rs ≤ 4096 → AreChecked S F [] rs (Err x) → IsRefused S F rs x
   refused_all rs Memory h b = tt
   refused_all rs TooManyRules h b = absurd b
   refused_all rs (TooManyVars n) h b = (h, b)

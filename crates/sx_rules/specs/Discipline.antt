@@ -2,7 +2,6 @@
 use Rattle.std.specs.Prelude.{◌≡◌, ℕ, ◌+◌, Bool, true, false, List, [], ◌∷◌, ◌⊎◌, Some, slice_get, nat_eq}
 use Rattle.sx_term.specs.Tree.{Tree, Trees, node, lexeme, hole, none, ◌▹◌}
 use Rattle.sx_rules.specs.Instances.{StandsAmong}
-use Rattle.sx_term.specs.declared.sort.Sort.{Sort}
 use Rattle.sx_term.specs.declared.sort.Sort.TheVariants.{Typed}
 use Rattle.sx_rules.specs.Rules.{Judgement, Rule, judgements_of}
 use Rattle.sx_rules.specs.Modes.{Modes, inputs, outputs, outputs_of}

@@ -70,9 +70,10 @@ IsChecked shapes forms names r (Err e) = IsBreach shapes forms names r e
 abbrev pub names_of : List RuleOf → List (List ℕ)
 names_of rs = map (λ r. r.name) rs
 
--- each rule is good, or this is the first breach
-abbrev pub AreChecked : List Shape → List FormData → List NamedRule → Result (Unit {0}) RuleError → Type 0
-AreChecked shapes forms rules (Ok x) = AllGood shapes forms [] rules
-AreChecked shapes forms rules (Err Memory) = Unit {0}
-AreChecked shapes forms rules (Err TooManyRules) = ⊥
-AreChecked shapes forms rules (Err e) = IsFirstBreach shapes forms [] rules e
+-- each rule is good after the names and the rules before it, or this is the first breach
+abbrev pub AreChecked : List Shape → List FormData → List (List ℕ) → List NamedRule →
+    Result (Unit {0}) RuleError → Type 0
+AreChecked shapes forms names rules (Ok x) = AllGood shapes forms names rules
+AreChecked shapes forms names rules (Err Memory) = Unit {0}
+AreChecked shapes forms names rules (Err TooManyRules) = ⊥
+AreChecked shapes forms names rules (Err e) = IsFirstBreach shapes forms names rules e

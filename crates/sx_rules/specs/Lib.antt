@@ -11,6 +11,7 @@ pub mod Subjects
 pub mod Unmoded
 pub mod Good
 pub mod Made
+pub mod Admitted
 pub mod Laws
 pub mod Derivations
 pub mod Orders

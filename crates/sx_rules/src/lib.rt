@@ -1,6 +1,8 @@
 //! Rules and rule sets.
 #![tactic(auto)]
 
+mod admitting;
+mod checking;
 mod chosen;
 mod copying;
 mod derivation_laws;

@@ -1,73 +1,48 @@
 //! Making a rule set.
 
-ghost use Rattle.std.specs.Prelude.{◌≡◌, ◌≤◌, [], map, OnOk};
-ghost use Rattle.sx_rules.specs.Deep.{RuleIsShallow, RulesAreShallow};
-ghost use Rattle.sx_term.specs.Shapes.{shape, shapes};
+ghost use Rattle.std.specs.Prelude.{◌≡◌, [], map, Err, IfOk, IfErr};
+ghost use Rattle.sx_term.specs.Shapes.{shapes};
+ghost use Rattle.sx_rules.specs.Deep.{RulesAreShallow};
+ghost use Rattle.sx_rules.specs.Good.{AllGood, AreChecked, names_of};
 ghost use Rattle.sx_rules.specs.Views.{forms, named, rule};
-ghost use Rattle.sx_rules.specs.Good.{IsChecked, AreChecked, names_of};
 ghost use Rattle.sx_rules.specs.Made.{IsMade};
 
-use crate::discipline::broken_part;
+use crate::checking::Checking;
 use crate::error::RuleError;
-use crate::fitting::rule_fits;
-use crate::modes::unbound;
 use crate::names::Names;
 use crate::rule::{Form, Rule};
-use crate::rule_set::RuleSet;
+use crate::rule_set::{MOST_RULES, RuleSet};
 use std::alloc::Global;
 use sx_term::Shapes;
 
-/// Checks one rule, after those with these names.
-fn check_rule(
-    alloc: Global,
-    all: &Shapes,
-    known: &[Form],
-    seen: &Names,
-    it: &Rule,
-) -> Result<(), RuleError>
-    requires { RuleIsShallow (rule it.now) }
-    ensures { IsChecked (shapes all.now) (forms known.now) seen.now (named it.now) result }
-{
-    if it.vars.len() > 64 {
-        return Err(RuleError::TooManyVars(it.name.copy(alloc)?));
-    }
-    if seen.number(it.name.bytes()).is_some() {
-        return Err(RuleError::SameRule(it.name.copy(alloc)?));
-    }
-    if !rule_fits(all, known, it) {
-        return Err(RuleError::SortDiffers(it.name.copy(alloc)?));
-    }
-    if let Some((part, premise)) = broken_part(alloc, known, it)? {
-        return Err(RuleError::Discipline(it.name.copy(alloc)?, part, premise));
-    }
-    if let Some(variable) = unbound(alloc, known, it)? {
-        return Err(RuleError::NotModed(it.name.copy(alloc)?, variable));
-    }
-    Ok(())
-}
-
-/// Checks the rules in order, and notes their names.
-fn check_rules(
+/// The names of the rules, where each is good after those before it.
+fn checked_names(
     alloc: Global,
     all: &Shapes,
     known: &[Form],
     rules: &[Rule],
-    names: &mut Names,
-) -> Result<(), RuleError>
-    requires shallow { RulesAreShallow (map rule rules.now) }
-    requires none { names.old ≡ [] }
-    ensures checked { AreChecked (shapes all.now) (forms known.now) (map named rules.now) result }
-    ensures names { OnOk result (names.new ≡ names_of rules.now) }
+) -> Result<Names, RuleError>
+    requires { RulesAreShallow (map rule rules.now) }
+    ensures good { IfOk result (λ names. AllGood (shapes all.now) (forms known.now) []
+        (map named rules.now) × (names ≡ names_of rules.now)) }
+    ensures refused { IfErr result (λ e. AreChecked (shapes all.now) (forms known.now) []
+        (map named rules.now) (Err e)) }
 {
-    for i in 0..rules.len() {
-        let it = &rules[i];
-        match check_rule(alloc, all, known, names, it) {
-            Ok(()) => {}
-            Err(e) => return Err(e),
+    let none = Names::new(alloc);
+    let mut names = Names::new(alloc);
+    let checking = Checking {
+        alloc,
+        shapes: all,
+        forms: known,
+        before: &none,
+    };
+    match checking.check_rules(rules, &mut names) {
+        Ok(()) => Ok(names),
+        Err(e) => {
+            drop(names);
+            Err(e)
         }
-        names.push(alloc, it.name.bytes())?;
     }
-    Ok(())
 }
 
 impl RuleSet {
@@ -81,21 +56,19 @@ impl RuleSet {
         requires { RulesAreShallow (map rule rules.items) }
         ensures { IsMade (shapes all.now) (forms known.items) (map named rules.items) result }
     {
-        if rules.len() > 4096 {
+        if rules.len() > MOST_RULES {
             drop(rules);
             drop(known);
             return Err(RuleError::TooManyRules);
         }
-        let mut names = Names::new(alloc);
-        match check_rules(alloc, all, known.as_slice(), rules.as_slice(), &mut names) {
-            Ok(()) => {}
+        let names = match checked_names(alloc, all, &known, &rules) {
+            Ok(names) => names,
             Err(e) => {
-                drop(names);
                 drop(rules);
                 drop(known);
                 return Err(e);
             }
-        }
+        };
         let shapes = match all.copy(alloc) {
             Ok(shapes) => shapes,
             Err(e) => {

@@ -2,7 +2,7 @@ use Rattle.std.proofs.Common.{rules, ap, ◌∙◌}
 use Rattle.sx_rules.specs.declared.proof.Proof.TheViews.{the_lemmas}
 use Rattle.sx_rules.specs.ProofView.{proof}
 use Rattle.sx_rules.proofs.ProofRows.{height_of-kid}
-use Rattle.sx_rules.proofs.ProofCopies.{binds-shallow, kid-shallow, node-copied}
+use Rattle.sx_rules.proofs.ProofCopies.{kid-shallow, node-copied}
 use Rattle.sx_rules.proofs.proof_copy.+copy_proof.Goals as goal
 
 pub copy_proof-requires : goal.copy_proof-requires

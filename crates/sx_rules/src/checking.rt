@@ -1,0 +1,82 @@
+//! Checking rules one after the other.
+
+ghost use Rattle.std.specs.Prelude.{◌≡◌, ◌↔◌, ◌++◌, [], map, IsTrue, OnOk};
+ghost use Rattle.sx_term.specs.Shapes.{shapes};
+ghost use Rattle.sx_rules.specs.Deep.{RuleIsShallow, RulesAreShallow};
+ghost use Rattle.sx_rules.specs.Views.{forms, named, rule};
+ghost use Rattle.sx_rules.specs.Good.{IsAmong, IsChecked, AreChecked, names_of};
+
+use crate::discipline::broken_part;
+use crate::error::RuleError;
+use crate::fitting::rule_fits;
+use crate::modes::unbound;
+use crate::names::Names;
+use crate::rule::{Form, Rule};
+use std::alloc::Global;
+use sx_term::Shapes;
+
+/// The greatest number of variables of a rule.
+pub(crate) const MOST_VARIABLES: usize = 64;
+
+/// What rules are checked against: the shapes and the forms that they are of, and the names of the
+/// rules before them.
+#[derive(Clone, Copy)]
+pub(crate) struct Checking<'a> {
+    pub(crate) alloc: Global,
+    pub(crate) shapes: &'a Shapes,
+    pub(crate) forms: &'a [Form],
+    pub(crate) before: &'a Names,
+}
+
+impl<'a> Checking<'a> {
+    /// Whether the name is one of those before, or of these.
+    fn is_taken(&self, seen: &Names, name: &[u8]) -> bool
+        ensures { IsTrue result ↔ IsAmong name.now (self.now.before.now ++ seen.now) }
+    {
+        self.before.number(name).is_some() || seen.number(name).is_some()
+    }
+
+    /// Checks one rule, after those before and those with these names.
+    fn check_rule(&self, seen: &Names, it: &Rule) -> Result<(), RuleError>
+        requires { RuleIsShallow (rule it.now) }
+        ensures { IsChecked (shapes self.now.shapes.now) (forms self.now.forms.now)
+            (self.now.before.now ++ seen.now) (named it.now) result }
+    {
+        let alloc = self.alloc;
+        if it.vars.len() > MOST_VARIABLES {
+            return Err(RuleError::TooManyVars(it.name.copy(alloc)?));
+        }
+        if self.is_taken(seen, it.name.bytes()) {
+            return Err(RuleError::SameRule(it.name.copy(alloc)?));
+        }
+        if !rule_fits(self.shapes, self.forms, it) {
+            return Err(RuleError::SortDiffers(it.name.copy(alloc)?));
+        }
+        if let Some((part, premise)) = broken_part(alloc, self.forms, it)? {
+            return Err(RuleError::Discipline(it.name.copy(alloc)?, part, premise));
+        }
+        if let Some(variable) = unbound(alloc, self.forms, it)? {
+            return Err(RuleError::NotModed(it.name.copy(alloc)?, variable));
+        }
+        Ok(())
+    }
+
+    /// Checks the rules in order, and notes their names.
+    pub(crate) fn check_rules(&self, rules: &[Rule], names: &mut Names) -> Result<(), RuleError>
+        requires shallow { RulesAreShallow (map rule rules.now) }
+        requires none { names.old ≡ [] }
+        ensures checked { AreChecked (shapes self.now.shapes.now) (forms self.now.forms.now)
+            self.now.before.now (map named rules.now) result }
+        ensures names { OnOk result (names.new ≡ names_of rules.now) }
+    {
+        for i in 0..rules.len() {
+            let it = &rules[i];
+            match self.check_rule(names, it) {
+                Ok(()) => {}
+                Err(e) => return Err(e),
+            }
+            names.push(self.alloc, it.name.bytes())?;
+        }
+        Ok(())
+    }
+}
