@@ -4,6 +4,7 @@ pub mod UseLaws
 pub mod Measured
 pub mod Gathered
 pub mod AddLaws
+pub mod Grown
 pub mod MarkLaws
 pub mod Kept
 pub mod PartLaws

@@ -8,7 +8,7 @@ use Rattle.sx_term.specs.Sorts.{Shape, HasSort, KidsHaveSorts}
 use Rattle.sx_term.specs.Instances.{instance, instances, Stands, StandsInKids, StandsAmong, bound_by}
 use Rattle.sx_term.specs.Untyped.{IsUntypedSort, PlainHaveNoTyped, AreUntypedSorts}
 use Rattle.sx_plain.specs.Plain.{Body, Table, image_node, image, images}
-use Rattle.sx_plain.specs.Tables.{LabelsBelow, AllLabelsBelow, IsFlat, IsTable, HasParts, FitsTable, FitTable, IsCovered, AreCovered, Begins, IsBodyFor, Desugars}
+use Rattle.sx_plain.specs.Tables.{LabelsBelow, AllLabelsBelow, IsFlat, IsTable, HasParts, FitsTable, FitTable, IsCovered, AreCovered, Begins, IsBodyFor, HasBodies, Desugars}
 use Rattle.sx_plain.specs.Laws.{ImagesKeepVariables, BaseTermsStay, ImagesAreBase, ImagesStay, ImagesAreSorted, PlainTermsAreCovered, SortedTermsFit, SortedTermsAreBelow}
 
 -- the variables of an instance
@@ -213,31 +213,35 @@ kids-bound base vars (t ▹ ts) [] v sort h e = absurd h
 kids-bound base vars (t ▹ ts) (x ∷ xs) zero sort h e = let q : x ≡ sort = cc in subst (λ (y : Sort). HasSort base vars t y) q h.0
 kids-bound base vars (t ▹ ts) (x ∷ xs) (suc v) sort h e = kids-bound base vars ts xs v sort h.1 e
 
-module _ (base shapes : List Shape) (table : Table) (vars : List Sort) (begins : Begins base shapes) (d : Desugars base shapes table) where
+module _ (base shapes : List Shape) (table : Table) (vars : List Sort) (begins : Begins base shapes) (d : HasBodies base shapes table) where
   node-sorted : (label : ℕ) (ts : Trees) (shape : Shape) (o : Option Body) → table label ≡ o → slice_get shapes label ≡ Some shape → (label < length base) ⊎ IsSome o →
       KidsHaveSorts base vars ts shape.kids → HasSort base vars (image_node o label ts) shape.sort
   node-sorted label ts shape None e at (inl l) k = (shape, begins-at base shapes label begins l ∙ at, refl, k)
   node-sorted label ts shape None e at (inr x) k = absurd (no_entry x)
   node-sorted label ts shape (Some body) e at c k =
-      let known = d.bodies label body e in
+      let known = d label body e in
       let same : Some known.0 ≡ Some shape = sym known.1 ∙ at in
       let q : known.0 ≡ shape = cc in
       let is = subst (λ (x : Shape). IsBodyFor base x body) q known.3 in
       instance-sorted base shape.kids vars (bound_by (listed ts)) (λ v sort f. kids-bound base vars ts shape.kids v sort k f) body.flat shape.sort is.sorted
 
   mutual
-    pub image-sorted : (t : Tree) (sort : Sort) → HasSort shapes vars t sort → IsCovered (length base) table t → HasSort base vars (image table t) sort
-    image-sorted (node label ts) sort h c =
+    pub sorted-image : (t : Tree) (sort : Sort) → HasSort shapes vars t sort → IsCovered (length base) table t → HasSort base vars (image table t) sort
+    sorted-image (node label ts) sort h c =
         subst (λ (x : Sort). HasSort base vars (image_node (table label) label (images table ts)) x) h.2
-        (node-sorted label (images table ts) h.0 (table label) refl h.1 c.0 (images-sorted ts h.0.kids h.3 c.1))
-    image-sorted (lexeme kind text) sort h c = h
-    image-sorted (hole v) sort h c = h
+        (node-sorted label (images table ts) h.0 (table label) refl h.1 c.0 (sorted-images ts h.0.kids h.3 c.1))
+    sorted-image (lexeme kind text) sort h c = h
+    sorted-image (hole v) sort h c = h
 
-    images-sorted : (ts : Trees) (sorts : List Sort) → KidsHaveSorts shapes vars ts sorts → AreCovered (length base) table ts → KidsHaveSorts base vars (images table ts) sorts
-    images-sorted none [] h c = tt
-    images-sorted none (x ∷ xs) h c = absurd h
-    images-sorted (t ▹ ts) [] h c = absurd h
-    images-sorted (t ▹ ts) (x ∷ xs) h c = (image-sorted t x h.0 c.0, images-sorted ts xs h.1 c.1)
+    sorted-images : (ts : Trees) (sorts : List Sort) → KidsHaveSorts shapes vars ts sorts → AreCovered (length base) table ts → KidsHaveSorts base vars (images table ts) sorts
+    sorted-images none [] h c = tt
+    sorted-images none (x ∷ xs) h c = absurd h
+    sorted-images (t ▹ ts) [] h c = absurd h
+    sorted-images (t ▹ ts) (x ∷ xs) h c = (sorted-image t x h.0 c.0, sorted-images ts xs h.1 c.1)
+
+pub image-sorted : (base shapes : List Shape) (table : Table) (vars : List Sort) → Begins base shapes → Desugars base shapes table →
+    (t : Tree) (sort : Sort) → HasSort shapes vars t sort → IsCovered (length base) table t → HasSort base vars (image table t) sort
+image-sorted base shapes table vars begins d t sort h c = sorted-image base shapes table vars begins d.bodies t sort h c
 
 pub images_are_sorted : ImagesAreSorted
 images_are_sorted base shapes table vars t sort begins d h c = image-sorted base shapes table vars begins d t sort h c
@@ -265,29 +269,33 @@ length-kids shapes vars none (x ∷ xs) h = absurd h
 length-kids shapes vars (t ▹ ts) [] h = absurd h
 length-kids shapes vars (t ▹ ts) (x ∷ xs) h = let e = length-kids shapes vars ts xs h.1 in omega arith
 
-module _ (base shapes : List Shape) (table : Table) (vars : List Sort) (d : Desugars base shapes table) where
+module _ (base shapes : List Shape) (table : Table) (vars : List Sort) (d : HasBodies base shapes table) where
   sorted-parts : (label : ℕ) (ts : Trees) (shape : Shape) (o : Option Body) → table label ≡ o → slice_get shapes label ≡ Some shape → length (listed ts) ≡ length shape.kids → HasParts o ts
   sorted-parts label ts shape None e at n = tt
   sorted-parts label ts shape (Some body) e at n =
-      let known = d.bodies label body e in
+      let known = d label body e in
       let same : Some known.0 ≡ Some shape = sym known.1 ∙ at in
       let q : known.0 ≡ shape = cc in
       n ∙ sym (known.3.many ∙ ap (λ (x : Shape). length x.kids) q)
 
   mutual
-    pub sorted-fits : (t : Tree) (sort : Sort) → HasSort shapes vars t sort → FitsTable table t
-    sorted-fits (node label ts) sort h =
-        (sorted-parts label ts h.0 (table label) refl h.1 (length-kids shapes vars ts h.0.kids h.3), sorted-fit ts h.0.kids h.3)
-    sorted-fits (lexeme kind text) sort h = tt
-    sorted-fits (hole v) sort h = tt
+    pub fits-sorted : (t : Tree) (sort : Sort) → HasSort shapes vars t sort → FitsTable table t
+    fits-sorted (node label ts) sort h =
+        (sorted-parts label ts h.0 (table label) refl h.1 (length-kids shapes vars ts h.0.kids h.3), fit-sorted ts h.0.kids h.3)
+    fits-sorted (lexeme kind text) sort h = tt
+    fits-sorted (hole v) sort h = tt
 
-    sorted-fit : (ts : Trees) (sorts : List Sort) → KidsHaveSorts shapes vars ts sorts → FitTable table ts
-    sorted-fit none sorts h = tt
-    sorted-fit (t ▹ ts) [] h = absurd h
-    sorted-fit (t ▹ ts) (x ∷ xs) h = (sorted-fits t x h.0, sorted-fit ts xs h.1)
+    fit-sorted : (ts : Trees) (sorts : List Sort) → KidsHaveSorts shapes vars ts sorts → FitTable table ts
+    fit-sorted none sorts h = tt
+    fit-sorted (t ▹ ts) [] h = absurd h
+    fit-sorted (t ▹ ts) (x ∷ xs) h = (fits-sorted t x h.0, fit-sorted ts xs h.1)
+
+pub sorted-fits : (base shapes : List Shape) (table : Table) (vars : List Sort) → Desugars base shapes table →
+    (t : Tree) (sort : Sort) → HasSort shapes vars t sort → FitsTable table t
+sorted-fits base shapes table vars d t sort h = fits-sorted base shapes table vars d.bodies t sort h
 
 pub sorted_terms_fit : SortedTermsFit
-sorted_terms_fit base shapes table vars t sort d h = sorted-fits base shapes table vars d t sort h
+sorted_terms_fit base shapes table vars t sort d h = fits-sorted base shapes table vars d t sort h
 
 -- the labels of a well sorted term are those of the shapes
 mutual

@@ -1,12 +1,14 @@
 -- Laws of plain images.
-use Rattle.std.specs.Prelude.{◌≡◌, ◌↔◌, ℕ, ◌<◌, List, length}
+use Rattle.std.specs.Prelude.{◌≡◌, ◌↔◌, ℕ, ◌<◌, List, length, slice_get, Some, Ok}
 use Rattle.sx_term.specs.Tree.{Tree}
 use Rattle.sx_term.specs.declared.sort.Sort.{Sort}
 use Rattle.sx_term.specs.Sorts.{Shape, HasSort}
 use Rattle.sx_term.specs.Instances.{instance, Stands}
 use Rattle.sx_term.specs.Untyped.{IsUntypedSort, PlainHaveNoTyped}
 use Rattle.sx_plain.specs.Plain.{Table, image}
-use Rattle.sx_plain.specs.Tables.{LabelsBelow, IsTable, FitsTable, IsCovered, Begins, Desugars}
+use Rattle.sx_plain.specs.Tables.{LabelsBelow, IsTable, FitsTable, IsCovered}
+use Rattle.sx_plain.specs.Tables.{Begins, HasBodies, Desugars}
+use Rattle.sx_plain.specs.Adds.{IsAdded}
 
 -- the plain image of an instance is the instance of the plain image, by the plain images of what is put for the variables
 abbrev pub ImagesOfInstances : Type 0
@@ -34,6 +36,15 @@ ImagesAreSorted =
     (base shapes : List Shape) (table : Table) (vars : List Sort) (t : Tree) (sort : Sort) → Begins base shapes → Desugars base shapes table →
     HasSort shapes vars t sort → IsCovered (length base) table t → HasSort base vars (image table t) sort
 
+-- where each entry has a body of its sort, it is so after one more, whose constructor is plain and
+-- whose term has its sort
+abbrev pub BodiesStaySorted : Type 0
+BodiesStaySorted =
+    (base shapes : List Shape) (old new : Table) (label : ℕ) (shape : Shape) (t : Tree) →
+    Begins base shapes → HasBodies base shapes old → slice_get shapes label ≡ Some shape →
+    IsUntypedSort shape.sort → HasSort shapes shape.kids t shape.sort →
+    IsAdded (length base) old new label (length shape.kids) t (Ok tt) → HasBodies base shapes new
+
 -- in a well sorted term of a plain or lexical sort each label is base or has an entry
 abbrev pub PlainTermsAreCovered : Type 0
 PlainTermsAreCovered =
@@ -43,7 +54,8 @@ PlainTermsAreCovered =
 -- a well sorted term has as many parts as the table asks for
 abbrev pub SortedTermsFit : Type 0
 SortedTermsFit =
-    (base shapes : List Shape) (table : Table) (vars : List Sort) (t : Tree) (sort : Sort) → Desugars base shapes table → HasSort shapes vars t sort → FitsTable table t
+    (base shapes : List Shape) (table : Table) (vars : List Sort) (t : Tree) (sort : Sort) →
+    HasBodies base shapes table → HasSort shapes vars t sort → FitsTable table t
 
 -- the labels of a well sorted term are those of the shapes, so that a term that is well sorted by the base shapes is base
 abbrev pub SortedTermsAreBelow : Type 0

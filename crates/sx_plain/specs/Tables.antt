@@ -66,8 +66,14 @@ pub record IsBodyFor (base : List Shape) (shape : Shape) (body : Body) : Type 0 
   pub many : body.arity ≡ length shape.kids
   pub sorted : HasSort base shape.kids body.flat shape.sort
 
+-- each entry is of a plain constructor of the shapes, and its body has the constructor's sort
+abbrev pub HasBodies : List Shape → List Shape → Table → Type 0
+HasBodies base shapes table = (label : ℕ) (body : Body) → table label ≡ Some body →
+    (shape : Shape) × (slice_get shapes label ≡ Some shape) × IsUntypedSort shape.sort ×
+    IsBodyFor base shape body
+
 -- the table has just the plain constructors of the shapes that are not base, each with a body of its sort
 pub record Desugars (base shapes : List Shape) (table : Table) : Type 0 where
   pub is_table : IsTable (length base) table
-  pub bodies : (label : ℕ) (body : Body) → table label ≡ Some body → (shape : Shape) × (slice_get shapes label ≡ Some shape) × IsUntypedSort shape.sort × IsBodyFor base shape body
+  pub bodies : HasBodies base shapes table
   pub every : (label : ℕ) (shape : Shape) → slice_get shapes label ≡ Some shape → IsUntypedSort shape.sort → (label < length base) ⊎ IsSome (table label)
