@@ -1,0 +1,2 @@
+pub mod AddedBodies
+pub mod Lacking

@@ -1,0 +1,2 @@
+pub mod PlainBodies
+pub mod PlainTables
