@@ -10,6 +10,7 @@ use Rattle.std.proofs.lemmas.List.Quantifiers.{position-Some}
 use Rattle.std.proofs.lemmas.List.{map-append}
 use Rattle.indexmap.specs.IndexSet.{insert_key}
 use Rattle.sx_rules.specs.Good.{IsAmong}
+use Rattle.sx_rules.specs.Views.{NamedRule, rule_name}
 
 abbrev Texts : Type 0
 Texts = List (Vec ℕ)
@@ -115,3 +116,9 @@ module _ (before seen : List (List ℕ)) (name : List ℕ) where
       found : (b : Bool) → is_some r ≡ b → IsAmong name seen → IsTrue b
       found true e k = refl
       found false e k = absurd (none_among seen name r h e k)
+
+-- where there is no rule of that number, the name is empty
+pub unnamed : (rules : List NamedRule) (n : ℕ) → slice_get rules n ≡ None → [] ≡ rule_name rules n
+unnamed [] n e = refl
+unnamed (r ∷ rules) zero e = cc
+unnamed (r ∷ rules) (suc n) e = unnamed rules n e

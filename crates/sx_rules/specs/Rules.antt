@@ -25,6 +25,10 @@ pub record Hypotheses : Type 0 where
   pub judgements : List Judgement
   pub pairs : List (Tree × Tree)
 
+-- there are none
+abbrev pub no_hypotheses : Hypotheses
+no_hypotheses = record { judgements = []; pairs = [] }
+
 -- the instance of a judgement
 abbrev pub judgement_instance : (ℕ → Tree) → Judgement → Judgement
 judgement_instance s j = record { form = j.form; places = map (instance s) j.places }

@@ -1,5 +1,5 @@
 -- Rules and what belongs to them as plain data.
-use Rattle.std.specs.Prelude.{ℕ, List, [], map, slice_get, Option, Some, None}
+use Rattle.std.specs.Prelude.{ℕ, List, [], map, slice_get, slice_index_or, Option, Some, None}
 use Rattle.sx_term.specs.Tree.{Tree}
 use Rattle.sx_term.specs.declared.term.Term.{Term}
 use Rattle.sx_term.specs.Term.{tree}
@@ -57,6 +57,10 @@ pub record NamedRule : Type 0 where
 -- the view of a rule with its name
 abbrev pub named : RuleOf → NamedRule
 named r = record { name = r.name; rule = rule r }
+
+-- the name of the rule with a number; empty where there is no such rule
+abbrev pub rule_name : List NamedRule → ℕ → List ℕ
+rule_name rules number = slice_index_or (map (λ r. r.name) rules) number []
 
 -- the places of a form, or none
 abbrev pub places_or_none : Option FormData → List Place

@@ -19,6 +19,7 @@ mod look_up;
 mod make;
 mod modes;
 mod names;
+mod nothing_given;
 mod order;
 mod proof;
 mod proof_copy;

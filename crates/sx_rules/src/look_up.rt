@@ -1,8 +1,8 @@
 //! What a rule set has.
 
-ghost use Rattle.std.specs.Prelude.{◌≡◌, ◌≤◌, ◌^◌, ◌<◌, map, length, MatchOption, slice_get, Some, None};
+ghost use Rattle.std.specs.Prelude.{◌≡◌, ◌≤◌, ◌^◌, ◌<◌, map, length, IfOk, MatchOption, slice_get, Some, None};
 ghost use Rattle.sx_term.specs.Shapes.{shapes};
-ghost use Rattle.sx_rules.specs.Views.{forms, named, modes_of, subjects_in, sorts_of};
+ghost use Rattle.sx_rules.specs.Views.{forms, named, rule_name, modes_of, subjects_in, sorts_of};
 ghost use Rattle.sx_rules.specs.Sets.{shapes_in, forms_in, rules_in, bare_rules_in, names_in};
 ghost use Rattle.sx_rules.specs.Good.{IsAmong, IsRuleSet, names_of};
 ghost use Rattle.sx_rules.specs.Modes.{AllModed};
@@ -12,7 +12,8 @@ ghost use Rattle.sx_rules.specs.Deep.{RulesAreShallow};
 
 use crate::rule::{Form, Rule};
 use crate::rule_set::RuleSet;
-use sx_term::{Shapes, Text};
+use std::alloc::Global;
+use sx_term::{NoMemory, Shapes, Text};
 
 impl RuleSet {
     /// The forms.
@@ -39,6 +40,16 @@ impl RuleSet {
             return Some(&self.rules[i]);
         }
         None
+    }
+
+    /// An equal name to that of the rule with this number; empty where there is no such rule.
+    pub fn name_of(&self, alloc: Global, number: u32) -> Result<Text, NoMemory>
+        ensures { IfOk result (λ name. name ≡ rule_name (rules_in self.now) number) }
+    {
+        match self.rule(number) {
+            Some(rule) => rule.name.copy(alloc),
+            None => Text::of_str(alloc, ""),
+        }
     }
 
     /// The number of the rule with this name, or None where there is no such rule.
