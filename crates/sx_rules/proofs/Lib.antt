@@ -4,6 +4,7 @@ pub mod LoopLaws
 pub mod ModeLaws
 pub mod PassLaws
 pub mod SubjectLaws
+pub mod SubjectTerms
 pub mod SetLaws
 pub mod AdmitLaws
 pub mod Decided

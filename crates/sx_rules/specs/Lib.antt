@@ -8,6 +8,7 @@ pub mod Views
 pub mod Fits
 pub mod Chosen
 pub mod Subjects
+pub mod SubjectTerms
 pub mod Unmoded
 pub mod Good
 pub mod Made

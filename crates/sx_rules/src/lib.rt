@@ -26,7 +26,9 @@ mod proof_copy;
 mod rule;
 mod rule_set;
 mod subject;
+mod subject_places;
 
+pub use chosen::places_of;
 pub use derivation_laws::{
     derivations_are_sorted, discipline_suffices, first_derivation_is_unique,
     grafts_are_derivations, order_is_unique, outputs_have_texts, substitution_keeps_derivations,
@@ -46,3 +48,4 @@ pub use proof::Proof;
 pub use proof_copy::copy_proof;
 pub use rule::{Form, Goal, Hyps, Judgement, Place, Premise, Rule};
 pub use rule_set::RuleSet;
+pub use subject_places::is_subject;
