@@ -39,8 +39,7 @@ fn put_names(names: &[Text], into: &mut Vec<u8>) -> Result<(), NoMemory>
     ensures { OnOk result (into.new.items ≡ into.old.items ++ names_text names.now) }
 {
     for name in names {
-        into.push(b' ')?;
-        into.extend_from_slice(name.bytes())?;
+        put(&[b" ", name.bytes()], into)?;
     }
     Ok(())
 }

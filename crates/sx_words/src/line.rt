@@ -4,6 +4,7 @@ ghost use Rattle.std.specs.Prelude.{◌≡◌, ◌++◌, OnOk, OnErr};
 ghost use Rattle.sx_lines.specs.Reading.{BeginsWith};
 ghost use Rattle.sx_words.specs.Lines.{line_text};
 
+use crate::parts::put;
 use std::alloc::Global;
 use sx_term::{NoMemory, Text};
 
@@ -12,12 +13,7 @@ fn put_line(file: &Text, text: &[u8], into: &mut Vec<u8>) -> Result<(), NoMemory
     ensures ok { OnOk result (into.new.items ≡ into.old.items ++ line_text file.now text.now) }
     ensures err { OnErr result (BeginsWith into.new.items into.old.items) }
 {
-    into.extend_from_slice(b"soundx: ")?;
-    into.extend_from_slice(file.bytes())?;
-    into.extend_from_slice(b": ")?;
-    into.extend_from_slice(text)?;
-    into.push(b'\n')?;
-    Ok(())
+    put(&[b"soundx: ", file.bytes(), b": ", text, b"\n"], into)
 }
 
 /// Appends the line of these bytes about the file. After want of memory `into` is as before.

@@ -1,15 +1,17 @@
 //! Texts made of parts.
 
-ghost use Rattle.std.specs.Prelude.{◌≡◌, [], ◌∷◌, ◌++◌, ◌<◌, ◌^◌, OnOk, IfOk, decimal, string_bytes};
+ghost use Rattle.std.specs.Prelude.{◌≡◌, [], ◌∷◌, ◌++◌, ◌<◌, ◌^◌, OnOk, OnErr, IfOk, decimal, string_bytes};
 ghost use Rattle.std.specs.List.{flat_map};
+ghost use Rattle.sx_lines.specs.Reading.{BeginsWith};
 ghost use Rattle.sx_words.specs.RefusalText.{joined};
 
 use std::alloc::Global;
 use sx_term::{NoMemory, Text};
 
-/// Appends the parts one after the other.
+/// Appends the parts one after the other, or a front of them where memory is lacking.
 pub(crate) fn put(parts: &[&[u8]], into: &mut Vec<u8>) -> Result<(), NoMemory>
-    ensures { OnOk result (into.new.items ≡ into.old.items ++ flat_map (λ part. part.now) parts.now) }
+    ensures ok { OnOk result (into.new.items ≡ into.old.items ++ flat_map (λ part. part.now) parts.now) }
+    ensures err { OnErr result (BeginsWith into.new.items into.old.items) }
 {
     for part in parts {
         into.extend_from_slice(part)?;
