@@ -8,8 +8,9 @@ ghost use Rattle.sx_rules.specs.Views.{form, forms, places_at, judgement, premis
 ghost use Rattle.sx_rules.specs.Chosen.{chosen, holes_among};
 ghost use Rattle.sx_rules.specs.Subjects as spec;
 
-use crate::chosen::{Part, is_part, place_at, places_of, put_part};
+use crate::chosen::{Part, is_part, place_at, places_of};
 use crate::fitting::sort_at;
+use crate::modes::part_variables;
 use crate::rule::{Form, Place, Premise, Rule};
 use crate::subject::Subject;
 use std::alloc::Global;
@@ -253,6 +254,22 @@ fn broken(
     Some((4, 0))
 }
 
+/// The subjects of the premises.
+fn premise_subjects(
+    alloc: Global,
+    known: &[Form],
+    premises: &[Premise],
+) -> Result<Vec<Subject>, NoMemory>
+    ensures { IfOk result (λ x. x.items
+        ≡ map (spec.premise_subject (forms known.now)) (map premise premises.now)) }
+{
+    let mut subjects = Vec::new(alloc);
+    for i in 0..premises.len() {
+        subjects.push(premise_subject(known, &premises[i]))?;
+    }
+    Ok(subjects)
+}
+
 /// The first part of the discipline that the rule breaks.
 pub fn broken_part(
     alloc: Global,
@@ -262,13 +279,8 @@ pub fn broken_part(
     requires { RuleIsShallow (rule it.now) }
     ensures { IfOk result (λ x. x ≡ spec.broken_part (forms known.now) (rule it.now)) }
 {
-    let mut subjects = Vec::new(alloc);
-    for i in 0..it.premises.len() {
-        subjects.push(premise_subject(known, &it.premises[i]))?;
-    }
-    let mut uses = Vec::new(alloc);
-    let places = places_of(known, it.conclusion.form);
-    put_part(Part::Subjects, places, &it.conclusion.places, &mut uses)?;
+    let uses = part_variables(alloc, Part::Subjects, known, &it.conclusion)?;
     let counts = tally(alloc, it.vars.len(), &uses)?;
+    let subjects = premise_subjects(alloc, known, &it.premises)?;
     Ok(broken(&counts, &it.vars, &subjects, &uses))
 }

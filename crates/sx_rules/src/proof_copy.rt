@@ -17,11 +17,11 @@ pub fn copy_proof(alloc: Global, proof: &Proof) -> Result<Box<Proof>, NoMemory>
 {
     match proof {
         Proof::By { rule, binds, kids } => {
-            let terms = copy_terms(alloc, binds)?;
             let mut copies = Vec::with_capacity(alloc, kids.len())?;
             for kid in kids {
                 copies.push(copy_proof(alloc, kid)?)?;
             }
+            let terms = copy_terms(alloc, binds)?;
             Ok(Box::new(
                 alloc,
                 Proof::By {
