@@ -1,5 +1,6 @@
 -- What is known of plain images, by the numbers of the terms.
-use Rattle.std.specs.Prelude.{◌≡◌, ℕ, ◌-◌, ◌^◌, ◌*◌, ◌<◌, ◌≤◌, List, length, min, get_or, Option, Some, None, if◌then◌else◌, ◌==◌}
+use Rattle.std.specs.Prelude.{◌≡◌, ℕ, ◌-◌, ◌^◌, ◌*◌, ◌<◌, ◌≤◌, List, length, min, get_or, Option}
+use Rattle.std.specs.Prelude.{Some, None, if◌then◌else◌, ◌==◌}
 use Rattle.sx_term.specs.Tree.{Tree, depth_of, size_of}
 use Rattle.sx_plain.specs.declared.measure.Measure.{Measure}
 use Rattle.sx_plain.specs.Plain.{Table, image}
@@ -14,7 +15,8 @@ noted_at notes i = get_or notes i None
 abbrev pub with_note : {N : Type 0} → (ℕ → Option N) → ℕ → N → ℕ → Option N
 with_note notes number value i = if i == number then Some value else notes i
 
--- how deep and how big the plain image of the term is; the size stays at the greatest number where it is more
+-- how deep and how big the plain image of the term is; the size stays at the greatest number where
+-- it is more
 pub record IsMeasure (table : Table) (t : Tree) (m : Measure) : Type 0 where
   pub depth : m.depth ≡ depth_of (image table t)
   pub small : m.depth ≤ 1001 * depth_of t
@@ -33,7 +35,8 @@ pub record IsImageAt (table : Table) (ts : List Tree) (i j : ℕ) : Type 0 where
 
 -- each measure that is noted is that of the plain image
 abbrev pub AreMeasured : Table → List Tree → List (Option Measure) → Type 0
-AreMeasured table ts notes = (i : ℕ) (m : Measure) → noted_at notes i ≡ Some m → IsMeasureAt table ts i m
+AreMeasured table ts notes = (i : ℕ) (m : Measure) → noted_at notes i ≡ Some m →
+    IsMeasureAt table ts i m
 
 -- each number that is noted is that of the plain image
 abbrev pub AreMade : Table → List Tree → List (Option ℕ) → Type 0

@@ -8,4 +8,5 @@ use Rattle.sx_images.specs.Images.{AreImages}
 
 -- what is known of plain images stays so where more terms are put into the arena
 abbrev pub ImagesStayKnown : Type 0
-ImagesStayKnown = (table : Table) (old new : List Tree) (images : Images) → Extends old new → AreImages table old images → AreImages table new images
+ImagesStayKnown = (table : Table) (old new : List Tree) (images : Images) → Extends old new →
+    AreImages table old images → AreImages table new images

@@ -14,13 +14,17 @@ pub record IsSameArena (old new : Arena) : Type 0 where
   pub arena : IsArena new
   pub same : trees new ≡ trees old
 
--- the plain image of the term stands in the arena at the number, within the limits, or this is the first limit that it passes
+-- the plain image of the term stands in the arena at the number, within the limits, or this is the
+-- first limit that it passes
 abbrev pub IsLowered : Table → Arena → Arena → Images → Tree → Result ℕ TermError → Type 0
 IsLowered table old new images t (Ok i) =
-    IsHeld old new i (image table t) × AreImages table (trees new) images × (depth_of (image table t) ≤ 1000) × (size_of (image table t) ≤ 1000000)
+    IsHeld old new i (image table t) × AreImages table (trees new) images ×
+    (depth_of (image table t) ≤ 1000) × (size_of (image table t) ≤ 1000000)
 IsLowered table old new images t (Err (TooDeep depth)) =
-    IsSameArena old new × AreImages table (trees old) images × (1000 < depth_of (image table t)) × (depth ≡ depth_of (image table t))
+    IsSameArena old new × AreImages table (trees old) images × (1000 < depth_of (image table t)) ×
+    (depth ≡ depth_of (image table t))
 IsLowered table old new images t (Err (TooBig nodes)) =
-    IsSameArena old new × AreImages table (trees old) images × (depth_of (image table t) ≤ 1000) × (1000000 < size_of (image table t))
+    IsSameArena old new × AreImages table (trees old) images × (depth_of (image table t) ≤ 1000) ×
+    (1000000 < size_of (image table t))
     × (nodes ≡ min (size_of (image table t)) (2 ^ 64 - 1))
 IsLowered table old new images t (Err Memory) = Unit {0}

@@ -13,4 +13,5 @@ IsLeaf (hole v) = Unit {0}
 -- the term is the node, or it is none
 abbrev pub IsNodeAt : List Tree → Tree → Option Node → Type 0
 IsNodeAt ts t None = IsLeaf t
-IsNodeAt ts t (Some n) = AreBelow (length ts) n.kids.items × (t ≡ node n.label (forest (map (tree_at ts) n.kids.items)))
+IsNodeAt ts t (Some n) = AreBelow (length ts) n.kids.items ×
+    (t ≡ node n.label (forest (map (tree_at ts) n.kids.items)))

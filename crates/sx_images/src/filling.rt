@@ -20,7 +20,8 @@ pub(crate) fn filled(
     requires depth { depth_of (tree flat.now) ≤ 1000 }
     requires arena { IsArena arena.old }
     requires parts { AreBelow (length (trees arena.old)) parts.now }
-    ensures { IfOk result (λ i. IsHeld arena.old arena.new i (instance (bound_by (map (tree_at (trees arena.old)) parts.now)) (tree flat.now))) }
+    ensures { IfOk result (λ i. IsHeld arena.old arena.new i
+        (instance (bound_by (map (tree_at (trees arena.old)) parts.now)) (tree flat.now))) }
 {
     match flat {
         Term::Node { label, kids } => {

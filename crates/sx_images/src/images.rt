@@ -8,8 +8,8 @@ ghost use Rattle.sx_images.specs.Images.{AreImages};
 use std::alloc::Global;
 use sx_plain::Measure;
 
-/// What is known of the plain images of the terms of an arena, by the numbers of the terms: how deep and how big an image is, and its
-/// own number.
+/// What is known of the plain images of the terms of an arena, by the numbers of the terms: how
+/// deep and how big an image is, and its own number.
 #[derive(Drop)]
 pub struct Images {
     pub(crate) measures: Vec<Option<Measure>>,

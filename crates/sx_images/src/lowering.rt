@@ -17,9 +17,10 @@ use sx_plain::PlainTable;
 use sx_term::TermError;
 
 impl Images {
-    /// The number of the plain image of the term with this number. The image is measured before it is made, and refused as TooDeep where
-    /// its depth is more than 1,000, and else as TooBig where it has more than 1,000,000 nodes, lexemes and variables. After these two
-    /// refusals the arena is as before. A term that was met before costs a look-up.
+    /// The number of the plain image of the term with this number. The image is measured before it
+    /// is made, and refused as TooDeep where its depth is more than 1,000, and else as TooBig where
+    /// it has more than 1,000,000 nodes, lexemes and variables. After these two refusals the arena
+    /// is as before. A term that was met before costs a look-up.
     pub fn lower(
         &mut self,
         alloc: Global,
@@ -32,7 +33,8 @@ impl Images {
         requires within { term < length (trees arena.old) }
         requires shallow { depth_of (tree_at (trees arena.old) term) ≤ 1000 }
         requires fits { FitsTable (table_of table.now) (tree_at (trees arena.old) term) }
-        ensures { IsLowered (table_of table.now) arena.old arena.new self.new (tree_at (trees arena.old) term) result }
+        ensures { IsLowered (table_of table.now) arena.old arena.new self.new
+            (tree_at (trees arena.old) term) result }
     {
         let measure = measured(alloc, table, arena, &mut self.measures, term)?;
         if measure.depth > 1000 {

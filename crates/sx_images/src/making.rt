@@ -15,7 +15,8 @@ use sx_arena::Arena;
 use sx_plain::PlainTable;
 use sx_term::NoMemory;
 
-/// The number of the plain image of the term with this number: the one that is noted, or else the image is made and noted.
+/// The number of the plain image of the term with this number: the one that is noted, or else the
+/// image is made and noted.
 #[cycle(made)]
 pub(crate) fn made(
     alloc: Global,
@@ -29,7 +30,8 @@ pub(crate) fn made(
     requires within { term < length (trees arena.old) }
     requires shallow { depth_of (tree_at (trees arena.old) term) ≤ 1000 }
     ensures known { OnOk result (AreMade (table_of table.now) (trees arena.new) notes.new.items) }
-    ensures image { IfOk result (λ i. IsHeld arena.old arena.new i (image (table_of table.now) (tree_at (trees arena.old) term))) }
+    ensures image { IfOk result (λ i. IsHeld arena.old arena.new i
+        (image (table_of table.now) (tree_at (trees arena.old) term))) }
 {
     if let Some(image) = noted(notes, term) {
         return Ok(image);
@@ -53,7 +55,8 @@ fn new_image(
     requires within { term < length (trees arena.old) }
     requires shallow { depth_of (tree_at (trees arena.old) term) ≤ 1000 }
     ensures known { OnOk result (AreMade (table_of table.now) (trees arena.new) notes.new.items) }
-    ensures image { IfOk result (λ i. IsHeld arena.old arena.new i (image (table_of table.now) (tree_at (trees arena.old) term))) }
+    ensures image { IfOk result (λ i. IsHeld arena.old arena.new i
+        (image (table_of table.now) (tree_at (trees arena.old) term))) }
 {
     match node_at(alloc, arena, term)? {
         Some(node) => {

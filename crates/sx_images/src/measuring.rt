@@ -13,7 +13,8 @@ use sx_arena::{Arena, Shape};
 use sx_plain::{Measure, PlainTable};
 use sx_term::NoMemory;
 
-/// The depth and the size of the plain image of the term with this number: those that are noted, or else they are measured and noted.
+/// The depth and the size of the plain image of the term with this number: those that are noted, or
+/// else they are measured and noted.
 #[cycle(measured)]
 pub(crate) fn measured(
     alloc: Global,
@@ -27,8 +28,10 @@ pub(crate) fn measured(
     requires within { term < length (trees arena.now) }
     requires shallow { depth_of (tree_at (trees arena.now) term) ≤ 1000 }
     requires fits { FitsTable (table_of table.now) (tree_at (trees arena.now) term) }
-    ensures known { OnOk result (AreMeasured (table_of table.now) (trees arena.now) notes.new.items) }
-    ensures measure { IfOk result (IsMeasure (table_of table.now) (tree_at (trees arena.now) term)) }
+    ensures known { OnOk result (AreMeasured (table_of table.now)
+        (trees arena.now) notes.new.items) }
+    ensures measure { IfOk result (IsMeasure (table_of table.now)
+        (tree_at (trees arena.now) term)) }
 {
     if let Some(measure) = noted(notes, term) {
         return Ok(measure);
@@ -52,8 +55,10 @@ fn new_measure(
     requires within { term < length (trees arena.now) }
     requires shallow { depth_of (tree_at (trees arena.now) term) ≤ 1000 }
     requires fits { FitsTable (table_of table.now) (tree_at (trees arena.now) term) }
-    ensures known { OnOk result (AreMeasured (table_of table.now) (trees arena.now) notes.new.items) }
-    ensures measure { IfOk result (IsMeasure (table_of table.now) (tree_at (trees arena.now) term)) }
+    ensures known { OnOk result (AreMeasured (table_of table.now)
+        (trees arena.now) notes.new.items) }
+    ensures measure { IfOk result (IsMeasure (table_of table.now)
+        (tree_at (trees arena.now) term)) }
 {
     match &arena.cell(term).shape {
         Shape::Node { label, kids } => {

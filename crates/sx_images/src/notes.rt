@@ -21,7 +21,8 @@ pub(crate) fn note<N: Copy>(
     number: usize,
     value: N,
 ) -> Result<(), NoMemory>
-    ensures { OnOk result ((i : ℕ) → noted_at notes.new.items i ≡ with_note (noted_at notes.old.items) number value i) }
+    ensures { OnOk result ((i : ℕ) → noted_at notes.new.items i
+        ≡ with_note (noted_at notes.old.items) number value i) }
 {
     for _ in notes.len()..number {
         notes.push(None)?;

@@ -17,9 +17,12 @@ left_out false x y wrong = refl
 -- under the name that was put stand its bytes
 pub put-same : (files : Files) (name bytes : List ℕ) → put files name bytes name ≡ Some bytes
 unfolding put
-put-same files name bytes = chosen (bytes_eq name name) (Some bytes) (files name) ((bytes_eq-Decides name name).1 refl)
+put-same files name bytes = chosen (bytes_eq name name) (Some bytes) (files name)
+    ((bytes_eq-Decides name name).1 refl)
 
 -- and all else stays
-pub put-other : (files : Files) (name bytes other : List ℕ) → other ≢ name → put files name bytes other ≡ files other
+pub put-other : (files : Files) (name bytes other : List ℕ) → other ≢ name →
+    put files name bytes other ≡ files other
 unfolding put
-put-other files name bytes other differs = left_out (bytes_eq name other) (Some bytes) (files other) (λ is. differs (sym ((bytes_eq-Decides name other).0 is)))
+put-other files name bytes other differs = left_out (bytes_eq name other) (Some bytes) (files other)
+    (λ is. differs (sym ((bytes_eq-Decides name other).0 is)))

@@ -47,16 +47,18 @@ pub record IsRead (old new : ShelfData) (answer : ReadAnswer) : Type 0 where
   pub fails : (answer ≡ reads.Failed) ↔ IsToFail old.calls
   pub counts : Counts (answer ≡ reads.Failed) old.read_faults new.read_faults
 
--- A write is done only where its number is not to fail. It fails only where its number is to fail: then it is counted,
--- and under the name stands the first half of the bytes, rounded down.
-pub record IsWritten (old new : ShelfData) (name bytes : List ℕ) (answer : WriteAnswer) : Type 0 where
+-- A write is done only where its number is not to fail. It fails only where its number is to fail:
+-- then it is counted, and under the name stands the first half of the bytes, rounded down.
+pub record IsWritten (old new : ShelfData) (name bytes : List ℕ)
+    (answer : WriteAnswer) : Type 0 where
   pub calls : new.calls ≡ called old.calls
   pub done : answer ≡ writes.Done → IsToFail old.calls → ⊥
   pub fails : answer ≡ writes.Failed → IsToFail old.calls
   pub half : answer ≡ writes.Failed → new.files ≡ put old.files name (take (length bytes / 2) bytes)
   pub counts : Counts (answer ≡ writes.Failed) old.write_faults new.write_faults
 
--- a write on the sink fails exactly where its number is to fail: then it is counted, and appends nothing
+-- a write on the sink fails exactly where its number is to fail: then it is counted, and appends
+-- nothing
 pub record IsSent (old new : SinkData) (answer : WriteAnswer) : Type 0 where
   pub calls : new.calls ≡ called old.calls
   pub fails : (answer ≡ writes.Failed) ↔ IsToFail old.calls

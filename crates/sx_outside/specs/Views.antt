@@ -12,7 +12,12 @@ files_of table = files_in table.entries
 
 -- a shelf in memory as plain data
 abbrev pub shelf_of : MemShelf → ShelfData
-shelf_of shelf = record { files = files_of shelf.table; calls = shelf.calls; read_faults = shelf.reads_failed; write_faults = shelf.writes_failed }
+shelf_of shelf = record {
+  files = files_of shelf.table;
+  calls = shelf.calls;
+  read_faults = shelf.reads_failed;
+  write_faults = shelf.writes_failed;
+}
 
 -- the files of a shelf whose calls never fail
 abbrev pub clean_files_of : CleanShelf → Files

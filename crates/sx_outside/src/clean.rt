@@ -31,7 +31,8 @@ impl CleanShelf {
 
     /// Sets the bytes of a name.
     pub fn put(&mut self, name: Text, bytes: Vec<u8>) -> Result<(), NoMemory>
-        ensures ok { OnOk result (clean_files_of self.new ≡ put (clean_files_of self.old) name bytes.items) }
+        ensures ok { OnOk result (clean_files_of self.new
+            ≡ put (clean_files_of self.old) name bytes.items) }
         ensures err { OnErr result (clean_files_of self.new ≡ clean_files_of self.old) }
     {
         self.table.put(&name, bytes)
@@ -39,7 +40,8 @@ impl CleanShelf {
 
     /// The bytes of a name, or None where it is not held.
     pub fn get(&self, name: &Text) -> Option<&[u8]>
-        ensures { MatchOption result (clean_files_of self.now name.now ≡ None) (λ bytes. clean_files_of self.now name.now ≡ Some bytes.now) }
+        ensures { MatchOption result (clean_files_of self.now name.now ≡ None)
+            (λ bytes. clean_files_of self.now name.now ≡ Some bytes.now) }
     {
         self.table.get(name)
     }

@@ -40,14 +40,20 @@ impl MemShelf {
 
     /// Lets just these calls fail, counted from 1 over all reads and writes of the shelf.
     pub fn fail(&mut self, calls: Vec<u64>)
-        ensures { shelf_of self.new ≡ record (shelf_of self.old) { calls = failing_at (shelf_of self.old).calls calls.items } }
+        ensures { shelf_of self.new ≡ record (shelf_of self.old) {
+          calls = failing_at (shelf_of self.old).calls calls.items;
+        } }
     {
         self.calls.fail(calls);
     }
 
     /// Sets the bytes of a name. This is no call of the shelf.
     pub fn put(&mut self, name: Text, bytes: Vec<u8>) -> Result<(), NoMemory>
-        ensures ok { OnOk result (shelf_of self.new ≡ record (shelf_of self.old) { files = put (shelf_of self.old).files name bytes.items }) }
+        ensures ok { OnOk result (shelf_of self.new
+            ≡ record (shelf_of self.old) {
+              files =
+                  put (shelf_of self.old).files name bytes.items;
+            }) }
         ensures err { OnErr result (shelf_of self.new ≡ shelf_of self.old) }
     {
         self.table.put(&name, bytes)
@@ -55,7 +61,8 @@ impl MemShelf {
 
     /// The bytes of a name, or None where it is not held.
     pub fn get(&self, name: &Text) -> Option<&[u8]>
-        ensures { MatchOption result ((shelf_of self.now).files name.now ≡ None) (λ bytes. (shelf_of self.now).files name.now ≡ Some bytes.now) }
+        ensures { MatchOption result ((shelf_of self.now).files name.now ≡ None)
+            (λ bytes. (shelf_of self.now).files name.now ≡ Some bytes.now) }
     {
         self.table.get(name)
     }
@@ -71,12 +78,15 @@ impl Shelf for MemShelf {
     ghost write_faults = { λ shelf. shelf.writes_failed };
 
     fn read(&mut self, name: &Text, limit: u32, into: &mut Vec<u8>) -> ReadAnswer
-        ensures answer { IsReading (Some (shelf_of self.old).files) name.now limit result into.new.items }
+        ensures answer { IsReading
+            (Some (shelf_of self.old).files) name.now limit result into.new.items }
         ensures content { (shelf_of self.new).files ≡ (shelf_of self.old).files }
         ensures faults { (shelf_of self.old).read_faults ≤ (shelf_of self.new).read_faults }
         ensures write_faults { (shelf_of self.new).write_faults ≡ (shelf_of self.old).write_faults }
-        ensures cause { result ≡ ReadAnswer.Failed → Rose (shelf_of self.old).read_faults (shelf_of self.new).read_faults }
-        ensures only { result ≢ ReadAnswer.Failed → (shelf_of self.new).read_faults ≡ (shelf_of self.old).read_faults }
+        ensures cause { result ≡ ReadAnswer.Failed →
+            Rose (shelf_of self.old).read_faults (shelf_of self.new).read_faults }
+        ensures only { result ≢ ReadAnswer.Failed →
+            (shelf_of self.new).read_faults ≡ (shelf_of self.old).read_faults }
         ensures reads { IsRead (shelf_of self.old) (shelf_of self.new) result }
     {
         into.clear();
@@ -88,12 +98,16 @@ impl Shelf for MemShelf {
     }
 
     fn write(&mut self, name: &Text, bytes: &[u8]) -> WriteAnswer
-        ensures answer { IsWriting (Some (shelf_of self.old).files) name.now bytes.now result (Some (shelf_of self.new).files) }
+        ensures answer { IsWriting (Some (shelf_of self.old).files) name.now bytes.now result
+            (Some (shelf_of self.new).files) }
         ensures faults { (shelf_of self.old).write_faults ≤ (shelf_of self.new).write_faults }
         ensures read_faults { (shelf_of self.new).read_faults ≡ (shelf_of self.old).read_faults }
-        ensures cause { result ≡ WriteAnswer.Failed → Rose (shelf_of self.old).write_faults (shelf_of self.new).write_faults }
-        ensures only { result ≢ WriteAnswer.Failed → (shelf_of self.new).write_faults ≡ (shelf_of self.old).write_faults }
-        ensures writes { IsWritten (shelf_of self.old) (shelf_of self.new) name.now bytes.now result }
+        ensures cause { result ≡ WriteAnswer.Failed →
+            Rose (shelf_of self.old).write_faults (shelf_of self.new).write_faults }
+        ensures only { result ≢ WriteAnswer.Failed →
+            (shelf_of self.new).write_faults ≡ (shelf_of self.old).write_faults }
+        ensures writes { IsWritten (shelf_of self.old)
+            (shelf_of self.new) name.now bytes.now result }
     {
         if self.calls.call() {
             let half = bytes.len() / 2;

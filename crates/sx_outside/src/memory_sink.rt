@@ -24,7 +24,11 @@ impl Model for MemSink {
 
     ghost Value = { SinkData };
 
-    ghost view = { λ sink. record { bytes = sink.bytes.items; calls = sink.calls; faults = sink.failed } };
+    ghost view = { λ sink. record {
+      bytes = sink.bytes.items;
+      calls = sink.calls;
+      faults = sink.failed;
+    } };
 }
 
 impl MemSink {

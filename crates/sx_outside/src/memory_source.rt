@@ -24,7 +24,11 @@ impl Model for MemSource {
 
     ghost Value = { SourceData };
 
-    ghost view = { λ source. record { bytes = source.rest; calls = source.calls; faults = source.failed } };
+    ghost view = { λ source. record {
+      bytes = source.rest;
+      calls = source.calls;
+      faults = source.failed;
+    } };
 }
 
 impl MemSource {
@@ -54,7 +58,8 @@ impl Source for MemSource {
     ghost faults = { λ source. source.faults };
 
     fn take(&mut self, into: &mut [u8]) -> TakeAnswer
-        ensures answer { IsTaking (Some self.old.bytes) into.old result into.new (Some self.new.bytes) }
+        ensures answer { IsTaking (Some self.old.bytes) into.old result into.new
+            (Some self.new.bytes) }
         ensures faults { self.old.faults ≤ self.new.faults }
         ensures cause { result ≡ TakeAnswer.Failed → Rose self.old.faults self.new.faults }
         ensures only { result ≢ TakeAnswer.Failed → self.new.faults ≡ self.old.faults }

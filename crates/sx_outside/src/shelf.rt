@@ -25,7 +25,8 @@ pub trait Shelf {
         ensures content { content self.new ≡ content self.old }
         ensures faults { read_faults self.old ≤ read_faults self.new }
         ensures write_faults { write_faults self.new ≡ write_faults self.old }
-        ensures cause { result ≡ ReadAnswer.Failed → Rose (read_faults self.old) (read_faults self.new) }
+        ensures cause { result ≡ ReadAnswer.Failed →
+            Rose (read_faults self.old) (read_faults self.new) }
         ensures only { result ≢ ReadAnswer.Failed → read_faults self.new ≡ read_faults self.old };
 
     /// Puts the bytes under the name.
@@ -33,6 +34,8 @@ pub trait Shelf {
         ensures answer { IsWriting (content self.old) name.now bytes.now result (content self.new) }
         ensures faults { write_faults self.old ≤ write_faults self.new }
         ensures read_faults { read_faults self.new ≡ read_faults self.old }
-        ensures cause { result ≡ WriteAnswer.Failed → Rose (write_faults self.old) (write_faults self.new) }
-        ensures only { result ≢ WriteAnswer.Failed → write_faults self.new ≡ write_faults self.old };
+        ensures cause { result ≡ WriteAnswer.Failed →
+            Rose (write_faults self.old) (write_faults self.new) }
+        ensures only { result ≢ WriteAnswer.Failed →
+            write_faults self.new ≡ write_faults self.old };
 }

@@ -31,7 +31,8 @@ impl Table {
 
     /// Puts the bytes under the name, in place of those that stood there.
     pub fn put(&mut self, name: &Text, bytes: Vec<u8>) -> Result<(), NoMemory>
-        ensures ok { OnOk result (files_of self.new ≡ put (files_of self.old) name.now bytes.items) }
+        ensures ok { OnOk result (files_of self.new
+            ≡ put (files_of self.old) name.now bytes.items) }
         ensures err { OnErr result (files_of self.new ≡ files_of self.old) }
     {
         let key = String::from_str(self.alloc, name.as_str())?;
@@ -50,7 +51,8 @@ impl Table {
 
     /// The bytes under the name.
     pub fn get(&self, name: &Text) -> Option<&[u8]>
-        ensures { MatchOption result (files_of self.now name.now ≡ None) (λ bytes. files_of self.now name.now ≡ Some bytes.now) }
+        ensures { MatchOption result (files_of self.now name.now ≡ None)
+            (λ bytes. files_of self.now name.now ≡ Some bytes.now) }
     {
         match self.entries.get(name.as_str()) {
             Some(bytes) => Some(bytes.as_slice()),

@@ -1,9 +1,11 @@
 -- What adding an entry to a plain table answers.
-use Rattle.std.specs.Prelude.{◌≡◌, ℕ, ◌-◌, ◌^◌, ◌<◌, ◌≤◌, Option, Some, None, IsSome, min, Result, Ok, Err, if◌then◌else◌, ◌==◌, nat_lt}
+use Rattle.std.specs.Prelude.{◌≡◌, ℕ, ◌-◌, ◌^◌, ◌<◌, ◌≤◌, Option, Some, None, IsSome, min, Result}
+use Rattle.std.specs.Prelude.{Ok, Err, if◌then◌else◌, ◌==◌, nat_lt}
 use Rattle.sx_term.specs.Tree.{Tree, Trees, node, lexeme, hole, none, ◌▹◌, depth_of, size_of}
 use Rattle.sx_term.specs.Instances.{Stands}
 use Rattle.sx_plain.specs.declared.plain_error.PlainError.{PlainError}
-use Rattle.sx_plain.specs.declared.plain_error.PlainError.TheVariants.{Memory, Twice, UsesLater, Drops, TooDeep, TooBig}
+use Rattle.sx_plain.specs.declared.plain_error.PlainError.TheVariants.{Memory, Twice, UsesLater}
+use Rattle.sx_plain.specs.declared.plain_error.PlainError.TheVariants.{Drops, TooDeep, TooBig}
 use Rattle.sx_plain.specs.Plain.{Body, Table, image}
 
 -- the table with one more entry
@@ -23,14 +25,16 @@ or_else (Some n) next = Some n
 abbrev mutual
   -- the first label in preorder that is not base and has no entry
   pub first_uncovered : ℕ → Table → Tree → Option ℕ
-  first_uncovered base table (node label kids) = or_else (uncovered base (table label) label) (first_uncovered_of base table kids)
+  first_uncovered base table (node label kids) =
+      or_else (uncovered base (table label) label) (first_uncovered_of base table kids)
   first_uncovered base table (lexeme kind text) = None
   first_uncovered base table (hole v) = None
 
   -- the same among terms
   pub first_uncovered_of : ℕ → Table → Trees → Option ℕ
   first_uncovered_of base table none = None
-  first_uncovered_of base table (t ▹ ts) = or_else (first_uncovered base table t) (first_uncovered_of base table ts)
+  first_uncovered_of base table (t ▹ ts) = or_else (first_uncovered base table t)
+      (first_uncovered_of base table ts)
 
 -- the first variable below the arity that the term has not
 pub record IsFirstDropped (arity : ℕ) (t : Tree) (v : ℕ) : Type 0 where
@@ -45,14 +49,20 @@ UsesAll arity t = (v : ℕ) → v < arity → Stands v t
 -- the entry with the body's image was added, or this is the first reason why not
 abbrev pub IsAdded : ℕ → Table → Table → ℕ → ℕ → Tree → Result (Unit {0}) PlainError → Type 0
 IsAdded base old new label arity body (Ok x) =
-    (old label ≡ None) × (first_uncovered base old body ≡ None) × UsesAll arity body × (depth_of (image old body) ≤ 1000) × (size_of (image old body) ≤ 1000000)
-    × ((other : ℕ) → new other ≡ with_entry old label (record { arity = arity; flat = image old body }) other)
+    (old label ≡ None) × (first_uncovered base old body ≡ None) × UsesAll arity body ×
+    (depth_of (image old body) ≤ 1000) × (size_of (image old body) ≤ 1000000)
+    × ((other : ℕ) → new other ≡ with_entry old label
+    (record { arity = arity; flat = image old body }) other)
 IsAdded base old new label arity body (Err Memory) = Unit {0}
 IsAdded base old new label arity body (Err (Twice l)) = (l ≡ label) × IsSome (old label)
-IsAdded base old new label arity body (Err (UsesLater l)) = (old label ≡ None) × (first_uncovered base old body ≡ Some l)
-IsAdded base old new label arity body (Err (Drops v)) = (old label ≡ None) × (first_uncovered base old body ≡ None) × IsFirstDropped arity body v
+IsAdded base old new label arity body (Err (UsesLater l)) =
+    (old label ≡ None) × (first_uncovered base old body ≡ Some l)
+IsAdded base old new label arity body (Err (Drops v)) =
+    (old label ≡ None) × (first_uncovered base old body ≡ None) × IsFirstDropped arity body v
 IsAdded base old new label arity body (Err (TooDeep depth)) =
-    (old label ≡ None) × (first_uncovered base old body ≡ None) × UsesAll arity body × (1000 < depth_of (image old body)) × (depth ≡ depth_of (image old body))
+    (old label ≡ None) × (first_uncovered base old body ≡ None) × UsesAll arity body ×
+    (1000 < depth_of (image old body)) × (depth ≡ depth_of (image old body))
 IsAdded base old new label arity body (Err (TooBig nodes)) =
-    (old label ≡ None) × (first_uncovered base old body ≡ None) × UsesAll arity body × (depth_of (image old body) ≤ 1000) × (1000000 < size_of (image old body))
+    (old label ≡ None) × (first_uncovered base old body ≡ None) × UsesAll arity body ×
+    (depth_of (image old body) ≤ 1000) × (1000000 < size_of (image old body))
     × (nodes ≡ min (size_of (image old body)) (2 ^ 64 - 1))

@@ -3,7 +3,8 @@ use Rattle.std.specs.Prelude.{ℕ, Option, Some, None}
 use Rattle.sx_term.specs.Tree.{Tree, Trees, node, lexeme, hole, none, ◌▹◌, listed}
 use Rattle.sx_term.specs.Instances.{instance, bound_by}
 
--- what stands for a constructor: how many parts it has, and its flat body, in which variable n is part n
+-- what stands for a constructor: how many parts it has, and its flat body, in which variable n is
+-- part n
 pub record Body : Type 0 where
   pub arity : ℕ
   pub flat : Tree
@@ -17,7 +18,8 @@ abbrev pub image_node : Option Body → ℕ → Trees → Tree
 image_node None label kids = node label kids
 image_node (Some body) label kids = instance (bound_by (listed kids)) body.flat
 
--- the plain image of a term: each constructor that has a body gives way to it, with the images of its parts
+-- the plain image of a term: each constructor that has a body gives way to it, with the images of
+-- its parts
 abbrev mutual
   pub image : Table → Tree → Tree
   image table (node label kids) = image_node (table label) label (images table kids)

@@ -1,5 +1,6 @@
 -- What a plain table is, and which terms it is for.
-use Rattle.std.specs.Prelude.{◌≡◌, ◌↔◌, ℕ, ◌<◌, List, ◌++◌, ◌⊎◌, length, slice_get, Option, Some, None, IsSome}
+use Rattle.std.specs.Prelude.{◌≡◌, ◌↔◌, ℕ, ◌<◌, List, ◌++◌, ◌⊎◌, length, slice_get, Option, Some}
+use Rattle.std.specs.Prelude.{None, IsSome}
 use Rattle.sx_term.specs.Tree.{Tree, Trees, node, lexeme, hole, none, ◌▹◌, listed}
 use Rattle.sx_term.specs.Sorts.{Shape, HasSort}
 use Rattle.sx_term.specs.Instances.{Stands}
@@ -7,7 +8,8 @@ use Rattle.sx_term.specs.Untyped.{IsUntypedSort}
 use Rattle.sx_plain.specs.Plain.{Body, Table}
 
 abbrev mutual
-  -- each label of the term is below the number; where that is the number of base labels, the term is base
+  -- each label of the term is below the number; where that is the number of base labels, the term
+  -- is base
   pub LabelsBelow : ℕ → Tree → Type 0
   LabelsBelow n (node label kids) = (label < n) × AllLabelsBelow n kids
   LabelsBelow n (lexeme kind text) = Unit {0}
@@ -48,7 +50,8 @@ abbrev mutual
 abbrev mutual
   -- each label of the term is base or has an entry
   pub IsCovered : ℕ → Table → Tree → Type 0
-  IsCovered base table (node label kids) = ((label < base) ⊎ IsSome (table label)) × AreCovered base table kids
+  IsCovered base table (node label kids) = ((label < base) ⊎ IsSome (table label)) ×
+      AreCovered base table kids
   IsCovered base table (lexeme kind text) = Unit {0}
   IsCovered base table (hole v) = Unit {0}
 
@@ -61,7 +64,8 @@ abbrev mutual
 abbrev pub Begins : List Shape → List Shape → Type 0
 Begins base shapes = (more : List Shape) × (shapes ≡ base ++ more)
 
--- the flat body has by the base shapes the sort of the constructor, where variable n has the sort of part n
+-- the flat body has by the base shapes the sort of the constructor, where variable n has the sort
+-- of part n
 pub record IsBodyFor (base : List Shape) (shape : Shape) (body : Body) : Type 0 where
   pub many : body.arity ≡ length shape.kids
   pub sorted : HasSort base shape.kids body.flat shape.sort
@@ -72,8 +76,10 @@ HasBodies base shapes table = (label : ℕ) (body : Body) → table label ≡ So
     (shape : Shape) × (slice_get shapes label ≡ Some shape) × IsUntypedSort shape.sort ×
     IsBodyFor base shape body
 
--- the table has just the plain constructors of the shapes that are not base, each with a body of its sort
+-- the table has just the plain constructors of the shapes that are not base, each with a body of
+-- its sort
 pub record Desugars (base shapes : List Shape) (table : Table) : Type 0 where
   pub is_table : IsTable (length base) table
   pub bodies : HasBodies base shapes table
-  pub every : (label : ℕ) (shape : Shape) → slice_get shapes label ≡ Some shape → IsUntypedSort shape.sort → (label < length base) ⊎ IsSome (table label)
+  pub every : (label : ℕ) (shape : Shape) → slice_get shapes label ≡ Some shape →
+      IsUntypedSort shape.sort → (label < length base) ⊎ IsSome (table label)

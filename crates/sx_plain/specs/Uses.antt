@@ -74,4 +74,5 @@ ArePositive (n ∷ ns) = (1 ≤ n) × ArePositive ns
 pub record IsMeasured (flat : Tree) (own depth : ℕ) (uses : List PartUse) : Type 0 where
   pub near : AreNear uses
   pub sizes : (ns : List ℕ) → length ns ≡ length uses → size_with ns flat ≡ own + used_size uses ns
-  pub depths : (ds : List ℕ) → length ds ≡ length uses → ArePositive ds → depth_with ds flat ≡ max depth (used_depth uses ds)
+  pub depths : (ds : List ℕ) → length ds ≡ length uses → ArePositive ds →
+      depth_with ds flat ≡ max depth (used_depth uses ds)

@@ -18,12 +18,14 @@ use sx_term::{NoMemory, Term, TermError};
 
 /// Whether the label is base or has an entry.
 fn is_known(table: &PlainTable, label: u32) -> bool
-    ensures { uncovered table.now.base (table_of table.now label) label ≡ (if result then None else Some label) }
+    ensures { uncovered table.now.base (table_of table.now label) label
+        ≡ (if result then None else Some label) }
 {
     label < table.base || table.entry(label).is_some()
 }
 
-/// The first label of the term, in preorder, that is not base and has no entry, or None where each label is base or has one.
+/// The first label of the term, in preorder, that is not base and has no entry, or None where each
+/// label is base or has one.
 pub fn first_later(table: &PlainTable, term: &Term) -> Option<u32>
     requires { depth_of (tree term.now) ≤ 1000 }
     ensures { result ≡ first_uncovered table.now.base (table_of table.now) (tree term.now) }
@@ -46,16 +48,18 @@ pub fn first_later(table: &PlainTable, term: &Term) -> Option<u32>
 }
 
 impl PlainTable {
-    /// Adds the flat body of the label: the plain image of the term, in which variable n is part n of the constructor. It is refused
-    /// as Twice where the label has an entry; as UsesLater at the first label of the term, in preorder, that is not base and has
-    /// none; as Drops at the first part that does not stand in the term; and as TooDeep or TooBig where the flat body passes the
-    /// limits. The first of these is answered. After a refusal the table is as before.
+    /// Adds the flat body of the label: the plain image of the term, in which variable n is part n
+    /// of the constructor. It is refused as Twice where the label has an entry; as UsesLater at the
+    /// first label of the term, in preorder, that is not base and has none; as Drops at the first
+    /// part that does not stand in the term; and as TooDeep or TooBig where the flat body passes
+    /// the limits. The first of these is answered. After a refusal the table is as before.
     pub fn add(&mut self, label: u32, arity: u32, term: Term) -> Result<(), PlainError>
         requires not_base { self.old.base ≤ label }
         requires parts { (v : ℕ) → Stands v (tree term) → v < arity }
         requires fits { FitsTable (table_of self.old) (tree term) }
         requires shallow { depth_of (tree term) ≤ 1000 }
-        ensures answer { IsAdded self.old.base (table_of self.old) (table_of self.new) label arity (tree term) result }
+        ensures answer { IsAdded self.old.base (table_of self.old) (table_of self.new) label arity
+            (tree term) result }
         ensures err { OnErr result (table_of self.new ≡ table_of self.old) }
         ensures base { self.new.base ≡ self.old.base }
     {
@@ -97,7 +101,8 @@ impl PlainTable {
         requires not_base { self.old.base ≤ label }
         requires none { table_of self.old label ≡ None }
         requires flat { ∥ IsFlat self.old.base (body entry) ∥₁ }
-        ensures ok { OnOk result ((other : ℕ) → table_of self.new other ≡ with_entry (table_of self.old) label (body entry) other) }
+        ensures ok { OnOk result ((other : ℕ) →
+            table_of self.new other ≡ with_entry (table_of self.old) label (body entry) other) }
         ensures err { OnErr result (table_of self.new ≡ table_of self.old) }
         ensures base { self.new.base ≡ self.old.base }
     {

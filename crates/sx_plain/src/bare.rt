@@ -24,7 +24,8 @@ fn bare_part(table: &PlainTable, label: u32) -> Option<usize>
 /// The part to which the term comes down where each bare node on top of it gives way to its part.
 fn past_bare<'a>(table: &PlainTable, term: &'a Term) -> &'a Term
     requires { depth_of (tree term.now) ≤ 1000 }
-    ensures same { image (table_of table.now) (tree result.now) ≡ image (table_of table.now) (tree term.entry.now) }
+    ensures same { image (table_of table.now) (tree result.now)
+        ≡ image (table_of table.now) (tree term.entry.now) }
     ensures depth { depth_of (tree result.now) ≤ depth_of (tree term.entry.now) }
 {
     match term {
@@ -64,7 +65,8 @@ pub(crate) fn has_bare(table: &PlainTable, term: &Term) -> bool
 /// The term in which each bare node gave way to its part.
 pub(crate) fn without_bare(alloc: Global, table: &PlainTable, term: &Term) -> Result<Term, NoMemory>
     requires { depth_of (tree term.now) ≤ 1000 }
-    ensures same { IfOk result (λ t. image (table_of table.now) (tree t) ≡ image (table_of table.now) (tree term.now)) }
+    ensures same { IfOk result (λ t. image (table_of table.now) (tree t)
+        ≡ image (table_of table.now) (tree term.now)) }
     ensures depth { IfOk result (λ t. depth_of (tree t) ≤ depth_of (tree term.now)) }
 {
     match past_bare(table, term) {

@@ -8,8 +8,9 @@ ghost use Rattle.sx_plain.specs.Uses.{IsMeasured};
 use crate::part_use::PartUse;
 use sx_term::Term;
 
-/// What stands for a constructor: how many parts it has, and its flat body, in which variable n is part n. Beside the body stand the
-/// number of its nodes and lexemes, its depth, and what it does with each part, so that images are measured without a walk over it.
+/// What stands for a constructor: how many parts it has, and its flat body, in which variable n is
+/// part n. Beside the body stand the number of its nodes and lexemes, its depth, and what it does
+/// with each part, so that images are measured without a walk over it.
 #[derive(Drop)]
 pub(crate) struct Entry {
     pub arity: u32,

@@ -40,7 +40,8 @@ impl PlainTable {
 
     /// The entry of the label, or None where it has none.
     pub(crate) fn entry(&self, label: u32) -> Option<&Entry>
-        ensures { MatchOption result (table_of self.now label ≡ None) (λ e. table_of self.now label ≡ Some (body e.now)) }
+        ensures { MatchOption result (table_of self.now label ≡ None)
+            (λ e. table_of self.now label ≡ Some (body e.now)) }
     {
         if label < self.base {
             return None;
@@ -52,7 +53,8 @@ impl PlainTable {
         None
     }
 
-    /// What holds of every plain table: base labels have no entry, and each entry is flat and uses each of its parts.
+    /// What holds of every plain table: base labels have no entry, and each entry is flat and uses
+    /// each of its parts.
     pub fn facts(&self)
         ensures { IsTable self.now.base (table_of self.now) }
     {}

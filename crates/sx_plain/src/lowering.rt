@@ -15,8 +15,9 @@ use crate::table::PlainTable;
 use std::alloc::Global;
 use sx_term::{NoMemory, Term, TermError};
 
-/// The plain image of the term. It is measured before it is made, and refused as TooDeep where its depth is more than 1,000, and
-/// else as TooBig where it has more than 1,000,000 nodes, lexemes and variables.
+/// The plain image of the term. It is measured before it is made, and refused as TooDeep where its
+/// depth is more than 1,000, and else as TooBig where it has more than 1,000,000 nodes, lexemes and
+/// variables.
 pub fn lower(alloc: Global, table: &PlainTable, term: &Term) -> Result<Term, TermError>
     requires shallow { depth_of (tree term.now) ≤ 1000 }
     requires fits { FitsTable (table_of table.now) (tree term.now) }
@@ -61,7 +62,8 @@ fn made(alloc: Global, table: &PlainTable, term: &Term) -> Result<Term, NoMemory
 #[cycle(made)]
 fn made_node(alloc: Global, table: &PlainTable, label: u32, kids: &[Term]) -> Result<Term, NoMemory>
     requires shallow { greatest_depth (forest (map tree kids.now)) < 1000 }
-    ensures { IfOk result (λ t. tree t ≡ node label (images (table_of table.now) (forest (map tree kids.now)))) }
+    ensures { IfOk result (λ t. tree t ≡ node label
+        (images (table_of table.now) (forest (map tree kids.now)))) }
 {
     let mut parts = Vec::with_capacity(alloc, kids.len())?;
     for i in 0..kids.len() {
@@ -75,7 +77,9 @@ fn made_node(alloc: Global, table: &PlainTable, label: u32, kids: &[Term]) -> Re
 fn filled(alloc: Global, table: &PlainTable, flat: &Term, parts: &[Term]) -> Result<Term, NoMemory>
     requires shallow { depth_of (tree flat.now) ≤ 1000 }
     requires parts { greatest_depth (forest (map tree parts.now)) < 1000 }
-    ensures { IfOk result (λ t. tree t ≡ instance (bound_by (listed (images (table_of table.now) (forest (map tree parts.now))))) (tree flat.now)) }
+    ensures { IfOk result (λ t. tree t ≡ instance
+        (bound_by (listed (images (table_of table.now) (forest (map tree parts.now)))))
+        (tree flat.now)) }
 {
     match flat {
         Term::Node { label, kids } => filled_node(alloc, table, *label, kids, parts),
@@ -108,7 +112,8 @@ fn filled_node(
     requires shallow { greatest_depth (forest (map tree kids.now)) < 1000 }
     requires parts { greatest_depth (forest (map tree parts.now)) < 1000 }
     ensures { IfOk result (λ t. tree t ≡ node label
-        (instances (bound_by (listed (images (table_of table.now) (forest (map tree parts.now))))) (forest (map tree kids.now)))) }
+        (instances (bound_by (listed (images (table_of table.now) (forest (map tree parts.now)))))
+        (forest (map tree kids.now)))) }
 {
     let mut made = Vec::with_capacity(alloc, kids.len())?;
     for i in 0..kids.len() {

@@ -5,7 +5,8 @@ ghost use Rattle.sx_term.specs.Tree.{depth_of, size_of, greatest_depth, forest};
 ghost use Rattle.sx_term.specs.Term.{tree};
 ghost use Rattle.sx_plain.specs.Plain.{image};
 ghost use Rattle.sx_plain.specs.Tables.{FitsTable, FitTable};
-ghost use Rattle.sx_plain.specs.Measures.{depth_with, size_with, greatest, total, image_depths, image_sizes};
+ghost use Rattle.sx_plain.specs.Measures.{depth_with, size_with, greatest, total, image_depths};
+ghost use Rattle.sx_plain.specs.Measures.{image_sizes};
 ghost use Rattle.sx_plain.specs.Views.{table_of};
 
 use crate::entry::Entry;
@@ -28,7 +29,8 @@ pub fn image_measure(table: &PlainTable, term: &Term) -> Measure
     requires fits { FitsTable (table_of table.now) (tree term.now) }
     ensures depth { result.depth ≡ depth_of (image (table_of table.now) (tree term.now)) }
     ensures small { result.depth ≤ 1001 * depth_of (tree term.now) }
-    ensures size { result.size ≡ min (size_of (image (table_of table.now) (tree term.now))) (2 ^ 64 - 1) }
+    ensures size { result.size ≡ min (size_of (image (table_of table.now) (tree term.now)))
+        (2 ^ 64 - 1) }
 {
     match term {
         Term::Node { label, kids } => match table.entry(*label) {
@@ -46,9 +48,12 @@ fn body_measure(table: &PlainTable, entry: &Entry, parts: &[Term]) -> Measure
     requires shallow { greatest_depth (forest (map tree parts.now)) < 1000 }
     requires fit { FitTable (table_of table.now) (forest (map tree parts.now)) }
     requires many { length parts.now ≡ entry.now.arity }
-    ensures depth { result.depth ≡ depth_with (image_depths (table_of table.now) (map tree parts.now)) (tree entry.now.flat) }
+    ensures depth { result.depth ≡ depth_with
+        (image_depths (table_of table.now) (map tree parts.now)) (tree entry.now.flat) }
     ensures small { result.depth ≤ 1001 * (greatest_depth (forest (map tree parts.now)) + 1) }
-    ensures size { result.size ≡ min (size_with (image_sizes (table_of table.now) (map tree parts.now)) (tree entry.now.flat)) (2 ^ 64 - 1) }
+    ensures size { result.size ≡ min (size_with
+        (image_sizes (table_of table.now) (map tree parts.now)) (tree entry.now.flat))
+        (2 ^ 64 - 1) }
 {
     let mut depth = entry.depth;
     let mut size = entry.own;
@@ -66,9 +71,11 @@ fn body_measure(table: &PlainTable, entry: &Entry, parts: &[Term]) -> Measure
 fn node_measure(table: &PlainTable, kids: &[Term]) -> Measure
     requires shallow { greatest_depth (forest (map tree kids.now)) < 1000 }
     requires fit { FitTable (table_of table.now) (forest (map tree kids.now)) }
-    ensures depth { result.depth ≡ greatest (image_depths (table_of table.now) (map tree kids.now)) + 1 }
+    ensures depth { result.depth ≡ greatest (image_depths (table_of table.now)
+        (map tree kids.now)) + 1 }
     ensures small { result.depth ≤ 1001 * (greatest_depth (forest (map tree kids.now)) + 1) }
-    ensures size { result.size ≡ min (total (image_sizes (table_of table.now) (map tree kids.now)) + 1) (2 ^ 64 - 1) }
+    ensures size { result.size
+        ≡ min (total (image_sizes (table_of table.now) (map tree kids.now)) + 1) (2 ^ 64 - 1) }
 {
     let mut depth: u32 = 0;
     let mut size: u64 = 1;

@@ -2,7 +2,8 @@
 
 ghost use Rattle.std.specs.Prelude.{◌≡◌, ◌+◌, ◌-◌, ◌^◌, ◌<◌, ◌≤◌, IfSome, length, min, get_or};
 ghost use Rattle.sx_term.specs.Term.{tree};
-ghost use Rattle.sx_plain.specs.Measures.{depth_with, size_with, greatest, total, node_depth, node_size};
+ghost use Rattle.sx_plain.specs.Measures.{depth_with, size_with, greatest, total, node_depth};
+ghost use Rattle.sx_plain.specs.Measures.{node_size};
 ghost use Rattle.sx_plain.specs.PartMeasures.{depths_of, sizes_of};
 ghost use Rattle.sx_plain.specs.Uses.{ArePositive};
 ghost use Rattle.sx_plain.specs.Views.{table_of};
@@ -13,15 +14,16 @@ use crate::measure::{Measure, with_part};
 use crate::table::PlainTable;
 
 impl PlainTable {
-    /// The depth and the size of the plain image of a node with this label, by those of the plain images of its parts. No body is
-    /// looked at.
+    /// The depth and the size of the plain image of a node with this label, by those of the plain
+    /// images of its parts. No body is looked at.
     pub fn measure(&self, label: u32, parts: &[Measure]) -> Measure
         requires many { IfSome (table_of self.now label) (λ b. length parts.now ≡ b.arity) }
         requires positive { ArePositive (depths_of parts.now) }
         requires shallow { greatest (depths_of parts.now) ≤ 1001000 }
         ensures depth { result.depth ≡ node_depth (table_of self.now label) (depths_of parts.now) }
         ensures small { result.depth ≤ greatest (depths_of parts.now) + 1000 }
-        ensures size { result.size ≡ min (node_size (table_of self.now label) (sizes_of parts.now)) (2 ^ 64 - 1) }
+        ensures size { result.size ≡ min (node_size (table_of self.now label) (sizes_of parts.now))
+            (2 ^ 64 - 1) }
     {
         match self.entry(label) {
             Some(entry) => measure_of_body(entry, parts),
@@ -38,14 +40,16 @@ fn measure_at(measures: &[Measure], place: usize) -> Measure
     measures[place]
 }
 
-/// The depth and the size of the entry's flat body with terms of these depths and sizes in the place of its parts.
+/// The depth and the size of the entry's flat body with terms of these depths and sizes in the
+/// place of its parts.
 fn measure_of_body(entry: &Entry, parts: &[Measure]) -> Measure
     requires many { length parts.now ≡ entry.now.arity }
     requires positive { ArePositive (depths_of parts.now) }
     requires shallow { greatest (depths_of parts.now) ≤ 1001000 }
     ensures depth { result.depth ≡ depth_with (depths_of parts.now) (tree entry.now.flat) }
     ensures small { result.depth ≤ greatest (depths_of parts.now) + 1000 }
-    ensures size { result.size ≡ min (size_with (sizes_of parts.now) (tree entry.now.flat)) (2 ^ 64 - 1) }
+    ensures size { result.size ≡ min (size_with (sizes_of parts.now) (tree entry.now.flat))
+        (2 ^ 64 - 1) }
 {
     let mut depth = entry.depth;
     let mut size = entry.own;

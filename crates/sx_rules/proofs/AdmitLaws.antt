@@ -104,8 +104,11 @@ module _ (shapes new : List Shape) (forms : List FormData) (rs : List RuleOf) (m
       (subst (λ (ns : List (List ℕ)). IsFirstBreach (shapes ++ new) forms ns more e) (sym (same_names rs)) k)
 
   pub admitted : (result : Result (Unit {0}) RuleError) → AreChecked (shapes ++ new) forms (names_of rs) more result → IsAdmitted (shapes ++ new) forms (map named rs ++ more) result
-  admitted (Ok x) k = (few, good_after (shapes ++ new) forms [] (map named rs) more kept
-      (subst (λ (ns : List (List ℕ)). AllGood (shapes ++ new) forms ns more) (sym (same_names rs)) k))
+  admitted (Ok x) k = (
+    few,
+    good_after (shapes ++ new) forms [] (map named rs) more kept
+        (subst (λ (ns : List (List ℕ)). AllGood (shapes ++ new) forms ns more) (sym (same_names rs)) k),
+  )
   admitted (Err Memory) k = tt
   admitted (Err TooManyRules) k = absurd k
   admitted (Err (TooManyVars n)) k = (few, first (TooManyVars n) k)

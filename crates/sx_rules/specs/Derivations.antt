@@ -1,12 +1,15 @@
 -- Derivations: what it is to derive a judgement.
-use Rattle.std.specs.Prelude.{◌≡◌, ℕ, zero, suc, ◌+◌, max, List, [], ◌∷◌, map, length, Option, Some, None, slice_get}
+use Rattle.std.specs.Prelude.{◌≡◌, ℕ, zero, suc, ◌+◌, max, List, [], ◌∷◌, map, length, Option, Some}
+use Rattle.std.specs.Prelude.{None, slice_get}
 use Rattle.sx_term.specs.Tree.{Tree}
 use Rattle.sx_rules.specs.Instances.{instance, bound_by}
-use Rattle.sx_rules.specs.Rules.{Judgement, Rule, Hypotheses, judgement_instance, judgements_of, AllApart}
+use Rattle.sx_rules.specs.Rules.{Judgement, Rule, Hypotheses, judgement_instance, judgements_of}
+use Rattle.sx_rules.specs.Rules.{AllApart}
 pub use Rattle.sx_rules.specs.Deep.{AreShallow}
 
 infixr 40 ◌⊳◌
--- a derivation: by a rule, with a term for each of its variables and a proof for each judgement among its premises, or a given
+-- a derivation: by a rule, with a term for each of its variables and a proof for each judgement
+-- among its premises, or a given
 mutual
   pub data Proof : Type 0 where
     by : ℕ → List Tree → Proofs → Proof
@@ -26,7 +29,8 @@ abbrev mutual
       × (length binds ≡ length rule.sorts)
       × (judgement_instance (bound_by binds) rule.conclusion ≡ j)
       × AllApart hyps (bound_by binds) rule.premises
-      × DeriveEach rules hyps (map (judgement_instance (bound_by binds)) (judgements_of rule.premises)) kids
+      × DeriveEach rules hyps (map (judgement_instance (bound_by binds))
+      (judgements_of rule.premises)) kids
 
   -- each judgement is derived by the proof at its place
   pub DeriveEach : List Rule → Hypotheses → List Judgement → Proofs → Type 0
@@ -81,7 +85,10 @@ pair_instance s p = (instance s p.0, instance s p.1)
 
 -- the instance of the hypotheses
 abbrev pub hypotheses_instance : (ℕ → Tree) → Hypotheses → Hypotheses
-hypotheses_instance s h = record { judgements = map (judgement_instance s) h.judgements; pairs = map (pair_instance s) h.pairs }
+hypotheses_instance s h = record {
+  judgements = map (judgement_instance s) h.judgements;
+  pairs = map (pair_instance s) h.pairs;
+}
 
 -- how deep a proof is; one without kids has depth 1
 abbrev mutual

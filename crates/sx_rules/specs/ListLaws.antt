@@ -10,5 +10,6 @@ use Rattle.sx_rules.specs.ListText.{IsEntry, list_lines, list_of}
 -- what was written is read again as the same list
 abbrev pub WrittenListIsRead : Type 0
 WrittenListIsRead =
-    (names : List (List ℕ)) (list : List Entry) → AreNames names → AreDistinct names → AllByRecursion (IsEntry names) list →
+    (names : List (List ℕ)) (list : List Entry) → AreNames names → AreDistinct names →
+    AllByRecursion (IsEntry names) list →
     list_of names (lines_from 1 (written (list_lines names list))) ≡ Ok list

@@ -1,5 +1,7 @@
 -- The text of a derivation list: the line `sxder 1`, and then one line for each entry.
-use Rattle.std.specs.Prelude.{◌≡◌, ℕ, zero, suc, ◌+◌, ◌^◌, ◌<◌, List, [], ◌∷◌, ◌++◌, length, slice_index_or, map, codes, Option, Some, None, option_map, option_and_then, Result}
+use Rattle.std.specs.Prelude.{◌≡◌, ℕ, zero, suc, ◌+◌, ◌^◌, ◌<◌, List, [], ◌∷◌, ◌++◌, length}
+use Rattle.std.specs.Prelude.{slice_index_or, map, codes, Option, Some, None, option_map}
+use Rattle.std.specs.Prelude.{option_and_then, Result}
 use Rattle.std.specs.Fmt.{decimal}
 use Rattle.std.specs.List.{AllByRecursion}
 use Rattle.sx_rules.specs.declared.entry.Entry.{Entry}
@@ -24,7 +26,8 @@ IsEntry names (Rule r) = r < length names
 IsEntry names (Given n) = n < 2 ^ 32
 
 -- the bytes are the text of this list
-pub record StatesList (names : List (List ℕ)) (lines : List (List ℕ)) (list : List Entry) : Type 0 where
+pub record StatesList (names : List (List ℕ)) (lines : List (List ℕ))
+    (list : List Entry) : Type 0 where
   pub spelled : lines ≡ list_lines names list
   pub entries : AllByRecursion (IsEntry names) list
 
@@ -35,7 +38,8 @@ before (suc n) = Some n
 
 -- the hypothesis that a line names
 unfoldable pub given_of : List ℕ → Option ℕ
-given_of text = option_and_then (λ digits. option_and_then before (number_within (2 ^ 32) digits)) (after (codes "given ") text)
+given_of text = option_and_then (λ digits. option_and_then before (number_within (2 ^ 32) digits))
+    (after (codes "given ") text)
 
 -- the entry that a line names
 abbrev pub given_or : Option ℕ → Option ℕ → Option Entry

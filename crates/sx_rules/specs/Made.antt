@@ -10,5 +10,6 @@ use Rattle.sx_rules.specs.Good.{IsRuleSet, IsRefused}
 -- the set has these shapes, forms and rules, and they are a rule set; or why they are none
 abbrev pub IsMade : List Shape → List FormData → List NamedRule → Result RuleSet RuleError → Type 0
 IsMade all known rules (Ok set) =
-    (shapes set.shapes ≡ all) × (forms set.forms.items ≡ known) × (map named set.rules.items ≡ rules) × IsRuleSet all known rules
+    (shapes set.shapes ≡ all) × (forms set.forms.items ≡ known) ×
+    (map named set.rules.items ≡ rules) × IsRuleSet all known rules
 IsMade all known rules (Err e) = IsRefused all known rules e

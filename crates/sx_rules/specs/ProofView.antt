@@ -2,7 +2,8 @@
 use Rattle.std.specs.Prelude.{List, [], ◌∷◌, map}
 use Rattle.std.specs.Global.{Box}
 use Rattle.sx_term.specs.Term.{tree}
-use Rattle.sx_rules.specs.declared.proof.Proof.{Proof as ProofOf, By', Given, Row_of-Proof-By-2-1, end_of-Proof-By-2-1, more_of-Proof-By-2-1}
+use Rattle.sx_rules.specs.declared.proof.Proof.{Proof as ProofOf, By', Given, Row_of-Proof-By-2-1}
+use Rattle.sx_rules.specs.declared.proof.Proof.{end_of-Proof-By-2-1, more_of-Proof-By-2-1}
 use Rattle.sx_rules.specs.Derivations.{Proof, Proofs, by, given, no_more, ◌⊳◌}
 
 -- a derivation as plain data

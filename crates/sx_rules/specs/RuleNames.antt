@@ -1,5 +1,6 @@
 -- The names of the rules of a set, in order.
-use Rattle.std.specs.Prelude.{◌≡◌, ◌≢◌, ℕ, ◌+◌, true, List, [], ◌∷◌, Option, Some, None, if◌then◌else◌}
+use Rattle.std.specs.Prelude.{◌≡◌, ◌≢◌, ℕ, ◌+◌, true, List, [], ◌∷◌, Option, Some, None}
+use Rattle.std.specs.Prelude.{if◌then◌else◌}
 use Rattle.std.specs.List.{AllByRecursion}
 use Rattle.std.specs.Str.{bytes_eq}
 use Rattle.sx_lines.specs.Words.{is_name}
@@ -7,7 +8,8 @@ use Rattle.sx_lines.specs.Words.{is_name}
 -- the number of the first rule of that name, where the rules are numbered from `from` on
 unfoldable pub place_from : ℕ → List (List ℕ) → List ℕ → Option ℕ
 place_from from [] name = None
-place_from from (x ∷ names) name = if bytes_eq x name then Some from else place_from (from + 1) names name
+place_from from (x ∷ names) name = if bytes_eq x name then Some from else place_from
+    (from + 1) names name
 
 -- no name stands twice
 abbrev pub AreDistinct : List (List ℕ) → Type 0

@@ -57,4 +57,5 @@ AreApart given s t = IsPair given.pairs s t ⊎ IsPair given.pairs t s ⊎ AreDi
 abbrev pub AllApart : Hypotheses → (ℕ → Tree) → List Premise → Type 0
 AllApart given s [] = Unit {0}
 AllApart given s (holds j ∷ ps) = AllApart given s ps
-AllApart given s (apart t u ∷ ps) = AreApart given (instance s t) (instance s u) × AllApart given s ps
+AllApart given s (apart t u ∷ ps) = AreApart given (instance s t) (instance s u) ×
+    AllApart given s ps

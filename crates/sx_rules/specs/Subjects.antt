@@ -1,5 +1,6 @@
 -- The first part of the subject discipline that a rule breaks.
-use Rattle.std.specs.Prelude.{◌≡◌, ℕ, ◌+◌, ◌<◌, length, slice_index_or, Bool, true, false, List, [], ◌∷◌, ◌++◌, Option, Some, None, map, slice_get, if◌then◌else◌, nat_eq}
+use Rattle.std.specs.Prelude.{◌≡◌, ℕ, ◌+◌, ◌<◌, length, slice_index_or, Bool, true, false, List, []}
+use Rattle.std.specs.Prelude.{◌∷◌, ◌++◌, Option, Some, None, map, slice_get, if◌then◌else◌, nat_eq}
 use Rattle.std.specs.List.{list_all}
 use Rattle.sx_term.specs.Tree.{Tree, node, lexeme, hole}
 use Rattle.sx_term.specs.declared.sort.Sort.{Sort}
@@ -85,7 +86,8 @@ is_again before Other = false
 -- the place, counted from n, of the first subject that stands before
 abbrev pub first_again : ℕ → List Subject → List Subject → Option ℕ
 first_again n before [] = None
-first_again n before (s ∷ ss) = if is_again before s then Some n else first_again (n + 1) (before ++ s ∷ []) ss
+first_again n before (s ∷ ss) = if is_again before s then Some n else first_again (n + 1)
+    (before ++ s ∷ []) ss
 
 -- whether there is a sort and it is typed
 abbrev pub is_typed : Option Sort → Bool
@@ -103,7 +105,8 @@ abbrev pub part_of : ℕ → Option ℕ → Option (ℕ × ℕ) → Option (ℕ 
 part_of part None next = next
 part_of part (Some n) next = Some (part, n)
 
--- the first part that is broken, and the number of the first premise that breaks it, from 1, or 0 for the last part
+-- the first part that is broken, and the number of the first premise that breaks it, from 1, or 0
+-- for the last part
 abbrev pub broken : List Sort → List Subject → List ℕ → Option (ℕ × ℕ)
 broken sorts subjects uses =
     part_of 1 (first_at is_other 1 subjects) (
@@ -113,9 +116,11 @@ broken sorts subjects uses =
 
 -- the variables of the conclusion's subject
 abbrev pub subject_uses : List FormData → Rule → List ℕ
-subject_uses forms rule = holes_among (chosen Subjects (places_at forms rule.conclusion.form) rule.conclusion.places)
+subject_uses forms rule = holes_among (chosen Subjects
+    (places_at forms rule.conclusion.form) rule.conclusion.places)
 
--- The first part of the discipline that the rule breaks, and the first premise that breaks it; that there is none exactly where
--- the rule is disciplined is a law.
+-- The first part of the discipline that the rule breaks, and the first premise that breaks it; that
+-- there is none exactly where the rule is disciplined is a law.
 abbrev pub broken_part : List FormData → Rule → Option (ℕ × ℕ)
-broken_part forms rule = broken rule.sorts (map (premise_subject forms) rule.premises) (subject_uses forms rule)
+broken_part forms rule = broken rule.sorts (map (premise_subject forms) rule.premises)
+    (subject_uses forms rule)

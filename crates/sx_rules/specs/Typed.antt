@@ -20,7 +20,8 @@ IsUntyped sorts v = (sort : Sort) × (slice_get sorts v ≡ Some sort) × IsUnty
 abbrev pub TypedInSubjects : Modes → List Sort → List Premise → Type 0
 TypedInSubjects subjects sorts [] = Unit {0}
 TypedInSubjects subjects sorts (holds j ∷ ps) =
-    ((v : ℕ) → StandsAmong v (others_of subjects j) → IsUntyped sorts v) × TypedInSubjects subjects sorts ps
+    ((v : ℕ) → StandsAmong v (others_of subjects j) → IsUntyped sorts v) ×
+    TypedInSubjects subjects sorts ps
 TypedInSubjects subjects sorts (apart t u ∷ ps) =
     ((v : ℕ) → Stands v t ⊎ Stands v u → IsUntyped sorts v) × TypedInSubjects subjects sorts ps
 
@@ -33,4 +34,5 @@ IsTypedInSubjects subjects rule =
 -- each variable of a typed sort is the subject of a premise
 abbrev pub TypedAreSubjects : Modes → Rule → Type 0
 TypedAreSubjects subjects rule =
-    (v : ℕ) → v < length rule.sorts → IsUntyped rule.sorts v ⊎ IsSubjectIn subjects v (judgements_of rule.premises)
+    (v : ℕ) → v < length rule.sorts → IsUntyped rule.sorts v ⊎
+    IsSubjectIn subjects v (judgements_of rule.premises)

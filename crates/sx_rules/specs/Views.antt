@@ -28,7 +28,11 @@ premise (Holds j) = holds (judgement j)
 premise (Apart s t) = apart (tree s) (tree t)
 
 abbrev pub rule : RuleOf → Rule
-rule r = record { sorts = r.vars.items; premises = map premise r.premises.items; conclusion = judgement r.conclusion }
+rule r = record {
+  sorts = r.vars.items;
+  premises = map premise r.premises.items;
+  conclusion = judgement r.conclusion;
+}
 
 -- a pair of terms, and hypotheses
 abbrev pub pair : Term × Term → Tree × Tree

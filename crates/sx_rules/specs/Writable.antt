@@ -23,4 +23,5 @@ PremisesHaveTexts (apart s t ∷ ps) = PremisesHaveTexts ps
 -- so have the terms of each rule's judgements
 abbrev pub RulesHaveTexts : List Rule → Type 0
 RulesHaveTexts [] = Unit {0}
-RulesHaveTexts (r ∷ rs) = (PremisesHaveTexts r.premises × HaveTexts r.conclusion.places) × RulesHaveTexts rs
+RulesHaveTexts (r ∷ rs) = (PremisesHaveTexts r.premises × HaveTexts r.conclusion.places) ×
+    RulesHaveTexts rs

@@ -3,7 +3,8 @@
 ghost use Rattle.std.specs.Prelude.{◌≡◌, ◌≤◌, IfOk, map};
 ghost use Rattle.sx_term.specs.Tree.{depth_of};
 ghost use Rattle.sx_term.specs.Term.{tree};
-ghost use Rattle.sx_rules.specs.Deep.{AreShallow, PremiseIsShallow, PremisesAreShallow, RuleIsShallow, RulesAreShallow};
+ghost use Rattle.sx_rules.specs.Deep.{AreShallow, PremiseIsShallow, PremisesAreShallow};
+ghost use Rattle.sx_rules.specs.Deep.{RuleIsShallow, RulesAreShallow};
 ghost use Rattle.sx_rules.specs.Views.{form, forms, judgement, premise, rule, named};
 
 use crate::rule::{Form, Judgement, Premise, Rule};

@@ -1,6 +1,7 @@
 //! The subject discipline.
 
-ghost use Rattle.std.specs.Prelude.{◌≡◌, ℕ, ◌+◌, ◌≤◌, IfOk, IsTrue, map, slice_get, Option, Some, None, nat_eq, []};
+ghost use Rattle.std.specs.Prelude.{◌≡◌, ℕ, ◌+◌, ◌≤◌, IfOk, IsTrue, map, slice_get, Option, Some};
+ghost use Rattle.std.specs.Prelude.{None, nat_eq, []};
 ghost use Rattle.std.specs.List.{list_all};
 ghost use Rattle.sx_term.specs.Term.{tree};
 ghost use Rattle.sx_rules.specs.Deep.{AreShallow, RuleIsShallow};

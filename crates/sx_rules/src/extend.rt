@@ -15,8 +15,8 @@ use std::alloc::Global;
 use sx_term::Shapes;
 
 impl RuleSet {
-    /// The rules of the set and then more, as a checked set with the forms of the base and with these shapes. The refusals
-    /// are those of `make`, of all these rules.
+    /// The rules of the set and then more, as a checked set with the forms of the base and with
+    /// these shapes. The refusals are those of `make`, of all these rules.
     pub fn extend(
         alloc: Global,
         base: &RuleSet,
@@ -24,7 +24,8 @@ impl RuleSet {
         more: Vec<Rule>,
     ) -> Result<RuleSet, RuleError>
         requires { RulesAreShallow (map rule more.items) }
-        ensures { IsMade (shapes all.now) (forms_in base.now) (rules_in base.now ++ map named more.items) result }
+        ensures { IsMade (shapes all.now) (forms_in base.now)
+            (rules_in base.now ++ map named more.items) result }
     {
         let mut more = more;
         let mut rules = match copy_rules(alloc, &base.rules) {

@@ -1,11 +1,14 @@
 //! Well sorted terms, judgements and rules.
 
-ghost use Rattle.std.specs.Prelude.{◌≡◌, ℕ, ◌+◌, ◌≤◌, ◌↔◌, IsTrue, map, slice_get, MatchOption, Some, None};
+ghost use Rattle.std.specs.Prelude.{◌≡◌, ℕ, ◌+◌, ◌≤◌, ◌↔◌, IsTrue, map, slice_get, MatchOption};
+ghost use Rattle.std.specs.Prelude.{Some, None};
 ghost use Rattle.sx_term.specs.Tree.{depth_of, greatest_depth, forest};
 ghost use Rattle.sx_term.specs.Term.{tree};
 ghost use Rattle.sx_term.specs.Sorts.{HasSort, KidsHaveSorts, HaveSorts};
-ghost use Rattle.sx_rules.specs.Deep.{AreShallow, PremiseIsShallow, PremisesAreShallow, RuleIsShallow};
-ghost use Rattle.sx_rules.specs.Fits.{JudgementFits, AreOfOneKind, PremiseFits, PremisesFit, RuleFits};
+ghost use Rattle.sx_rules.specs.Deep.{AreShallow, PremiseIsShallow, PremisesAreShallow};
+ghost use Rattle.sx_rules.specs.Deep.{RuleIsShallow};
+ghost use Rattle.sx_rules.specs.Fits.{JudgementFits, AreOfOneKind, PremiseFits, PremisesFit};
+ghost use Rattle.sx_rules.specs.Fits.{RuleFits};
 ghost use Rattle.sx_term.specs.Shapes.{shape, shapes};
 ghost use Rattle.sx_rules.specs.Views.{form, forms, judgement, premise, rule};
 
@@ -26,7 +29,8 @@ pub fn sort_at(vars: &[Sort], variable: u32) -> Option<Sort>
 /// Whether the terms have the sorts of the places, each its own.
 fn row_fits(all: &Shapes, terms: &[Term], vars: &[Sort], places: &[Place]) -> bool
     requires { AreShallow (map tree terms.now) }
-    ensures { IsTrue result ↔ HaveSorts (shapes all.now) vars.now (map tree terms.now) (map (λ p. p.sort) places.now) }
+    ensures { IsTrue result ↔ HaveSorts (shapes all.now) vars.now (map tree terms.now)
+        (map (λ p. p.sort) places.now) }
 {
     if terms.len() != places.len() {
         return false;
@@ -54,7 +58,8 @@ fn form_at(all: &[Form], number: u32) -> Option<&Form>
 /// Whether the judgement has a form, and for each place a term of its sort.
 pub fn judgement_fits(all: &Shapes, known: &[Form], vars: &[Sort], it: &Judgement) -> bool
     requires { AreShallow (map tree it.now.places.items) }
-    ensures { IsTrue result ↔ JudgementFits (shapes all.now) (forms known.now) vars.now (judgement it.now) }
+    ensures { IsTrue result ↔ JudgementFits (shapes all.now) (forms known.now) vars.now
+        (judgement it.now) }
 {
     match form_at(known, it.form) {
         Some(form) => row_fits(all, &it.places, vars, &form.places),
@@ -66,7 +71,8 @@ pub fn judgement_fits(all: &Shapes, known: &[Form], vars: &[Sort], it: &Judgemen
 fn both_fit(all: &Shapes, vars: &[Sort], left: &Term, right: &Term, kind: LexKind) -> bool
     requires left { depth_of (tree left.now) ≤ 1000 }
     requires right { depth_of (tree right.now) ≤ 1000 }
-    ensures { IsTrue result ↔ (HasSort (shapes all.now) vars.now (tree left.now) (Sort.Lex kind) × HasSort (shapes all.now) vars.now (tree right.now) (Sort.Lex kind)) }
+    ensures { IsTrue result ↔ (HasSort (shapes all.now) vars.now (tree left.now) (Sort.Lex kind) ×
+        HasSort (shapes all.now) vars.now (tree right.now) (Sort.Lex kind)) }
 {
     if !all.fits(left, vars, Sort::Lex(kind)) {
         return false;
@@ -78,7 +84,8 @@ fn both_fit(all: &Shapes, vars: &[Sort], left: &Term, right: &Term, kind: LexKin
 fn are_of_one_kind(all: &Shapes, vars: &[Sort], left: &Term, right: &Term) -> bool
     requires left { depth_of (tree left.now) ≤ 1000 }
     requires right { depth_of (tree right.now) ≤ 1000 }
-    ensures { IsTrue result ↔ AreOfOneKind (shapes all.now) vars.now (tree left.now) (tree right.now) }
+    ensures { IsTrue result ↔ AreOfOneKind (shapes all.now) vars.now (tree left.now)
+        (tree right.now) }
 {
     if both_fit(all, vars, left, right, LexKind::Id) {
         return true;
@@ -92,7 +99,8 @@ fn are_of_one_kind(all: &Shapes, vars: &[Sort], left: &Term, right: &Term) -> bo
 /// Whether the premise is well sorted.
 fn premise_fits(all: &Shapes, known: &[Form], vars: &[Sort], it: &Premise) -> bool
     requires { PremiseIsShallow (premise it.now) }
-    ensures { IsTrue result ↔ PremiseFits (shapes all.now) (forms known.now) vars.now (premise it.now) }
+    ensures { IsTrue result ↔ PremiseFits (shapes all.now) (forms known.now) vars.now
+        (premise it.now) }
 {
     match it {
         Premise::Holds(judgement) => judgement_fits(all, known, vars, judgement),
@@ -103,7 +111,8 @@ fn premise_fits(all: &Shapes, known: &[Form], vars: &[Sort], it: &Premise) -> bo
 /// Whether each premise is well sorted.
 fn premises_fit(all: &Shapes, known: &[Form], vars: &[Sort], premises: &[Premise]) -> bool
     requires { PremisesAreShallow (map premise premises.now) }
-    ensures { IsTrue result ↔ PremisesFit (shapes all.now) (forms known.now) vars.now (map premise premises.now) }
+    ensures { IsTrue result ↔ PremisesFit (shapes all.now) (forms known.now) vars.now
+        (map premise premises.now) }
 {
     for i in 0..premises.len() {
         if !premise_fits(all, known, vars, &premises[i]) {

@@ -9,8 +9,8 @@ use thiserror::Error;
 pub enum ListError {
     #[error("out of memory")]
     Memory,
-    /// The number of the first line that is not as defined, from 1; that of a line that is missing is 1 more than the number
-    /// of lines.
+    /// The number of the first line that is not as defined, from 1; that of a line that is missing
+    /// is 1 more than the number of lines.
     #[error("a line is no line of a derivation list")]
     BadList(u32),
 }

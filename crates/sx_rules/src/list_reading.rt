@@ -1,6 +1,7 @@
 //! Reading derivation lists.
 
-ghost use Rattle.std.specs.Prelude.{◌≡◌, ℕ, ◌+◌, ◌<◌, ◌^◌, List, length, codes, Ok, IfOk, IfErr, IfSome};
+ghost use Rattle.std.specs.Prelude.{◌≡◌, ℕ, ◌+◌, ◌<◌, ◌^◌, List, length, codes, Ok, IfOk, IfErr};
+ghost use Rattle.std.specs.Prelude.{IfSome};
 ghost use Rattle.sx_lines.specs.Left.{left};
 ghost use Rattle.sx_lines.specs.Lines.{lines_from, texts};
 ghost use Rattle.sx_rules.specs.BadLine.{IsFirstBad};
@@ -67,7 +68,8 @@ fn first_line(rest: Rest<'_>) -> Result<Rest<'_>, ListError>
 
 /// The entries that lines name.
 fn entries(alloc: Global, rules: &RuleSet, rest: Rest<'_>) -> Result<Vec<Entry>, ListError>
-    ensures { Gives (λ v. v.items) Refuses result (each_line (spec.entry_of (names_in rules.now)) (left rest.entry)) }
+    ensures { Gives (λ v. v.items) Refuses result
+        (each_line (spec.entry_of (names_in rules.now)) (left rest.entry)) }
 {
     let mut list = Vec::new(alloc);
     let mut rest = rest;
@@ -85,21 +87,26 @@ fn entries(alloc: Global, rules: &RuleSet, rest: Rest<'_>) -> Result<Vec<Entry>,
 #[tactic(auto, unfolding(crate::specs::ListText::list_of))]
 fn list(alloc: Global, rules: &RuleSet, bytes: &[u8]) -> Result<Vec<Entry>, ListError>
     requires { length bytes.now + 1 < 2 ^ 32 }
-    ensures { Gives (λ v. v.items) Refuses result (spec.list_of (names_in rules.now) (lines_from 1 bytes.now)) }
+    ensures { Gives (λ v. v.items) Refuses result
+        (spec.list_of (names_in rules.now) (lines_from 1 bytes.now)) }
 {
     let rest = first_line(Rest::all(bytes))?;
     entries(alloc, rules, rest)
 }
 
-/// The derivation list that the bytes state: the line `sxder 1`, and then for each entry a line with a rule's name or with
-/// `given N`, where N counts from 1. The refusal names the first line that is not as defined.
+/// The derivation list that the bytes state: the line `sxder 1`, and then for each entry a line
+/// with a rule's name or with `given N`, where N counts from 1. The refusal names the first line
+/// that is not as defined.
 pub fn read_list(alloc: Global, rules: &RuleSet, bytes: &[u8]) -> Result<Vec<Entry>, ListError>
     requires { length bytes.now + 1 < 2 ^ 32 }
-    ensures exact { Gives (λ v. v.items) Refuses result (spec.list_of (names_in rules.now) (lines_from 1 bytes.now)) }
+    ensures exact { Gives (λ v. v.items) Refuses result
+        (spec.list_of (names_in rules.now) (lines_from 1 bytes.now)) }
     // What is read is stated.
-    ensures found { IfOk result (λ v. StatesList (names_in rules.now) (texts (lines_from 1 bytes.now)) v.items) }
+    ensures found { IfOk result (λ v. StatesList (names_in rules.now)
+        (texts (lines_from 1 bytes.now)) v.items) }
     // What is stated is read, unless memory runs out.
-    ensures only { AreNames (names_in rules.now) → (list : List EntryOf) → StatesList (names_in rules.now) (texts (lines_from 1 bytes.now)) list
+    ensures only { AreNames (names_in rules.now) → (list : List EntryOf) →
+        StatesList (names_in rules.now) (texts (lines_from 1 bytes.now)) list
         → Gives (λ v. v.items) Refuses result (Ok list) }
     // The line that is refused is the first that is not as defined.
     ensures refused { AreNames (names_in rules.now) → IfErr result (λ e. IfSome (refusal e)

@@ -19,7 +19,8 @@ fn put_entry(
     into: &mut Vec<u8>,
 ) -> Result<(), NoMemory>
     requires { IsEntry (names_in rules.now) entry }
-    ensures ok { OnOk result (into.new.items ≡ into.old.items ++ entry_line (names_in rules.now) entry) }
+    ensures ok { OnOk result (into.new.items ≡ into.old.items
+        ++ entry_line (names_in rules.now) entry) }
     ensures err { OnErr result (BeginsWith into.new.items into.old.items) }
 {
     match entry {
@@ -43,7 +44,8 @@ fn put_line(
     into: &mut Vec<u8>,
 ) -> Result<(), NoMemory>
     requires { IsEntry (names_in rules.now) entry }
-    ensures ok { OnOk result (into.new.items ≡ into.old.items ++ (entry_line (names_in rules.now) entry ++ 10 ∷ [])) }
+    ensures ok { OnOk result (into.new.items ≡ into.old.items
+        ++ (entry_line (names_in rules.now) entry ++ 10 ∷ [])) }
     ensures err { OnErr result (BeginsWith into.new.items into.old.items) }
 {
     put_entry(alloc, rules, entry, into)?;
@@ -59,7 +61,8 @@ fn put_lines(
     into: &mut Vec<u8>,
 ) -> Result<(), NoMemory>
     requires { All (IsEntry (names_in rules.now)) list.now }
-    ensures ok { OnOk result (into.new.items ≡ into.old.items ++ written (list_lines (names_in rules.now) list.now)) }
+    ensures ok { OnOk result (into.new.items ≡ into.old.items
+        ++ written (list_lines (names_in rules.now) list.now)) }
     ensures err { OnErr result (BeginsWith into.new.items into.old.items) }
 {
     into.extend_from_slice(b"sxder 1\n")?;
@@ -69,8 +72,8 @@ fn put_lines(
     Ok(())
 }
 
-/// Appends the text of a list: the line `sxder 1`, and then for each entry a line with the rule's name or with `given N`, where
-/// N counts from 1. Where memory is lacking, the bytes are as before.
+/// Appends the text of a list: the line `sxder 1`, and then for each entry a line with the rule's
+/// name or with `given N`, where N counts from 1. Where memory is lacking, the bytes are as before.
 pub fn write_list(
     alloc: Global,
     rules: &RuleSet,
@@ -78,7 +81,8 @@ pub fn write_list(
     into: &mut Vec<u8>,
 ) -> Result<(), NoMemory>
     requires { AllByRecursion (IsEntry (names_in rules.now)) list.now }
-    ensures ok { OnOk result (into.new.items ≡ into.old.items ++ written (list_lines (names_in rules.now) list.now)) }
+    ensures ok { OnOk result (into.new.items ≡ into.old.items
+        ++ written (list_lines (names_in rules.now) list.now)) }
     ensures err { OnErr result (into.new.items ≡ into.old.items) }
 {
     let before = into.len();

@@ -1,6 +1,7 @@
 //! What a rule set has.
 
-ghost use Rattle.std.specs.Prelude.{◌≡◌, ◌≤◌, ◌^◌, ◌<◌, map, length, IfOk, MatchOption, slice_get, Some, None};
+ghost use Rattle.std.specs.Prelude.{◌≡◌, ◌≤◌, ◌^◌, ◌<◌, map, length, IfOk, MatchOption, slice_get};
+ghost use Rattle.std.specs.Prelude.{Some, None};
 ghost use Rattle.sx_term.specs.Shapes.{shapes};
 ghost use Rattle.sx_rules.specs.Views.{forms, named, rule_name, modes_of, subjects_in, sorts_of};
 ghost use Rattle.sx_rules.specs.Sets.{shapes_in, forms_in, rules_in, bare_rules_in, names_in};
@@ -71,12 +72,13 @@ impl RuleSet {
         }
     }
 
-    /// What holds of every rule set: at most 4,096 rules of distinct names, each well sorted, disciplined and moded, and no
-    /// term of them deeper than 1,000.
+    /// What holds of every rule set: at most 4,096 rules of distinct names, each well sorted,
+    /// disciplined and moded, and no term of them deeper than 1,000.
     pub fn facts(&self)
         ensures good { IsRuleSet (shapes_in self.now) (forms_in self.now) (rules_in self.now) }
         ensures moded { AllModed (modes_of (forms_in self.now)) (bare_rules_in self.now) }
-        ensures sorted { RulesAreSorted (shapes_in self.now) (sorts_of (forms_in self.now)) (bare_rules_in self.now) }
+        ensures sorted { RulesAreSorted (shapes_in self.now) (sorts_of (forms_in self.now))
+            (bare_rules_in self.now) }
         ensures shallow { RulesAreShallow (bare_rules_in self.now) }
         ensures distinct { AreDistinct (names_in self.now) }
     {}

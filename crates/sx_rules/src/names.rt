@@ -34,7 +34,8 @@ impl Names {
 
     /// The number of the name, or None where it is none of the names.
     pub(crate) fn number(&self, name: &[u8]) -> Option<usize>
-        ensures { MatchOption result (IsAmong name.now self.now → ⊥) (λ n. slice_get self.now n ≡ Some name.now) }
+        ensures { MatchOption result (IsAmong name.now self.now → ⊥)
+            (λ n. slice_get self.now n ≡ Some name.now) }
     {
         self.texts.get_index_of(name)
     }

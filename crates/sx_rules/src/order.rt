@@ -11,7 +11,8 @@ use crate::proof::Proof;
 use std::alloc::Global;
 use sx_term::NoMemory;
 
-/// The entries of the derivation in preorder: a node's own, and then those of its kids from the first to the last.
+/// The entries of the derivation in preorder: a node's own, and then those of its kids from the
+/// first to the last.
 pub fn preorder(alloc: Global, proof: &Proof) -> Result<Vec<Entry>, NoMemory>
     requires { height_of (view.proof proof.now) ≤ 3000 }
     ensures { IfOk result (λ list. entries list.items ≡ order_of (view.proof proof.now)) }
@@ -24,7 +25,8 @@ pub fn preorder(alloc: Global, proof: &Proof) -> Result<Vec<Entry>, NoMemory>
 /// Appends the entries of the derivation in preorder.
 fn put_order(proof: &Proof, into: &mut Vec<Entry>) -> Result<(), NoMemory>
     requires { height_of (view.proof proof.now) ≤ 3000 }
-    ensures { IfOk result (λ _. entries into.new.items ≡ entries into.old.items ++ order_of (view.proof proof.now)) }
+    ensures { IfOk result (λ _. entries into.new.items ≡ entries into.old.items
+        ++ order_of (view.proof proof.now)) }
 {
     match proof {
         Proof::By {

@@ -2,8 +2,8 @@
 
 use sx_term::Term;
 
-/// A derivation: by a rule, with a term for each variable of the rule and a proof for each judgement among its
-/// premises, or a hypothesis. Numbers count from 0.
+/// A derivation: by a rule, with a term for each variable of the rule and a proof for each
+/// judgement among its premises, or a hypothesis. Numbers count from 0.
 #[derive(Drop)]
 pub enum Proof {
     By {

@@ -7,20 +7,24 @@ use Rattle.sx_term.specs.Bindings.{lookup, Occurs, Extends, MakesEqual}
 
 -- what is bound besides are variables of the pattern
 abbrev pub AddsOnlyOf : List (ℕ × Tree) → List (ℕ × Tree) → Tree → Type 0
-AddsOnlyOf earlier later pattern = (v : ℕ) → IsSome (lookup later v) → IsSome (lookup earlier v) ⊎ Occurs v pattern
+AddsOnlyOf earlier later pattern = (v : ℕ) → IsSome (lookup later v) →
+    IsSome (lookup earlier v) ⊎ Occurs v pattern
 
 -- no extension of the bindings makes the pattern's instance the term
 abbrev pub NoneMakesEqual : List (ℕ × Tree) → Tree → Tree → Type 0
 NoneMakesEqual earlier pattern term = (b : List (ℕ × Tree)) → MakesEqual earlier b pattern term → ⊥
 
--- an extension by just the pattern's variables makes its instance the term, or none does and the bindings are as before
+-- an extension by just the pattern's variables makes its instance the term, or none does and the
+-- bindings are as before
 abbrev pub IsFit : List (ℕ × Tree) → List (ℕ × Tree) → Tree → Tree → Fit → Type 0
-IsFit earlier later pattern term Matched = MakesEqual earlier later pattern term × AddsOnlyOf earlier later pattern
+IsFit earlier later pattern term Matched = MakesEqual earlier later pattern term ×
+    AddsOnlyOf earlier later pattern
 IsFit earlier later pattern term Clash = NoneMakesEqual earlier pattern term × (later ≡ earlier)
 
 -- the bindings that make the pattern's instance the term are just those that extend the later ones
 abbrev pub IsLeast : List (ℕ × Tree) → List (ℕ × Tree) → Tree → Tree → Type 0
-IsLeast earlier later pattern term = (b : List (ℕ × Tree)) → MakesEqual earlier b pattern term ↔ Extends later b
+IsLeast earlier later pattern term = (b : List (ℕ × Tree)) →
+    MakesEqual earlier b pattern term ↔ Extends later b
 
 -- the later bindings are the earlier ones with more entries behind them
 abbrev pub Appends : List (ℕ × Tree) → List (ℕ × Tree) → Type 0

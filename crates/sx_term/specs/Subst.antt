@@ -10,5 +10,6 @@ use Rattle.sx_term.specs.Term.{tree}
 abbrev pub IsWithinLimits : Tree → Result Term TermError → Type 0
 IsWithinLimits t (Ok made) = (tree made ≡ t) × (depth_of t ≤ 1000) × (size_of t ≤ 1000000)
 IsWithinLimits t (Err (TooDeep depth)) = (1000 < depth_of t) × (depth ≡ depth_of t)
-IsWithinLimits t (Err (TooBig nodes)) = (depth_of t ≤ 1000) × (1000000 < size_of t) × (nodes ≡ min (size_of t) (2 ^ 64 - 1))
+IsWithinLimits t (Err (TooBig nodes)) = (depth_of t ≤ 1000) × (1000000 < size_of t) ×
+    (nodes ≡ min (size_of t) (2 ^ 64 - 1))
 IsWithinLimits t (Err Memory) = Unit {0}

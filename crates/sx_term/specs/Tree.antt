@@ -1,10 +1,12 @@
 -- Terms as plain data, and what is said of them.
-use Rattle.std.specs.Prelude.{◌≡◌, refl, ℕ, ◌+◌, List, [], ◌∷◌, max, Option, Some, slice_get, option_and_then}
+use Rattle.std.specs.Prelude.{◌≡◌, refl, ℕ, ◌+◌, List, [], ◌∷◌, max, Option, Some, slice_get}
+use Rattle.std.specs.Prelude.{option_and_then}
 use Rattle.sx_term.specs.declared.lex_kind.LexKind.{LexKind}
 
 infixr 40 ◌▹◌
 mutual
-  -- a term as plain data: a node with its label and kids, a lexeme with its kind and bytes, a variable with its number
+  -- a term as plain data: a node with its label and kids, a lexeme with its kind and bytes, a
+  -- variable with its number
   pub data Tree : Type 0 where
     node : ℕ → Trees → Tree
     lexeme : LexKind → List ℕ → Tree

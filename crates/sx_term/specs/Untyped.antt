@@ -16,4 +16,5 @@ AreUntypedSorts (sort ∷ sorts) = IsUntypedSort sort × AreUntypedSorts sorts
 -- plain constructors have no typed part
 abbrev pub PlainHaveNoTyped : List Shape → Type 0
 PlainHaveNoTyped shapes =
-    (label : ℕ) (shape : Shape) → slice_get shapes label ≡ Some shape → IsUntypedSort shape.sort → AreUntypedSorts shape.kids
+    (label : ℕ) (shape : Shape) → slice_get shapes label ≡ Some shape → IsUntypedSort shape.sort →
+    AreUntypedSorts shape.kids

@@ -1,6 +1,8 @@
 //! Finite maps from variables to terms.
 
-ghost use Rattle.std.specs.Prelude.{◌≡◌, ℕ, ◌+◌, ◌-◌, ◌^◌, ◌<◌, ◌≤◌, ◌==◌, ◌++◌, ◌∷◌, [], ◌↔◌, IsTrue, IfOk, IfSome, OnOk, OnErr, MatchOption, Some, None, if◌then◌else◌, slice_get, length, take, min};
+ghost use Rattle.std.specs.Prelude.{◌≡◌, ℕ, ◌+◌, ◌-◌, ◌^◌, ◌<◌, ◌≤◌, ◌==◌, ◌++◌, ◌∷◌, [], ◌↔◌};
+ghost use Rattle.std.specs.Prelude.{IsTrue, IfOk, IfSome, OnOk, OnErr, MatchOption, Some, None};
+ghost use Rattle.std.specs.Prelude.{if◌then◌else◌, slice_get, length, take, min};
 ghost use Rattle.sx_term.specs.Tree.{depth_of};
 ghost use Rattle.sx_term.specs.Term.{tree};
 ghost use Rattle.sx_term.specs.Bindings.{lookup};
@@ -11,8 +13,9 @@ use crate::no_memory::NoMemory;
 use crate::term::Term;
 use std::alloc::Global;
 
-/// A finite map from variables to terms. A variable is its number, and each term that it is bound to has depth 1,000 at most.
-/// An entry is found by going through them, since a rule has few variables.
+/// A finite map from variables to terms. A variable is its number, and each term that it is bound
+/// to has depth 1,000 at most. An entry is found by going through them, since a rule has few
+/// variables.
 #[derive(Drop)]
 pub struct Bindings {
     pub(crate) entries: Vec<Binding>,
@@ -64,7 +67,8 @@ impl Bindings {
         }
     }
 
-    /// Binds the variable to the term, in place of what it was bound to. Where memory is lacking, the map is as before.
+    /// Binds the variable to the term, in place of what it was bound to. Where memory is lacking,
+    /// the map is as before.
     pub fn set(&mut self, variable: u32, term: Term) -> Result<(), NoMemory>
         requires { depth_of (tree term) ≤ 1000 }
         ensures ok { OnOk result ((v : ℕ) → lookup (bindings self.new) v
@@ -83,7 +87,8 @@ impl Bindings {
     /// Binds a variable that is not bound. Where memory is lacking, the map is as before.
     pub(crate) fn push(&mut self, variable: u32, term: Term) -> Result<(), NoMemory>
         requires { depth_of (tree term) ≤ 1000 }
-        ensures ok { OnOk result (bindings self.new ≡ bindings self.old ++ (variable, tree term) ∷ []) }
+        ensures ok { OnOk result (bindings self.new ≡ bindings self.old
+            ++ (variable, tree term) ∷ []) }
         ensures err { OnErr result (bindings self.new ≡ bindings self.old) }
     {
         self.entries.push(Binding::new(variable, term))?;

@@ -55,7 +55,8 @@ pub(crate) fn build(alloc: Global, text: &[u8], at: usize) -> Result<(Term, usiz
 /// The lexeme whose core text begins at the place.
 fn build_lexeme(alloc: Global, text: &[u8], at: usize) -> Result<(Term, usize), NoMemory>
     requires place { at < length text.now }
-    requires starts { (kind : LexKind) × (bytes : List ℕ) × Starts (drop at text.now) (lexeme kind bytes) }
+    requires starts { (kind : LexKind) × (bytes : List ℕ) ×
+        Starts (drop at text.now) (lexeme kind bytes) }
     ensures { IfOk result (λ r. IsBuilt text.now at (tree r.0) r.1) }
 {
     let first = text[at];

@@ -10,8 +10,8 @@ pub enum CoreError {
     /// Memory is lacking.
     #[error("out of memory")]
     Memory,
-    /// No core text stands at the place. The byte with this number, from 0, is the first that can't stand where it does; it is the
-    /// number of bytes where the text is cut off.
+    /// No core text stands at the place. The byte with this number, from 0, is the first that can't
+    /// stand where it does; it is the number of bytes where the text is cut off.
     #[error("a bad core text")]
     BadCore(usize),
     /// A core text stands there, of a term with this depth, which is more than 1,000.

@@ -10,9 +10,9 @@ use crate::no_memory::NoMemory;
 use crate::term::Term;
 use std::alloc::Global;
 
-/// Appends the core text of the term: `(`, the label and the kids, each behind a blank, and `)` for a node; the first letter of
-/// its kind, the number of its bytes, `:` and the bytes for a lexeme; `?` and the number for a variable. Where memory is lacking,
-/// `into` is as before.
+/// Appends the core text of the term: `(`, the label and the kids, each behind a blank, and `)` for
+/// a node; the first letter of its kind, the number of its bytes, `:` and the bytes for a lexeme;
+/// `?` and the number for a variable. Where memory is lacking, `into` is as before.
 pub fn write_core(alloc: Global, term: &Term, into: &mut Vec<u8>) -> Result<(), NoMemory>
     requires depth { depth_of (tree term.now) ≤ 1000 }
     requires writable { IsWritable (tree term.now) }

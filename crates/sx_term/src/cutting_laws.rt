@@ -10,16 +10,21 @@ ghost use Rattle.sx_term.specs.Spaced.{IsTokenText, spaced, placed, AreBlanks};
 /// The cutting of a text is one: it has its tokens or its first defect, and no two of them.
 pub fn one_outcome()
     ensures { (literals : List (List ℕ)) (metas : Bool) (bytes : List ℕ) (one other : Outcome) →
-        AreDistinct literals → IsOutcome literals metas bytes one → IsOutcome literals metas bytes other → one ≡ other }
+        AreDistinct literals → IsOutcome literals metas bytes one →
+        IsOutcome literals metas bytes other → one ≡ other }
 {}
 
-/// Tokens that are written with one blank between them, and blanks at the end, are cut into just these.
+/// Tokens that are written with one blank between them, and blanks at the end, are cut into just
+/// these.
 pub fn spaced_is_cut()
-    ensures outcome { (literals : List (List ℕ)) (metas : Bool) (ts : List (Mark × List ℕ)) (ending : List ℕ) →
-        AllByRecursion (λ t. IsTokenText literals metas t.0 t.1) ts → AllByRecursion (λ t. IsUtf8 t.1) ts →
+    ensures outcome { (literals : List (List ℕ)) (metas : Bool) (ts : List (Mark × List ℕ))
+        (ending : List ℕ) →
+        AllByRecursion (λ t. IsTokenText literals metas t.0 t.1) ts →
+        AllByRecursion (λ t. IsUtf8 t.1) ts →
         AreBlanks ending → length ts ≤ 10000 →
         IsOutcome literals metas (spaced ts ++ ending) (tokens (placed 0 ts)) }
-    ensures cut { (literals : List (List ℕ)) (metas : Bool) (ts : List (Mark × List ℕ)) (ending : List ℕ) →
+    ensures cut { (literals : List (List ℕ)) (metas : Bool) (ts : List (Mark × List ℕ))
+        (ending : List ℕ) →
         AllByRecursion (λ t. IsTokenText literals metas t.0 t.1) ts → AreBlanks ending →
         Cuts literals metas (length (spaced ts ++ ending)) (spaced ts ++ ending) (placed 0 ts) [] }
 {}

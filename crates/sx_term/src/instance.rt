@@ -16,10 +16,11 @@ use std::alloc::Global;
 /// The greatest depth of an instance.
 const MOST_DEPTH: u32 = 1000;
 
-/// The instance: the term with each variable replaced by what it is bound to. A variable that is not bound stays.
+/// The instance: the term with each variable replaced by what it is bound to. A variable that is
+/// not bound stays.
 ///
-/// The instance is measured before it is made. It is refused as TooDeep where its depth is more than 1,000, and else as TooBig
-/// where it has more than 1,000,000 nodes, lexemes and variables.
+/// The instance is measured before it is made. It is refused as TooDeep where its depth is more
+/// than 1,000, and else as TooBig where it has more than 1,000,000 nodes, lexemes and variables.
 pub fn subst(alloc: Global, term: &Term, with: &Bindings) -> Result<Term, TermError>
     requires { depth_of (tree term.now) ≤ 1000 }
     ensures { IsWithinLimits (instance (bindings with.now) (tree term.now)) result }

@@ -1,14 +1,18 @@
 //! Terms: what every other crate of soundx speaks of.
 //!
-//! - Terms and what they are made of: `Term`, `LexKind`, `Text`, `Path`; the names of variables: `Vars`.
+//! - Terms and what they are made of: `Term`, `LexKind`, `Text`, `Path`; the names of variables:
+//!   `Vars`.
 //! - Sorts of terms: `Sort`, `Con`, `Shapes`. What the places of judgements are for: `Role`.
 //! - Instances and matching: `Bindings`, `subst`, `match_term`, `Fit`.
-//! - Core notation, in which a term is one line of text: `write_core`, `read_core`, and the laws that join them.
-//! - Tokens: `Mark`, `literal_shape`, the runs of characters in `runs`, and the laws of cutting a text into tokens.
+//! - Core notation, in which a term is one line of text: `write_core`, `read_core`, and the laws
+//!   that join them.
+//! - Tokens: `Mark`, `literal_shape`, the runs of characters in `runs`, and the laws of cutting a
+//!   text into tokens.
 //! - `Steps` counts the tries of a search.
 //!
-//! Contracts see a term as a plain tree (`specs/Tree.antt`), a text as its bytes, bindings as a list of variables with trees, and
-//! shapes as lists of sorts. What a call that can refuse answers is one definition by cases on its result, in which `Memory` is free.
+//! Contracts see a term as a plain tree (`specs/Tree.antt`), a text as its bytes, bindings as a
+//! list of variables with trees, and shapes as lists of sorts. What a call that can refuse answers
+//! is one definition by cases on its result, in which `Memory` is free.
 #![tactic(auto)]
 
 mod binding;

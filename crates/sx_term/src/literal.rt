@@ -10,7 +10,8 @@ use crate::text::Text;
 /// What a text is as a literal of a grammar.
 #[derive(Clone, Copy, PartialEq, Eq, Debug)]
 pub enum LiteralShape {
-    /// A word: a character that can begin an identifier or `_`, and then characters that can go on with one.
+    /// A word: a character that can begin an identifier or `_`, and then characters that can go on
+    /// with one.
     Word,
     /// One or more symbol characters, without `//`.
     Symbol,

@@ -1,6 +1,7 @@
 //! Matching of a pattern with a term.
 
-ghost use Rattle.std.specs.Prelude.{◌≡◌, ℕ, ◌≤◌, ◌++◌, ◌∷◌, [], IfOk, IfSome, OnOk, OnErr, MatchBool, MatchOption, Some, None};
+ghost use Rattle.std.specs.Prelude.{◌≡◌, ℕ, ◌≤◌, ◌++◌, ◌∷◌, [], IfOk, IfSome, OnOk, OnErr};
+ghost use Rattle.std.specs.Prelude.{MatchBool, MatchOption, Some, None};
 ghost use Rattle.sx_term.specs.Tree.{depth_of};
 ghost use Rattle.sx_term.specs.Term.{tree};
 ghost use Rattle.sx_term.specs.Bindings.{lookup};
@@ -15,11 +16,11 @@ use crate::no_memory::NoMemory;
 use crate::term::Term;
 use std::alloc::Global;
 
-/// Extends the bindings by the variables of the pattern that are not bound, so that the pattern's instance is the term. Variables of
-/// the term are constants.
+/// Extends the bindings by the variables of the pattern that are not bound, so that the pattern's
+/// instance is the term. Variables of the term are constants.
 ///
-/// Clash comes exactly where no extension does that. It is known before any part of the term is copied. After a Clash, and where
-/// memory is lacking, the bindings are as before.
+/// Clash comes exactly where no extension does that. It is known before any part of the term is
+/// copied. After a Clash, and where memory is lacking, the bindings are as before.
 pub fn match_term(
     alloc: Global,
     pattern: &Term,
@@ -28,7 +29,8 @@ pub fn match_term(
 ) -> Result<Fit, NoMemory>
     requires pattern_depth { depth_of (tree pattern.now) ≤ 1000 }
     requires term_depth { depth_of (tree term.now) ≤ 1000 }
-    ensures fit { IfOk result (λ fit. IsFit (bindings bound.old) (bindings bound.new) (tree pattern.now) (tree term.now) fit) }
+    ensures fit { IfOk result (λ fit. IsFit (bindings bound.old) (bindings bound.new)
+        (tree pattern.now) (tree term.now) fit) }
     ensures err { OnErr result (bindings bound.new ≡ bindings bound.old) }
 {
     let mut parts = Vec::new(alloc);
@@ -41,8 +43,10 @@ pub fn match_term(
 
 /// What the variable is bound to, or would be bound to.
 fn known<'a>(bound: &'a Bindings, parts: &'a [Candidate<'a>], variable: u32) -> Option<&'a Term>
-    ensures value { MatchOption result (lookup (bindings bound.now ++ candidates parts.now) variable ≡ None)
-        (λ part. lookup (bindings bound.now ++ candidates parts.now) variable ≡ Some (tree part.now)) }
+    ensures value { MatchOption result (lookup (bindings bound.now ++ candidates parts.now) variable
+        ≡ None)
+        (λ part. lookup (bindings bound.now ++ candidates parts.now) variable
+        ≡ Some (tree part.now)) }
     ensures depth { IfSome result (λ part. depth_of (tree part.now) ≤ 1000) }
 {
     if let Some(binding) = bound.entry(variable) {
@@ -56,7 +60,8 @@ fn known<'a>(bound: &'a Bindings, parts: &'a [Candidate<'a>], variable: u32) -> 
     None
 }
 
-/// Finds the parts of the term at the pattern's variables that are not bound, as far as the two agree.
+/// Finds the parts of the term at the pattern's variables that are not bound, as far as the two
+/// agree.
 fn collect<'a>(
     pattern: &Term,
     term: &'a Term,
@@ -66,9 +71,12 @@ fn collect<'a>(
     requires pattern_depth { depth_of (tree pattern.now) ≤ 1000 }
     requires term_depth { depth_of (tree term.now) ≤ 1000 }
     ensures { IfOk result (λ fits. MatchBool fits
-        (IsLeast (bindings bound.now ++ candidates parts.old.items) (bindings bound.now ++ candidates parts.new.items) (tree pattern.now) (tree term.now)
-        × AddsOnlyOf (bindings bound.now ++ candidates parts.old.items) (bindings bound.now ++ candidates parts.new.items) (tree pattern.now))
-        (NoneMakesEqual (bindings bound.now ++ candidates parts.old.items) (tree pattern.now) (tree term.now))) }
+        (IsLeast (bindings bound.now ++ candidates parts.old.items)
+        (bindings bound.now ++ candidates parts.new.items) (tree pattern.now) (tree term.now)
+        × AddsOnlyOf (bindings bound.now ++ candidates parts.old.items)
+        (bindings bound.now ++ candidates parts.new.items) (tree pattern.now))
+        (NoneMakesEqual (bindings bound.now ++ candidates parts.old.items) (tree pattern.now)
+        (tree term.now))) }
 {
     match pattern {
         Term::Node { label, kids } => match term {
@@ -128,7 +136,8 @@ fn bind_all(alloc: Global, parts: &[Candidate], bound: &mut Bindings) -> Result<
 
 /// Binds the variable to a copy of its part.
 fn bind(alloc: Global, candidate: &Candidate, bound: &mut Bindings) -> Result<(), NoMemory>
-    ensures ok { OnOk result (bindings bound.new ≡ bindings bound.old ++ candidates (candidate.now ∷ [])) }
+    ensures ok { OnOk result (bindings bound.new ≡ bindings bound.old
+        ++ candidates (candidate.now ∷ [])) }
     ensures err { OnErr result (bindings bound.new ≡ bindings bound.old) }
 {
     let term = candidate.part.copy(alloc)?;

@@ -1,6 +1,7 @@
 //! The shapes of constructors, and well sorted terms.
 
-ghost use Rattle.std.specs.Prelude.{◌≡◌, ℕ, ◌+◌, ◌≤◌, ◌↔◌, IsTrue, IfOk, map, slice_get, MatchOption, Some, None};
+ghost use Rattle.std.specs.Prelude.{◌≡◌, ℕ, ◌+◌, ◌≤◌, ◌↔◌, IsTrue, IfOk, map, slice_get};
+ghost use Rattle.std.specs.Prelude.{MatchOption, Some, None};
 ghost use Rattle.sx_term.specs.Tree.{depth_of, greatest_depth, forest};
 ghost use Rattle.sx_term.specs.Term.{tree};
 ghost use Rattle.sx_term.specs.Sorts.{HasSort, KidsHaveSorts};
@@ -49,7 +50,8 @@ impl Shapes {
         None
     }
 
-    /// Whether the term is well sorted and has the sort, where the variables 0, 1, 2 and so on have these sorts.
+    /// Whether the term is well sorted and has the sort, where the variables 0, 1, 2 and so on have
+    /// these sorts.
     #[cycle(fits)]
     pub fn fits(&self, term: &Term, vars: &[Sort], sort: Sort) -> bool
         requires { depth_of (tree term.now) ≤ 1000 }
@@ -89,7 +91,8 @@ impl Shapes {
 #[cycle(fits)]
 fn kids_fit(all: &Shapes, terms: &[Term], vars: &[Sort], sorts: &[Sort]) -> bool
     requires { greatest_depth (forest (map tree terms.now)) ≤ 1000 }
-    ensures { IsTrue result ↔ KidsHaveSorts (shapes all.now) vars.now (forest (map tree terms.now)) sorts.now }
+    ensures { IsTrue result ↔ KidsHaveSorts (shapes all.now) vars.now
+        (forest (map tree terms.now)) sorts.now }
 {
     if terms.len() != sorts.len() {
         return false;

@@ -5,8 +5,9 @@ ghost use Rattle.std.specs.Prelude.{◌≡◌, ℕ, ◌+◌, ◌<◌};
 use std::marker::Model;
 use std::sync::ledger::{Blank, Book, Ledger, Share};
 
-/// How many tries a search has made. One tick is one try: a hypothesis or a rule is held against a goal. The count stands in the
-/// ledger `L` of proofs alone, so that it takes no bytes and has no greatest value, and only `tick` changes it.
+/// How many tries a search has made. One tick is one try: a hypothesis or a rule is held against a
+/// goal. The count stands in the ledger `L` of proofs alone, so that it takes no bytes and has no
+/// greatest value, and only `tick` changes it.
 #[derive(Drop)]
 pub struct Steps<L: Ledger> {
     book: Book<L>,

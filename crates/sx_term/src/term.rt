@@ -1,6 +1,7 @@
 //! Terms: nodes, lexemes and variables.
 
-ghost use Rattle.std.specs.Prelude.{◌≡◌, ℕ, ◌+◌, ◌-◌, ◌^◌, ◌<◌, ◌≤◌, ◌↔◌, IsTrue, IfOk, IfSome, MatchOption, Some, None, map, min};
+ghost use Rattle.std.specs.Prelude.{◌≡◌, ℕ, ◌+◌, ◌-◌, ◌^◌, ◌<◌, ◌≤◌, ◌↔◌, IsTrue, IfOk, IfSome};
+ghost use Rattle.std.specs.Prelude.{MatchOption, Some, None, map, min};
 ghost use Rattle.sx_term.specs.Tree.{depth_of, greatest_depth, forest, size_of, part_at};
 ghost use Rattle.sx_term.specs.Term.{tree};
 
@@ -10,8 +11,9 @@ use crate::path::Path;
 use crate::text::Text;
 use std::alloc::{AllocError, AllocFailed, Global};
 
-/// A term. The depth of a lexeme, a variable or a node without kids is 1, and that of another node is 1 more than its deepest kid's.
-/// Every call that recurs on a term asks for a depth of 1,000 at most.
+/// A term. The depth of a lexeme, a variable or a node without kids is 1, and that of another node
+/// is 1 more than its deepest kid's. Every call that recurs on a term asks for a depth of 1,000 at
+/// most.
 #[derive(Drop)]
 pub enum Term {
     /// A node. Its label is a position in `Shapes::cons`.
@@ -23,7 +25,8 @@ pub enum Term {
 }
 
 impl Term {
-    /// The size: the number of nodes, lexemes and variables, or the greatest u64 where there are more.
+    /// The size: the number of nodes, lexemes and variables, or the greatest u64 where there are
+    /// more.
     pub fn size(&self) -> u64
         requires { depth_of (tree self.now) ≤ 1000 }
         ensures { result ≡ min (size_of (tree self.now)) (2 ^ 64 - 1) }
@@ -114,7 +117,8 @@ impl Term {
     pub fn at(&self, path: &Path) -> Option<&Term>
         ensures part { MatchOption result (part_at (tree self.now) path.now.steps.items ≡ None)
             (λ part. part_at (tree self.now) path.now.steps.items ≡ Some (tree part.now)) }
-        ensures depth { IfSome result (λ part. depth_of (tree part.now) ≤ depth_of (tree self.now)) }
+        ensures depth { IfSome result (λ part.
+            depth_of (tree part.now) ≤ depth_of (tree self.now)) }
     {
         let mut here = self;
         for step in &path.steps {

@@ -13,7 +13,8 @@ pub enum TermError {
     /// The instance has this depth, which is more than 1,000.
     #[error("a term is too deep")]
     TooDeep(u32),
-    /// The instance has so many nodes, lexemes and variables, which are more than 1,000,000. The number stays at the greatest u64.
+    /// The instance has so many nodes, lexemes and variables, which are more than 1,000,000. The
+    /// number stays at the greatest u64.
     #[error("a term has too many nodes")]
     TooBig(u64),
 }

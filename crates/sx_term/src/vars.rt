@@ -1,6 +1,7 @@
 //! The names of variables.
 
-ghost use Rattle.std.specs.Prelude.{◌≡◌, ◌+◌, ◌-◌, ◌^◌, ◌<◌, ◌≤◌, [], length, slice_get, option_copied, IfOk, OnErr};
+ghost use Rattle.std.specs.Prelude.{◌≡◌, ◌+◌, ◌-◌, ◌^◌, ◌<◌, ◌≤◌, [], length, slice_get};
+ghost use Rattle.std.specs.Prelude.{option_copied, IfOk, OnErr};
 ghost use Rattle.sx_term.specs.Cutting.{AreDistinct};
 ghost use Rattle.sx_term.specs.Vars.{IsAdded};
 
@@ -38,7 +39,8 @@ impl Vars {
         }
     }
 
-    /// The number of the name, which is added last where it is not there. Where memory is lacking, the names are as before.
+    /// The number of the name, which is added last where it is not there. Where memory is lacking,
+    /// the names are as before.
     pub fn add(&mut self, name: Text) -> Result<u32, NoMemory>
         requires { length self.old < 2 ^ 32 - 1 }
         ensures ok { IfOk result (λ number. IsAdded self.old self.new name number) }

@@ -1,4 +1,5 @@
--- What stands at the front of a text: blanks or a comment, a token, a string without end, or none of these.
+-- What stands at the front of a text: blanks or a comment, a token, a string without end, or none
+-- of these.
 use Rattle.std.specs.Prelude.{◌≡◌, ℕ, ◌<◌, ◌==◌, Bool, IsFalse, List, ◌++◌, take, drop}
 use Rattle.std.specs.Char.{encode_utf8, is_ascii_digit}
 use Rattle.std.specs.Str.{IsCharBoundary}
@@ -13,7 +14,8 @@ IsCut text n = (0 < n) × IsCharBoundary text n
 -- what stands at the front of the text
 abbrev pub IsFront : List (List ℕ) → Bool → List ℕ → Front → Type 0
 IsFront literals metas text (Skip n) = IsCut text n × Skips text (drop n text)
-IsFront literals metas text (Token mark n) = IsCut text n × Stands literals metas mark (take n text) (drop n text)
+IsFront literals metas text (Token mark n) =
+    IsCut text n × Stands literals metas mark (take n text) (drop n text)
 IsFront literals metas text Open = IsOpenString text
 IsFront literals metas text Bad = IsBadToken literals metas text
 

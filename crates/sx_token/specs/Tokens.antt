@@ -1,10 +1,13 @@
 -- What an answer of `tokens` says of the text.
 use Rattle.std.specs.Prelude.{List, map, Option, Some, None, Result, Ok, Err}
 use Rattle.std.specs.Global.{Vec}
-use Rattle.sx_term.specs.Cutting.{Piece, Outcome, tokens, not_utf8, bad_token, too_many, open_string}
+use Rattle.sx_term.specs.Cutting.{Piece, Outcome, tokens, not_utf8, bad_token, too_many}
+use Rattle.sx_term.specs.Cutting.{open_string}
 use Rattle.sx_token.specs.declared.token.Token.{Token}
 use Rattle.sx_token.specs.declared.token_error.TokenError.{TokenError}
-use Rattle.sx_token.specs.declared.token_error.TokenError.TheVariants.{NotUtf8, BadToken, TooManyTokens, OpenString, Memory}
+use Rattle.sx_token.specs.declared.token_error.TokenError.TheVariants.{NotUtf8, BadToken}
+use Rattle.sx_token.specs.declared.token_error.TokenError.TheVariants.{TooManyTokens, OpenString}
+use Rattle.sx_token.specs.declared.token_error.TokenError.TheVariants.{Memory}
 
 -- a token as plain data
 abbrev pub piece_of : Token → Piece

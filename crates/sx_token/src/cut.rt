@@ -23,7 +23,8 @@ fn push_token(
     from: u32,
     to: u32,
 ) -> Result<(), TokenError>
-    ensures ok { OnOk result (pieces out.new.items ≡ pieces out.old.items ++ record { mark = mark; text = text.now; from = from; to = to } ∷ []) }
+    ensures ok { OnOk result (pieces out.new.items ≡ pieces out.old.items
+        ++ record { mark = mark; text = text.now; from = from; to = to } ∷ []) }
     ensures memory { IfErr result (λ e. e ≡ TokenError.Memory) }
 {
     let text = text_of(alloc, text)?;

@@ -33,7 +33,8 @@ pub fn tokens(
     ensures outcome { IfSome (outcome_of result) (IsOutcome literals.now metas bytes.now) }
 
     // What holds of the text is answered, unless memory runs out.
-    ensures only { (o : Outcome) → IsOutcome literals.now metas bytes.now o → IfSome (outcome_of result) (λ answer. answer ≡ o) }
+    ensures only { (o : Outcome) → IsOutcome literals.now metas bytes.now o →
+        IfSome (outcome_of result) (λ answer. answer ≡ o) }
 {
     Literals::new(alloc, literals)?.tokens(alloc, bytes, metas)
 }

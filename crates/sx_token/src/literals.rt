@@ -28,7 +28,8 @@ impl<'a> Model for Literals<'a> {
 
     ghost view = { λ l. l.table.literals.now };
 
-    ghost invariant = { λ l. AreDistinct l.table.literals.now × IsTable l.table.literals.now l.table };
+    ghost invariant = { λ l. AreDistinct l.table.literals.now ×
+        IsTable l.table.literals.now l.table };
 }
 
 impl<'a> Literals<'a> {
@@ -51,7 +52,8 @@ impl<'a> Literals<'a> {
         ensures outcome { IfSome (outcome_of result) (IsOutcome self.now metas bytes.now) }
 
         // What holds of the text is answered, unless memory runs out.
-        ensures only { (o : Outcome) → IsOutcome self.now metas bytes.now o → IfSome (outcome_of result) (λ answer. answer ≡ o) }
+        ensures only { (o : Outcome) → IsOutcome self.now metas bytes.now o →
+            IfSome (outcome_of result) (λ answer. answer ≡ o) }
     {
         let table = &self.table;
         match str::from_utf8(bytes) {

@@ -1,6 +1,8 @@
 //! The literals, found by their text.
 
-ghost use Rattle.std.specs.Prelude.{◌≡◌, ◌≢◌, ℕ, ◌<◌, ◌≤◌, ◌^◌, List, ◌∷◌, ◌++◌, length, take, drop, Some, slice_get, slice_index, Contains, IfOk, IfNone, IfSome, IsTrue, IsFalse};
+ghost use Rattle.std.specs.Prelude.{◌≡◌, ◌≢◌, ℕ, ◌<◌, ◌≤◌, ◌^◌, List, ◌∷◌, ◌++◌, length, take};
+ghost use Rattle.std.specs.Prelude.{drop, Some, slice_get, slice_index, Contains, IfOk, IfNone};
+ghost use Rattle.std.specs.Prelude.{IfSome, IsTrue, IsFalse};
 ghost use Rattle.std.specs.Str.{IsCharBoundary};
 ghost use Rattle.sx_term.specs.Cutting.{is_symbol, AreSymbols};
 ghost use Rattle.sx_token.specs.Table.{IsTable};
@@ -11,7 +13,8 @@ use std::collections::{HashMap, HashSet};
 use sx_term::runs::is_symbol;
 use sx_term::{NoMemory, Text};
 
-/// The literals with a map from each to its place, the lengths that they have, and for each first byte the length of the longest.
+/// The literals with a map from each to its place, the lengths that they have, and for each first
+/// byte the length of the longest.
 #[derive(Drop)]
 pub(crate) struct Table<'a> {
     pub literals: &'a [Text],
@@ -23,7 +26,8 @@ pub(crate) struct Table<'a> {
 /// Makes the length known to the place of the first byte.
 fn note_length(longest: &mut [usize; 128], bytes: &[u8])
     ensures grows { (k : ℕ) → slice_index longest.old k ≤ slice_index longest.new k }
-    ensures covers { (first : ℕ) (others : List ℕ) → bytes.now ≡ first ∷ others → first < 128 → length bytes.now ≤ slice_index longest.new first }
+    ensures covers { (first : ℕ) (others : List ℕ) → bytes.now ≡ first ∷ others → first < 128 →
+        length bytes.now ≤ slice_index longest.new first }
 {
     if !bytes.is_empty() && bytes[0] < 128 {
         let first = bytes[0] as usize;
@@ -82,7 +86,8 @@ pub(crate) fn place_of(table: &Table, text: &str) -> Option<u32>
 fn place_of_front(table: &Table, text: &str, len: usize) -> Option<u32>
     requires table { IsTable table.now.literals.now table.now }
     requires boundary { IsCharBoundary text.now len }
-    ensures found { IfSome result (λ i. slice_get table.now.literals.now i ≡ Some (take len text.now)) }
+    ensures found { IfSome result (λ i. slice_get table.now.literals.now i
+        ≡ Some (take len text.now)) }
     ensures none { IfNone result (¬ (Contains table.now.literals.now (take len text.now))) }
 {
     if !table.lengths.contains(&len) {
@@ -103,7 +108,8 @@ pub(crate) struct Found {
 fn symbol_run(text: &str, most: usize) -> usize
     ensures bound { result ≤ length text.now }
     ensures symbols { (k : ℕ) → k < result → IsTrue (is_symbol (slice_index text.now k)) }
-    ensures stops { result < most → result < length text.now → IsFalse (is_symbol (slice_index text.now result)) }
+    ensures stops { result < most → result < length text.now →
+        IsFalse (is_symbol (slice_index text.now result)) }
 {
     let bytes = text.as_bytes();
     let mut n = 0;
@@ -117,7 +123,8 @@ fn symbol_run(text: &str, most: usize) -> usize
 pub(crate) fn symbol_at(table: &Table, text: &str) -> Option<Found>
     requires table { IsTable table.now.literals.now table.now }
     requires symbol { IsTrue (is_symbol (slice_index text.now 0)) }
-    ensures found { IfSome result (λ f. slice_get table.now.literals.now f.place ≡ Some (take f.len text.now)) }
+    ensures found { IfSome result (λ f. slice_get table.now.literals.now f.place
+        ≡ Some (take f.len text.now)) }
     ensures symbols { IfSome result (λ f. AreSymbols (take f.len text.now)) }
     ensures longest { IfSome result (λ f. NoneLonger table.now.literals.now text.now f.len) }
     ensures boundary { IfSome result (λ f. IsCharBoundary text.now f.len) }

@@ -6,7 +6,8 @@ use crate::token_error::TokenError;
 use std::alloc::Global;
 use sx_term::{Mark, Text, TextError};
 
-/// A token: its mark, its text, and the places of its first byte and of the byte after it, in bytes from 0.
+/// A token: its mark, its text, and the places of its first byte and of the byte after it, in bytes
+/// from 0.
 #[derive(Drop)]
 pub struct Token {
     pub mark: Mark,

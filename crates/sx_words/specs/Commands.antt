@@ -1,5 +1,7 @@
 -- Commands and the words that spell them.
-use Rattle.std.specs.Prelude.{◌≡◌, ℕ, ◌+◌, ◌≤◌, ◌==◌, ◌&&◌, ◌||◌, Bool, true, false, not, List, [], ◌∷◌, ◌++◌, length, map, codes, decimal, Option, Some, None, unwrap_or, is_none, ◌⊎◌}
+use Rattle.std.specs.Prelude.{◌≡◌, ℕ, ◌+◌, ◌≤◌, ◌==◌, ◌&&◌, ◌||◌, Bool, true, false, not, List, []}
+use Rattle.std.specs.Prelude.{◌∷◌, ◌++◌, length, map, codes, decimal, Option, Some, None, unwrap_or}
+use Rattle.std.specs.Prelude.{is_none, ◌⊎◌}
 use Rattle.std.specs.List.{AllByRecursion}
 use Rattle.std.specs.Str.{bytes_eq}
 use Rattle.sx_lines.specs.Words.{is_name}
@@ -69,15 +71,46 @@ IsGiven (audit kind setting) = NoColon kind
 
 -- ---- what there is
 
--- The table of what there is: whether a command is there for modules, and which options it takes. Of a command that is not there, nothing.
+-- The table of what there is: whether a command is there for modules, and which options it takes.
+-- Of a command that is not there, nothing.
 abbrev pub row : Stage → Verb → Row
 row Now Build = record { modules = true; core = true; tries = true; nodes = false; audits = false }
-row Now Verify = record { modules = false; core = true; tries = false; nodes = false; audits = false }
-row Now verb = record { modules = false; core = false; tries = false; nodes = false; audits = false }
+row Now Verify = record {
+  modules = false;
+  core = true;
+  tries = false;
+  nodes = false;
+  audits = false;
+}
+row Now verb = record {
+  modules = false;
+  core = false;
+  tries = false;
+  nodes = false;
+  audits = false;
+}
 row Whole Build = record { modules = true; core = true; tries = true; nodes = true; audits = true }
-row Whole Compile = record { modules = true; core = false; tries = true; nodes = true; audits = true }
-row Whole Check = record { modules = true; core = false; tries = true; nodes = true; audits = false }
-row Whole Verify = record { modules = true; core = true; tries = false; nodes = false; audits = false }
+row Whole Compile = record {
+  modules = true;
+  core = false;
+  tries = true;
+  nodes = true;
+  audits = true;
+}
+row Whole Check = record {
+  modules = true;
+  core = false;
+  tries = true;
+  nodes = true;
+  audits = false;
+}
+row Whole Verify = record {
+  modules = true;
+  core = true;
+  tries = false;
+  nodes = false;
+  audits = false;
+}
 
 -- `sample` is there
 abbrev pub has_sample : Stage → Bool
@@ -109,7 +142,8 @@ abbrev pub has_none : List AuditWord → Bool
 has_none [] = true
 has_none (a ∷ audits) = false
 
--- An option may stand once, `--audit` once for each kind, and `--core` does not go with `--nodes` and `--audit`.
+-- An option may stand once, `--audit` once for each kind, and `--core` does not go with `--nodes`
+-- and `--audit`.
 unfoldable pub is_new : Settings → Given → Bool
 is_new s core = not s.core && (is_none s.nodes && has_none s.audits)
 is_new s (tries n) = is_none s.tries
@@ -124,21 +158,44 @@ nothing_said = record { core = false; tries = None; nodes = None; audits = [] }
 
 -- what was said, and one option more at its place among the words
 unfoldable pub with_option : ℕ → Settings → Given → Settings
-with_option place s core = record { core = true; tries = s.tries; nodes = s.nodes; audits = s.audits }
-with_option place s (tries n) = record { core = s.core; tries = Some n; nodes = s.nodes; audits = s.audits }
-with_option place s (nodes n) = record { core = s.core; tries = s.tries; nodes = Some n; audits = s.audits }
-with_option place s (audit kind setting) = record { core = s.core; tries = s.tries; nodes = s.nodes; audits = s.audits ++ (record { kind = kind; setting = setting; word = place }) ∷ [] }
+with_option place s core = record {
+  core = true;
+  tries = s.tries;
+  nodes = s.nodes;
+  audits = s.audits;
+}
+with_option place s (tries n) = record {
+  core = s.core;
+  tries = Some n;
+  nodes = s.nodes;
+  audits = s.audits;
+}
+with_option place s (nodes n) = record {
+  core = s.core;
+  tries = s.tries;
+  nodes = Some n;
+  audits = s.audits;
+}
+with_option place s (audit kind setting) = record {
+  core = s.core;
+  tries = s.tries;
+  nodes = s.nodes;
+  audits =
+      s.audits ++ (record { kind = kind; setting = setting; word = place }) ∷ [];
+}
 
 -- what was said, and options more, the first at this place
 abbrev pub with_options : ℕ → Settings → List Given → Settings
 with_options place s [] = s
-with_options place s (option ∷ options) = with_options (place + 1) (with_option place s option) options
+with_options place s (option ∷ options) = with_options (place + 1)
+    (with_option place s option) options
 
 -- each option is one that the command takes, and may stand after what was said before it
 abbrev pub MayStand : Stage → Verb → ℕ → Settings → List Given → Type 0
 MayStand stage verb place s [] = Unit {0}
 MayStand stage verb place s (option ∷ options) =
-    (takes stage verb option ≡ true) × (is_new s option ≡ true) × IsGiven option × MayStand stage verb (place + 1) (with_option place s option) options
+    (takes stage verb option ≡ true) × (is_new s option ≡ true) × IsGiven option ×
+    MayStand stage verb (place + 1) (with_option place s option) options
 
 -- the name may come: `--core` stands, or the command is there for modules
 abbrev pub may_end : Stage → Verb → Settings → Bool
@@ -188,13 +245,16 @@ Spells words command = SpellsAt Whole words command
 
 -- ---- the first word that does not fit
 
--- with the next word too, or at the end of the words where there is none, the words are those of no command
+-- with the next word too, or at the end of the words where there is none, the words are those of no
+-- command
 abbrev pub NoneSpells : Stage → List (List ℕ) → List (List ℕ) → Type 0
 NoneSpells stage front [] = (command : Meant) → SpellsAt stage front command → ⊥
-NoneSpells stage front (word ∷ rest) = (more : List (List ℕ)) (command : Meant) → SpellsAt stage (front ++ word ∷ more) command → ⊥
+NoneSpells stage front (word ∷ rest) = (more : List (List ℕ)) (command : Meant) →
+    SpellsAt stage (front ++ word ∷ more) command → ⊥
 
--- The word of this number is the first after which no command can follow that is there, or the number is one more than that
--- of the words where one is missing: the words before it begin those of a command.
+-- The word of this number is the first after which no command can follow that is there, or the
+-- number is one more than that of the words where one is missing: the words before it begin those
+-- of a command.
 pub record IsMisfitAt (stage : Stage) (words : List (List ℕ)) (number : ℕ) : Type 0 where
   pub front : List (List ℕ)
   pub rest : List (List ℕ)

@@ -1,11 +1,15 @@
 -- Reading words from the left.
-use Rattle.std.specs.Prelude.{ℕ, ◌+◌, ◌==◌, ◌&&◌, Bool, false, List, [], ◌∷◌, codes, Option, Some, None, is_some, option_map, option_and_then, Result, Ok, Err, if◌then◌else◌}
+use Rattle.std.specs.Prelude.{ℕ, ◌+◌, ◌==◌, ◌&&◌, Bool, false, List, [], ◌∷◌, codes, Option, Some}
+use Rattle.std.specs.Prelude.{None, is_some, option_map, option_and_then, Result, Ok, Err}
+use Rattle.std.specs.Prelude.{if◌then◌else◌}
 use Rattle.std.specs.Str.{bytes_eq}
 use Rattle.sx_lines.specs.Words.{after, is_name, number_within}
 use Rattle.sx_words.specs.declared.stage.Stage.{Stage}
 use Rattle.sx_words.specs.declared.verb.Verb.{Verb}
 use Rattle.sx_words.specs.declared.verb.Verb.TheVariants.{Build, Compile, Check, Verify}
-use Rattle.sx_words.specs.Commands.{Given, core, tries, nodes, audit, Settings, Meant, samples, verb_word, colon, has_verb, has_sample, takes, may_end, is_new, nothing_said, with_option, meant}
+use Rattle.sx_words.specs.Commands.{Given, core, tries, nodes, audit, Settings, Meant, samples}
+use Rattle.sx_words.specs.Commands.{verb_word, colon, has_verb, has_sample, takes, may_end, is_new}
+use Rattle.sx_words.specs.Commands.{nothing_said, with_option, meant}
 
 -- the first that there is
 abbrev pub or_else : {A : Type 0} → Option A → Option A → Option A
@@ -23,7 +27,8 @@ count_of limit text = option_and_then positive (number_within limit text)
 -- the parts of a text before and after its first colon
 unfoldable pub at_colon : List ℕ → Option (List ℕ × List ℕ)
 at_colon [] = None
-at_colon (b ∷ text) = if b == colon then Some ([], text) else option_map (λ p. (b ∷ p.0, p.1)) (at_colon text)
+at_colon (b ∷ text) = if b == colon then Some ([], text) else option_map (λ p. (b ∷ p.0, p.1))
+    (at_colon text)
 
 -- the number that a word gives after this front
 unfoldable pub number_after : List ℕ → List ℕ → Option ℕ
@@ -38,11 +43,14 @@ unfoldable pub option_of : List ℕ → Option Given
 option_of word =
     if bytes_eq word (codes "--core") then Some core
     else or_else (option_map tries (number_after (codes "--tries=") word))
-    (or_else (option_map nodes (number_after (codes "--nodes=") word)) (option_map (λ p. audit p.0 p.1) (audit_after word)))
+    (or_else (option_map nodes (number_after (codes "--nodes=") word))
+    (option_map (λ p. audit p.0 p.1) (audit_after word)))
 
 -- the option that a word spells, where it may stand there
 unfoldable pub next_option : Stage → Verb → Settings → List ℕ → Option Given
-next_option stage verb s word = option_and_then (λ option. if takes stage verb option && is_new s option then Some option else None) (option_of word)
+next_option stage verb s word = option_and_then
+    (λ option. if takes stage verb option && is_new s option then Some option else None)
+    (option_of word)
 
 -- the word begins with `--`
 unfoldable pub is_option : List ℕ → Bool
@@ -50,8 +58,10 @@ is_option word = is_some (after (codes "--") word)
 
 -- the last word
 unfoldable pub last_word : Stage → Verb → ℕ → Settings → List ℕ → List (List ℕ) → Result Meant ℕ
-last_word stage verb place s word [] = if may_end stage verb s && is_name false word then Ok (meant verb s word) else Err place
-last_word stage verb place s word (next ∷ rest) = if may_end stage verb s && is_name false word then Err (place + 1) else Err place
+last_word stage verb place s word [] = if may_end stage verb s && is_name false word then Ok
+    (meant verb s word) else Err place
+last_word stage verb place s word (next ∷ rest) =
+    if may_end stage verb s && is_name false word then Err (place + 1) else Err place
 
 -- the option, and what comes after it
 abbrev pub then_option : ℕ → Option Given → (Given → Result Meant ℕ) → Result Meant ℕ
@@ -62,7 +72,8 @@ then_option place (Some option) next = next option
 unfoldable pub after_verb : Stage → Verb → ℕ → Settings → List (List ℕ) → Result Meant ℕ
 after_verb stage verb place s [] = Err place
 after_verb stage verb place s (word ∷ words) =
-    if is_option word then then_option place (next_option stage verb s word) (λ option. after_verb stage verb (place + 1) (with_option place s option) words)
+    if is_option word then then_option place (next_option stage verb s word)
+    (λ option. after_verb stage verb (place + 1) (with_option place s option) words)
     else last_word stage verb place s word words
 
 -- the sample of the size, where no word follows it
@@ -87,12 +98,14 @@ verb_named word =
 
 -- the command that a word is, where it is there
 unfoldable pub verb_of : Stage → List ℕ → Option Verb
-verb_of stage word = option_and_then (λ verb. if has_verb stage verb then Some verb else None) (verb_named word)
+verb_of stage word = option_and_then (λ verb. if has_verb stage verb then Some verb else None)
+    (verb_named word)
 
 -- the command that the first word begins, and the words after it
 unfoldable pub command_from : Stage → List ℕ → Option Verb → List (List ℕ) → Result Meant ℕ
 command_from stage word (Some verb) words = after_verb stage verb 2 nothing_said words
-command_from stage word None words = if has_sample stage && bytes_eq word (codes "sample") then after_sample words else Err 1
+command_from stage word None words = if has_sample stage && bytes_eq word
+    (codes "sample") then after_sample words else Err 1
 
 -- the command that words spell, or the number of the first word that does not fit
 unfoldable pub command_of : Stage → List (List ℕ) → Result Meant ℕ

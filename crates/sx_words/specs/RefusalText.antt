@@ -58,8 +58,10 @@ text_text text.NoReading = joined (codes "no reading" ∷ [])
 text_text text.TooManyTokens = joined (codes "more than 10000 tokens" ∷ [])
 text_text text.TooHard = joined (codes "parsing needs more than 2000000 items" ∷ [])
 text_text (text.TooDeep n) = joined (codes "depth " ∷ decimal n ∷ codes " is over 1000" ∷ [])
-text_text (text.TooBig n) = joined (codes "a term has " ∷ decimal n ∷ codes " nodes, over 1000000" ∷ [])
-text_text (text.Ambiguous one other) = joined (codes "two readings: " ∷ one ∷ codes " and " ∷ other ∷ [])
+text_text (text.TooBig n) =
+    joined (codes "a term has " ∷ decimal n ∷ codes " nodes, over 1000000" ∷ [])
+text_text (text.Ambiguous one other) = joined
+    (codes "two readings: " ∷ one ∷ codes " and " ∷ other ∷ [])
 
 -- defects of rule sets
 abbrev pub rule_text : RuleDefect → List ℕ
@@ -67,7 +69,8 @@ rule_text rule.TooManyRules = joined (codes "more than 4096 rules" ∷ [])
 rule_text rule.TooManyVars = joined (codes "more than 64 variables" ∷ [])
 rule_text (rule.SameRule text) = joined (codes "rule " ∷ text ∷ codes " stands twice" ∷ [])
 rule_text rule.SortDiffers = joined (codes "sorts differ" ∷ [])
-rule_text (rule.Discipline part premise) = joined (codes "part " ∷ decimal part ∷ codes " of the discipline at premise " ∷ decimal premise ∷ [])
+rule_text (rule.Discipline part premise) = joined
+    (codes "part " ∷ decimal part ∷ codes " of the discipline at premise " ∷ decimal premise ∷ [])
 rule_text (rule.NotModed text) = joined (text ∷ codes " is not bound" ∷ [])
 
 -- defects of extensions
@@ -84,15 +87,20 @@ extension_text extension.NoPlain = joined (codes "no plain body" ∷ [])
 -- goals that are stuck
 abbrev pub goal_text : GoalDefect → List ℕ
 goal_text (goal.NoRule goal) = joined (codes "no rule concludes " ∷ goal ∷ [])
-goal_text (goal.Equal goal premise rule) = joined (goal ∷ codes ": premise " ∷ decimal premise ∷ codes " of " ∷ rule ∷ codes " does not hold" ∷ [])
-goal_text (goal.Mismatch goal premise rule) = joined (goal ∷ codes " is not what premise " ∷ decimal premise ∷ codes " of " ∷ rule ∷ codes " asks for" ∷ [])
+goal_text (goal.Equal goal premise rule) = joined
+    (goal ∷ codes ": premise " ∷ decimal premise ∷ codes " of " ∷ rule ∷ codes " does not hold" ∷
+    [])
+goal_text (goal.Mismatch goal premise rule) =
+    joined (goal ∷ codes " is not what premise " ∷ decimal premise ∷ codes " of " ∷ rule ∷
+    codes " asks for" ∷ [])
 goal_text (goal.NotStated goal) = joined (goal ∷ codes " is not the stated conclusion" ∷ [])
 
 -- budgets of derivations
 abbrev pub budget_text : BudgetDefect → List ℕ
 budget_text (budget.Tries n) = joined (codes "more than " ∷ decimal n ∷ codes " tries" ∷ [])
 budget_text budget.Depth = joined (codes "derivation deeper than 3000" ∷ [])
-budget_text (budget.Nodes n) = joined (codes "rewriting needs more than " ∷ decimal n ∷ codes " nodes" ∷ [])
+budget_text (budget.Nodes n) =
+    joined (codes "rewriting needs more than " ∷ decimal n ∷ codes " nodes" ∷ [])
 budget_text budget.RewriteDepth = joined (codes "rewritten derivation deeper than 3000" ∷ [])
 
 -- derivation lists that fit nothing
@@ -100,16 +108,20 @@ abbrev pub list_text : ListDefect → List ℕ
 list_text (list.WrongAt n) = joined (codes "entry " ∷ decimal n ∷ codes " fits no derivation" ∷ [])
 list_text list.EndsEarly = joined (codes "list ends early" ∷ [])
 list_text (list.LongList n) = joined (codes "entry " ∷ decimal n ∷ codes " is left over" ∷ [])
-list_text (list.DeepList n) = joined (codes "entry " ∷ decimal n ∷ codes " is deeper than 3000" ∷ [])
+list_text (list.DeepList n) =
+    joined (codes "entry " ∷ decimal n ∷ codes " is deeper than 3000" ∷ [])
 
 -- defects of grammars
 abbrev pub grammar_text : GrammarDefect → List ℕ
 grammar_text (grammar.BadLiteral text) = joined (codes "bad literal " ∷ text ∷ [])
 grammar_text (grammar.SameSort name) = joined (codes "sort " ∷ name ∷ codes " stands twice" ∷ [])
 grammar_text (grammar.UnknownSort name) = joined (codes "unknown sort " ∷ name ∷ [])
-grammar_text (grammar.SameLabel label) = joined (codes "label " ∷ label ∷ codes " stands twice" ∷ [])
-grammar_text (grammar.PlainHasTyped label) = joined (codes "production " ∷ label ∷ codes " has a typed part" ∷ [])
-grammar_text (grammar.NoBrackets sort) = joined (codes "sort " ∷ sort ∷ codes " needs brackets" ∷ [])
+grammar_text (grammar.SameLabel label) = joined
+    (codes "label " ∷ label ∷ codes " stands twice" ∷ [])
+grammar_text (grammar.PlainHasTyped label) =
+    joined (codes "production " ∷ label ∷ codes " has a typed part" ∷ [])
+grammar_text (grammar.NoBrackets sort) = joined
+    (codes "sort " ∷ sort ∷ codes " needs brackets" ∷ [])
 grammar_text (grammar.Cyclic sort) = joined (codes "sort " ∷ sort ∷ codes " is cyclic" ∷ [])
 
 -- ---- what a text says of printed texts and of files that do not go together
@@ -122,11 +134,15 @@ part_text print.Stated = joined (codes "printed stated signature " ∷ [])
 
 -- printed texts that cannot be written, after the name of the part
 abbrev pub print_text : PrintDefect → List ℕ
-print_text (print_defect.Bytes n) = joined (codes "has " ∷ decimal n ∷ codes " bytes, over 262144" ∷ [])
-print_text (print_defect.Tokens n) = joined (codes "has " ∷ decimal n ∷ codes " tokens, over 10000" ∷ [])
+print_text (print_defect.Bytes n) =
+    joined (codes "has " ∷ decimal n ∷ codes " bytes, over 262144" ∷ [])
+print_text (print_defect.Tokens n) =
+    joined (codes "has " ∷ decimal n ∷ codes " tokens, over 10000" ∷ [])
 print_text print_defect.Items = joined (codes "needs more than 2000000 items" ∷ [])
-print_text (print_defect.Depth n) = joined (codes "has depth " ∷ decimal n ∷ codes ", over 1000" ∷ [])
-print_text (print_defect.Ambiguous one other) = joined (codes "has two readings: " ∷ one ∷ codes " and " ∷ other ∷ [])
+print_text (print_defect.Depth n) =
+    joined (codes "has depth " ∷ decimal n ∷ codes ", over 1000" ∷ [])
+print_text (print_defect.Ambiguous one other) =
+    joined (codes "has two readings: " ∷ one ∷ codes " and " ∷ other ∷ [])
 
 -- the names, each after a blank
 abbrev pub names_text : List (List ℕ) → List ℕ
@@ -143,8 +159,10 @@ kept_text kept.Signature = joined (codes "signature" ∷ [])
 abbrev pub closure_text : ClosureDefect → List ℕ
 closure_text (closure.Cycle names) = joined (codes "cycle" ∷ []) ++ names_text names.items
 closure_text closure.TooManyModules = joined (codes "more than 256 files" ∷ [])
-closure_text (closure.LanguageDiffers language) = joined (codes "language " ∷ language ∷ codes " differs" ∷ [])
-closure_text (closure.Differs what was found) = kept_text what ++ joined (codes " kept " ∷ was ∷ codes ", found " ∷ found ∷ [])
+closure_text (closure.LanguageDiffers language) =
+    joined (codes "language " ∷ language ∷ codes " differs" ∷ [])
+closure_text (closure.Differs what was found) =
+    kept_text what ++ joined (codes " kept " ∷ was ∷ codes ", found " ∷ found ∷ [])
 closure_text closure.CoreDiffers = joined (codes "differs" ∷ [])
 
 -- ---- whole texts
@@ -153,7 +171,8 @@ closure_text closure.CoreDiffers = joined (codes "differs" ∷ [])
 abbrev pub place_text : Place → List ℕ
 place_text place.Nowhere = []
 place_text (place.Line number) = joined (codes "line " ∷ decimal number ∷ codes ": " ∷ [])
-place_text (place.Spot number column) = joined (codes "line " ∷ decimal number ∷ codes " column " ∷ decimal column ∷ codes ": " ∷ [])
+place_text (place.Spot number column) = joined
+    (codes "line " ∷ decimal number ∷ codes " column " ∷ decimal column ∷ codes ": " ∷ [])
 place_text (place.Rule name) = joined (codes "rule " ∷ name ∷ codes ": " ∷ [])
 place_text (place.Plain label) = joined (codes "plain " ∷ label ∷ codes ": " ∷ [])
 place_text (place.Production label) = joined (codes "production " ∷ label ∷ codes ": " ∷ [])
@@ -170,7 +189,8 @@ defect_text (defect.Budget x) = budget_text x
 defect_text (defect.Print part x) = part_text part ++ print_text x
 defect_text (defect.Closure x) = closure_text x
 defect_text (defect.List x) = list_text x
-defect_text (defect.Objected auditor node name) = joined (auditor ∷ codes " objects to node " ∷ decimal node ∷ codes ", " ∷ name ∷ [])
+defect_text (defect.Objected auditor node name) =
+    joined (auditor ∷ codes " objects to node " ∷ decimal node ∷ codes ", " ∷ name ∷ [])
 
 -- the place, and then the defect
 abbrev pub refusal_text : Refusal → List ℕ

@@ -12,7 +12,9 @@ use Rattle.sx_words.specs.declared.given.Given as declared
 use Rattle.sx_words.specs.declared.given.Given.TheVariants as given
 use Rattle.sx_words.specs.declared.words_error.WordsError.{WordsError}
 use Rattle.sx_words.specs.declared.words_error.WordsError.TheVariants.{Memory, Words}
-use Rattle.sx_words.specs.Commands.{Given, core, tries, nodes, audit, AuditWord, Settings, Meant, builds, compiles, checks, verifies, samples, SpellsAt, IsMisfitAt, has_kind}
+use Rattle.sx_words.specs.Commands.{Given, core, tries, nodes, audit, AuditWord, Settings, Meant}
+use Rattle.sx_words.specs.Commands.{builds, compiles, checks, verifies, samples, SpellsAt}
+use Rattle.sx_words.specs.Commands.{IsMisfitAt, has_kind}
 
 -- an option that names an auditor, without where it lies in memory
 abbrev pub audit_view : Audit → AuditWord
@@ -20,19 +22,27 @@ audit_view a = record { kind = a.kind; setting = a.setting; word = a.word }
 
 -- a command without where it lies in memory
 abbrev pub command_view : Command → Meant
-command_view (command.Build of_core name most_tries most_nodes audits) = builds of_core name most_tries most_nodes (map audit_view audits.items)
-command_view (command.Compile name most_tries most_nodes audits) = compiles name most_tries most_nodes (map audit_view audits.items)
+command_view (command.Build of_core name most_tries most_nodes audits) =
+    builds of_core name most_tries most_nodes (map audit_view audits.items)
+command_view (command.Compile name most_tries most_nodes audits) =
+    compiles name most_tries most_nodes (map audit_view audits.items)
 command_view (command.Check name most_tries most_nodes) = checks name most_tries most_nodes
 command_view (command.Verify of_core name) = verifies of_core name
 command_view (command.Sample n) = samples n
 
 -- what the options say, without where it lies in memory
 abbrev pub settings_view : Options → Settings
-settings_view o = record { core = o.core; tries = o.tries; nodes = o.nodes; audits = map audit_view o.audits.items }
+settings_view o = record {
+  core = o.core;
+  tries = o.tries;
+  nodes = o.nodes;
+  audits = map audit_view o.audits.items;
+}
 
 -- the kinds that are found are those of the auditors
 abbrev pub HasKinds : Options → Type 0
-HasKinds o = (kind : List ℕ) → list_any (λ k. bytes_eq kind k.items) o.kinds.keys ≡ has_kind (map audit_view o.audits.items) kind
+HasKinds o = (kind : List ℕ) → list_any (λ k. bytes_eq kind k.items) o.kinds.keys
+    ≡ has_kind (map audit_view o.audits.items) kind
 
 -- an option, without where it lies in memory
 abbrev pub given_view : declared.Given → Given

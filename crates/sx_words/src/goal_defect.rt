@@ -7,8 +7,9 @@ use crate::parts::{number, put, put_named};
 use std::alloc::Global;
 use sx_term::{NoMemory, Text};
 
-/// Why a goal has no derivation: the goal where the walk is stuck, as it is printed. At `Place::Spot` in a module file, at
-/// `Place::Rule` in accepting a rule, and at `Place::Nowhere` in a core file.
+/// Why a goal has no derivation: the goal where the walk is stuck, as it is printed. At
+/// `Place::Spot` in a module file, at `Place::Rule` in accepting a rule, and at `Place::Nowhere` in
+/// a core file.
 #[derive(Drop)]
 pub enum GoalDefect {
     /// No rule concludes the goal.

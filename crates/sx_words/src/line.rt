@@ -31,7 +31,8 @@ pub(crate) fn append_line(file: &Text, text: &[u8], into: &mut Vec<u8>) -> Resul
     }
 }
 
-/// Appends `soundx: `, the file, `: `, the text and a line feed. After want of memory `into` is as before.
+/// Appends `soundx: `, the file, `: `, the text and a line feed. After want of memory `into` is as
+/// before.
 pub fn write_line(
     _alloc: Global,
     file: &Text,

@@ -1,9 +1,11 @@
 //! What the options say.
 
-ghost use Rattle.std.specs.Prelude.{◌≡◌, ◌≤◌, ◌^◌, ◌&&◌, true, OnOk, IfOk, IfSome, MatchResult, option_map, map};
+ghost use Rattle.std.specs.Prelude.{◌≡◌, ◌≤◌, ◌^◌, ◌&&◌, true, OnOk, IfOk, IfSome, MatchResult};
+ghost use Rattle.std.specs.Prelude.{option_map, map};
 ghost use Rattle.sx_words.specs.Commands as spec;
 ghost use Rattle.sx_words.specs.Reading.{next_option};
-ghost use Rattle.sx_words.specs.View.{audit_view, given_view, settings_view, command_view, HasKinds};
+ghost use Rattle.sx_words.specs.View.{audit_view, given_view, settings_view, command_view};
+ghost use Rattle.sx_words.specs.View.{HasKinds};
 ghost use Rattle.sx_words.specs.Texts.{IsGivenUtf8};
 ghost use Rattle.std.specs.Str.{IsUtf8};
 
@@ -92,7 +94,8 @@ pub(crate) fn option_after<'a>(
     word: &'a [u8],
 ) -> Option<Given<'a>>
     requires { HasKinds said.now }
-    ensures value { option_map given_view result ≡ next_option stage verb (settings_view said.now) word.entry.now }
+    ensures value { option_map given_view result
+        ≡ next_option stage verb (settings_view said.now) word.entry.now }
     ensures utf8 { IsUtf8 word.entry.now → IfSome result IsGivenUtf8 }
 {
     match option_of(word) {
@@ -126,7 +129,8 @@ pub(crate) fn say(
 ) -> Result<(), NoMemory>
     requires utf8 { IsGivenUtf8 option }
     requires kinds { HasKinds said.old }
-    ensures said { OnOk result (settings_view said.new ≡ spec.with_option place (settings_view said.old) (given_view option.entry)) }
+    ensures said { OnOk result (settings_view said.new
+        ≡ spec.with_option place (settings_view said.old) (given_view option.entry)) }
     ensures kinds { OnOk result (HasKinds said.new) }
 {
     match option {

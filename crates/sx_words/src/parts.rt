@@ -1,6 +1,7 @@
 //! Texts made of parts.
 
-ghost use Rattle.std.specs.Prelude.{◌≡◌, [], ◌∷◌, ◌++◌, ◌<◌, ◌^◌, OnOk, OnErr, IfOk, decimal, string_bytes};
+ghost use Rattle.std.specs.Prelude.{◌≡◌, [], ◌∷◌, ◌++◌, ◌<◌, ◌^◌, OnOk, OnErr, IfOk, decimal};
+ghost use Rattle.std.specs.Prelude.{string_bytes};
 ghost use Rattle.std.specs.List.{flat_map};
 ghost use Rattle.sx_lines.specs.Reading.{BeginsWith};
 ghost use Rattle.sx_words.specs.RefusalText.{joined};
@@ -10,7 +11,8 @@ use sx_term::{NoMemory, Text};
 
 /// Appends the parts one after the other, or a front of them where memory is lacking.
 pub(crate) fn put(parts: &[&[u8]], into: &mut Vec<u8>) -> Result<(), NoMemory>
-    ensures ok { OnOk result (into.new.items ≡ into.old.items ++ flat_map (λ part. part.now) parts.now) }
+    ensures ok { OnOk result (into.new.items ≡ into.old.items
+        ++ flat_map (λ part. part.now) parts.now) }
     ensures err { OnErr result (BeginsWith into.new.items into.old.items) }
 {
     for part in parts {
@@ -33,7 +35,8 @@ pub(crate) fn put_named(
     back: &[u8],
     into: &mut Vec<u8>,
 ) -> Result<(), NoMemory>
-    ensures { OnOk result (into.new.items ≡ into.old.items ++ joined (front.now ∷ name.now ∷ back.now ∷ [])) }
+    ensures { OnOk result (into.new.items ≡ into.old.items
+        ++ joined (front.now ∷ name.now ∷ back.now ∷ [])) }
 {
     put(&[front, name.bytes(), back], into)
 }
@@ -46,7 +49,8 @@ pub(crate) fn put_number(
     back: &[u8],
     into: &mut Vec<u8>,
 ) -> Result<(), NoMemory>
-    ensures { OnOk result (into.new.items ≡ into.old.items ++ joined (front.now ∷ decimal n ∷ back.now ∷ [])) }
+    ensures { OnOk result (into.new.items ≡ into.old.items
+        ++ joined (front.now ∷ decimal n ∷ back.now ∷ [])) }
 {
     let n = number(alloc, n)?;
     put(&[front, n.as_str().as_bytes(), back], into)

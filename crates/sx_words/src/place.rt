@@ -7,8 +7,8 @@ use crate::parts::{number, put, put_named, put_number};
 use std::alloc::Global;
 use sx_term::{NoMemory, Text};
 
-/// Where in its file the thing stands that a refusal names: what its text says first. The defects say which of these they
-/// take; where they say nothing it is `Nowhere`.
+/// Where in its file the thing stands that a refusal names: what its text says first. The defects
+/// say which of these they take; where they say nothing it is `Nowhere`.
 #[derive(Drop)]
 pub enum Place {
     /// The text says no place.

@@ -1,6 +1,7 @@
 //! Reading the words from the left.
 
-ghost use Rattle.std.specs.Prelude.{◌≡◌, ◌+◌, ◌≤◌, ◌<◌, ◌^◌, ℕ, List, [], ◌∷◌, drop, length, slice_index, is_some, Ok};
+ghost use Rattle.std.specs.Prelude.{◌≡◌, ◌+◌, ◌≤◌, ◌<◌, ◌^◌, ℕ, List, [], ◌∷◌, drop, length};
+ghost use Rattle.std.specs.Prelude.{slice_index, is_some, Ok};
 ghost use Rattle.sx_lines.specs.Reading.{Gives};
 ghost use Rattle.sx_words.specs.Commands as command;
 ghost use Rattle.sx_words.specs.Commands.{Meant, Spells, SpellsAt, IsMisfitAt};
@@ -62,7 +63,8 @@ fn after_verb(
     verb: Verb,
     words: &[Text],
 ) -> Result<Command, WordsError>
-    ensures { Gives command_view Refuses result (spec.after_verb stage verb 2 command.nothing_said words.now) }
+    ensures { Gives command_view Refuses result
+        (spec.after_verb stage verb 2 command.nothing_said words.now) }
 {
     let mut said = Options::new(alloc);
     let mut at = 0;
@@ -94,7 +96,8 @@ fn after_verb(
 
 /// The sample of the size that a word spells, where no word follows it.
 fn sample(size: &Text, rest: &[Text]) -> Result<Command, WordsError>
-    ensures { Gives command_view Refuses result (spec.sample_of (spec.count_of 300 size.now) rest.now) }
+    ensures { Gives command_view Refuses result
+        (spec.sample_of (spec.count_of 300 size.now) rest.now) }
 {
     match count_of(300, size.bytes()) {
         Some(n) => {
@@ -175,7 +178,8 @@ fn command_from(
     first: &Text,
     rest: &[Text],
 ) -> Result<Command, WordsError>
-    ensures { Gives command_view Refuses result (spec.command_from stage first.now (spec.verb_of stage first.now) rest.now) }
+    ensures { Gives command_view Refuses result
+        (spec.command_from stage first.now (spec.verb_of stage first.now) rest.now) }
 {
     match verb_of(stage, first.bytes()) {
         Some(verb) => after_verb(alloc, stage, verb, rest),
@@ -199,20 +203,23 @@ fn command_of(alloc: Global, stage: Stage, words: &[Text]) -> Result<Command, Wo
     }
 }
 
-/// The command that the words spell, of those that are there by now: the words of the command line, without the program's
-/// name.
+/// The command that the words spell, of those that are there by now: the words of the command line,
+/// without the program's name.
 ///
-/// The first word is `build`, `compile`, `check`, `verify` or `sample`. Then come options, in any order and each at most
-/// once: `--tries=N` and `--nodes=N` of `build`, `compile` and `check`; `--audit=KIND:SETTING`, once for each kind, of
-/// `build` and `compile`; `--core` of `build` and `verify`, not with `--nodes` and `--audit`. The last word is a name, or
-/// for `sample` a number from 1 to 300. N is a number from 1 to 1,000,000 without a leading zero.
+/// The first word is `build`, `compile`, `check`, `verify` or `sample`. Then come options, in any
+/// order and each at most once: `--tries=N` and `--nodes=N` of `build`, `compile` and `check`;
+/// `--audit=KIND:SETTING`, once for each kind, of `build` and `compile`; `--core` of `build` and
+/// `verify`, not with `--nodes` and `--audit`. The last word is a name, or for `sample` a number
+/// from 1 to 300. N is a number from 1 to 1,000,000 without a leading zero.
 ///
-/// `Words` comes exactly where the words spell no command that is there, with the number of the first word after which none
-/// can follow. The place of an auditor is below 2^32: where more words stand before it, memory is lacking.
+/// `Words` comes exactly where the words spell no command that is there, with the number of the
+/// first word after which none can follow. The place of an auditor is below 2^32: where more words
+/// stand before it, memory is lacking.
 pub fn read_words_at(alloc: Global, stage: Stage, words: &[Text]) -> Result<Command, WordsError>
     ensures answer { IsAnswer stage words.now result }
     // What is spelled is read, unless memory runs out.
-    ensures only { (c : Meant) → SpellsAt stage words.now c → Gives command_view Refuses result (Ok c) }
+    ensures only { (c : Meant) → SpellsAt stage words.now c →
+        Gives command_view Refuses result (Ok c) }
 {
     command_of(alloc, stage, words)
 }
@@ -226,9 +233,13 @@ pub fn read_words(alloc: Global, words: &[Text]) -> Result<Command, WordsError>
     read_words_at(alloc, Stage::Whole, words)
 }
 
-/// Words have one answer at each stage: they spell one command, or they have one first word that does not fit.
+/// Words have one answer at each stage: they spell one command, or they have one first word that
+/// does not fit.
 pub fn one_answer_is_due()
-    ensures command { (stage : StageOf) (words : List (List ℕ)) (one other : Meant) → SpellsAt stage words one → SpellsAt stage words other → one ≡ other }
-    ensures misfit { (stage : StageOf) (words : List (List ℕ)) (one other : ℕ) → IsMisfitAt stage words one → IsMisfitAt stage words other → one ≡ other }
-    ensures either { (stage : StageOf) (words : List (List ℕ)) (c : Meant) (n : ℕ) → SpellsAt stage words c → IsMisfitAt stage words n → ⊥ }
+    ensures command { (stage : StageOf) (words : List (List ℕ)) (one other : Meant) →
+        SpellsAt stage words one → SpellsAt stage words other → one ≡ other }
+    ensures misfit { (stage : StageOf) (words : List (List ℕ)) (one other : ℕ) →
+        IsMisfitAt stage words one → IsMisfitAt stage words other → one ≡ other }
+    ensures either { (stage : StageOf) (words : List (List ℕ)) (c : Meant) (n : ℕ) →
+        SpellsAt stage words c → IsMisfitAt stage words n → ⊥ }
 {}

@@ -119,15 +119,16 @@ fn text_of(alloc: Global, refusal: &Refusal) -> Result<Vec<u8>, NoMemory>
     Ok(text)
 }
 
-/// Appends the one line that names the refusal: `soundx: `, the file in which the thing stands, `: `, the text of the
-/// refusal and a line feed. After want of memory `into` is as before.
+/// Appends the one line that names the refusal: `soundx: `, the file in which the thing stands, `:
+/// `, the text of the refusal and a line feed. After want of memory `into` is as before.
 pub fn write_refusal(
     alloc: Global,
     file: &Text,
     refusal: &Refusal,
     into: &mut Vec<u8>,
 ) -> Result<(), NoMemory>
-    ensures ok { OnOk result (into.new.items ≡ into.old.items ++ line_text file.now (refusal_text refusal.now)) }
+    ensures ok { OnOk result (into.new.items ≡ into.old.items
+        ++ line_text file.now (refusal_text refusal.now)) }
     ensures err { OnErr result (into.new.items ≡ into.old.items) }
 {
     let text = text_of(alloc, refusal)?;

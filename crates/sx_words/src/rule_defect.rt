@@ -20,7 +20,8 @@ pub enum RuleDefect {
     SortDiffers,
     /// A part of the discipline that a premise breaks. At `Place::Rule`.
     Discipline { part: u32, premise: u64 },
-    /// A variable that is not bound, with the mark before its name: `~V`, in a core file `?N`. At `Place::Rule`.
+    /// A variable that is not bound, with the mark before its name: `~V`, in a core file `?N`. At
+    /// `Place::Rule`.
     NotModed(Text),
 }
 

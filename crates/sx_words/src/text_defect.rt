@@ -20,8 +20,8 @@ pub enum TextDefect {
     TooManyTokens,
     /// At `Place::Line` in a language or extension file.
     TooHard,
-    /// The depth of a reading or a term. At `Place::Line` of a line that is read, at `Place::Rule` in accepting a rule, at
-    /// `Place::Plain` of a plain body.
+    /// The depth of a reading or a term. At `Place::Line` of a line that is read, at `Place::Rule`
+    /// in accepting a rule, at `Place::Plain` of a plain body.
     TooDeep(u64),
     /// The size of a term. At `Place::Rule` in accepting a rule, at `Place::Plain` of a plain body.
     TooBig(u64),

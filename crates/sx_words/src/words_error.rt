@@ -10,7 +10,8 @@ pub enum WordsError {
     /// Memory is lacking.
     #[error("out of memory")]
     Memory,
-    /// The number of the first word that does not fit, from 1, or one more than the number of words where one is missing.
+    /// The number of the first word that does not fit, from 1, or one more than the number of words
+    /// where one is missing.
     #[error("word {0}")]
     Words(u64),
 }

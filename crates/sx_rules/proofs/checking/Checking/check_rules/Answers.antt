@@ -24,7 +24,7 @@ check_rule-requires c = rule_shallow_at c.args.rules.now c.loop-i.i c.index-rule
 pub push-requires : goal.push-requires
 push-requires c k =
     (c.in-Ok.ensures).fresh (among_back c.index-rules-i.result.name c.args.self.now.before.now c.loop-i.names
-        (subst (λ (name : List ℕ). IsAmong name c.loop-i.names) c.bytes.ensures.value k))
+    (subst (λ (name : List ℕ). IsAmong name c.loop-i.names) c.bytes.ensures.value k))
 
 pub loop-i-preserved : goal.loop-i-preserved
 loop-i-preserved c =

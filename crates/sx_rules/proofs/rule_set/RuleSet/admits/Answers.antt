@@ -22,4 +22,4 @@ returns c =
     let checked = subst (λ (names : List (List ℕ)). AreChecked all (forms_in self) names more result) self.named by_forms in
     subst (λ (ss : List Shape). IsAdmitted ss (forms_in self) (rules_in self ++ more) result) (sym c.requires.begins.1)
     (admitted (shapes_in self) new (forms_in self) self.rules.items more
-        (kept_good (shapes_in self) (forms_in self) (rules_in self) self.good) (few_all self.rules.items c.args.more.now few) result checked)
+    (kept_good (shapes_in self) (forms_in self) (rules_in self) self.good) (few_all self.rules.items c.args.more.now few) result checked)
