@@ -1,0 +1,6 @@
+pub mod Headers
+pub mod Tables
+pub mod Visits
+pub mod Turning
+pub mod Orders
+pub mod Agreeing

@@ -1,0 +1,7 @@
+pub mod ExtensionFile
+pub mod ReadExtension
+pub mod Reached
+pub mod ReadUses
+pub mod FileTable
+pub mod Turns
+pub mod Laws
