@@ -4,3 +4,4 @@ pub mod Visits
 pub mod Turning
 pub mod Orders
 pub mod Agreeing
+pub mod Coming

@@ -22,7 +22,8 @@ use Rattle.sx_uses.specs.ReadExtension.{ReadsExtension}
 use Rattle.sx_uses.specs.Reached.{Found, IsFound}
 use Rattle.sx_uses.specs.ReadUses.{ReadsUses}
 use Rattle.sx_uses.specs.FileTable.{IsTaken}
-use Rattle.sx_uses.specs.Turns.{AreOpened, found_in, uses_for, IsWalked, AreOnce, AreHeld, SameOn}
+use Rattle.sx_uses.specs.Opened.{AreOpened, found_in, uses_for, AreOnce, AreHeld}
+use Rattle.sx_uses.specs.Turns.{IsWalked}
 use Rattle.sx_uses.proofs.Tables.{is_there}
 use Rattle.sx_uses.proofs.Visits.{opened_reads, found_held}
 
@@ -74,6 +75,11 @@ same_found language held (name ∷ names) h =
     λ i. one i ∷ more i
 
 -- ---- taking files out of a table
+
+-- the same is held under these names
+abbrev pub SameOn : (one other : Found Extension) → List Name → Type 0
+SameOn one other [] = Unit {0}
+SameOn one other (name ∷ names) = (one name ≡ other name) × SameOn one other names
 
 pub same_self : (held : Found Extension) (names : List Name) → SameOn held held names
 same_self held [] = tt

@@ -19,7 +19,8 @@ use Rattle.sx_steps.specs.declared.step_error.StepError.TheVariants as errors
 use Rattle.sx_steps.proofs.Ones.{some_same, none_some}
 use Rattle.sx_uses.specs.ExtensionFile.{Extension, uses_of}
 use Rattle.sx_uses.specs.Reached.{Found}
-use Rattle.sx_uses.specs.Turns.{AreOpened, Keeps, found_in, uses_for, Covers, IsVisit, walk_stop, IsStopOr, Enters, StopsSo, TakesTurn, IsWalked}
+use Rattle.sx_uses.specs.Opened.{AreOpened, Keeps, found_in, uses_for, Covers}
+use Rattle.sx_uses.specs.Turns.{IsVisit, walk_stop, IsStopOr, Enters, StopsSo, TakesTurn, IsWalked}
 use Rattle.sx_uses.specs.declared.turn.Turn.{Turn}
 use Rattle.sx_uses.specs.declared.turn.Turn.TheVariants.{On, Whole}
 use Rattle.sx_uses.proofs.Visits.{if_so, found_held}

@@ -19,7 +19,8 @@ use Rattle.sx_uses.specs.ExtensionFile.{Extension, extension_of, extension_file,
 use Rattle.sx_uses.specs.ReadExtension.{StatesExtension, ReadsFile}
 use Rattle.sx_uses.specs.Reached.{Found}
 use Rattle.sx_uses.specs.FileTable.{IsPut}
-use Rattle.sx_uses.specs.Turns.{IsOpened, AreOpened, if_for, OpensFile, UsesFor, IsVisit, IsBegun}
+use Rattle.sx_uses.specs.Opened.{IsOpened, AreOpened, if_for, IsBegun}
+use Rattle.sx_uses.specs.Turns.{OpensFile, UsesFor, IsVisit}
 use Rattle.sx_uses.proofs.Tables.{differ, put_cases, put_same, put_keeps, is_none, is_there}
 
 -- ---- files

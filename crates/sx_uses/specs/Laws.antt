@@ -1,11 +1,12 @@
 -- What is proved of reading extensions.
-use Rattle.std.specs.Prelude.{◌≡◌, ℕ, List, Result, Ok, Err}
+use Rattle.std.specs.Prelude.{◌≡◌, ℕ, List, ◌∷◌, ◌++◌, map, Result, Ok, Err, Contains}
+use Rattle.std.specs.List.{AllByRecursion}
 use Rattle.sx_outside.specs.Files.{Files}
 use Rattle.sx_steps.specs.declared.stop.Stop.{Stop}
 use Rattle.sx_steps.specs.Agree.{IsNoReadFault}
 use Rattle.sx_steps.specs.Refusal.{status_of, line_of}
-use Rattle.sx_uses.specs.ExtensionFile.{Extension}
-use Rattle.sx_uses.specs.ReadExtension.{ReadsFile}
+use Rattle.sx_uses.specs.ExtensionFile.{Extension, uses_of}
+use Rattle.sx_uses.specs.ReadExtension.{ReadsFile, ReadsExtension}
 use Rattle.sx_uses.specs.ReadUses.{ReadsUses}
 
 -- by the name and the files there is one result, but for read faults
@@ -32,3 +33,27 @@ UsesAgree = (file language : List ℕ) (roots : List (List ℕ)) (files : Files)
     (x y : Result (List Extension) Stop) →
     ReadsUses file language roots files x → ReadsUses file language roots files y →
     IsNoReadFault x → IsNoReadFault y → AreAlike x y
+
+-- ---- what was read
+
+-- the names of these extensions
+abbrev pub names_of : List Extension → List (List ℕ)
+names_of xs = map (λ x. x.header.name) xs
+
+-- the extension stands after all that it uses, and none of its name stands before it
+pub record StandsAfterUses (before : List Extension) (x : Extension) : Type 0 where
+  pub once : ¬ (Contains (names_of before) x.header.name)
+  pub after_them : (name : List ℕ) → Contains (uses_of x) name → Contains (names_of before) name
+
+-- each of these was read from its file and is written for the language
+abbrev pub AreRead : (language : List ℕ) → Files → List Extension → Type 0
+AreRead language files xs =
+    AllByRecursion (λ x. ReadsExtension language files x.header.name (Ok x)) xs
+
+-- each extension that was read stands after all that it uses, and the roots are among them
+abbrev pub UsesComeFirst : Type 0
+UsesComeFirst = (file language : List ℕ) (roots : List (List ℕ)) (files : Files)
+    (xs : List Extension) → ReadsUses file language roots files (Ok xs) →
+    ((before after : List Extension) (x : Extension) → xs ≡ before ++ x ∷ after →
+    StandsAfterUses before x) × AreRead language files xs ×
+    ((name : List ℕ) → Contains roots name → Contains (names_of xs) name)

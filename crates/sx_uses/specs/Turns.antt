@@ -1,7 +1,7 @@
 -- How a walk through extension files goes on.
-use Rattle.std.specs.Prelude.{◌≡◌, ◌≢◌, ℕ, suc, ◌<◌, ◌≤◌, List, [], ◌∷◌, Option, Some, None, Result, Ok, Err, IsSome, Contains, if◌then◌else◌}
+use Rattle.std.specs.Prelude.{◌≡◌, ◌≢◌, ℕ, suc, ◌<◌, ◌≤◌, List, Option, Some, None}
+use Rattle.std.specs.Prelude.{Result, Ok, Err, IsSome}
 use Rattle.std.specs.Global.{Vec}
-use Rattle.std.specs.Str.{bytes_eq}
 use Rattle.sx_outline.specs.Headers.{HeaderData}
 use Rattle.sx_outside.specs.Files.{Files}
 use Rattle.sx_outside.specs.Told.{WhereTold}
@@ -16,48 +16,12 @@ use Rattle.sx_steps.specs.declared.stop.Stop.{Stop}
 use Rattle.sx_steps.specs.declared.step_error.StepError.{StepError}
 use Rattle.sx_steps.specs.declared.step_error.StepError.TheVariants as errors
 use Rattle.sx_steps.specs.Refusal.{about}
-use Rattle.sx_uses.specs.declared.extension_file.ExtensionFile.{ExtensionFile}
-use Rattle.sx_uses.specs.ExtensionFile.{Extension, extension_of, extension_file, uses_of, IsStated}
-use Rattle.sx_uses.specs.FileTable.{IsPut}
+use Rattle.sx_uses.specs.ExtensionFile.{Extension, extension_file, uses_of}
 use Rattle.sx_uses.specs.ReadExtension.{ReadsFile, wrong_language, ReadsExtension}
-use Rattle.sx_uses.specs.Reached.{Found, uses_in, IsToldAs, too_many_files}
+use Rattle.sx_uses.specs.Reached.{Found, IsToldAs, too_many_files}
+use Rattle.sx_uses.specs.Opened.{AreOpened, Keeps, found_in, uses_for, Covers}
 use Rattle.sx_uses.specs.declared.turn.Turn.{Turn}
 use Rattle.sx_uses.specs.declared.turn.Turn.TheVariants.{On, Whole}
-
--- ---- what was read
-
--- the extension is what its file states, where the files are told
-pub record IsOpened (told : Option Files) (name : Name) (x : Extension) : Type 0 where
-  pub named : x.header.name ≡ name
-  pub stated : IsStated x
-  pub held : WhereTold told (λ files. files (extension_file name) ≡ Some x.bytes)
-
--- all of them are
-abbrev pub AreOpened : Option Files → Found Extension → Type 0
-AreOpened told held = (name : Name) (x : Extension) → held name ≡ Some x → IsOpened told name x
-
--- nothing that was held is lost
-abbrev pub Keeps : (old new : Found Extension) → Type 0
-Keeps old new = (name : Name) (x : Extension) → old name ≡ Some x → new name ≡ Some x
-
--- those that are written for the language
-abbrev pub if_for : List ℕ → Option Extension → Option Extension
-if_for language None = None
-if_for language (Some x) = if bytes_eq x.header.language language then Some x else None
-
-abbrev pub found_in : List ℕ → Found Extension → Found Extension
-found_in language held = λ name. if_for language (held name)
-
--- what they use
-abbrev pub uses_for : List ℕ → Found Extension → Imports
-uses_for language held = uses_in uses_of (found_in language held)
-
--- each of these uses the same there
-abbrev pub Covers : Found Extension → Imports → Type 0
-Covers found imports = (name : Name) (x : Extension) → found name ≡ Some x →
-    imports name ≡ Some (uses_of x)
-
--- ---- steps
 
 -- the file of the name was read, if it was not held before
 abbrev pub OpensFile : (told : Option Files) → Name → (old new : Found Extension) →
@@ -134,25 +98,3 @@ IsWalked told file language roots held (Ok order) = AreOpened told held ×
 IsWalked told file language roots held (Err errors.Memory) = Unit {0}
 IsWalked told file language roots held (Err (errors.Stopped stop)) = AreOpened told held ×
     StopsSo told file language roots held stop
-
--- the extension that was read before is held, and no other
-abbrev pub IsBegun : Option ExtensionFile → Found Extension → Type 0
-IsBegun None held = (name : Name) → held name ≡ None
-IsBegun (Some file) held = IsPut file.header.name (extension_of file) (λ name. None) held
-
--- ---- the files of an order
-
--- no name stands twice
-abbrev pub AreOnce : List Name → Type 0
-AreOnce [] = Unit {0}
-AreOnce (name ∷ names) = ¬ (Contains names name) × AreOnce names
-
--- each of them is held
-abbrev pub AreHeld : Found Extension → List Name → Type 0
-AreHeld held [] = Unit {0}
-AreHeld held (name ∷ names) = IsSome (held name) × AreHeld held names
-
--- the same is held under these names
-abbrev pub SameOn : (one other : Found Extension) → List Name → Type 0
-SameOn one other [] = Unit {0}
-SameOn one other (name ∷ names) = (one name ≡ other name) × SameOn one other names

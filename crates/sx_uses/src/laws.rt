@@ -1,6 +1,6 @@
 //! What is proved of reading extensions.
 
-ghost use Rattle.sx_uses.specs.Laws.{FilesAgree, UsesAgree};
+ghost use Rattle.sx_uses.specs.Laws.{FilesAgree, UsesAgree, UsesComeFirst};
 
 use sx_outline::one_extension_header;
 
@@ -20,3 +20,9 @@ pub fn uses_agree()
 {
     one_extension_header();
 }
+
+/// The extensions that were read are those of their files, and are written for the language. Each
+/// stands once and after all that it uses, and the roots are among them.
+pub fn uses_come_first()
+    ensures { UsesComeFirst }
+{}

@@ -1,4 +1,11 @@
-//! Extension files along their `use` lines.
+//! Extension files along their `use` lines: the steps of `check NAME` and `build NAME` that read the
+//! headers of extensions before any of them is read whole.
+//!
+//! - `read_extension_file`: the file of one extension, as far as its header.
+//! - `read_uses`: the files of all extensions that are reached from some by `use` lines, each once
+//!   and after those that it uses; or the first refusal that the walk comes to.
+//! - `files_agree`, `uses_agree`: by the files there is one result, but for read faults and out of
+//!   memory. `uses_come_first`: what was read stands after all that it uses.
 #![tactic(auto)]
 
 mod extension_file;
@@ -11,6 +18,6 @@ mod visiting;
 mod walking;
 
 pub use extension_file::ExtensionFile;
-pub use laws::{files_agree, uses_agree};
+pub use laws::{files_agree, uses_agree, uses_come_first};
 pub use read_extension::read_extension_file;
 pub use uses_reading::read_uses;

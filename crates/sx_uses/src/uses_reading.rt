@@ -8,7 +8,7 @@ ghost use Rattle.sx_uses.specs.ExtensionFile.{extension_of, extensions_of, IsSta
 ghost use Rattle.sx_uses.specs.FileTable.{held_in};
 ghost use Rattle.sx_uses.specs.ReadExtension.{ReadsFile};
 ghost use Rattle.sx_uses.specs.ReadUses.{ReadsUses};
-ghost use Rattle.sx_uses.specs.Turns.{IsBegun, AreOnce, AreHeld};
+ghost use Rattle.sx_uses.specs.Opened.{IsBegun, AreOnce, AreHeld};
 
 use crate::extension_file::ExtensionFile;
 use crate::file_table::FileTable;

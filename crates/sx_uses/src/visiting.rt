@@ -7,7 +7,8 @@ ghost use Rattle.sx_steps.specs.Stop.{Gives, OnlyReads, IsNoFault};
 ghost use Rattle.sx_uses.specs.ExtensionFile.{extension_file};
 ghost use Rattle.sx_uses.specs.FileTable.{held_in};
 ghost use Rattle.sx_uses.specs.ReadExtension.{wrong_language as stop_of_language};
-ghost use Rattle.sx_uses.specs.Turns.{AreOpened, OpensFile, UsesFor, IsVisit};
+ghost use Rattle.sx_uses.specs.Opened.{AreOpened};
+ghost use Rattle.sx_uses.specs.Turns.{OpensFile, UsesFor, IsVisit};
 
 use crate::file_table::FileTable;
 use crate::read_extension::read_extension_file;
@@ -73,7 +74,7 @@ fn wrong_language(alloc: Global, name: &Text, language: &Text) -> Result<Stop, N
 }
 
 /// What the extension with this name uses, where it is written for the language.
-fn uses_for(
+fn stated_uses(
     alloc: Global,
     language: &Text,
     name: &Text,
@@ -106,7 +107,7 @@ pub(crate) fn visit<S: Shelf>(
 {
     match open_file(alloc, name, files, shelf) {
         Ok(()) => match files.get(name) {
-            Some(file) => uses_for(alloc, language, name, &file.header),
+            Some(file) => stated_uses(alloc, language, name, &file.header),
             None => unreachable!(),
         },
         Err(e) => Err(e),

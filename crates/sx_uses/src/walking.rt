@@ -3,7 +3,8 @@
 ghost use Rattle.std.specs.Prelude.{◌≡◌, IfOk, Some};
 ghost use Rattle.sx_steps.specs.Stop.{OnlyReads};
 ghost use Rattle.sx_uses.specs.FileTable.{held_in};
-ghost use Rattle.sx_uses.specs.Turns.{walk_stop as stop_of_walk, IsStopOr, AreOpened, Enters};
+ghost use Rattle.sx_uses.specs.Opened.{AreOpened};
+ghost use Rattle.sx_uses.specs.Turns.{walk_stop as stop_of_walk, IsStopOr, Enters};
 ghost use Rattle.sx_uses.specs.Turns.{TakesTurn, IsWalked};
 
 use crate::file_table::FileTable;

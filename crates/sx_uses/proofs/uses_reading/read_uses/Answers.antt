@@ -1,7 +1,7 @@
 use Rattle.std.proofs.Common.{◌∙◌, List, ap, sym, subst, map}
 use Rattle.sx_imports.specs.Walk.{Name}
 use Rattle.sx_uses.specs.FileTable.{held_in}
-use Rattle.sx_uses.specs.Turns.{AreOnce, AreHeld}
+use Rattle.sx_uses.specs.Opened.{AreOnce, AreHeld}
 use Rattle.sx_uses.proofs.Visits.{begun_opened}
 use Rattle.sx_uses.proofs.Orders.{order_once, order_held, read_whole, whole_stated, read_stop}
 use Rattle.sx_uses.proofs.uses_reading.read_uses.Goals as goal

@@ -1,7 +1,7 @@
 use Rattle.std.proofs.Common.{Option, sym, subst, arith}
 use Rattle.sx_outside.specs.Files.{Files}
 use Rattle.sx_uses.specs.FileTable.{held_in}
-use Rattle.sx_uses.specs.Turns.{AreOpened}
+use Rattle.sx_uses.specs.Opened.{AreOpened}
 use Rattle.sx_uses.specs.declared.turn.Turn.TheVariants.{On, Whole}
 use Rattle.sx_uses.proofs.Turning.{turn_as, come_begin, come_on, opened_on, less_left, walked_whole, walked_err, reads_more, reads_ok, reads_err, reads_none}
 use Rattle.sx_uses.proofs.walking.walk_uses.Goals as goal

@@ -4,7 +4,7 @@ use Rattle.sx_imports.specs.Walk.{Imports}
 use Rattle.sx_imports.specs.Progress.{IsOn, visits}
 use Rattle.sx_steps.specs.Stop.{OnlyReads}
 use Rattle.sx_uses.specs.FileTable.{held_in}
-use Rattle.sx_uses.specs.Turns.{AreOpened, Covers, found_in}
+use Rattle.sx_uses.specs.Opened.{AreOpened, Covers, found_in}
 use Rattle.sx_uses.proofs.walking.walk_uses.Given as goal
 
 abbrev pub invariant-loop-next : goal.invariant-loop-next
