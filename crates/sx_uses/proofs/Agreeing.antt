@@ -10,15 +10,17 @@ use Rattle.sx_imports.specs.Walk.{Name, Imports, missing, cycle, too_many, End, 
 use Rattle.sx_imports.proofs.Ends.{one_end}
 use Rattle.sx_words.specs.Lines.{line_text}
 use Rattle.sx_words.specs.RefusalText.{joined, names_text}
-use Rattle.sx_steps.specs.Agree.{IsNoReadFault}
+use Rattle.sx_steps.specs.Agree.{IsNoReadFault, AnswersBy}
 use Rattle.sx_steps.specs.Held.{Held, most_bytes}
 use Rattle.sx_steps.specs.Refusal.{status_of, line_of}
 use Rattle.sx_steps.specs.declared.stop.Stop.{Stop}
-use Rattle.sx_steps.proofs.Ones.{IsOne, then_one, held_one, ok_same, err_same, ok_no_err, some_same, none_some}
+use Rattle.sx_steps.specs.declared.step_error.StepError.TheVariants as errors
+use Rattle.sx_steps.proofs.Ones.{IsOne, as_answer, then_one, held_one, ok_same, err_same, ok_no_err, some_same, none_some}
 use Rattle.sx_uses.specs.ExtensionFile.{Extension, extension_file, uses_of}
 use Rattle.sx_uses.specs.ReadExtension.{header_stop, HasHeader, HasNoHeader, StatesExtension, ReadsFile, IsFor, ReadsExtension}
 use Rattle.sx_uses.specs.Reached.{TellsCycle, Found, uses_in, IsFound, IsTold, Reaches}
-use Rattle.sx_uses.specs.Laws.{FilesAgree, AnswerAlike, AreAlike, UsesAgree}
+use Rattle.sx_uses.specs.ReadUses.{ReadsUses}
+use Rattle.sx_uses.specs.Laws.{FilesAgree, AnswerAlike, UsesAgree}
 
 -- ---- files
 
@@ -163,7 +165,7 @@ module _ {A : Type 0} (uses : A → List Name) (Visits : Name → Result A Stop 
         let tail = same_values names xs ys c d in
         λ i. head i ∷ tail i
 
-    told_alike : (end : End) (x y : Result (List A) Stop) → IsTold Visits file found end x → IsTold Visits file other end y → IsNoReadFault x → IsNoReadFault y → AreAlike x y
+    told_alike : (end : End) (x y : Result (List A) Stop) → IsTold Visits file found end x → IsTold Visits file other end y → IsNoReadFault x → IsNoReadFault y → AnswersBy AnswerAlike (as_answer x) (as_answer y)
     told_alike (Ok order) (Ok xs) (Ok ys) h k n m = same_values order xs ys h k
     told_alike (Ok order) (Err s) y h k n m = absurd h
     told_alike (Ok order) (Ok xs) (Err t) h k n m = absurd k
@@ -173,7 +175,7 @@ module _ {A : Type 0} (uses : A → List Name) (Visits : Name → Result A Stop 
     told_alike (Err (cycle names)) (Err s) (Err t) h k n m = cycles_alike file names s t h k
     told_alike (Err too_many) (Err s) (Err t) h k n m = alike_same s t (h ∙ sym k)
 
-  pub reaches_alike : (x y : Result (List A) Stop) → Reaches uses Visits file roots x → Reaches uses Visits file roots y → IsNoReadFault x → IsNoReadFault y → AreAlike x y
+  pub reaches_alike : (x y : Result (List A) Stop) → Reaches uses Visits file roots x → Reaches uses Visits file roots y → IsNoReadFault x → IsNoReadFault y → AnswersBy AnswerAlike (as_answer x) (as_answer y)
   reaches_alike x y h k n m =
       let wider = uses_in uses (both h.found k.found h.visited k.visited) in
       let one_walk : Walks wider 256 roots h.end = goes_wider (uses_in uses h.found) wider 256 (λ name lines is. first_more uses (h.found name) (k.found name) lines is) h.walks (still h.found k.found h.visited k.visited h.found h.end x h.told n) in
@@ -182,5 +184,16 @@ module _ {A : Type 0} (uses : A → List Name) (Visits : Name → Result A Stop 
       let same : h.end ≡ k.end = one_end wider 256 roots h.end k.end one_walk other_walk in
       told_alike h.found k.found h.visited k.visited k.end x y (subst (λ (e : End). IsTold Visits file h.found e x) same h.told) k.told n m
 
+-- so the step has one answer, read faults aside
+pub uses_by : OneHeaderAnswer → (file language : List ℕ) (roots : List Name) (files : Files) (x y : Result (List Extension) Stop) → ReadsUses file language roots files x → ReadsUses file language roots files y →
+    IsNoReadFault x → IsNoReadFault y → AnswersBy AnswerAlike (as_answer x) (as_answer y)
+uses_by one file language roots files x y h k n m = reaches_alike uses_of (ReadsExtension language files) (extension_one one language files) file roots x y h k n m
+
 pub uses_one : OneHeaderAnswer → UsesAgree
-uses_one one file language roots files x y h k n m = reaches_alike uses_of (ReadsExtension language files) (extension_one one language files) file roots x y h k n m
+uses_one one file language roots files (Ok xs) (Ok ys) h k n m = uses_by one file language roots files (Ok xs) (Ok ys) h k tt tt
+uses_one one file language roots files (Ok xs) (Err (errors.Stopped t)) h k n m = uses_by one file language roots files (Ok xs) (Err t) h k tt m
+uses_one one file language roots files (Err (errors.Stopped s)) (Ok ys) h k n m = uses_by one file language roots files (Err s) (Ok ys) h k n tt
+uses_one one file language roots files (Err (errors.Stopped s)) (Err (errors.Stopped t)) h k n m = uses_by one file language roots files (Err s) (Err t) h k n m
+uses_one one file language roots files (Err errors.Memory) y h k n m = absurd n
+uses_one one file language roots files (Ok xs) (Err errors.Memory) h k n m = absurd m
+uses_one one file language roots files (Err (errors.Stopped s)) (Err errors.Memory) h k n m = absurd m

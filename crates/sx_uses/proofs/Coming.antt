@@ -26,7 +26,7 @@ names_append [] after x = refl
 names_append (first ∷ before) after x = ap (λ (l : List Name). first.header.name ∷ l) (names_append before after x)
 
 module _ (language : List ℕ) (files : Files) (found : Found Extension) (visited : IsFound (ReadsExtension language files) found) where
-  names_are : (order : List Name) (xs : List Extension) → map found order ≡ map Some xs → names_of xs ≡ order
+  pub names_are : (order : List Name) (xs : List Extension) → map found order ≡ map Some xs → names_of xs ≡ order
   names_are [] [] e = refl
   names_are [] (x ∷ xs) e = absurd cc
   names_are (name ∷ names) [] e = absurd cc

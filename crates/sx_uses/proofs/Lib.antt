@@ -5,3 +5,4 @@ pub mod Turning
 pub mod Orders
 pub mod Agreeing
 pub mod Coming
+pub mod Lasting

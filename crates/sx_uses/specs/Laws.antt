@@ -1,10 +1,12 @@
 -- What is proved of reading extensions.
-use Rattle.std.specs.Prelude.{◌≡◌, ℕ, List, ◌∷◌, ◌++◌, map, Result, Ok, Err, Contains}
+use Rattle.std.specs.Prelude.{◌≡◌, ℕ, List, [], ◌∷◌, ◌++◌, map, Result, Ok, Contains}
 use Rattle.std.specs.List.{AllByRecursion}
 use Rattle.sx_outside.specs.Files.{Files}
 use Rattle.sx_steps.specs.declared.stop.Stop.{Stop}
-use Rattle.sx_steps.specs.Agree.{IsNoReadFault}
+use Rattle.sx_steps.specs.declared.step_error.StepError.{StepError}
+use Rattle.sx_steps.specs.Agree.{IsNoReadFault, IsSure, AnswersBy}
 use Rattle.sx_steps.specs.Refusal.{status_of, line_of}
+use Rattle.sx_steps.specs.Stop.{Gives}
 use Rattle.sx_uses.specs.ExtensionFile.{Extension, uses_of}
 use Rattle.sx_uses.specs.ReadExtension.{ReadsFile, ReadsExtension}
 use Rattle.sx_uses.specs.ReadUses.{ReadsUses}
@@ -19,20 +21,14 @@ pub record AnswerAlike (s t : Stop) : Type 0 where
   pub status : status_of s ≡ status_of t
   pub line : line_of s ≡ line_of t
 
--- the results are equal, or are such stops
-abbrev pub AreAlike : {A : Type 0} → Result A Stop → Result A Stop → Type 0
-AreAlike (Ok x) (Ok y) = x ≡ y
-AreAlike (Err s) (Err t) = AnswerAlike s t
-AreAlike (Ok x) (Err t) = ⊥
-AreAlike (Err s) (Ok y) = ⊥
-
--- by the roots and the files there is one result, but for read faults: the same extensions in the
--- same order, or stops that give the same status and the same line
+-- by the roots and the files there is one result, but for read faults and out of memory: the same
+-- extensions in the same order, or stops that give the same status and the same line
 abbrev pub UsesAgree : Type 0
 UsesAgree = (file language : List ℕ) (roots : List (List ℕ)) (files : Files)
-    (x y : Result (List Extension) Stop) →
-    ReadsUses file language roots files x → ReadsUses file language roots files y →
-    IsNoReadFault x → IsNoReadFault y → AreAlike x y
+    (x y : Result (List Extension) StepError) →
+    Gives (λ xs. xs) (ReadsUses file language roots files) x →
+    Gives (λ xs. xs) (ReadsUses file language roots files) y →
+    IsSure x → IsSure y → AnswersBy AnswerAlike x y
 
 -- ---- what was read
 
@@ -57,3 +53,9 @@ UsesComeFirst = (file language : List ℕ) (roots : List (List ℕ)) (files : Fi
     ((before after : List Extension) (x : Extension) → xs ≡ before ++ x ∷ after →
     StandsAfterUses before x) × AreRead language files xs ×
     ((name : List ℕ) → Contains roots name → Contains (names_of xs) name)
+
+-- of what is reached from one root, the root comes last
+abbrev pub RootComesLast : Type 0
+RootComesLast = (file language root : List ℕ) (files : Files) (xs : List Extension) →
+    ReadsUses file language (root ∷ []) files (Ok xs) →
+    (before : List (List ℕ)) × (names_of xs ≡ before ++ root ∷ [])

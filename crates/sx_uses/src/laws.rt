@@ -1,6 +1,6 @@
 //! What is proved of reading extensions.
 
-ghost use Rattle.sx_uses.specs.Laws.{FilesAgree, UsesAgree, UsesComeFirst};
+ghost use Rattle.sx_uses.specs.Laws.{FilesAgree, UsesAgree, UsesComeFirst, RootComesLast};
 
 use sx_outline::one_extension_header;
 
@@ -25,4 +25,9 @@ pub fn uses_agree()
 /// stands once and after all that it uses, and the roots are among them.
 pub fn uses_come_first()
     ensures { UsesComeFirst }
+{}
+
+/// Of the extensions that are reached from one root, the root comes last.
+pub fn root_comes_last()
+    ensures { RootComesLast }
 {}

@@ -5,7 +5,7 @@
 //! - `read_uses`: the files of all extensions that are reached from some by `use` lines, each once
 //!   and after those that it uses; or the first refusal that the walk comes to.
 //! - `files_agree`, `uses_agree`: by the files there is one result, but for read faults and out of
-//!   memory. `uses_come_first`: what was read stands after all that it uses.
+//!   memory. `uses_come_first`, `root_comes_last`: what was read stands after all that it uses.
 #![tactic(auto)]
 
 mod extension_file;
@@ -18,6 +18,6 @@ mod visiting;
 mod walking;
 
 pub use extension_file::ExtensionFile;
-pub use laws::{files_agree, uses_agree, uses_come_first};
+pub use laws::{files_agree, root_comes_last, uses_agree, uses_come_first};
 pub use read_extension::read_extension_file;
 pub use uses_reading::read_uses;
