@@ -1,5 +1,5 @@
-//! Extension files along their `use` lines: the steps of `check NAME` and `build NAME` that read the
-//! headers of extensions before any of them is read whole.
+//! Extension files along their `use` lines: the steps of `check NAME` and `build NAME` that read
+//! the headers of extensions before any of them is read whole.
 //!
 //! - `read_extension_file`: the file of one extension, as far as its header.
 //! - `read_uses`: the files of all extensions that are reached from some by `use` lines, each once
