@@ -1,4 +1,7 @@
-//! Extension files.
+//! What extension files add.
+//!
+//! So far there is the plain table of an extension: the flat bodies of the plain constructors that
+//! it adds, after those of the extensions before it (`plain_table`). Reading the files comes next.
 #![tactic(auto)]
 
 mod layers;

@@ -1,6 +1,8 @@
-//! The host as the commands see it: the current folder, standard input, standard output and the words of the command line.
+//! The host as the commands see it: the current folder, standard input, standard output and the
+//! words of the command line.
 //!
-//! The host tells nothing of what files hold, of what comes in and of what went out, so contents are `None`; faults are counted.
+//! The host tells nothing of what files hold, of what comes in and of what went out, so contents
+//! are `None`; faults are counted.
 #![tactic(auto)]
 
 mod arguments;

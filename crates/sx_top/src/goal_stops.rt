@@ -29,8 +29,8 @@ fn rule_name(alloc: Global, rules: &RuleSet, number: u32) -> Result<Text, NoMemo
     }
 }
 
-/// The number of a premise in a printed line, from 1. No rule in memory has a premise whose number is
-/// past the greatest u64.
+/// The number of a premise in a printed line, from 1. No rule in memory has a premise whose number
+/// is past the greatest u64.
 fn premise_number(premise: usize) -> Result<u64, NoMemory>
     ensures { MatchResult result (λ number. number ≡ premise + 1) (λ _. 2 ^ 64 ≤ premise + 1) }
 {

@@ -12,7 +12,8 @@ fn is_at_end(input: &mut Input<'_>) -> bool {
     answer == TakeAnswer::End && bytes == [7, 7, 7]
 }
 
-/// Moves all that comes in to where it goes out, five bytes at most at once. It tells whether the source came to its end.
+/// Moves all that comes in to where it goes out, five bytes at most at once. It tells whether the
+/// source came to its end.
 fn move_all(input: &mut Input<'_>, output: &mut Output<'_>) -> bool {
     let mut bytes = [0u8; 5];
     for _ in 0..u64::MAX {

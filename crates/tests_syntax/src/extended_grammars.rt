@@ -27,7 +27,8 @@ fn add_copies(alloc: Global, parts: &mut GrammarParts, more: &[Production]) -> R
 
 /// Whether the grammar can be extended by the productions, or why not can be told.
 fn is_extensible(alloc: Global, base: &Grammar, more: &[Production]) -> Result<bool, Fail>
-    ensures { IfOk result (λ r. IsTrue r → IsWithinLimits (extended base.now.parts (map line more.now))) }
+    ensures { IfOk result (λ r. IsTrue r → IsWithinLimits
+        (extended base.now.parts (map line more.now))) }
 {
     let mut all = base.parts().copy(alloc)?;
     let added = add_copies(alloc, &mut all, more);

@@ -21,7 +21,8 @@ pub(crate) fn first_sort(grammar: &Grammar) -> Option<Sort>
 
 /// Whether the token is a literal that has its own text, or a lexeme.
 fn is_known(literals: &[Text], token: &Token) -> bool
-    ensures { (stems : Stems) → IsTrue result → IsKnown literals.now stems token.now.mark token.now.text }
+    ensures { (stems : Stems) → IsTrue result →
+        IsKnown literals.now stems token.now.mark token.now.text }
 {
     match token.mark {
         Mark::Lit(number) => match literals.get(number as usize) {

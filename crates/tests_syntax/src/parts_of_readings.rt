@@ -28,7 +28,8 @@ fn bracketed(alloc: Global) -> Result<Reading, Fail>
 
 /// Their sum with a metavariable.
 fn sum(alloc: Global) -> Result<Reading, Fail>
-    ensures { IfOk result (λ r. plain_reading r ≡ branch 0 (bracket (leaf 1) 0 3 ▸ variable 4 ▸ done) 0 5) }
+    ensures { IfOk result (λ r. plain_reading r
+        ≡ branch 0 (bracket (leaf 1) 0 3 ▸ variable 4 ▸ done) 0 5) }
 {
     let mut kids = Vec::new(alloc);
     kids.push(bracketed(alloc)?)?;

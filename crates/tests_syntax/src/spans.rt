@@ -165,9 +165,9 @@ fn numbers(alloc: Global, count: usize) -> Result<Counted, Fail> {
     told(alloc, Sample::Rows, &bytes, &[])
 }
 
-/// From n numbers come n (n - 1) / 2 items at the end of `seq`, n at the end of `last` and n after the
-/// number of `seq`, and at each of the n + 1 places the beginnings of `last`, of `seq` and of a bracket
-/// pair.
+/// From n numbers come n (n - 1) / 2 items at the end of `seq`, n at the end of `last` and n after
+/// the number of `seq`, and at each of the n + 1 places the beginnings of `last`, of `seq` and of a
+/// bracket pair.
 #[test]
 fn most_items(rt: HostRuntime) -> Result<(), Fail> {
     let most = numbers(rt.alloc(), 1995)?;

@@ -32,7 +32,8 @@ fn tree(
     reading: &Reading,
 ) -> Result<Vec<u8>, Fail>
     requires depth { reading_depth (plain_reading reading.now) ≤ 1000 }
-    requires within { IsWithin (length grammar.now.parts.productions) (length tokens.now) (plain_reading reading.now) }
+    requires within { IsWithin (length grammar.now.parts.productions) (length tokens.now)
+        (plain_reading reading.now) }
 {
     let mut into = Vec::new(alloc);
     write_tree(alloc, grammar, reading, tokens, &mut into)?;
@@ -49,8 +50,10 @@ fn trees(
 ) -> Result<Vec<u8>, Fail>
     requires depth { reading_depth (plain_reading one.now) ≤ 1000 }
     requires other_depth { reading_depth (plain_reading other.now) ≤ 1000 }
-    requires within { IsWithin (length grammar.now.parts.productions) (length tokens.now) (plain_reading one.now) }
-    requires other_within { IsWithin (length grammar.now.parts.productions) (length tokens.now) (plain_reading other.now) }
+    requires within { IsWithin (length grammar.now.parts.productions) (length tokens.now)
+        (plain_reading one.now) }
+    requires other_within { IsWithin (length grammar.now.parts.productions) (length tokens.now)
+        (plain_reading other.now) }
 {
     let mut into = Vec::new(alloc);
     write_tree(alloc, grammar, one, tokens, &mut into)?;

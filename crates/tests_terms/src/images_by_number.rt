@@ -17,7 +17,8 @@ use sx_images::Images;
 use sx_plain::PlainTable;
 use sx_term::{Term, TermError};
 
-/// What lowering the term by number answers; where it has an image, whether that has the number of the wanted term.
+/// What lowering the term by number answers; where it has an image, whether that has the number of
+/// the wanted term.
 fn lower_in(
     alloc: Global,
     table: &PlainTable,

@@ -1,5 +1,5 @@
-//! Pairs of types as functions: over sixteen base labels, of which 2 is the type of numbers, 3 that of texts, 5 the type of functions,
-//! 6 a variable and 15 a function, `16` is the type of pairs.
+//! Pairs of types as functions: over sixteen base labels, of which 2 is the type of numbers, 3 that
+//! of texts, 5 the type of functions, 6 a variable and 15 a function, `16` is the type of pairs.
 
 use crate::plain_images::{Added, Lowered, add, lower_as};
 use std::alloc::Global;

@@ -51,7 +51,8 @@ pub(crate) fn add(
     }
 }
 
-/// The table with `2` as `(0 ?0 ?0)`, `3` as `(1 ?1 (2 ?0))` and `4` as `(1 (1 ?0))`, over the base labels 0 and 1.
+/// The table with `2` as `(0 ?0 ?0)`, `3` as `(1 ?1 (2 ?0))` and `4` as `(1 (1 ?0))`, over the base
+/// labels 0 and 1.
 pub(crate) fn three_entries(alloc: Global) -> PlainTable
     ensures { result.base ≡ 2 }
 {
