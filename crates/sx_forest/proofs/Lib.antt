@@ -27,3 +27,4 @@ pub mod Parting
 pub mod Growing
 pub mod Branching
 pub mod AllTokens
+pub mod Marking

@@ -19,8 +19,11 @@ pub(crate) fn variable_at(shown: &[Shown], place: usize) -> Option<u32>
     ensures { (d : GrammarData) (sort : ℕ) → (result ≡ Some sort) ↔ Marked (tokens_of d shown.now) place (is_variable (of_sort sort)) }
 {
     match shown.get(place) {
-        Some(Shown::Sort(sort)) => Some(*sort),
-        _ => None,
+        Some(token) => match token {
+            Shown::Sort(sort) => Some(*sort),
+            _ => None,
+        },
+        None => None,
     }
 }
 

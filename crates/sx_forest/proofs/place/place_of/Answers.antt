@@ -1,4 +1,5 @@
-use Rattle.std.proofs.Common.{ap, sym, ◌∙◌, drop, ◌+◌}
+use Rattle.std.proofs.Common.{ap, sym, ◌∙◌, drop, ◌+◌, arith}
+use Rattle.std.proofs.lemmas.Grind.{common_steps}
 use Rattle.sx_forest.specs.Readings.{plain_reading}
 use Rattle.sx_forest.specs.Places.{place_at}
 use Rattle.sx_forest.proofs.Placing.{bared, place_at-bared, place_at-leaf, place_at-past, place_at-kid}
@@ -22,3 +23,6 @@ loop-step-preserved c = record {
   place = place_at-bared _ (plain_reading c.in-Some.kid.now) (drop (c.loop-step.step-index + 1) c.deref-step-items.result.now) c.unbracketed-here-in-Some.ensures
       ∙ sym (place_at-kid _ _ _ _ _ _ _ _ _ c.loop-step-test.true c.in-Node.is c.deref.ensures.value c.in-Some.ensures.lookup.3.0 c.in-Some.ensures.lookup.1) ∙ c.loop-step.invariant.place;
 }
+
+pub returns : goal.returns
+returns c = grind (arith, common_steps)
