@@ -2,7 +2,7 @@
 use Rattle.std.proofs.Common.{◌≡◌, ℕ, zero, suc, ◌+◌, ◌^◌, ◌<◌, List, [], ◌∷◌, ◌++◌, ◌⊎◌, inl, inr, ⊎_elim, Some, None, Option, ap, refl, sym, subst, ◌∙◌, length, map, Vec, Bool, true, false, eqb, arith, Contains, IsTrue, ◌≢◌}
 use Rattle.std.specs.declared.alloc.Global.{Global}
 use Rattle.std.specs.Prelude.{slice_get, slice_index_or, is_some, option_map, MatchOption}
-use Rattle.std.proofs.lemmas.List.{length-map}
+use Rattle.std.proofs.lemmas.List.{length-map, length-append}
 use Rattle.std.specs.List.{IsDistinct, AllByRecursion, list_any}
 use Rattle.std.proofs.lemmas.Bool.{cases_lt, or_cases, eqb-true, false≢true}
 use Rattle.std.proofs.lemmas.Bool.Decides.{eqb_tells}
@@ -281,6 +281,16 @@ pub steps_low : (bound : ℕ) (ps : List NumberedProduction) (seen : List Bool) 
 steps_low bound ps seen lists those parts e size only s t has =
     let low = step_below bound seen ps s t parts (only s t (subst (λ l. Contains (list_at l s) t) e has)) in
     omega (arith, low, ap length e, size)
+
+-- the rule of one sort more
+pub step_rule_more : (lists : List (Vec ℕ Global)) (n : ℕ) (rules new : List Rule) (r : Rule) → AreStepRules lists n rules → new ≡ rules ++ r ∷ [] → r.head ≡ n → r.needs.items ≡ list_at lists n → AreStepRules lists (n + 1) new
+step_rule_more lists n rules new r before e head needs = subst (AreStepRules lists (n + 1)) (sym e) (record {
+  size = length-append rules (r ∷ []) ∙ ap (λ k. k + 1) before.size;
+  each = λ i s got. ⊎_elim (λ was. before.each i s was) (λ last. added i s (last.0 ∙ before.size) last.1) (got_push rules r s i got);
+})
+  where
+    added : (i : ℕ) (s : Rule) → i ≡ n → r ≡ s → (s.head ≡ i) × (s.needs.items ≡ list_at lists i)
+    added i s at same = subst (λ (k : ℕ). (s.head ≡ k) × (s.needs.items ≡ list_at lists k)) (sym at) (subst (λ (q : Rule). (q.head ≡ n) × (q.needs.items ≡ list_at lists n)) same (head, needs))
 
 pub step_rules_below : (lists : List (Vec ℕ Global)) (rules : List Rule) → AreStepsBelow (length lists) lists → AreStepRules lists (length lists) rules → AreRulesBelow (length lists) rules
 step_rules_below lists rules below are i r at =
