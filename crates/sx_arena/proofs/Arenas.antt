@@ -14,10 +14,10 @@ use Rattle.sx_term.specs.declared.lex_kind.LexKind.TheVariants.{Id, Num, Str}
 use Rattle.sx_term.specs.contracts.lex_kind.LexKindPartialEq.TheImpl.{eq-value as kind_eq}
 use Rattle.sx_term.specs.Tree.{Tree, node, lexeme, hole, none, forest, depth_of, size_of, greatest_depth, total_size}
 use Rattle.sx_arena.specs.declared.arena.Cell.{Cell}
-use Rattle.sx_arena.specs.declared.arena.Shape.{Shape}
-use Rattle.sx_arena.specs.declared.arena.Shape.TheVariants.{Node, Lex, Var}
+use Rattle.sx_arena.specs.declared.shape.Shape.{Shape}
+use Rattle.sx_arena.specs.declared.shape.Shape.TheVariants.{Node, Lex, Var}
 use Rattle.sx_arena.specs.contracts.arena.CellPartialEq.TheImpl.{eq-value as cell_eq}
-use Rattle.sx_arena.specs.contracts.arena.ShapePartialEq.TheImpl.{eq-value as shape_eq}
+use Rattle.sx_arena.specs.contracts.shape.ShapePartialEq.TheImpl.{eq-value as shape_eq}
 use Rattle.sx_arena.specs.Grown.{Extends, grown_from, Fits}
 use Rattle.sx_arena.specs.Arena.{tree_at, shape_tree, AreBelow, KidsBelow, cell_tree, IsCell, IsNewCell, cell_trees, IsRead}
 use Rattle.sx_arena.proofs.Growing.{extends-same, extends-length, extends-at, grown_from-one, grown-length, fits-one, grown-at}

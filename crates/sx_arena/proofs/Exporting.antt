@@ -9,7 +9,7 @@ use Rattle.sx_term.proofs.Kids.{tree-at_node}
 use Rattle.sx_arena.specs.Matching.{Assignment, value_or, filled}
 use Rattle.sx_arena.specs.Limits.{first_values}
 use Rattle.sx_arena.specs.declared.arena.Cell.{Cell}
-use Rattle.sx_arena.specs.declared.arena.Shape.TheVariants.{Node as Branch}
+use Rattle.sx_arena.specs.declared.shape.Shape.TheVariants.{Node as Branch}
 use Rattle.sx_arena.specs.Arena.{tree_at, shape_tree, AreBelow, KidsBelow, IsRead}
 use Rattle.sx_arena.specs.Binds.{IsFound}
 

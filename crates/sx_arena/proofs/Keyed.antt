@@ -11,8 +11,8 @@ use Rattle.sx_term.specs.Term.{tree}
 use Rattle.sx_arena.specs.Arena.{tree_at, shape_tree}
 use Rattle.sx_arena.specs.Matching.{Assignment, match, match_all, match_then, match_when}
 use Rattle.sx_arena.specs.Places.{selected, Differs, NeverFit}
-use Rattle.sx_arena.specs.declared.arena.Shape.{Shape}
-use Rattle.sx_arena.specs.declared.arena.Shape.TheVariants.{Node}
+use Rattle.sx_arena.specs.declared.shape.Shape.{Shape}
+use Rattle.sx_arena.specs.declared.shape.Shape.TheVariants.{Node}
 use Rattle.sx_arena.proofs.Placed.{maps_drop, selected_more, selected_less, placing_at}
 
 then_none : (m : Option Assignment) (f : Assignment → Option Assignment) → ((env : Assignment) → f env ≡ None) → match_then m f ≡ None

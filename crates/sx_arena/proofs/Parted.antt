@@ -7,8 +7,8 @@ use Rattle.sx_term.specs.Tree.{Tree, node, lexeme, hole}
 use Rattle.sx_arena.specs.Matching.{same}
 use Rattle.sx_arena.specs.Limits.{is_pair, different_lexemes, are_apart}
 use Rattle.sx_arena.proofs.Sameness.{same_true, same_self}
-use Rattle.sx_arena.specs.declared.arena.Shape.{Shape}
-use Rattle.sx_arena.specs.declared.arena.Shape.TheVariants.{Node, Lex, Var}
+use Rattle.sx_arena.specs.declared.shape.Shape.{Shape}
+use Rattle.sx_arena.specs.declared.shape.Shape.TheVariants.{Node, Lex, Var}
 use Rattle.sx_arena.specs.declared.pairs.Pair.{Pair}
 use Rattle.sx_arena.specs.Arena.{tree_at, shape_tree}
 use Rattle.sx_arena.specs.Pairs.{pairs_of, ArePairs}

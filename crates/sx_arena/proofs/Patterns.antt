@@ -11,8 +11,8 @@ use Rattle.sx_arena.specs.Matching.{Assignment, same, bind, match, match_kids, m
 use Rattle.sx_term.proofs.Kids.{tree-at_node}
 use Rattle.sx_arena.proofs.Sameness.{same_true, same_self}
 use Rattle.sx_arena.specs.declared.arena.Arena.{Arena}
-use Rattle.sx_arena.specs.declared.arena.Shape.{Shape}
-use Rattle.sx_arena.specs.declared.arena.Shape.TheVariants.{Node as Branch}
+use Rattle.sx_arena.specs.declared.shape.Shape.{Shape}
+use Rattle.sx_arena.specs.declared.shape.Shape.TheVariants.{Node as Branch}
 use Rattle.sx_arena.specs.declared.binds.Binds.{Binds}
 use Rattle.sx_arena.specs.Grown.{Extends}
 use Rattle.sx_arena.specs.Arena.{trees, tree_at, shape_tree, IsArena, IsHeld, AreBelow, KidsBelow}

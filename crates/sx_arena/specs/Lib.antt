@@ -3,6 +3,7 @@ pub mod Limits
 pub mod Laws
 pub mod Views
 pub mod Grown
+pub mod Hashed
 pub mod Arena
 pub mod Binds
 pub mod Places

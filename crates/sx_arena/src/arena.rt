@@ -4,23 +4,20 @@ ghost use Rattle.std.specs.Prelude.{◌≡◌, ℕ, ◌+◌, ◌-◌, ◌^◌, �
 ghost use Rattle.sx_term.specs.Tree.{node, lexeme, hole, forest, greatest_depth, total_size};
 ghost use Rattle.sx_arena.specs.Arena.{trees, tree_at, cell_tree, IsArena, IsCell, AreBelow, IsRead, IsHeld};
 
+use crate::shape::Shape;
 use indexmap::IndexSet;
 use std::alloc::Global;
 use sx_term::{LexKind, NoMemory, Text};
 
-/// A node with the numbers of its kids, a lexeme or a variable.
-#[derive(PartialEq, Eq, Hash, Drop)]
-pub enum Shape {
-    Node { label: u32, kids: Vec<usize> },
-    Lex { kind: LexKind, text: String },
-    Var(u32),
-}
-
-/// A term's shape, with its depth and its size, or the greatest number where it is more.
-#[derive(PartialEq, Eq, Hash, Drop)]
+/// A term's shape, by which it is hashed, with its depth and its size, or the greatest number where it
+/// is more.
+#[derive(PartialEq, Eq, Drop)]
+#[derive_where(Hash)]
 pub struct Cell {
     pub shape: Shape,
+    #[derive_where(skip(Hash))]
     pub depth: u64,
+    #[derive_where(skip(Hash))]
     pub size: u64,
 }
 

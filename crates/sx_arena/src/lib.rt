@@ -17,8 +17,9 @@ mod pairs;
 mod pattern;
 mod places;
 mod set;
+mod shape;
 
-pub use arena::{Arena, Cell, Shape};
+pub use arena::{Arena, Cell};
 pub use arena_cut::keep;
 pub use binds::{Bind, Binds};
 pub use fact::{Fact, copied, same_numbers};
@@ -29,3 +30,4 @@ pub use pairs::{Pair, apart, instances_apart};
 pub use pattern::{fit, made};
 pub use places::{Limit, fit_places, is_output, make_places, passed};
 pub use set::{roles, rule_at};
+pub use shape::Shape;

@@ -8,8 +8,9 @@ ghost use Rattle.sx_arena.specs.Limits.{first_values};
 ghost use Rattle.sx_arena.specs.Arena.{trees, tree_at, IsArena, AreBelow};
 ghost use Rattle.sx_arena.specs.Binds.{envs, env_at, IsBinds};
 
-use crate::arena::{Arena, Shape};
+use crate::arena::Arena;
 use crate::binds::Binds;
+use crate::shape::Shape;
 use std::alloc::Global;
 use sx_term::{LexKind, NoMemory, Term, Text, TextError};
 

@@ -10,9 +10,10 @@ ghost use Rattle.sx_arena.specs.Binds.{envs, env_at, IsBinds};
 ghost use Rattle.sx_arena.specs.Arena.{trees, tree_at, IsArena};
 ghost use Rattle.sx_arena.specs.Pairs.{pairs_of, ArePairs, IsTold};
 
-use crate::arena::{Arena, Shape};
+use crate::arena::Arena;
 use crate::binds::Binds;
 use crate::pattern::made;
+use crate::shape::Shape;
 use std::alloc::Global;
 use sx_term::{NoMemory, Term};
 

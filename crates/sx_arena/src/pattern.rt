@@ -8,8 +8,9 @@ ghost use Rattle.sx_arena.specs.Matching.{match as matched, filled};
 ghost use Rattle.sx_arena.specs.Arena.{trees, tree_at, IsArena, IsHeld};
 ghost use Rattle.sx_arena.specs.Binds.{envs, env_at, IsBinds, BindsGrow, IsFit};
 
-use crate::arena::{Arena, Shape};
+use crate::arena::Arena;
 use crate::binds::Binds;
+use crate::shape::Shape;
 use std::alloc::Global;
 use sx_term::{NoMemory, Term};
 

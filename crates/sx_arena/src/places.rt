@@ -11,9 +11,10 @@ ghost use Rattle.sx_arena.specs.Binds.{envs, env_at, IsBinds, BindsGrow, IsFit};
 ghost use Rattle.sx_arena.specs.Views.{mask_of};
 ghost use Rattle.sx_arena.specs.Places.{selected, AreHeld, IsLimit, Differs, NeverFit};
 
-use crate::arena::{Arena, Shape};
+use crate::arena::Arena;
 use crate::binds::Binds;
 use crate::pattern::{fit, made};
+use crate::shape::Shape;
 use std::alloc::Global;
 use sx_rules::Place;
 use sx_term::{NoMemory, Role, Term};
