@@ -19,13 +19,17 @@ abbrev pub asked_goal : Modes → Store → ℕ → Judgement → Goal
 asked_goal modes s env j = goal_of modes (judgement_instance (filled (env_at (store_envs s) env)) j)
 
 -- its events
-abbrev pub asked_events : Modes → List Rule → List Pair → List Judgement → Store → ℕ → ℕ → Judgement → List (Event Answer)
-asked_events modes rules pairs js s env levels j = goal_events modes rules (hyps_in pairs s js) levels (asked_goal modes s env j)
+abbrev pub asked_events : Modes → List Rule → List Pair → List Judgement → Store → ℕ → ℕ →
+    Judgement → List (Event Answer)
+asked_events modes rules pairs js s env levels j =
+    goal_events modes rules (hyps_in pairs s js) levels (asked_goal modes s env j)
 
 -- the events of the premise where it is a rule's last one
-abbrev pub last_events : Modes → List Rule → List Pair → List Judgement → Store → ℕ → ℕ → Judgement → List (Event (Assignment × Proofs))
+abbrev pub last_events : Modes → List Rule → List Pair → List Judgement → Store → ℕ → ℕ →
+    Judgement → List (Event (Assignment × Proofs))
 last_events modes rules pairs js s env levels j =
-    premise_events modes (hyps_in pairs s js) (goal_events modes rules (hyps_in pairs s js) levels) (holds j ∷ []) (env_at (store_envs s) env)
+    premise_events modes (hyps_in pairs s js) (goal_events modes rules (hyps_in pairs s js) levels)
+    (holds j ∷ []) (env_at (store_envs s) env)
 
 -- the numbers are those of the goal's terms
 pub record AreTermsOf (s : Store) (goal : Goal) (terms : List ℕ) : Type 0 where
@@ -34,10 +38,15 @@ pub record AreTermsOf (s : Store) (goal : Goal) (terms : List ℕ) : Type 0 wher
 
 -- there is no answer, or the first answer's outputs do not match, or they do
 abbrev pub IsAnswered : Modes → Store → Store → ℕ → Judgement → Option Answer → Asked → Type 0
-IsAnswered modes old new env j first (Unanswered terms) = AreTermsOf new (asked_goal modes old env j) terms.items × (first ≡ None)
+IsAnswered modes old new env j first (Unanswered terms) =
+    AreTermsOf new (asked_goal modes old env j) terms.items × (first ≡ None)
 IsAnswered modes old new env j first (Differs terms got) =
-    AreTermsOf new (asked_goal modes old env j) terms.items × AreBelow (length (store_trees new)) got.items
-    × ((a : Answer) × (first ≡ Some a) × (a.1 ≡ map (tree_at (store_trees new)) got.items) × (match_all (outputs_of modes j) a.1 (env_at (store_envs old) env) ≡ None))
+    AreTermsOf new (asked_goal modes old env j) terms.items
+    × AreBelow (length (store_trees new)) got.items
+    × ((a : Answer) × (first ≡ Some a) × (a.1 ≡ map (tree_at (store_trees new)) got.items)
+    × (match_all (outputs_of modes j) a.1 (env_at (store_envs old) env) ≡ None))
 IsAnswered modes old new env j first (Matched next) =
     (next ≤ length new.binds.cells.items)
-    × ((a : Answer) × (first ≡ Some a) × (match_all (outputs_of modes j) a.1 (env_at (store_envs old) env) ≡ Some (env_at (store_envs new) next)))
+    × ((a : Answer) × (first ≡ Some a)
+    × (match_all (outputs_of modes j) a.1 (env_at (store_envs old) env)
+    ≡ Some (env_at (store_envs new) next)))

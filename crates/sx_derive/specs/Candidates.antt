@@ -17,6 +17,8 @@ abbrev pub goal_in : Store → ℕ → List ℕ → Goal
 goal_in s form terms = record { form = form; terms = map (tree_at (store_trees s)) terms }
 
 -- what comes of a candidate is what the machine says, by the store before it
-pub record IsTried (modes : Modes) (rules : List Rule) (pairs : List Pair) (old new : Store) (result : Hypotheses → Result) (step : Step) : Type 0 where
+pub record IsTried (modes : Modes) (rules : List Rule) (pairs : List Pair) (old new : Store)
+    (result : Hypotheses → Result) (step : Step) : Type 0 where
   pub grows : Grows modes rules old new
-  pub is : (js : List Judgement) → IsStep modes rules js new answers step (result (hyps_in pairs old js))
+  pub is : (js : List Judgement) →
+      IsStep modes rules js new answers step (result (hyps_in pairs old js))

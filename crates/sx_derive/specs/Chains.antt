@@ -1,5 +1,22 @@
 -- Proofs and frames as chains of cells that share what they have in common.
-use Rattle.std.specs.Prelude.{◌≡◌, ℕ, zero, suc, ◌+◌, ◌≤◌, List, [], ◌∷◌, drop, length, get_or, slice_get, Option, Some, None}
+use Rattle.std.specs.Prelude.{
+  ◌≡◌,
+  ℕ,
+  zero,
+  suc,
+  ◌+◌,
+  ◌≤◌,
+  List,
+  [],
+  ◌∷◌,
+  drop,
+  length,
+  get_or,
+  slice_get,
+  Option,
+  Some,
+  None,
+}
 use Rattle.sx_term.specs.Tree.{Tree}
 use Rattle.sx_arena.specs.Matching.{Assignment, filled}
 use Rattle.sx_rules.specs.Rules.{Judgement, Premise, holds, apart, Rule}
@@ -19,10 +36,12 @@ abbrev pub kids_at : List Proofs → ℕ → Proofs
 kids_at ks zero = no_more
 kids_at ks (suc i) = get_or ks i no_more
 
--- the proof that a head stands for: a hypothesis, or a rule with the values of its variables and the proofs of its premises
+-- the proof that a head stands for: a hypothesis, or a rule with the values of its variables and
+-- the proofs of its premises
 abbrev pub head_proof : List Assignment → List Proofs → Head → Proof
 head_proof es ks (Given number) = given number
-head_proof es ks (By number variables env kids) = by number (first_values variables (filled (env_at es env))) (kids_at ks kids)
+head_proof es ks (By number variables env kids) =
+    by number (first_values variables (filled (env_at es env))) (kids_at ks kids)
 
 -- the chain of a cell: the one before it, with the proof of its head behind
 abbrev pub kid_step : List Assignment → List Proofs → Kid → Proofs
@@ -78,24 +97,30 @@ frames_at fs zero = []
 frames_at fs (suc i) = get_or fs i []
 
 -- the chain of a cell: its frame before the chain that it goes on from
-abbrev pub waiting_step : Modes → List Rule → List Assignment → List Proofs → List (List Frame) → Waiting → List Frame
+abbrev pub waiting_step : Modes → List Rule → List Assignment → List Proofs → List (List Frame) →
+    Waiting → List Frame
 waiting_step modes rules es ks fs c = frame_of modes rules es ks c ∷ frames_at fs c.before
 
 -- the rule of a frame is there, and waits at a judgement premise
 abbrev pub WaitsAt : List Rule → Waiting → Type 0
-WaitsAt rules c = (rule : Rule) × (j : Judgement) × (slice_get rules c.rule ≡ Some rule) × (slice_get rule.premises c.premise ≡ Some (holds j))
+WaitsAt rules c =
+    (rule : Rule) × (j : Judgement) × (slice_get rules c.rule ≡ Some rule)
+    × (slice_get rule.premises c.premise ≡ Some (holds j))
 
 -- the cell waits at a judgement premise of its rule, and names only what stands before it
-pub record WaitingFits (rules : List Rule) (es : List Assignment) (ks : List Proofs) (fs : List (List Frame)) (c : Waiting) : Type 0 where
+pub record WaitingFits (rules : List Rule) (es : List Assignment) (ks : List Proofs)
+    (fs : List (List Frame)) (c : Waiting) : Type 0 where
   pub waits : WaitsAt rules c
   pub env : c.env ≤ length es
   pub kids : c.kids ≤ length ks
   pub before : c.before ≤ length fs
 
 -- the chains that cells make, in order
-abbrev pub frames_of : Modes → List Rule → List Assignment → List Proofs → List Waiting → List (List Frame)
+abbrev pub frames_of : Modes → List Rule → List Assignment → List Proofs → List Waiting →
+    List (List Frame)
 frames_of modes rules es ks cs = grown_from (waiting_step modes rules es ks) [] cs
 
 -- each cell fits those before it
 abbrev pub AreFrames : Modes → List Rule → List Assignment → List Proofs → List Waiting → Type 0
-AreFrames modes rules es ks cs = Fits (waiting_step modes rules es ks) (WaitingFits rules es ks) [] cs
+AreFrames modes rules es ks cs =
+    Fits (waiting_step modes rules es ks) (WaitingFits rules es ks) [] cs

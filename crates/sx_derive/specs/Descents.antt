@@ -1,5 +1,20 @@
 -- Where a goal without an answer leads: it is stuck, or a premise's goal leads on.
-use Rattle.std.specs.Prelude.{◌≡◌, ℕ, suc, ◌≤◌, true, List, [], ◌∷◌, ◌⊎◌, Option, Some, None, map, length}
+use Rattle.std.specs.Prelude.{
+  ◌≡◌,
+  ℕ,
+  suc,
+  ◌≤◌,
+  true,
+  List,
+  [],
+  ◌∷◌,
+  ◌⊎◌,
+  Option,
+  Some,
+  None,
+  map,
+  length,
+}
 use Rattle.sx_rules.specs.Rules.{Judgement, Premise, Rule, Hypotheses}
 use Rattle.sx_rules.specs.Deep.{AreShallow}
 use Rattle.sx_rules.specs.Modes.{Modes, Goal}
@@ -13,7 +28,18 @@ use Rattle.sx_arena.specs.declared.pairs.Pair.{Pair}
 use Rattle.sx_derive.specs.Candidates.{goal_in}
 use Rattle.sx_derive.specs.Quiet.{IsSilent}
 use Rattle.sx_derive.specs.Store.{store_trees, store_envs}
-use Rattle.sx_derive.specs.Stuck.{Reason as ReasonData, no_rule, unequal, mismatch, Blame, path_of, rule_match, PremisesStuck, RulesStuck, IsStuck}
+use Rattle.sx_derive.specs.Stuck.{
+  Reason as ReasonData,
+  no_rule,
+  unequal,
+  mismatch,
+  Blame,
+  path_of,
+  rule_match,
+  PremisesStuck,
+  RulesStuck,
+  IsStuck,
+}
 use Rattle.sx_derive.specs.Walk.{goal_events}
 use Rattle.sx_derive.specs.declared.descent.Descent.{Descent}
 use Rattle.sx_derive.specs.declared.descent.Descent.TheVariants.{Stuck, Below}
@@ -23,7 +49,8 @@ use Rattle.sx_derive.specs.declared.descent.Spot.{Spot}
 use Rattle.sx_derive.specs.declared.store.Store.{Store}
 
 -- the facts and the pairs are the hypotheses by their numbers
-pub record AreHyps (modes : Modes) (s : Store) (facts : List Fact) (pairs : List Pair) (hyps : Hypotheses) : Type 0 where
+pub record AreHyps (modes : Modes) (s : Store) (facts : List Fact) (pairs : List Pair)
+    (hyps : Hypotheses) : Type 0 where
   pub facts_are : AreFacts modes (store_trees s) hyps.judgements facts
   pub pairs_below : ArePairs (length (store_trees s)) pairs
   pub pairs_are : pairs_of (store_trees s) pairs ≡ hyps.pairs
@@ -46,28 +73,39 @@ ReasonBelow n (Mismatch by got) = AreBelow n got.items
 
 -- a stuck goal by its numbers
 abbrev pub blame_in : Store → Spot → Reason → Blame
-blame_in s spot reason = record { goal = spot_goal s spot; path = spot.path.items; reason = reason_in s reason }
+blame_in s spot reason =
+    record { goal = spot_goal s spot; path = spot.path.items; reason = reason_in s reason }
 
 module _ (modes subjects : Modes) (rules : List Rule) (hyps : Hypotheses) (budget levels : ℕ) where
   -- the premises of a rule from a number on lead to the blame
-  abbrev pub PremisesLead : ℕ → Rule → Goal → List ℕ → ℕ → List Premise → Assignment → Blame → Type 0
-  PremisesLead r rule goal path k ps env blame = PremisesStuck modes subjects rules hyps (IsStuck modes subjects rules hyps levels) r rule goal path k ps env blame
+  abbrev pub PremisesLead : ℕ → Rule → Goal → List ℕ → ℕ → List Premise → Assignment → Blame →
+      Type 0
+  PremisesLead r rule goal path k ps env blame =
+      PremisesStuck modes subjects rules hyps (IsStuck modes subjects rules hyps levels) r rule goal
+      path k ps env blame
 
   -- the rules lead to the blame
   abbrev pub RulesLead : Goal → List ℕ → Blame → Type 0
-  RulesLead goal path blame = RulesStuck modes subjects rules hyps (IsStuck modes subjects rules hyps levels) 0 rules goal path blame
+  RulesLead goal path blame =
+      RulesStuck modes subjects rules hyps (IsStuck modes subjects rules hyps levels) 0 rules goal
+      path blame
 
-  -- the blame is one that is led to, or whatever the goal below leads to is; its terms are no deeper than 1,000, and neither a stop nor an answer stands
-  -- among its events
+  -- the blame is one that is led to, or whatever the goal below leads to is; its terms are no
+  -- deeper than 1,000, and neither a stop nor an answer stands among its events
   abbrev pub IsDescent : Store → (Blame → Type 0) → Descent → Type 0
   IsDescent s Leads (Stuck spot reason) =
-      AreBelow (length (store_trees s)) spot.terms.items × ReasonBelow (length (store_trees s)) reason × Leads (blame_in s spot reason)
+      AreBelow (length (store_trees s)) spot.terms.items
+      × ReasonBelow (length (store_trees s)) reason × Leads (blame_in s spot reason)
   IsDescent s Leads (Below spot) =
-      AreBelow (length (store_trees s)) spot.terms.items × AreShallow (spot_goal s spot).terms × IsSilent true budget (goal_events modes rules hyps levels (spot_goal s spot))
-      × ((blame : Blame) → IsStuck modes subjects rules hyps levels (spot_goal s spot) spot.path.items blame → Leads blame)
+      AreBelow (length (store_trees s)) spot.terms.items × AreShallow (spot_goal s spot).terms
+      × IsSilent true budget (goal_events modes rules hyps levels (spot_goal s spot))
+      × ((blame : Blame) →
+      IsStuck modes subjects rules hyps levels (spot_goal s spot) spot.path.items blame →
+      Leads blame)
 
 -- the goal of a premise by its numbers, at its path
-pub record IsPremiseSpot (subjects : Modes) (rule : Rule) (j : Judgement) (terms path : List ℕ) (spot : Spot) : Type 0 where
+pub record IsPremiseSpot (subjects : Modes) (rule : Rule) (j : Judgement) (terms path : List ℕ)
+    (spot : Spot) : Type 0 where
   pub form : spot.form ≡ j.form
   pub terms_are : spot.terms.items ≡ terms
   pub path_is : spot.path.items ≡ path_of subjects path rule j
@@ -76,7 +114,8 @@ pub record IsPremiseSpot (subjects : Modes) (rule : Rule) (j : Judgement) (terms
 abbrev pub IsFirstRule : Modes → Store → Goal → ℕ → List Rule → Option (ℕ × ℕ) → Type 0
 IsFirstRule modes s goal r [] x = x ≡ None
 IsFirstRule modes s goal r (rule ∷ rest) x =
-    ((env : ℕ) × (x ≡ Some (r, env)) × (env ≤ length s.binds.cells.items) × (rule_match modes rule goal ≡ Some (env_at (store_envs s) env)))
+    ((env : ℕ) × (x ≡ Some (r, env)) × (env ≤ length s.binds.cells.items)
+    × (rule_match modes rule goal ≡ Some (env_at (store_envs s) env)))
     ⊎ (rule_match modes rule goal ≡ None) × IsFirstRule modes s goal (suc r) rest x
 
 -- the fact is of the form and has the inputs
@@ -87,4 +126,5 @@ HasInputs form terms f = (f.form ≡ form) × (f.inputs.items ≡ terms)
 abbrev pub IsFirstFact : ℕ → List ℕ → List Fact → Option Fact → Type 0
 IsFirstFact form terms [] x = x ≡ None
 IsFirstFact form terms (f ∷ fs) x =
-    HasInputs form terms f × (x ≡ Some f) ⊎ (HasInputs form terms f → ⊥) × IsFirstFact form terms fs x
+    HasInputs form terms f × (x ≡ Some f) ⊎ (HasInputs form terms f → ⊥)
+    × IsFirstFact form terms fs x

@@ -21,7 +21,8 @@ hyps_in pairs s js = record { judgements = js; pairs = pairs_of (store_trees s) 
 
 -- an answer by its numbers
 abbrev pub answer_in : Store → Head → List ℕ → Answer
-answer_in s head outs = (head_proof (store_envs s) (store_kids s) head, map (tree_at (store_trees s)) outs)
+answer_in s head outs =
+    (head_proof (store_envs s) (store_kids s) head, map (tree_at (store_trees s)) outs)
 
 -- the frames of a chain
 abbrev pub frames_in : Modes → List Rule → Store → ℕ → List Frame
@@ -29,21 +30,30 @@ frames_in modes rules s i = frames_at (store_frames modes rules s) i
 
 -- the frame of a cell, and those behind it
 abbrev pub waiting_in : Modes → List Rule → Store → Waiting → List Frame
-waiting_in modes rules s c = waiting_step modes rules (store_envs s) (store_kids s) (store_frames modes rules s) c
+waiting_in modes rules s c =
+    waiting_step modes rules (store_envs s) (store_kids s) (store_frames modes rules s) c
 
 -- the cell may stand in the store
 abbrev pub IsWaiting : Modes → List Rule → Store → Waiting → Type 0
-IsWaiting modes rules s c = WaitingFits rules (store_envs s) (store_kids s) (store_frames modes rules s) c
+IsWaiting modes rules s c =
+    WaitingFits rules (store_envs s) (store_kids s) (store_frames modes rules s) c
 
--- what comes of the answer at the frame of the cell, where the frames behind it say what becomes of the next
-pub record IsResumed (modes : Modes) (rules : List Rule) (pairs : List Pair) (old new : Store) (c : Waiting) (head : Head) (outs : List ℕ) (step : Step) : Type 0 where
+-- what comes of the answer at the frame of the cell, where the frames behind it say what becomes of
+-- the next
+pub record IsResumed (modes : Modes) (rules : List Rule) (pairs : List Pair) (old new : Store)
+    (c : Waiting) (head : Head) (outs : List ℕ) (step : Step) : Type 0 where
   pub grows : Grows modes rules old new
   pub is : (js : List Judgement) →
-      IsStep modes rules js new (hand_on modes (hyps_in pairs old js) (frames_in modes rules old c.before)) step
-      (hand_on modes (hyps_in pairs old js) (waiting_in modes rules old c) (answer_in old head outs))
+      IsStep modes rules js new
+      (hand_on modes (hyps_in pairs old js) (frames_in modes rules old c.before)) step
+      (hand_on modes (hyps_in pairs old js) (waiting_in modes rules old c)
+      (answer_in old head outs))
 
 -- what comes of the answer at the frames of the chain
-pub record IsHanded (modes : Modes) (rules : List Rule) (pairs : List Pair) (old new : Store) (frames : ℕ) (head : Head) (outs : List ℕ) (step : Step) : Type 0 where
+pub record IsHanded (modes : Modes) (rules : List Rule) (pairs : List Pair) (old new : Store)
+    (frames : ℕ) (head : Head) (outs : List ℕ) (step : Step) : Type 0 where
   pub grows : Grows modes rules old new
   pub is : (js : List Judgement) →
-      IsStep modes rules js new answers step (hand_on modes (hyps_in pairs old js) (frames_in modes rules old frames) (answer_in old head outs))
+      IsStep modes rules js new answers step
+      (hand_on modes (hyps_in pairs old js) (frames_in modes rules old frames)
+      (answer_in old head outs))

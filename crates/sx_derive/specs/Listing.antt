@@ -33,11 +33,15 @@ abbrev pub SaysList : Listed → Ending → Type 0
 SaysList l ending = (a : Answer) × (ending ≡ found a) × Lists l a
 
 -- what is answered says how the walk of the goal at depth 1 ends, an answer by its list
-abbrev pub IsListed : Modes → Modes → List Rule → Hypotheses → Goal → Option (List Tree) → ℕ → Result Listed DeriveError → Type 0
-IsListed modes subjects rules hyps goal wanted budget result = IsToldBy SaysList modes subjects rules hyps goal budget (walk wanted budget (events modes rules hyps goal 1)) result
+abbrev pub IsListed : Modes → Modes → List Rule → Hypotheses → Goal → Option (List Tree) → ℕ →
+    Result Listed DeriveError → Type 0
+IsListed modes subjects rules hyps goal wanted budget result =
+    IsToldBy SaysList modes subjects rules hyps goal budget
+    (walk wanted budget (events modes rules hyps goal 1)) result
 
 -- the list is that of the first derivation, which the walk finds
-pub record ListsFirst (modes : Modes) (rules : List Rule) (hyps : Hypotheses) (goal : Goal) (wanted : Option (List Tree)) (budget : ℕ) (l : Listed) : Type 0 where
+pub record ListsFirst (modes : Modes) (rules : List Rule) (hyps : Hypotheses) (goal : Goal)
+    (wanted : Option (List Tree)) (budget : ℕ) (l : Listed) : Type 0 where
   pub answer : Answer
   pub finds : walk wanted budget (events modes rules hyps goal 1) ≡ found answer
   pub lists : Lists l answer
@@ -46,7 +50,9 @@ pub record ListsFirst (modes : Modes) (rules : List Rule) (hyps : Hypotheses) (g
 -- the walk found the answer with these numbers in the store
 abbrev pub SaysFound : Modes → List Rule → StoredAnswer → Ending → Type 0
 SaysFound modes rules f ending =
-    IsStore modes rules f.store × HeadFits (length (store_envs f.store)) (length (store_kids f.store)) f.head × AreBelow (length (store_trees f.store)) f.outputs.items
+    IsStore modes rules f.store
+    × HeadFits (length (store_envs f.store)) (length (store_kids f.store)) f.head
+    × AreBelow (length (store_trees f.store)) f.outputs.items
     × (ending ≡ found (answer_in f.store f.head f.outputs.items))
 
 -- the chain of the kids of a proof
@@ -57,9 +63,11 @@ head_kids (By n v env kids) = kids
 -- the proofs may stand in the store, and their kids before the chain
 abbrev pub HeadsFit : ℕ → ℕ → ℕ → List Head → Type 0
 HeadsFit envs kids here [] = Unit {0}
-HeadsFit envs kids here (head ∷ heads) = HeadFits envs kids head × (head_kids head < here) × HeadsFit envs kids here heads
+HeadsFit envs kids here (head ∷ heads) =
+    HeadFits envs kids head × (head_kids head < here) × HeadsFit envs kids here heads
 
 -- the proofs of a chain from the first to the last
-pub record AreHeads (es : List Assignment) (ks : List Proofs) (kids : ℕ) (heads : List Head) : Type 0 where
+pub record AreHeads (es : List Assignment) (ks : List Proofs) (kids : ℕ) (heads : List Head) : Type
+    0 where
   pub fit : HeadsFit (length es) (length ks) kids heads
   pub proofs : kids_at ks kids ≡ row_of (map (head_proof es ks) heads)

@@ -19,14 +19,16 @@ use Rattle.sx_derive.specs.Store.{IsStore, store_trees}
 use Rattle.sx_derive.specs.Tasks.{wanted_at, WantedBelow, IsEnding}
 
 -- the arena goes on from the other, and has what is wanted by its numbers
-pub record IsWantedIn (old new : Arena) (terms : Option (List Tree)) (wanted : Option (Vec ℕ Global)) : Type 0 where
+pub record IsWantedIn (old new : Arena) (terms : Option (List Tree))
+    (wanted : Option (Vec ℕ Global)) : Type 0 where
   pub arena : IsArena new
   pub extends : Extends (trees old) (trees new)
   pub within : WantedBelow (length (trees new)) wanted
   pub are : wanted_at (trees new) wanted ≡ terms
 
 -- the problem has the hypotheses, the terms of the goal and what is wanted by their numbers
-pub record IsProblem (modes : Modes) (rules : List Rule) (hyps : Hypotheses) (terms : List Tree) (wanted : Option (List Tree)) (p : Problem) : Type 0 where
+pub record IsProblem (modes : Modes) (rules : List Rule) (hyps : Hypotheses) (terms : List Tree)
+    (wanted : Option (List Tree)) (p : Problem) : Type 0 where
   pub store : IsStore modes rules p.store
   pub facts : AreFacts modes (store_trees p.store) hyps.judgements p.facts.items
   pub pairs : ArePairs (length (store_trees p.store)) p.pairs.items
@@ -38,12 +40,16 @@ pub record IsProblem (modes : Modes) (rules : List Rule) (hyps : Hypotheses) (te
 
 -- the problem with these parts in a store
 abbrev pub problem_of : Store → Entered → Problem
-problem_of s e = record { store = s; facts = e.facts; pairs = e.pairs; terms = e.terms; wanted = e.wanted }
+problem_of s e =
+    record { store = s; facts = e.facts; pairs = e.pairs; terms = e.terms; wanted = e.wanted }
 
--- the ending is how the walk of the goal ends, after all of its tries; without memory some of its tries were made
-abbrev pub IsSearched : Modes → List Rule → Hypotheses → Goal → Option (List Tree) → ℕ → ℕ → ℕ → Result Searched NoMemory → Type 0
+-- the ending is how the walk of the goal ends, after all of its tries; without memory some of its
+-- tries were made
+abbrev pub IsSearched : Modes → List Rule → Hypotheses → Goal → Option (List Tree) → ℕ → ℕ → ℕ →
+    Result Searched NoMemory → Type 0
 IsSearched modes rules hyps goal wanted budget first last (Ok s) =
-    IsStore modes rules s.store × IsEnding s.store s.ending (walk wanted budget (events modes rules hyps goal 1))
+    IsStore modes rules s.store
+    × IsEnding s.store s.ending (walk wanted budget (events modes rules hyps goal 1))
     × (last ≡ first + tries_of wanted budget (events modes rules hyps goal 1))
 IsSearched modes rules hyps goal wanted budget first last (Err e) =
     (first ≤ last) × (last ≤ first + tries_of wanted budget (events modes rules hyps goal 1))

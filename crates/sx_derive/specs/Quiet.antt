@@ -1,5 +1,21 @@
 -- Events without a stop, and what is given first among them.
-use Rattle.std.specs.Prelude.{◌≡◌, ℕ, suc, ◌≤◌, Bool, true, List, [], ◌∷◌, map, length, Option, Some, None, Vec}
+use Rattle.std.specs.Prelude.{
+  ◌≡◌,
+  ℕ,
+  suc,
+  ◌≤◌,
+  Bool,
+  true,
+  List,
+  [],
+  ◌∷◌,
+  map,
+  length,
+  Option,
+  Some,
+  None,
+  Vec,
+}
 use Rattle.std.specs.declared.alloc.Global.{Global}
 use Rattle.sx_term.specs.Tree.{Tree}
 use Rattle.sx_rules.specs.Rules.{Rule}
@@ -38,8 +54,12 @@ pub record IsSilent {A : Type 0} (known : Bool) (budget : ℕ) (es : List (Event
 -- the outputs by their numbers are those of the answer that is given first, where one is given
 abbrev pub IsGivenIn : List Tree → Option Answer → Option (Vec ℕ Global) → Type 0
 IsGivenIn ts first None = first ≡ None
-IsGivenIn ts first (Some outs) = AreBelow (length ts) outs.items × ((p : Proof) × (first ≡ Some (p, map (tree_at ts) outs.items)))
+IsGivenIn ts first (Some outs) =
+    AreBelow (length ts) outs.items
+    × ((p : Proof) × (first ≡ Some (p, map (tree_at ts) outs.items)))
 
 -- the store goes on, and has the outputs of what is given first
-abbrev pub IsFirstFound : Modes → List Rule → Store → Store → List (Event Answer) → Option (Vec ℕ Global) → Type 0
-IsFirstFound modes rules old new es found = Grows modes rules old new × IsGivenIn (store_trees new) (first_given es) found
+abbrev pub IsFirstFound : Modes → List Rule → Store → Store → List (Event Answer) →
+    Option (Vec ℕ Global) → Type 0
+IsFirstFound modes rules old new es found =
+    Grows modes rules old new × IsGivenIn (store_trees new) (first_given es) found

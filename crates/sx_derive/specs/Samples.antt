@@ -31,7 +31,12 @@ var_of x = node 2 (x ▹ none)
 
 -- the variable of the nearest binding, a variable further out, and a variable as a term
 abbrev pub here_rule : Rule
-here_rule = record { sorts = Plain 0 ∷ Lex Id ∷ Plain 1 ∷ []; premises = []; conclusion = lookup (bind_in (hole 0) (hole 1) (hole 2)) (hole 1) (hole 2) }
+here_rule = record {
+  sorts = Plain 0 ∷ Lex Id ∷ Plain 1
+      ∷ [];
+  premises = [];
+  conclusion = lookup (bind_in (hole 0) (hole 1) (hole 2)) (hole 1) (hole 2);
+}
 
 -- a binding further out, past one of another name
 abbrev pub there_rule : Rule
@@ -43,7 +48,12 @@ there_rule = record {
 
 -- a name as a term has the type that the environment says
 abbrev pub var_rule : Rule
-var_rule = record { sorts = Plain 0 ∷ Lex Id ∷ Plain 1 ∷ []; premises = holds (lookup (hole 0) (hole 1) (hole 2)) ∷ []; conclusion = typing (hole 0) (var_of (hole 1)) (hole 2) }
+var_rule = record {
+  sorts = Plain 0 ∷ Lex Id ∷ Plain 1
+      ∷ [];
+  premises = holds (lookup (hole 0) (hole 1) (hole 2)) ∷ [];
+  conclusion = typing (hole 0) (var_of (hole 1)) (hole 2);
+}
 
 -- the three rules
 abbrev pub sample_rules : List Rule
@@ -88,4 +98,5 @@ SampleIsFound =
           (by 0 (node 0 none ∷ x_name ∷ int_type ∷ []) no_more ⊳ no_more) ⊳ no_more),
       int_type ∷ [],
     ))
-    × (walk (Some (str_type ∷ [])) 100 (events sample_modes sample_rules no_hypotheses sample_goal 1) ≡ exhausted)
+    × (walk (Some (str_type ∷ [])) 100
+    (events sample_modes sample_rules no_hypotheses sample_goal 1) ≡ exhausted)

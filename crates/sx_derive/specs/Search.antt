@@ -1,5 +1,20 @@
 -- How a walk ends, and what its events say of derivations.
-use Rattle.std.specs.Prelude.{◌≡◌, ℕ, zero, suc, Bool, true, false, List, [], ◌∷◌, ◌⊎◌, Option, Some, None}
+use Rattle.std.specs.Prelude.{
+  ◌≡◌,
+  ℕ,
+  zero,
+  suc,
+  Bool,
+  true,
+  false,
+  List,
+  [],
+  ◌∷◌,
+  ◌⊎◌,
+  Option,
+  Some,
+  None,
+}
 use Rattle.sx_term.specs.Tree.{Tree}
 use Rattle.sx_arena.specs.Matching.{same_all}
 use Rattle.sx_rules.specs.Orders.{order_of, IsBefore}
@@ -13,7 +28,8 @@ EachGiven P (try ∷ es) = EachGiven P es
 EachGiven P (stop c ∷ es) = EachGiven P es
 EachGiven P (give a ∷ es) = P a × EachGiven P es
 
--- read from the front, the answer or a stop is met, and each answer given before that is before it in order
+-- read from the front, the answer or a stop is met, and each answer given before that is before it
+-- in order
 abbrev pub IsReached : Answer → List (Event Answer) → Type 0
 IsReached q [] = ⊥
 IsReached q (try ∷ es) = IsReached q es
@@ -70,4 +86,5 @@ tries_of wanted budget [] = 0
 tries_of wanted zero (try ∷ es) = 0
 tries_of wanted (suc budget) (try ∷ es) = suc (tries_of wanted budget es)
 tries_of wanted budget (stop c ∷ es) = 0
-tries_of wanted budget (give a ∷ es) = tries_unless (are_wanted wanted a.1) (tries_of wanted budget es)
+tries_of wanted budget (give a ∷ es) =
+    tries_unless (are_wanted wanted a.1) (tries_of wanted budget es)

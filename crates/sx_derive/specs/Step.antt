@@ -5,7 +5,16 @@ use Rattle.sx_rules.specs.Rules.{Judgement, holds, Rule, Hypotheses, judgement_i
 use Rattle.sx_rules.specs.Modes.{Modes, inputs_of, outputs_of, goal_of}
 use Rattle.sx_rules.specs.Derivations.{Proofs, by}
 use Rattle.sx_derive.specs.Walk.{Cause, depth_spent, Answer, limit_passed, first_values}
-use Rattle.sx_derive.specs.Machine.{Frame, goal_result, Result, nothing, stops, goes_on, hypotheses_from, result_unless}
+use Rattle.sx_derive.specs.Machine.{
+  Frame,
+  goal_result,
+  Result,
+  nothing,
+  stops,
+  goes_on,
+  hypotheses_from,
+  result_unless,
+}
 use Rattle.sx_arena.specs.Matching.{Assignment, filled}
 use Rattle.sx_derive.specs.declared.chains.Waiting.{Waiting}
 use Rattle.sx_arena.specs.Binds.{env_at}
@@ -19,27 +28,43 @@ use Rattle.sx_derive.specs.Chains.{HeadFits, head_proof, frames_at}
 use Rattle.sx_derive.specs.Store.{Grows, store_trees, store_envs, store_kids, store_frames}
 
 -- the step stands for the result, where next says what becomes of an answer
-abbrev pub IsStep : Modes → List Rule → List Judgement → Store → (Answer → Result) → Step → Result → Type 0
+abbrev pub IsStep : Modes → List Rule → List Judgement → Store → (Answer → Result) → Step → Result →
+    Type 0
 IsStep modes rules js s next Nothing r = r ≡ nothing
-IsStep modes rules js s next (Passed limit) r = (cause : Cause) × IsLimit (Some cause) (Some limit) × (r ≡ stops cause)
+IsStep modes rules js s next (Passed limit) r =
+    (cause : Cause) × IsLimit (Some cause) (Some limit) × (r ≡ stops cause)
 IsStep modes rules js s next DepthSpent r = r ≡ stops depth_spent
 IsStep modes rules js s next (Done head outputs) r =
-    HeadFits (length (store_envs s)) (length (store_kids s)) head × AreBelow (length (store_trees s)) outputs.items
-    × (r ≡ next (head_proof (store_envs s) (store_kids s) head, map (tree_at (store_trees s)) outputs.items))
+    HeadFits (length (store_envs s)) (length (store_kids s)) head
+    × AreBelow (length (store_trees s)) outputs.items
+    × (r ≡ next (
+      head_proof (store_envs s) (store_kids s) head,
+      map (tree_at (store_trees s))
+          outputs.items,
+    ))
 IsStep modes rules js s next (Goes form terms levels frames) r =
     AreBelow (length (store_trees s)) terms.items × (frames ≤ length (store_frames modes rules s))
-    × (r ≡ goes_on (hypotheses_from 0 js levels (record { form = form; terms = map (tree_at (store_trees s)) terms.items }) (frames_at (store_frames modes rules s) frames)))
+    × (r ≡ goes_on
+    (hypotheses_from 0 js levels
+    (record { form = form; terms = map (tree_at (store_trees s)) terms.items })
+    (frames_at (store_frames modes rules s) frames)))
 
 -- the answer of a rule under a substitution, with proofs of its premises
 abbrev pub concluded_result : Modes → ℕ → Rule → (ℕ → Tree) → Proofs → (Answer → Result) → Result
 concluded_result modes number rule s kids next =
     result_unless (limit_passed (outputs_of modes (judgement_instance s rule.conclusion)))
-    (next (by number (first_values (length rule.sorts) s) kids, outputs_of modes (judgement_instance s rule.conclusion)))
+    (next (
+      by number (first_values (length rule.sorts) s) kids,
+      outputs_of modes
+          (judgement_instance s rule.conclusion),
+    ))
 
 -- the store goes on, and the step is the answer of the rule, or a stop
-pub record IsConcluded (modes : Modes) (rules : List Rule) (old new : Store) (number : ℕ) (rule : Rule) (s : ℕ → Tree) (kids : Proofs) (step : Step) : Type 0 where
+pub record IsConcluded (modes : Modes) (rules : List Rule) (old new : Store) (number : ℕ)
+    (rule : Rule) (s : ℕ → Tree) (kids : Proofs) (step : Step) : Type 0 where
   pub grows : Grows modes rules old new
-  pub is : (js : List Judgement) (next : Answer → Result) → IsStep modes rules js new next step (concluded_result modes number rule s kids next)
+  pub is : (js : List Judgement) (next : Answer → Result) →
+      IsStep modes rules js new next step (concluded_result modes number rule s kids next)
 
 -- the rule of the cell is there, and the premise is the judgement
 pub record Awaits (rules : List Rule) (j : Judgement) (c : Waiting) : Type 0 where
@@ -60,14 +85,19 @@ waiting_frame modes rule j env kids c = record {
 }
 
 -- the goal of a judgement premise, with the frame that waits for it, or a stop
-abbrev pub asked_result : Modes → Hypotheses → Rule → Judgement → Assignment → Proofs → List Frame → Waiting → Result
+abbrev pub asked_result : Modes → Hypotheses → Rule → Judgement → Assignment → Proofs → List Frame →
+    Waiting → Result
 asked_result modes hyps rule j env kids frames c =
     result_unless (limit_passed (inputs_of modes (judgement_instance (filled env) j)))
-    (goal_result hyps c.levels (goal_of modes (judgement_instance (filled env) j)) (waiting_frame modes rule j env kids c ∷ frames))
+    (goal_result hyps c.levels (goal_of modes (judgement_instance (filled env) j))
+    (waiting_frame modes rule j env kids c ∷ frames))
 
 -- the store goes on, and the step is the goal of the premise, or a stop
-pub record IsAsked (modes : Modes) (rules : List Rule) (old new : Store) (j : Judgement) (c : Waiting) (step : Step) : Type 0 where
+pub record IsAsked (modes : Modes) (rules : List Rule) (old new : Store) (j : Judgement)
+    (c : Waiting) (step : Step) : Type 0 where
   pub grows : Grows modes rules old new
-  pub is : (hyps : Hypotheses) (next : Answer → Result) (rule : Rule) → slice_get rules c.rule ≡ Some rule →
+  pub is : (hyps : Hypotheses) (next : Answer → Result) (rule : Rule) →
+      slice_get rules c.rule ≡ Some rule →
       IsStep modes rules hyps.judgements new next step
-      (asked_result modes hyps rule j (env_at (store_envs old) c.env) (kids_at (store_kids old) c.kids) (frames_at (store_frames modes rules old) c.before) c)
+      (asked_result modes hyps rule j (env_at (store_envs old) c.env)
+      (kids_at (store_kids old) c.kids) (frames_at (store_frames modes rules old) c.before) c)

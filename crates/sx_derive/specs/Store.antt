@@ -36,7 +36,8 @@ pub record IsStore (modes : Modes) (rules : List Rule) (s : Store) : Type 0 wher
   pub kids : AreKids (store_envs s) s.kids.items
   pub frames : AreFrames modes rules (store_envs s) (store_kids s) s.frames.items
 
--- the store goes on from the other: what was named before stands for the same, and bindings, proofs and frames stay where they are
+-- the store goes on from the other: what was named before stands for the same, and bindings, proofs
+-- and frames stay where they are
 pub record Grows (modes : Modes) (rules : List Rule) (old new : Store) : Type 0 where
   pub store : IsStore modes rules new
   pub trees : Extends (store_trees old) (store_trees new)

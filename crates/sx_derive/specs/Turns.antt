@@ -7,7 +7,13 @@ use Rattle.sx_arena.specs.declared.pairs.Pair.{Pair}
 use Rattle.sx_derive.specs.declared.store.Store.{Store}
 use Rattle.sx_derive.specs.declared.tasks.Task.{Task as TaskOf}
 use Rattle.sx_derive.specs.declared.tasks.Ending.{Ending as EndingOf}
-use Rattle.sx_derive.specs.declared.tasks.Ending.TheVariants.{Found, Passed, DepthSpent, Spent, Exhausted}
+use Rattle.sx_derive.specs.declared.tasks.Ending.TheVariants.{
+  Found,
+  Passed,
+  DepthSpent,
+  Spent,
+  Exhausted,
+}
 use Rattle.sx_derive.specs.Walk.{Cause, depth_spent, Event, try, give, stop, Answer}
 use Rattle.sx_arena.specs.Arena.{AreBelow}
 use Rattle.sx_arena.specs.Places.{IsLimit}
@@ -17,28 +23,44 @@ use Rattle.sx_derive.specs.Store.{Grows, IsMark, store_trees, store_envs, store_
 use Rattle.sx_derive.specs.Tasks.{events_left, TaskFits, TasksFit, Piled, wanted_in, IsOutcome}
 
 -- the last task that has a candidate left, and the tasks before it; or none has one
-abbrev pub IsPopped : Modes → List Rule → List Pair → List Judgement → Store → ℕ → List TaskOf → List TaskOf → Option TaskOf → Type 0
-IsPopped modes rules pairs js s candidates old new None = events_left modes rules pairs js s old ≡ []
+abbrev pub IsPopped : Modes → List Rule → List Pair → List Judgement → Store → ℕ → List TaskOf →
+    List TaskOf → Option TaskOf → Type 0
+IsPopped modes rules pairs js s candidates old new None =
+    events_left modes rules pairs js s old ≡ []
 IsPopped modes rules pairs js s candidates old new (Some t) =
-    (t.next < candidates) × (events_left modes rules pairs js s old ≡ events_left modes rules pairs js s (new ++ t ∷ []))
-    × (TasksFit modes rules s candidates old → TasksFit modes rules s candidates new × TaskFits modes rules s candidates t)
-    × ((first : Store) → Piled modes rules candidates first old s → Piled modes rules candidates first (new ++ t ∷ []) s)
+    (t.next < candidates)
+    × (events_left modes rules pairs js s old ≡ events_left modes rules pairs js s (new ++ t ∷ []))
+    × (TasksFit modes rules s candidates old → TasksFit modes rules s candidates new
+    × TaskFits modes rules s candidates t)
+    × ((first : Store) → Piled modes rules candidates first old s →
+    Piled modes rules candidates first (new ++ t ∷ []) s)
 
 -- what is met after a try: nothing, an answer or a stop; and then the rest of the events
 abbrev pub IsMet : Store → Option EndingOf → List (Event Answer) → List (Event Answer) → Type 0
 IsMet s None es rest = es ≡ rest
 IsMet s (Some (Found head outs)) es rest =
-    HeadFits (length (store_envs s)) (length (store_kids s)) head × AreBelow (length (store_trees s)) outs.items × (es ≡ give (answer_in s head outs.items) ∷ rest)
-IsMet s (Some (Passed limit)) es rest = (cause : Cause) × IsLimit (Some cause) (Some limit) × (es ≡ stop cause ∷ rest)
+    HeadFits (length (store_envs s)) (length (store_kids s)) head
+    × AreBelow (length (store_trees s)) outs.items
+    × (es ≡ give (answer_in s head outs.items) ∷ rest)
+IsMet s (Some (Passed limit)) es rest =
+    (cause : Cause) × IsLimit (Some cause) (Some limit) × (es ≡ stop cause ∷ rest)
 IsMet s (Some DepthSpent) es rest = es ≡ stop depth_spent ∷ rest
 IsMet s (Some Spent) es rest = ⊥
 IsMet s (Some Exhausted) es rest = ⊥
 
 -- after a try of the task the walk goes on with the tasks that are left, or ends
-pub record IsTurn (modes : Modes) (rules : List Rule) (pairs : List Pair) (js : List Judgement) (wanted : Option (Vec ℕ Global)) (candidates : ℕ) (old new : Store) (t : TaskOf) (tasks left_over : List TaskOf) (o : Option EndingOf) : Type 0 where
+pub record IsTurn (modes : Modes) (rules : List Rule) (pairs : List Pair) (js : List Judgement)
+    (wanted : Option (Vec ℕ Global)) (candidates : ℕ) (old new : Store) (t : TaskOf)
+    (tasks left_over : List TaskOf) (o : Option EndingOf) : Type 0 where
   pub grows : Grows modes rules old new
   pub fits : TasksFit modes rules new candidates left_over
-  pub piled : (first c : Store) → Piled modes rules candidates first tasks c → IsMark c t.mark → TaskFits modes rules c candidates t → Grows modes rules c old →
+  pub piled : (first c : Store) → Piled modes rules candidates first tasks c → IsMark c t.mark →
+      TaskFits modes rules c candidates t → Grows modes rules c old →
       Piled modes rules candidates first left_over new
-  pub meets : wanted ≡ None → (es : List (Event Answer)) × (events_left modes rules pairs js old (tasks ++ t ∷ []) ≡ try ∷ es) × IsMet new o es (events_left modes rules pairs js new left_over)
-  pub outcome : (left : ℕ) → IsOutcome new (wanted_in old wanted) left (events_left modes rules pairs js old (tasks ++ t ∷ [])) (events_left modes rules pairs js new left_over) o
+  pub meets : wanted ≡ None → (es : List (Event Answer))
+      × (events_left modes rules pairs js old (tasks ++ t ∷ []) ≡ try ∷ es)
+      × IsMet new o es (events_left modes rules pairs js new left_over)
+  pub outcome : (left : ℕ) →
+      IsOutcome new (wanted_in old wanted) left
+      (events_left modes rules pairs js old (tasks ++ t ∷ []))
+      (events_left modes rules pairs js new left_over) o

@@ -1,13 +1,49 @@
--- The walk of a goal as a list of events: what is tried, what is given, and where a limit is passed.
-use Rattle.std.specs.Prelude.{ℕ, zero, suc, ◌-◌, ◌&&◌, Bool, true, false, List, [], ◌∷◌, ◌++◌, length, Option, Some, None, nat_eq}
+-- The walk of a goal as a list of events: what is tried, what is given, and where a limit is
+-- passed.
+use Rattle.std.specs.Prelude.{
+  ℕ,
+  zero,
+  suc,
+  ◌-◌,
+  ◌&&◌,
+  Bool,
+  true,
+  false,
+  List,
+  [],
+  ◌∷◌,
+  ◌++◌,
+  length,
+  Option,
+  Some,
+  None,
+  nat_eq,
+}
 use Rattle.sx_term.specs.Tree.{Tree}
 use Rattle.sx_rules.specs.Instances.{instance}
 use Rattle.sx_arena.specs.Matching.{same_all, Assignment, unbound, match_all, filled}
-use Rattle.sx_rules.specs.Rules.{Judgement, Premise, holds, apart, Rule, Hypotheses, judgement_instance}
+use Rattle.sx_rules.specs.Rules.{
+  Judgement,
+  Premise,
+  holds,
+  apart,
+  Rule,
+  Hypotheses,
+  judgement_instance,
+}
 use Rattle.sx_rules.specs.Modes.{Modes, inputs_of, outputs_of, Goal, goal_of}
 use Rattle.sx_rules.specs.Derivations.{Proof, Proofs, by, given, no_more, ◌⊳◌}
 pub use Rattle.sx_rules.specs.First.{Answer}
-pub use Rattle.sx_arena.specs.Limits.{Cause, depth_spent, too_deep, too_big, term_limit, first_cause, are_apart, first_values}
+pub use Rattle.sx_arena.specs.Limits.{
+  Cause,
+  depth_spent,
+  too_deep,
+  too_big,
+  term_limit,
+  first_cause,
+  are_apart,
+  first_values,
+}
 unfoldable pub use Rattle.sx_arena.specs.Limits.{limit_passed}
 
 -- a step of the search: a candidate is compared, something is found, a limit is passed
@@ -29,7 +65,8 @@ when true es = es
 when false es = []
 
 -- the events under the bindings of a match, and else none
-abbrev pub when_matched : {A : Type 0} → Option Assignment → (Assignment → List (Event A)) → List (Event A)
+abbrev pub when_matched : {A : Type 0} → Option Assignment → (Assignment → List (Event A)) →
+    List (Event A)
 when_matched None f = []
 when_matched (Some env) f = f env
 
@@ -42,16 +79,22 @@ unless_passed (Some c) es = stop c ∷ []
 abbrev pub put_first : Proof → Assignment × Proofs → List (Event (Assignment × Proofs))
 put_first kid found = give (found.0, kid ⊳ found.1) ∷ []
 
--- what follows a proof of a premise: its outputs are matched, and the premises after it are gone through
-abbrev pub after_kid : (Assignment → List (Event (Assignment × Proofs))) → List Tree → Assignment → Answer → List (Event (Assignment × Proofs))
+-- what follows a proof of a premise: its outputs are matched, and the premises after it are gone
+-- through
+abbrev pub after_kid : (Assignment → List (Event (Assignment × Proofs))) → List Tree → Assignment →
+    Answer → List (Event (Assignment × Proofs))
 after_kid next patterns env found =
-    when_matched (match_all patterns found.1 env) (λ more. then_each (put_first found.0) (next more))
+    when_matched (match_all patterns found.1 env)
+    (λ more. then_each (put_first found.0) (next more))
 
--- the events of the premises from here on: each gives the assignment at the end and a proof for each judgement
-abbrev pub premise_events : Modes → Hypotheses → (Goal → List (Event Answer)) → List Premise → Assignment → List (Event (Assignment × Proofs))
+-- the events of the premises from here on: each gives the assignment at the end and a proof for
+-- each judgement
+abbrev pub premise_events : Modes → Hypotheses → (Goal → List (Event Answer)) → List Premise →
+    Assignment → List (Event (Assignment × Proofs))
 premise_events modes hyps below [] env = give (env, no_more) ∷ []
 premise_events modes hyps below (apart s t ∷ ps) env =
-    when (are_apart hyps (instance (filled env) s) (instance (filled env) t)) (premise_events modes hyps below ps env)
+    when (are_apart hyps (instance (filled env) s) (instance (filled env) t))
+    (premise_events modes hyps below ps env)
 premise_events modes hyps below (holds j ∷ ps) env =
     unless_passed (limit_passed (inputs_of modes (judgement_instance (filled env) j)))
     (then_each (after_kid (premise_events modes hyps below ps) (outputs_of modes j) env)
@@ -65,31 +108,38 @@ conclude modes r rule found =
     (give (by r (first_values (length rule.sorts) (filled found.0)) found.1, made) ∷ [])
 
 -- what follows where the rule's inputs match
-abbrev pub after_match : Modes → Hypotheses → (Goal → List (Event Answer)) → ℕ → Rule → Assignment → List (Event Answer)
+abbrev pub after_match : Modes → Hypotheses → (Goal → List (Event Answer)) → ℕ → Rule → Assignment →
+    List (Event Answer)
 after_match modes hyps below r rule env =
     then_each (conclude modes r rule) (premise_events modes hyps below rule.premises env)
 
 -- what follows the try of a rule
-abbrev pub rule_events : Modes → Hypotheses → (Goal → List (Event Answer)) → ℕ → Rule → Goal → List (Event Answer)
+abbrev pub rule_events : Modes → Hypotheses → (Goal → List (Event Answer)) → ℕ → Rule → Goal →
+    List (Event Answer)
 rule_events modes hyps below r rule goal =
     when (nat_eq rule.conclusion.form goal.form)
-    (when_matched (match_all (inputs_of modes rule.conclusion) goal.terms unbound) (after_match modes hyps below r rule))
+    (when_matched (match_all (inputs_of modes rule.conclusion) goal.terms unbound)
+    (after_match modes hyps below r rule))
 
 -- the rules from number r on, each tried
-abbrev pub rules_events : Modes → Hypotheses → (Goal → List (Event Answer)) → ℕ → List Rule → Goal → List (Event Answer)
+abbrev pub rules_events : Modes → Hypotheses → (Goal → List (Event Answer)) → ℕ → List Rule → Goal →
+    List (Event Answer)
 rules_events modes hyps below r [] goal = []
 rules_events modes hyps below r (rule ∷ rules) goal =
-    try ∷ (rule_events modes hyps below r rule goal ++ rules_events modes hyps below (suc r) rules goal)
+    try ∷ (rule_events modes hyps below r rule goal
+    ++ rules_events modes hyps below (suc r) rules goal)
 
 -- what follows the try of a hypothesis
 abbrev pub given_event : Modes → ℕ → Judgement → Goal → List (Event Answer)
 given_event modes i j goal =
-    when (nat_eq j.form goal.form && same_all (inputs_of modes j) goal.terms) (give (given i, outputs_of modes j) ∷ [])
+    when (nat_eq j.form goal.form && same_all (inputs_of modes j) goal.terms)
+    (give (given i, outputs_of modes j) ∷ [])
 
 -- the hypotheses from number i on, each tried
 abbrev pub given_events : Modes → ℕ → List Judgement → Goal → List (Event Answer)
 given_events modes i [] goal = []
-given_events modes i (j ∷ js) goal = try ∷ (given_event modes i j goal ++ given_events modes (suc i) js goal)
+given_events modes i (j ∷ js) goal =
+    try ∷ (given_event modes i j goal ++ given_events modes (suc i) js goal)
 
 -- the events of a goal below which that many levels may stand, the goal's own counted
 unfoldable pub goal_events : Modes → List Rule → Hypotheses → ℕ → Goal → List (Event Answer)

@@ -15,15 +15,23 @@ use Rattle.sx_derive.specs.Store.{Grows}
 use Rattle.sx_derive.specs.Tasks.{wanted_in, IsEnding}
 
 -- the events of the goal with the numbers, with that many levels below it
-abbrev pub events_in : Modes → List Rule → List Pair → List Judgement → Store → ℕ → ℕ → List ℕ → List (Event Answer)
-events_in modes rules pairs js s levels form terms = goal_events modes rules (hyps_in pairs s js) (suc levels) (goal_in s form terms)
+abbrev pub events_in : Modes → List Rule → List Pair → List Judgement → Store → ℕ → ℕ → List ℕ →
+    List (Event Answer)
+events_in modes rules pairs js s levels form terms =
+    goal_events modes rules (hyps_in pairs s js) (suc levels) (goal_in s form terms)
 
--- the ending is how the walk ends, after all of its tries; without memory some of its tries were made
-abbrev pub IsWalked : Modes → List Rule → Store → Store → Option (Vec ℕ Global) → ℕ → List (Event Answer) → ℕ → ℕ → Result EndingOf NoMemory → Type 0
+-- the ending is how the walk ends, after all of its tries; without memory some of its tries were
+-- made
+abbrev pub IsWalked : Modes → List Rule → Store → Store → Option (Vec ℕ Global) → ℕ →
+    List (Event Answer) → ℕ → ℕ → Result EndingOf NoMemory → Type 0
 IsWalked modes rules old new wanted budget es first last (Ok ending) =
-    Grows modes rules old new × IsEnding new ending (walk (wanted_in old wanted) budget es) × (last ≡ first + tries_of (wanted_in old wanted) budget es)
-IsWalked modes rules old new wanted budget es first last (Err e) = (first ≤ last) × (last ≤ first + tries_of (wanted_in old wanted) budget es)
+    Grows modes rules old new × IsEnding new ending (walk (wanted_in old wanted) budget es)
+    × (last ≡ first + tries_of (wanted_in old wanted) budget es)
+IsWalked modes rules old new wanted budget es first last (Err e) =
+    (first ≤ last) × (last ≤ first + tries_of (wanted_in old wanted) budget es)
 
 -- the ending is how the walk ends
-abbrev pub IsWalkedTo : Modes → List Rule → Store → Store → Option (Vec ℕ Global) → ℕ → List (Event Answer) → EndingOf → Type 0
-IsWalkedTo modes rules old new wanted budget es ending = Grows modes rules old new × IsEnding new ending (walk (wanted_in old wanted) budget es)
+abbrev pub IsWalkedTo : Modes → List Rule → Store → Store → Option (Vec ℕ Global) → ℕ →
+    List (Event Answer) → EndingOf → Type 0
+IsWalkedTo modes rules old new wanted budget es ending =
+    Grows modes rules old new × IsEnding new ending (walk (wanted_in old wanted) budget es)

@@ -19,7 +19,8 @@ use sx_arena::{Fact, Pair, copied, fit_places, make_places, roles};
 use sx_rules::{Judgement, RuleSet};
 use sx_term::NoMemory;
 
-/// The goal has no answer, or the outputs of its first answer are not those of the premise, or they are, under a chain of bindings.
+/// The goal has no answer, or the outputs of its first answer are not those of the premise, or they
+/// are, under a chain of bindings.
 #[derive(Drop)]
 pub enum Asked {
     Unanswered(Vec<usize>),
@@ -40,17 +41,24 @@ pub(crate) fn ask(
     budget: u64,
 ) -> Result<Asked, NoMemory>
     requires few { length facts.now < 2 ^ 32 }
-    requires facts { (js : List JudgementOf) × AreFacts (modes_of rules.now) (store_trees store.old) js facts.now }
+    requires facts { (js : List JudgementOf)
+        × AreFacts (modes_of rules.now) (store_trees store.old) js facts.now }
     requires store { IsStore (modes_of rules.now) (rules_of rules.now) store.old }
     requires pairs { ArePairs (length (store_trees store.old)) pairs.now }
     requires shallow { AreShallow (map tree judgement.now.places.items) }
     requires env { env ≤ length store.old.binds.cells.items }
-    requires quiet { (js : List JudgementOf) → AreFacts (modes_of rules.now) (store_trees store.old) js facts.now →
-        IsQuiet budget (asked_events (modes_of rules.now) (rules_of rules.now) pairs.now js store.old env levels (judgement_of judgement.now)) }
-    ensures grows { IfOk result (λ r. Grows (modes_of rules.now) (rules_of rules.now) store.old store.new) }
-    ensures answered { IfOk result (λ r. (js : List JudgementOf) → AreFacts (modes_of rules.now) (store_trees store.old) js facts.now →
+    requires quiet { (js : List JudgementOf) →
+        AreFacts (modes_of rules.now) (store_trees store.old) js facts.now →
+        IsQuiet budget
+        (asked_events (modes_of rules.now) (rules_of rules.now) pairs.now js store.old env levels
+        (judgement_of judgement.now)) }
+    ensures grows { IfOk result
+        (λ r. Grows (modes_of rules.now) (rules_of rules.now) store.old store.new) }
+    ensures answered { IfOk result (λ r. (js : List JudgementOf) →
+        AreFacts (modes_of rules.now) (store_trees store.old) js facts.now →
         IsAnswered (modes_of rules.now) store.old store.new env (judgement_of judgement.now)
-        (first_given (asked_events (modes_of rules.now) (rules_of rules.now) pairs.now js store.old env levels (judgement_of judgement.now))) r) }
+        (first_given (asked_events (modes_of rules.now) (rules_of rules.now) pairs.now js store.old
+        env levels (judgement_of judgement.now))) r) }
 {
     let terms = make_places(
         alloc,
@@ -93,8 +101,9 @@ pub(crate) fn ask(
     }
 }
 
-/// What the goal of a premise has as its first answer. It may be known that the premise, as its rule's last one, gives nothing: where its
-/// outputs then fit whatever is got for them, its goal has no answer, and is not walked.
+/// What the goal of a premise has as its first answer. It may be known that the premise, as its
+/// rule's last one, gives nothing: where its outputs then fit whatever is got for them, its goal
+/// has no answer, and is not walked.
 pub(crate) fn ask_known(
     alloc: Global,
     rules: &RuleSet,
@@ -108,19 +117,29 @@ pub(crate) fn ask_known(
     known: bool,
 ) -> Result<Asked, NoMemory>
     requires few { length facts.now < 2 ^ 32 }
-    requires facts { (js : List JudgementOf) × AreFacts (modes_of rules.now) (store_trees store.old) js facts.now }
+    requires facts { (js : List JudgementOf)
+        × AreFacts (modes_of rules.now) (store_trees store.old) js facts.now }
     requires store { IsStore (modes_of rules.now) (rules_of rules.now) store.old }
     requires pairs { ArePairs (length (store_trees store.old)) pairs.now }
     requires shallow { AreShallow (map tree judgement.now.places.items) }
     requires env { env ≤ length store.old.binds.cells.items }
-    requires quiet { (js : List JudgementOf) → AreFacts (modes_of rules.now) (store_trees store.old) js facts.now →
-        IsQuiet budget (asked_events (modes_of rules.now) (rules_of rules.now) pairs.now js store.old env levels (judgement_of judgement.now)) }
-    requires silent { known ≡ true → (js : List JudgementOf) → AreFacts (modes_of rules.now) (store_trees store.old) js facts.now →
-        IsSilent true budget (last_events (modes_of rules.now) (rules_of rules.now) pairs.now js store.old env levels (judgement_of judgement.now)) }
-    ensures grows { IfOk result (λ r. Grows (modes_of rules.now) (rules_of rules.now) store.old store.new) }
-    ensures answered { IfOk result (λ r. (js : List JudgementOf) → AreFacts (modes_of rules.now) (store_trees store.old) js facts.now →
+    requires quiet { (js : List JudgementOf) →
+        AreFacts (modes_of rules.now) (store_trees store.old) js facts.now →
+        IsQuiet budget
+        (asked_events (modes_of rules.now) (rules_of rules.now) pairs.now js store.old env levels
+        (judgement_of judgement.now)) }
+    requires silent { known ≡ true → (js : List JudgementOf) →
+        AreFacts (modes_of rules.now) (store_trees store.old) js facts.now →
+        IsSilent true budget
+        (last_events (modes_of rules.now) (rules_of rules.now) pairs.now js store.old env levels
+        (judgement_of judgement.now)) }
+    ensures grows { IfOk result
+        (λ r. Grows (modes_of rules.now) (rules_of rules.now) store.old store.new) }
+    ensures answered { IfOk result (λ r. (js : List JudgementOf) →
+        AreFacts (modes_of rules.now) (store_trees store.old) js facts.now →
         IsAnswered (modes_of rules.now) store.old store.new env (judgement_of judgement.now)
-        (first_given (asked_events (modes_of rules.now) (rules_of rules.now) pairs.now js store.old env levels (judgement_of judgement.now))) r) }
+        (first_given (asked_events (modes_of rules.now) (rules_of rules.now) pairs.now js store.old
+        env levels (judgement_of judgement.now))) r) }
 {
     rules.facts();
     let roles = roles(rules, judgement.form);

@@ -14,7 +14,8 @@ pub enum Cause {
         rule: u32,
         premise: usize,
     },
-    /// The outputs that were got are not those that the premise of the rule asks for, or else not those that are wanted.
+    /// The outputs that were got are not those that the premise of the rule asks for, or else not
+    /// those that are wanted.
     Mismatch {
         by: Option<(u32, usize)>,
         got: Vec<Term>,

@@ -9,7 +9,15 @@ ghost use Rattle.sx_arena.specs.Arena.{AreBelow};
 ghost use Rattle.sx_arena.specs.Binds.{IsFit};
 ghost use Rattle.sx_arena.specs.Views.{rules_of, modes_of, rule_of};
 ghost use Rattle.sx_derive.specs.Candidates.{goal_in};
-ghost use Rattle.sx_derive.specs.Descents.{AreHyps, spot_goal, RulesLead, IsDescent, IsFirstRule, HasInputs, IsFirstFact};
+ghost use Rattle.sx_derive.specs.Descents.{
+  AreHyps,
+  spot_goal,
+  RulesLead,
+  IsDescent,
+  IsFirstRule,
+  HasInputs,
+  IsFirstFact,
+};
 ghost use Rattle.sx_derive.specs.Quiet.{IsSilent};
 ghost use Rattle.sx_derive.specs.Store.{IsStore, Grows, store_trees};
 ghost use Rattle.sx_derive.specs.Stuck.{rule_match, IsStuck};
@@ -58,8 +66,11 @@ fn rule_fit(
     requires shallow { RuleIsShallow (rule_of rule.now) }
     requires store { IsStore (modes_of rules.now) (rules_of rules.now) store.old }
     requires terms { AreBelow (length (store_trees store.old)) terms.now }
-    ensures grows { IfOk result (λ _. Grows (modes_of rules.now) (rules_of rules.now) store.old store.new) }
-    ensures fit { IfOk result (λ x. IsFit (store_trees store.new) store.new.binds (rule_match (modes_of rules.now) (rule_of rule.now) (goal_in store.old form terms.now)) x) }
+    ensures grows { IfOk result
+        (λ _. Grows (modes_of rules.now) (rules_of rules.now) store.old store.new) }
+    ensures fit { IfOk result
+        (λ x. IsFit (store_trees store.new) store.new.binds
+        (rule_match (modes_of rules.now) (rule_of rule.now) (goal_in store.old form terms.now)) x) }
 {
     if rule.conclusion.form != form {
         return Ok(None);
@@ -84,8 +95,11 @@ fn first_rule(
 ) -> Result<Option<(u32, usize)>, NoMemory>
     requires store { IsStore (modes_of rules.now) (rules_of rules.now) store.old }
     requires terms { AreBelow (length (store_trees store.old)) terms.now }
-    ensures grows { IfOk result (λ _. Grows (modes_of rules.now) (rules_of rules.now) store.old store.new) }
-    ensures first { IfOk result (λ x. IsFirstRule (modes_of rules.now) store.new (goal_in store.old form terms.now) 0 (rules_of rules.now) x) }
+    ensures grows { IfOk result
+        (λ _. Grows (modes_of rules.now) (rules_of rules.now) store.old store.new) }
+    ensures first { IfOk result
+        (λ x. IsFirstRule (modes_of rules.now) store.new (goal_in store.old form terms.now) 0
+        (rules_of rules.now) x) }
 {
     rules.facts();
     let mut number: u32 = 0;
@@ -98,7 +112,8 @@ fn first_rule(
     Ok(None)
 }
 
-/// Where the rules lead from a goal that is no hypothesis, of which it may be known that it has no answer.
+/// Where the rules lead from a goal that is no hypothesis, of which it may be known that it has no
+/// answer.
 fn descend_rules(
     alloc: Global,
     rules: &RuleSet,
@@ -113,12 +128,20 @@ fn descend_rules(
     requires few { length facts.now < 2 ^ 32 }
     requires store { IsStore (modes_of rules.now) (rules_of rules.now) store.old }
     requires terms { AreBelow (length (store_trees store.old)) spot.terms.items }
-    requires quiet { (hyps : Hypotheses) × AreHyps (modes_of rules.now) store.old facts.now pairs.now hyps
-        × IsSilent known budget (rules_events (modes_of rules.now) hyps (goal_events (modes_of rules.now) (rules_of rules.now) hyps levels) 0 (rules_of rules.now) (spot_goal store.old spot)) }
-    ensures grows { IfOk result (λ _. Grows (modes_of rules.now) (rules_of rules.now) store.old store.new) }
-    ensures descent { IfOk result (λ d. (hyps : Hypotheses) → AreHyps (modes_of rules.now) store.old facts.now pairs.now hyps →
-        IsDescent (modes_of rules.now) (subjects_of rules.now) (rules_of rules.now) hyps budget levels store.new
-        (RulesLead (modes_of rules.now) (subjects_of rules.now) (rules_of rules.now) hyps budget levels (spot_goal store.old spot) spot.path.items) d) }
+    requires quiet { (hyps : Hypotheses)
+        × AreHyps (modes_of rules.now) store.old facts.now pairs.now hyps
+        × IsSilent known budget
+        (rules_events (modes_of rules.now) hyps
+        (goal_events (modes_of rules.now) (rules_of rules.now) hyps levels) 0 (rules_of rules.now)
+        (spot_goal store.old spot)) }
+    ensures grows { IfOk result
+        (λ _. Grows (modes_of rules.now) (rules_of rules.now) store.old store.new) }
+    ensures descent { IfOk result (λ d. (hyps : Hypotheses) →
+        AreHyps (modes_of rules.now) store.old facts.now pairs.now hyps →
+        IsDescent (modes_of rules.now) (subjects_of rules.now) (rules_of rules.now) hyps budget
+        levels store.new
+        (RulesLead (modes_of rules.now) (subjects_of rules.now) (rules_of rules.now) hyps budget
+        levels (spot_goal store.old spot) spot.path.items) d) }
 {
     rules.facts();
     match first_rule(rules, store, spot.form, &spot.terms)? {
@@ -158,12 +181,19 @@ pub(crate) fn descend(
     requires few { length facts.now < 2 ^ 32 }
     requires store { IsStore (modes_of rules.now) (rules_of rules.now) store.old }
     requires terms { AreBelow (length (store_trees store.old)) spot.terms.items }
-    requires quiet { (hyps : Hypotheses) × AreHyps (modes_of rules.now) store.old facts.now pairs.now hyps
-        × IsSilent known budget (goal_events (modes_of rules.now) (rules_of rules.now) hyps (suc levels) (spot_goal store.old spot)) }
-    ensures grows { IfOk result (λ _. Grows (modes_of rules.now) (rules_of rules.now) store.old store.new) }
-    ensures descent { IfOk result (λ d. (hyps : Hypotheses) → AreHyps (modes_of rules.now) store.old facts.now pairs.now hyps →
-        IsDescent (modes_of rules.now) (subjects_of rules.now) (rules_of rules.now) hyps budget levels store.new
-        (IsStuck (modes_of rules.now) (subjects_of rules.now) (rules_of rules.now) hyps (suc levels) (spot_goal store.old spot) spot.path.items) d) }
+    requires quiet { (hyps : Hypotheses)
+        × AreHyps (modes_of rules.now) store.old facts.now pairs.now hyps
+        × IsSilent known budget
+        (goal_events (modes_of rules.now) (rules_of rules.now) hyps (suc levels)
+        (spot_goal store.old spot)) }
+    ensures grows { IfOk result
+        (λ _. Grows (modes_of rules.now) (rules_of rules.now) store.old store.new) }
+    ensures descent { IfOk result (λ d. (hyps : Hypotheses) →
+        AreHyps (modes_of rules.now) store.old facts.now pairs.now hyps →
+        IsDescent (modes_of rules.now) (subjects_of rules.now) (rules_of rules.now) hyps budget
+        levels store.new
+        (IsStuck (modes_of rules.now) (subjects_of rules.now) (rules_of rules.now) hyps (suc levels)
+        (spot_goal store.old spot) spot.path.items) d) }
 {
     rules.facts();
     match first_fact(facts, spot.form, &spot.terms) {

@@ -39,9 +39,12 @@ pub(crate) fn try_rule(
     requires pairs { ArePairs (length (store_trees store.old)) pairs.now }
     requires frames { frames ≤ length store.old.frames.items }
     requires terms { AreBelow (length (store_trees store.old)) terms.now }
-    ensures { IfOk result (λ step. (rule : Rule) → slice_get (rules_of rules.now) number ≡ Some rule →
+    ensures { IfOk result (λ step. (rule : Rule) →
+        slice_get (rules_of rules.now) number ≡ Some rule →
         IsTried (modes_of rules.now) (rules_of rules.now) pairs.now store.old store.new
-        (λ hyps. rule_result (modes_of rules.now) hyps number rule levels (goal_in store.old form terms.now) (frames_in (modes_of rules.now) (rules_of rules.now) store.old frames)) step) }
+        (λ hyps. rule_result (modes_of rules.now) hyps number rule levels
+        (goal_in store.old form terms.now)
+        (frames_in (modes_of rules.now) (rules_of rules.now) store.old frames)) step) }
 {
     let rule = rule_at(rules, number);
     if rule.conclusion.form != form {
@@ -88,10 +91,13 @@ pub(crate) fn try_given(
     requires pairs { ArePairs (length (store_trees store.old)) pairs.now }
     requires frames { frames ≤ length store.old.frames.items }
     requires terms { AreBelow (length (store_trees store.old)) terms.now }
-    requires fact { (j : Judgement) × IsFact (modes_of rules.now) (store_trees store.old) j fact.now }
-    ensures { IfOk result (λ step. (j : Judgement) → IsFact (modes_of rules.now) (store_trees store.old) j fact.now →
+    requires fact { (j : Judgement)
+        × IsFact (modes_of rules.now) (store_trees store.old) j fact.now }
+    ensures { IfOk result (λ step. (j : Judgement) →
+        IsFact (modes_of rules.now) (store_trees store.old) j fact.now →
         IsTried (modes_of rules.now) (rules_of rules.now) pairs.now store.old store.new
-        (λ hyps. given_result (modes_of rules.now) hyps number j (goal_in store.old form terms.now) (frames_in (modes_of rules.now) (rules_of rules.now) store.old frames)) step) }
+        (λ hyps. given_result (modes_of rules.now) hyps number j (goal_in store.old form terms.now)
+        (frames_in (modes_of rules.now) (rules_of rules.now) store.old frames)) step) }
 {
     if fact.form != form {
         return Ok(Step::Nothing);

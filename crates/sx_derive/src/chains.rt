@@ -37,7 +37,8 @@ pub struct Waiting {
 
 /// The chain of proofs with one more.
 pub(crate) fn push_kid(kids: &mut Vec<Kid>, before: usize, head: Head) -> Result<usize, NoMemory>
-    ensures items { OnOk result (kids.new.items ≡ kids.old.items ++ record { before = before; head = head } ∷ []) }
+    ensures items { OnOk result
+        (kids.new.items ≡ kids.old.items ++ record { before = before; head = head } ∷ []) }
     ensures chain { IfOk result (λ k. k ≡ length kids.old.items + 1) }
 {
     kids.push(Kid { before, head })?;

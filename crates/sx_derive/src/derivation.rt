@@ -1,6 +1,18 @@
 //! The first derivation of a goal.
 
-ghost use Rattle.std.specs.Prelude.{◌≡◌, ℕ, ◌^◌, ◌≤◌, ◌<◌, List, Option, IfOk, MatchOption, length, map};
+ghost use Rattle.std.specs.Prelude.{
+  ◌≡◌,
+  ℕ,
+  ◌^◌,
+  ◌≤◌,
+  ◌<◌,
+  List,
+  Option,
+  IfOk,
+  MatchOption,
+  length,
+  map,
+};
 ghost use Rattle.std.specs.Option.{option_map};
 ghost use Rattle.sx_term.specs.Term.{tree};
 ghost use Rattle.sx_term.specs.Tree.{Tree};
@@ -40,9 +52,18 @@ fn answer(
     requires apart { ArePairsShallow (hypotheses given.now).pairs }
     requires goal { AreShallow (goal_of goal.now).terms }
     requires store { IsStore (modes_of rules.now) (rules_of rules.now) searched.store }
-    requires ending { (wanted : Option (List Tree)) × IsEnding searched.store searched.ending (walk wanted budget (events (modes_of rules.now) (rules_of rules.now) (hypotheses given.now) (goal_of goal.now) 1)) }
-    ensures { (wanted : Option (List Tree)) → IsEnding searched.store searched.ending (walk wanted budget (events (modes_of rules.now) (rules_of rules.now) (hypotheses given.now) (goal_of goal.now) 1)) →
-        IsDerived (modes_of rules.now) (subjects_of rules.now) (rules_of rules.now) (hypotheses given.now) (goal_of goal.now) wanted budget result }
+    requires ending { (wanted : Option (List Tree))
+        × IsEnding searched.store searched.ending
+        (walk wanted budget
+        (events (modes_of rules.now) (rules_of rules.now) (hypotheses given.now) (goal_of goal.now)
+        1)) }
+    ensures { (wanted : Option (List Tree)) →
+        IsEnding searched.store searched.ending
+        (walk wanted budget
+        (events (modes_of rules.now) (rules_of rules.now) (hypotheses given.now) (goal_of goal.now)
+        1)) →
+        IsDerived (modes_of rules.now) (subjects_of rules.now) (rules_of rules.now)
+        (hypotheses given.now) (goal_of goal.now) wanted budget result }
 {
     match outcome(alloc, rules, given, goal, budget, searched) {
         Ok(found) => {
@@ -54,14 +75,15 @@ fn answer(
     }
 }
 
-/// The first derivation of the goal from the hypotheses, with the wanted outputs where some are wanted. Each try is counted in
-/// `steps`, and at most `budget` are made.
+/// The first derivation of the goal from the hypotheses, with the wanted outputs where some are
+/// wanted. Each try is counted in `steps`, and at most `budget` are made.
 ///
 /// - `Memory`: memory is lacking.
 /// - `Underivable`: no derivation with such outputs exists, of whatever depth and size.
 /// - `BudgetSpent`: the search needs more than `budget` tries.
 /// - `DepthSpent`: the search comes to a goal at depth 3,001.
-/// - `TooDeep`, `TooBig`: a term is made that is deeper than 1,000 or has more than 1,000,000 nodes.
+/// - `TooDeep`, `TooBig`: a term is made that is deeper than 1,000 or has more than 1,000,000
+///   nodes.
 pub fn derive<L: Ledger>(
     alloc: Global,
     rules: &RuleSet,
@@ -76,10 +98,18 @@ pub fn derive<L: Ledger>(
     requires apart { ArePairsShallow (hypotheses given.now).pairs }
     requires goal { AreShallow (goal_of goal.now).terms }
     requires wanted { MatchOption wanted Unit (λ w. AreShallow (map tree w.now.items)) }
-    ensures answer { IsDerived (modes_of rules.now) (subjects_of rules.now) (rules_of rules.now) (hypotheses given.now) (goal_of goal.now) (option_map (λ w. map tree w.now.items) wanted.entry) budget result }
-    ensures first { IfOk result (λ d. IsFirst (modes_of rules.now) (rules_of rules.now) (hypotheses given.now) (goal_of goal.now) (option_map (λ w. map tree w.now.items) wanted.entry) (answer_of d)) }
-    ensures none { IsNone (modes_of rules.now) (rules_of rules.now) (hypotheses given.now) (goal_of goal.now) (option_map (λ w. map tree w.now.items) wanted.entry) result }
-    ensures steps { AreCounted (tries_of (option_map (λ w. map tree w.now.items) wanted.entry) budget (events (modes_of rules.now) (rules_of rules.now) (hypotheses given.now) (goal_of goal.now) 1)) steps.old steps.new result }
+    ensures answer { IsDerived (modes_of rules.now) (subjects_of rules.now) (rules_of rules.now)
+        (hypotheses given.now) (goal_of goal.now)
+        (option_map (λ w. map tree w.now.items) wanted.entry) budget result }
+    ensures first { IfOk result
+        (λ d. IsFirst (modes_of rules.now) (rules_of rules.now) (hypotheses given.now)
+        (goal_of goal.now) (option_map (λ w. map tree w.now.items) wanted.entry) (answer_of d)) }
+    ensures none { IsNone (modes_of rules.now) (rules_of rules.now) (hypotheses given.now)
+        (goal_of goal.now) (option_map (λ w. map tree w.now.items) wanted.entry) result }
+    ensures steps { AreCounted
+        (tries_of (option_map (λ w. map tree w.now.items) wanted.entry) budget
+        (events (modes_of rules.now) (rules_of rules.now) (hypotheses given.now) (goal_of goal.now)
+        1)) steps.old steps.new result }
 {
     rules.facts();
     match search(alloc, rules, given, goal, wanted, budget, steps) {

@@ -20,11 +20,12 @@ pub enum DeriveError {
     /// The search comes to a goal that is deeper than this.
     #[error("a goal is too deep")]
     DepthSpent(u32),
-    /// A term of this depth is made, which is more than 1,000. The number stays at the greatest u64.
+    /// A term of this depth is made, which is more than 1,000. The number stays at the greatest
+    /// u64.
     #[error("a term is too deep")]
     TooDeep(u64),
-    /// A term of so many nodes, lexemes and variables is made, which are more than 1,000,000. The number stays at the greatest
-    /// u64.
+    /// A term of so many nodes, lexemes and variables is made, which are more than 1,000,000. The
+    /// number stays at the greatest u64.
     #[error("a term has too many nodes")]
     TooBig(u64),
 }

@@ -36,7 +36,8 @@ pub(crate) fn export_answer(
     requires kids { AreKids (store_envs store.now) store.now.kids.items }
     requires head { HeadFits (length (store_envs store.now)) (length (store_kids store.now)) head }
     requires outputs { AreBelow (length (store_trees store.now)) outputs.now }
-    ensures { IfOk result (λ d. (proof d.proof.value, map tree d.outputs.items) ≡ answer_in store.now head outputs.now) }
+    ensures { IfOk result (λ d. (proof d.proof.value, map tree d.outputs.items)
+        ≡ answer_in store.now head outputs.now) }
 {
     let made = export_proof(alloc, store, head)?;
     let outputs = export_all(alloc, &store.arena, outputs)?;

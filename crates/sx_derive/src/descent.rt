@@ -22,7 +22,8 @@ pub enum Reason {
     },
 }
 
-/// The goal is stuck, or so is a premise's goal that has an answer; or a premise's goal without one leads on.
+/// The goal is stuck, or so is a premise's goal that has an answer; or a premise's goal without one
+/// leads on.
 #[derive(Drop)]
 pub enum Descent {
     Stuck { spot: Spot, reason: Reason },

@@ -35,7 +35,9 @@ fn enter_wanted(
 ) -> Result<Option<Vec<usize>>, NoMemory>
     requires shallow { MatchOption wanted Unit (λ w. AreShallow (map tree w.now.items)) }
     requires arena { IsArena arena.old }
-    ensures { IfOk result (λ r. IsWantedIn arena.old arena.new (option_map (λ w. map tree w.now.items) wanted.entry) r) }
+    ensures { IfOk result
+        (λ r. IsWantedIn arena.old arena.new (option_map (λ w. map tree w.now.items) wanted.entry)
+        r) }
 {
     match wanted {
         None => Ok(None),
@@ -57,7 +59,10 @@ pub(crate) fn enter_parts(
     requires goal { AreShallow (goal_of goal.now).terms }
     requires wanted { MatchOption wanted Unit (λ w. AreShallow (map tree w.now.items)) }
     requires store { IsStore (modes_of rules.now) (rules_of rules.now) store.old }
-    ensures { IfOk result (λ e. IsProblem (modes_of rules.now) (rules_of rules.now) (hypotheses given.now) (goal_of goal.now).terms (option_map (λ w. map tree w.now.items) wanted.entry) (problem_of store.new e)) }
+    ensures { IfOk result
+        (λ e. IsProblem (modes_of rules.now) (rules_of rules.now) (hypotheses given.now)
+        (goal_of goal.now).terms (option_map (λ w. map tree w.now.items) wanted.entry)
+        (problem_of store.new e)) }
 {
     let facts = enter_facts(alloc, rules, &mut store.arena, &given.holds)?;
     let pairs = enter_pairs(alloc, &mut store.arena, &given.apart)?;

@@ -22,7 +22,8 @@ use sx_term::NoMemory;
 fn heads_of(alloc: Global, store: &Store, kids: usize) -> Result<Vec<Head>, NoMemory>
     requires kids { AreKids (store_envs store.now) store.now.kids.items }
     requires within { kids ≤ length (store_kids store.now) }
-    ensures { IfOk result (λ heads. AreHeads (store_envs store.now) (store_kids store.now) kids heads.items) }
+    ensures { IfOk result
+        (λ heads. AreHeads (store_envs store.now) (store_kids store.now) kids heads.items) }
 {
     let mut heads = Vec::new(alloc);
     let mut here = kids;
@@ -39,7 +40,8 @@ fn heads_of(alloc: Global, store: &Store, kids: usize) -> Result<Vec<Head>, NoMe
 fn put_list(alloc: Global, store: &Store, head: Head, into: &mut Vec<Entry>) -> Result<(), NoMemory>
     requires kids { AreKids (store_envs store.now) store.now.kids.items }
     requires head { HeadFits (length (store_envs store.now)) (length (store_kids store.now)) head }
-    ensures { IfOk result (λ _. entries into.new.items ≡ entries into.old.items ++ order_of (head_proof (store_envs store.now) (store_kids store.now) head)) }
+    ensures { IfOk result (λ _. entries into.new.items ≡ entries into.old.items
+        ++ order_of (head_proof (store_envs store.now) (store_kids store.now) head)) }
 {
     match head {
         Head::Given(number) => {

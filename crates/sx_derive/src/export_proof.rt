@@ -20,7 +20,8 @@ pub(crate) fn export_proof(alloc: Global, store: &Store, head: Head) -> Result<P
     requires binds { IsBinds (trees store.now.arena) store.now.binds }
     requires kids { AreKids (store_envs store.now) store.now.kids.items }
     requires head { HeadFits (length (store_envs store.now)) (length (store_kids store.now)) head }
-    ensures { IfOk result (λ p. proof p ≡ head_proof (store_envs store.now) (store_kids store.now) head) }
+    ensures { IfOk result
+        (λ p. proof p ≡ head_proof (store_envs store.now) (store_kids store.now) head) }
 {
     match head {
         Head::Given(number) => Ok(Proof::Given(number)),

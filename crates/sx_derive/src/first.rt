@@ -32,15 +32,21 @@ pub(crate) fn first_answer(
     budget: u64,
 ) -> Result<Option<Vec<usize>>, NoMemory>
     requires few { length facts.now < 2 ^ 32 }
-    requires facts { (js : List Judgement) × AreFacts (modes_of rules.now) (store_trees store.old) js facts.now }
+    requires facts { (js : List Judgement)
+        × AreFacts (modes_of rules.now) (store_trees store.old) js facts.now }
     requires store { IsStore (modes_of rules.now) (rules_of rules.now) store.old }
     requires pairs { ArePairs (length (store_trees store.old)) pairs.now }
     requires terms { AreBelow (length (store_trees store.old)) terms.items }
-    requires quiet { (js : List Judgement) → AreFacts (modes_of rules.now) (store_trees store.old) js facts.now →
-        IsQuiet budget (events_in (modes_of rules.now) (rules_of rules.now) pairs.now js store.old levels form terms.items) }
-    ensures { IfOk result (λ r. (js : List Judgement) → AreFacts (modes_of rules.now) (store_trees store.old) js facts.now →
+    requires quiet { (js : List Judgement) →
+        AreFacts (modes_of rules.now) (store_trees store.old) js facts.now →
+        IsQuiet budget
+        (events_in (modes_of rules.now) (rules_of rules.now) pairs.now js store.old levels form
+        terms.items) }
+    ensures { IfOk result (λ r. (js : List Judgement) →
+        AreFacts (modes_of rules.now) (store_trees store.old) js facts.now →
         IsFirstFound (modes_of rules.now) (rules_of rules.now) store.old store.new
-        (events_in (modes_of rules.now) (rules_of rules.now) pairs.now js store.old levels form terms.items) r) }
+        (events_in (modes_of rules.now) (rules_of rules.now) pairs.now js store.old levels form
+        terms.items) r) }
 {
     let mark = store.mark();
     let tasks = first_task(alloc, form, terms, levels, mark)?;

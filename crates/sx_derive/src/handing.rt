@@ -34,7 +34,9 @@ fn resume(
     requires frame { IsWaiting (modes_of rules.now) (rules_of rules.now) store.old frame }
     requires head { HeadFits (length (store_envs store.old)) (length (store_kids store.old)) head }
     requires outputs { AreBelow (length (store_trees store.old)) outputs.now }
-    ensures { IfOk result (λ step. IsResumed (modes_of rules.now) (rules_of rules.now) pairs.now store.old store.new frame head outputs.now step) }
+    ensures { IfOk result
+        (λ step. IsResumed (modes_of rules.now) (rules_of rules.now) pairs.now store.old store.new
+        frame head outputs.now step) }
 {
     let rule = rule_at(rules, frame.rule);
     match &rule.premises[frame.premise] {
@@ -88,7 +90,9 @@ pub(crate) fn hand_on(
     requires frames { frames ≤ length store.old.frames.items }
     requires head { HeadFits (length (store_envs store.old)) (length (store_kids store.old)) head }
     requires outputs { AreBelow (length (store_trees store.old)) outputs.items }
-    ensures { IfOk result (λ step. IsHanded (modes_of rules.now) (rules_of rules.now) pairs.now store.old store.new frames head outputs.items step) }
+    ensures { IfOk result
+        (λ step. IsHanded (modes_of rules.now) (rules_of rules.now) pairs.now store.old store.new
+        frames head outputs.items step) }
 {
     let mut head = head;
     let mut outputs = outputs;

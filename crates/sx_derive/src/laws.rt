@@ -1,7 +1,23 @@
 //! What is proved of the walk, of the machine and of the stuck goal.
 
 ghost use Rattle.sx_derive.specs.Samples.{SampleIsFound};
-ghost use Rattle.sx_derive.specs.Laws.{AnswersAreBounded, WalkDecides, EventsAreSound, EventsAreComplete, EachDerivationIsGiven, EventsAreInOrder, FoundIsFirst, ExhaustedMeansNone, MachineMakesEvents, StuckGoalExists, ExhaustedHasNoStop, StuckGoalIsUnique, StuckGoalHasTexts, StuckGoalIsShallow, FoundHasFewNodes};
+ghost use Rattle.sx_derive.specs.Laws.{
+  AnswersAreBounded,
+  WalkDecides,
+  EventsAreSound,
+  EventsAreComplete,
+  EachDerivationIsGiven,
+  EventsAreInOrder,
+  FoundIsFirst,
+  ExhaustedMeansNone,
+  MachineMakesEvents,
+  StuckGoalExists,
+  ExhaustedHasNoStop,
+  StuckGoalIsUnique,
+  StuckGoalHasTexts,
+  StuckGoalIsShallow,
+  FoundHasFewNodes,
+};
 
 /// Whatever is given among the events of a goal derives it.
 pub fn events_are_sound()
@@ -58,23 +74,26 @@ pub fn stuck_goal_is_unique()
     ensures { StuckGoalIsUnique }
 {}
 
-/// A walk for a judgement's outputs finds a derivation of it, or there is none where it comes to the end of the events.
+/// A walk for a judgement's outputs finds a derivation of it, or there is none where it comes to
+/// the end of the events.
 pub fn walk_decides()
     ensures { WalkDecides }
 {}
 
-/// Each proof given has no more levels than stand below its goal, and its terms and outputs are no deeper than the limit.
+/// Each proof given has no more levels than stand below its goal, and its terms and outputs are no
+/// deeper than the limit.
 pub fn answers_are_bounded()
     ensures { AnswersAreBounded }
 {}
 
-/// Where the terms of rules, hypotheses and a goal have core texts, so have those of its stuck goal.
+/// Where the terms of rules, hypotheses and a goal have core texts, so have those of its stuck
+/// goal.
 pub fn stuck_goal_has_texts()
     ensures { StuckGoalHasTexts }
 {}
 
-/// Where the terms of hypotheses and a goal are no deeper than 1,000 and no stop stands among its events, those of its stuck goal
-/// are no deeper.
+/// Where the terms of hypotheses and a goal are no deeper than 1,000 and no stop stands among its
+/// events, those of its stuck goal are no deeper.
 pub fn stuck_goal_is_shallow()
     ensures { StuckGoalIsShallow }
 {}

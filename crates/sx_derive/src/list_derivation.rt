@@ -1,6 +1,18 @@
 //! The list of the first derivation of a goal.
 
-ghost use Rattle.std.specs.Prelude.{◌≡◌, ℕ, ◌^◌, ◌≤◌, ◌<◌, List, Option, IfOk, MatchOption, length, map};
+ghost use Rattle.std.specs.Prelude.{
+  ◌≡◌,
+  ℕ,
+  ◌^◌,
+  ◌≤◌,
+  ◌<◌,
+  List,
+  Option,
+  IfOk,
+  MatchOption,
+  length,
+  map,
+};
 ghost use Rattle.std.specs.Option.{option_map};
 ghost use Rattle.sx_term.specs.Term.{tree};
 ghost use Rattle.sx_term.specs.Tree.{Tree};
@@ -41,9 +53,18 @@ fn answer_list(
     requires apart { ArePairsShallow (hypotheses given.now).pairs }
     requires goal { AreShallow (goal_of goal.now).terms }
     requires store { IsStore (modes_of rules.now) (rules_of rules.now) searched.store }
-    requires ending { (wanted : Option (List Tree)) × IsEnding searched.store searched.ending (walk wanted budget (events (modes_of rules.now) (rules_of rules.now) (hypotheses given.now) (goal_of goal.now) 1)) }
-    ensures { (wanted : Option (List Tree)) → IsEnding searched.store searched.ending (walk wanted budget (events (modes_of rules.now) (rules_of rules.now) (hypotheses given.now) (goal_of goal.now) 1)) →
-        IsListed (modes_of rules.now) (subjects_of rules.now) (rules_of rules.now) (hypotheses given.now) (goal_of goal.now) wanted budget result }
+    requires ending { (wanted : Option (List Tree))
+        × IsEnding searched.store searched.ending
+        (walk wanted budget
+        (events (modes_of rules.now) (rules_of rules.now) (hypotheses given.now) (goal_of goal.now)
+        1)) }
+    ensures { (wanted : Option (List Tree)) →
+        IsEnding searched.store searched.ending
+        (walk wanted budget
+        (events (modes_of rules.now) (rules_of rules.now) (hypotheses given.now) (goal_of goal.now)
+        1)) →
+        IsListed (modes_of rules.now) (subjects_of rules.now) (rules_of rules.now)
+        (hypotheses given.now) (goal_of goal.now) wanted budget result }
 {
     match outcome(alloc, rules, given, goal, budget, searched) {
         Ok(found) => {
@@ -55,15 +76,17 @@ fn answer_list(
     }
 }
 
-/// The entries of the first derivation of the goal from the hypotheses, with the wanted outputs where some are wanted, and its
-/// outputs. Each try is counted in `steps`, and at most `budget` are made. The derivation itself is never made as a value of its
-/// own, so that memory for its bindings is not taken.
+/// The entries of the first derivation of the goal from the hypotheses, with the wanted outputs
+/// where some are wanted, and its outputs. Each try is counted in `steps`, and at most `budget` are
+/// made. The derivation itself is never made as a value of its own, so that memory for its bindings
+/// is not taken.
 ///
 /// - `Memory`: memory is lacking.
 /// - `Underivable`: no derivation with such outputs exists, of whatever depth and size.
 /// - `BudgetSpent`: the search needs more than `budget` tries.
 /// - `DepthSpent`: the search comes to a goal at depth 3,001.
-/// - `TooDeep`, `TooBig`: a term is made that is deeper than 1,000 or has more than 1,000,000 nodes.
+/// - `TooDeep`, `TooBig`: a term is made that is deeper than 1,000 or has more than 1,000,000
+///   nodes.
 pub fn derive_list<L: Ledger>(
     alloc: Global,
     rules: &RuleSet,
@@ -78,10 +101,18 @@ pub fn derive_list<L: Ledger>(
     requires apart { ArePairsShallow (hypotheses given.now).pairs }
     requires goal { AreShallow (goal_of goal.now).terms }
     requires wanted { MatchOption wanted Unit (λ w. AreShallow (map tree w.now.items)) }
-    ensures answer { IsListed (modes_of rules.now) (subjects_of rules.now) (rules_of rules.now) (hypotheses given.now) (goal_of goal.now) (option_map (λ w. map tree w.now.items) wanted.entry) budget result }
-    ensures first { IfOk result (λ l. ListsFirst (modes_of rules.now) (rules_of rules.now) (hypotheses given.now) (goal_of goal.now) (option_map (λ w. map tree w.now.items) wanted.entry) budget l) }
-    ensures none { IsNone (modes_of rules.now) (rules_of rules.now) (hypotheses given.now) (goal_of goal.now) (option_map (λ w. map tree w.now.items) wanted.entry) result }
-    ensures steps { AreCounted (tries_of (option_map (λ w. map tree w.now.items) wanted.entry) budget (events (modes_of rules.now) (rules_of rules.now) (hypotheses given.now) (goal_of goal.now) 1)) steps.old steps.new result }
+    ensures answer { IsListed (modes_of rules.now) (subjects_of rules.now) (rules_of rules.now)
+        (hypotheses given.now) (goal_of goal.now)
+        (option_map (λ w. map tree w.now.items) wanted.entry) budget result }
+    ensures first { IfOk result
+        (λ l. ListsFirst (modes_of rules.now) (rules_of rules.now) (hypotheses given.now)
+        (goal_of goal.now) (option_map (λ w. map tree w.now.items) wanted.entry) budget l) }
+    ensures none { IsNone (modes_of rules.now) (rules_of rules.now) (hypotheses given.now)
+        (goal_of goal.now) (option_map (λ w. map tree w.now.items) wanted.entry) result }
+    ensures steps { AreCounted
+        (tries_of (option_map (λ w. map tree w.now.items) wanted.entry) budget
+        (events (modes_of rules.now) (rules_of rules.now) (hypotheses given.now) (goal_of goal.now)
+        1)) steps.old steps.new result }
 {
     rules.facts();
     match search(alloc, rules, given, goal, wanted, budget, steps) {

@@ -16,7 +16,8 @@ use sx_term::Term;
 fn is_unbound(binds: &Binds, env: usize, term: &Term) -> bool
     requires binds { (ts : List Tree) × IsBinds ts binds.now }
     requires env { env ≤ length binds.now.cells.items }
-    ensures { (ts : List Tree) → IsBinds ts binds.now → IsTrue result ↔ IsOpen (env_at (envs ts binds.now) env) (tree term.now ∷ []) }
+    ensures { (ts : List Tree) → IsBinds ts binds.now →
+        IsTrue result ↔ IsOpen (env_at (envs ts binds.now) env) (tree term.now ∷ []) }
 {
     match term {
         Term::Var(variable) => binds.find(env, *variable as usize).is_none(),
@@ -24,12 +25,15 @@ fn is_unbound(binds: &Binds, env: usize, term: &Term) -> bool
     }
 }
 
-/// Whether there is a term for each place, and at most one output, a variable that the chain does not bind.
+/// Whether there is a term for each place, and at most one output, a variable that the chain does
+/// not bind.
 pub(crate) fn is_open(binds: &Binds, env: usize, roles: &[Place], places: &[Term]) -> bool
     requires binds { (ts : List Tree) × IsBinds ts binds.now }
     requires env { env ≤ length binds.now.cells.items }
-    ensures { (ts : List Tree) → IsBinds ts binds.now → IsTrue result ↔ (length places.now ≡ length (mask_of roles.now))
-        × IsOpen (env_at (envs ts binds.now) env) (selected true (mask_of roles.now) (map tree places.now)) }
+    ensures { (ts : List Tree) → IsBinds ts binds.now →
+        IsTrue result ↔ (length places.now ≡ length (mask_of roles.now))
+        × IsOpen (env_at (envs ts binds.now) env)
+        (selected true (mask_of roles.now) (map tree places.now)) }
 {
     if places.len() != roles.len() {
         return false;

@@ -33,7 +33,8 @@ pub struct StoredAnswer {
     pub(crate) outputs: Vec<usize>,
 }
 
-/// What a search has found, or why it has found nothing. The store is dropped before the stuck goal is sought.
+/// What a search has found, or why it has found nothing. The store is dropped before the stuck goal
+/// is sought.
 pub(crate) fn outcome(
     alloc: Global,
     rules: &RuleSet,
@@ -47,9 +48,21 @@ pub(crate) fn outcome(
     requires apart { ArePairsShallow (hypotheses given.now).pairs }
     requires goal { AreShallow (goal_of goal.now).terms }
     requires store { IsStore (modes_of rules.now) (rules_of rules.now) searched.store }
-    requires ending { (wanted : Option (List Tree)) × IsEnding searched.store searched.ending (walk wanted budget (events (modes_of rules.now) (rules_of rules.now) (hypotheses given.now) (goal_of goal.now) 1)) }
-    ensures { (wanted : Option (List Tree)) → IsEnding searched.store searched.ending (walk wanted budget (events (modes_of rules.now) (rules_of rules.now) (hypotheses given.now) (goal_of goal.now) 1)) →
-        IsToldBy (SaysFound (modes_of rules.now) (rules_of rules.now)) (modes_of rules.now) (subjects_of rules.now) (rules_of rules.now) (hypotheses given.now) (goal_of goal.now) budget (walk wanted budget (events (modes_of rules.now) (rules_of rules.now) (hypotheses given.now) (goal_of goal.now) 1)) result }
+    requires ending { (wanted : Option (List Tree))
+        × IsEnding searched.store searched.ending
+        (walk wanted budget
+        (events (modes_of rules.now) (rules_of rules.now) (hypotheses given.now) (goal_of goal.now)
+        1)) }
+    ensures { (wanted : Option (List Tree)) →
+        IsEnding searched.store searched.ending
+        (walk wanted budget
+        (events (modes_of rules.now) (rules_of rules.now) (hypotheses given.now) (goal_of goal.now)
+        1)) →
+        IsToldBy (SaysFound (modes_of rules.now) (rules_of rules.now)) (modes_of rules.now)
+        (subjects_of rules.now) (rules_of rules.now) (hypotheses given.now) (goal_of goal.now)
+        budget (walk wanted budget
+        (events (modes_of rules.now) (rules_of rules.now) (hypotheses given.now) (goal_of goal.now)
+        1)) result }
 {
     let Searched { store, ending } = searched;
     match ending {

@@ -7,7 +7,13 @@ ghost use Rattle.sx_rules.specs.Rules.{Hypotheses};
 ghost use Rattle.sx_arena.specs.Arena.{AreBelow};
 ghost use Rattle.sx_arena.specs.Binds.{env_at};
 ghost use Rattle.sx_arena.specs.Views.{rules_of, modes_of, rule_of, judgement_of};
-ghost use Rattle.sx_derive.specs.Descents.{AreHyps, spot_goal, PremisesLead, IsDescent, IsPremiseSpot};
+ghost use Rattle.sx_derive.specs.Descents.{
+  AreHyps,
+  spot_goal,
+  PremisesLead,
+  IsDescent,
+  IsPremiseSpot,
+};
 ghost use Rattle.sx_derive.specs.Quiet.{IsSilent};
 ghost use Rattle.sx_derive.specs.Store.{IsStore, Grows, store_trees, store_envs};
 ghost use Rattle.sx_derive.specs.Walk.{goal_events, premise_events};
@@ -33,7 +39,9 @@ fn premise_spot(
     path: Vec<usize>,
 ) -> Result<Spot, NoMemory>
     requires shallow { AreShallow (map tree rule.now.conclusion.places.items) }
-    ensures { IfOk result (λ s. IsPremiseSpot (subjects_of rules.now) (rule_of rule.now) (judgement_of premise.now) terms.items path.items s) }
+    ensures { IfOk result
+        (λ s. IsPremiseSpot (subjects_of rules.now) (rule_of rule.now) (judgement_of premise.now)
+        terms.items path.items s) }
 {
     let mut path = path;
     put_premise_way(rules, rule, premise, &mut path)?;
@@ -67,7 +75,8 @@ fn differs(spot: Spot, rule: u32, premise: usize, got: Vec<usize>) -> Descent
     }
 }
 
-/// Where the premises of a goal's first candidate lead, gone through with first answers. It may be known that the goal has no answer.
+/// Where the premises of a goal's first candidate lead, gone through with first answers. It may be
+/// known that the goal has no answer.
 pub(crate) fn descend_premises(
     alloc: Global,
     rules: &RuleSet,
@@ -87,12 +96,21 @@ pub(crate) fn descend_premises(
     requires shallow { RuleIsShallow (rule_of rule.now) }
     requires env { first ≤ length store.old.binds.cells.items }
     requires terms { AreBelow (length (store_trees store.old)) spot.terms.items }
-    requires quiet { (hyps : Hypotheses) × AreHyps (modes_of rules.now) store.old facts.now pairs.now hyps
-        × IsSilent known budget (premise_events (modes_of rules.now) hyps (goal_events (modes_of rules.now) (rules_of rules.now) hyps levels) (rule_of rule.now).premises (env_at (store_envs store.old) first)) }
-    ensures grows { IfOk result (λ _. Grows (modes_of rules.now) (rules_of rules.now) store.old store.new) }
-    ensures descent { IfOk result (λ d. (hyps : Hypotheses) → AreHyps (modes_of rules.now) store.old facts.now pairs.now hyps →
-        IsDescent (modes_of rules.now) (subjects_of rules.now) (rules_of rules.now) hyps budget levels store.new
-        (PremisesLead (modes_of rules.now) (subjects_of rules.now) (rules_of rules.now) hyps budget levels number (rule_of rule.now) (spot_goal store.old spot) spot.path.items 0 (rule_of rule.now).premises (env_at (store_envs store.old) first)) d) }
+    requires quiet { (hyps : Hypotheses)
+        × AreHyps (modes_of rules.now) store.old facts.now pairs.now hyps
+        × IsSilent known budget
+        (premise_events (modes_of rules.now) hyps
+        (goal_events (modes_of rules.now) (rules_of rules.now) hyps levels)
+        (rule_of rule.now).premises (env_at (store_envs store.old) first)) }
+    ensures grows { IfOk result
+        (λ _. Grows (modes_of rules.now) (rules_of rules.now) store.old store.new) }
+    ensures descent { IfOk result (λ d. (hyps : Hypotheses) →
+        AreHyps (modes_of rules.now) store.old facts.now pairs.now hyps →
+        IsDescent (modes_of rules.now) (subjects_of rules.now) (rules_of rules.now) hyps budget
+        levels store.new
+        (PremisesLead (modes_of rules.now) (subjects_of rules.now) (rules_of rules.now) hyps budget
+        levels number (rule_of rule.now) (spot_goal store.old spot) spot.path.items 0
+        (rule_of rule.now).premises (env_at (store_envs store.old) first)) d) }
 {
     rules.facts();
     let mut env = first;

@@ -36,7 +36,10 @@ pub fn premises(
     requires env { env ≤ length store.old.binds.cells.items }
     requires kids { kids ≤ length store.old.kids.items }
     requires frames { frames ≤ length store.old.frames.items }
-    ensures { IfOk result (λ step. IsPremises (modes_of rules.now) (rules_of rules.now) pairs.now store.old store.new number (rule_of rule.now) levels env kids frames (drop from (map premise_of rule.now.premises.items)) step) }
+    ensures { IfOk result
+        (λ step. IsPremises (modes_of rules.now) (rules_of rules.now) pairs.now store.old store.new
+        number (rule_of rule.now) levels env kids frames
+        (drop from (map premise_of rule.now.premises.items)) step) }
 {
     for k in from..rule.premises.len() {
         match &rule.premises[k] {

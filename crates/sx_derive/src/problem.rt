@@ -49,7 +49,9 @@ pub(crate) fn enter_problem(
     requires apart { ArePairsShallow (hypotheses given.now).pairs }
     requires goal { AreShallow (goal_of goal.now).terms }
     requires wanted { MatchOption wanted Unit (λ w. AreShallow (map tree w.now.items)) }
-    ensures { IfOk result (λ p. IsProblem (modes_of rules.now) (rules_of rules.now) (hypotheses given.now) (goal_of goal.now).terms (option_map (λ w. map tree w.now.items) wanted.entry) p) }
+    ensures { IfOk result
+        (λ p. IsProblem (modes_of rules.now) (rules_of rules.now) (hypotheses given.now)
+        (goal_of goal.now).terms (option_map (λ w. map tree w.now.items) wanted.entry) p) }
 {
     let mut store = Store::new(alloc);
     match enter_parts(alloc, rules, given, goal, wanted, &mut store) {
@@ -90,7 +92,9 @@ pub(crate) fn search<L: Ledger>(
     requires apart { ArePairsShallow (hypotheses given.now).pairs }
     requires goal { AreShallow (goal_of goal.now).terms }
     requires wanted { MatchOption wanted Unit (λ w. AreShallow (map tree w.now.items)) }
-    ensures { IsSearched (modes_of rules.now) (rules_of rules.now) (hypotheses given.now) (goal_of goal.now) (option_map (λ w. map tree w.now.items) wanted.entry) budget steps.old steps.new result }
+    ensures { IsSearched (modes_of rules.now) (rules_of rules.now) (hypotheses given.now)
+        (goal_of goal.now) (option_map (λ w. map tree w.now.items) wanted.entry) budget steps.old
+        steps.new result }
 {
     let problem = match enter_problem(alloc, rules, given, goal, wanted) {
         Ok(problem) => problem,

@@ -1,6 +1,19 @@
 //! The way of a search to what it comes to next.
 
-ghost use Rattle.std.specs.Prelude.{◌≡◌, ℕ, ◌+◌, ◌^◌, ◌≤◌, ◌<◌, ◌∷◌, ◌++◌, [], List, MatchBool, length};
+ghost use Rattle.std.specs.Prelude.{
+  ◌≡◌,
+  ℕ,
+  ◌+◌,
+  ◌^◌,
+  ◌≤◌,
+  ◌<◌,
+  ◌∷◌,
+  ◌++◌,
+  [],
+  List,
+  MatchBool,
+  length,
+};
 ghost use Rattle.sx_rules.specs.Rules.{Judgement};
 ghost use Rattle.sx_arena.specs.Pairs.{ArePairs};
 ghost use Rattle.sx_arena.specs.Views.{rules_of, modes_of};
@@ -30,10 +43,13 @@ pub(crate) struct Reached {
 
 /// Whether a task has a candidate left; the tasks after the last such are dropped.
 fn settle(rules: &RuleSet, facts: &[Fact], tasks: &mut Vec<Task>) -> bool
-    ensures settled { (pairs : List PairOf) (js : List Judgement) (s : StoreOf) → length js ≡ length facts.now →
-        IsSettled (modes_of rules.now) (rules_of rules.now) pairs js s (length facts.now + length (rules_of rules.now)) tasks.old.items tasks.new.items }
+    ensures settled { (pairs : List PairOf) (js : List Judgement) (s : StoreOf) →
+        length js ≡ length facts.now →
+        IsSettled (modes_of rules.now) (rules_of rules.now) pairs js s
+        (length facts.now + length (rules_of rules.now)) tasks.old.items tasks.new.items }
     ensures last { MatchBool result
-        ((front : List TaskOf) × (t : TaskOf) × (tasks.new.items ≡ front ++ t ∷ []) × (t.next < length facts.now + length (rules_of rules.now)))
+        ((front : List TaskOf) × (t : TaskOf) × (tasks.new.items ≡ front ++ t ∷ [])
+        × (t.next < length facts.now + length (rules_of rules.now)))
         (tasks.new.items ≡ []) }
 {
     while tasks.len() > 0 {
@@ -45,7 +61,8 @@ fn settle(rules: &RuleSet, facts: &[Fact], tasks: &mut Vec<Task>) -> bool
     false
 }
 
-/// The next answer or stop of the tasks, or where the tries or the events end before it. Each try is counted.
+/// The next answer or stop of the tasks, or where the tries or the events end before it. Each try
+/// is counted.
 pub(crate) fn reach<L: Ledger>(
     alloc: Global,
     rules: &RuleSet,
@@ -57,13 +74,19 @@ pub(crate) fn reach<L: Ledger>(
     steps: &mut Steps<L>,
 ) -> Result<Reached, NoMemory>
     requires few { length facts.now < 2 ^ 32 }
-    requires facts { (js : List Judgement) × AreFacts (modes_of rules.now) (store_trees store.old) js facts.now }
+    requires facts { (js : List Judgement)
+        × AreFacts (modes_of rules.now) (store_trees store.old) js facts.now }
     requires store { IsStore (modes_of rules.now) (rules_of rules.now) store.old }
     requires pairs { ArePairs (length (store_trees store.old)) pairs.now }
-    requires tasks { TasksFit (modes_of rules.now) (rules_of rules.now) store.old (length facts.now + length (rules_of rules.now)) tasks.old.items }
-    ensures { (js : List Judgement) → AreFacts (modes_of rules.now) (store_trees store.old) js facts.now →
-        IsReached (modes_of rules.now) (rules_of rules.now) pairs.now js (length facts.now + length (rules_of rules.now)) store.old store.new tasks.new.items budget steps.old steps.new
-        (events_left (modes_of rules.now) (rules_of rules.now) pairs.now js store.old tasks.old.items) result }
+    requires tasks { TasksFit (modes_of rules.now) (rules_of rules.now) store.old
+        (length facts.now + length (rules_of rules.now)) tasks.old.items }
+    ensures { (js : List Judgement) →
+        AreFacts (modes_of rules.now) (store_trees store.old) js facts.now →
+        IsReached (modes_of rules.now) (rules_of rules.now) pairs.now js
+        (length facts.now + length (rules_of rules.now)) store.old store.new tasks.new.items budget
+        steps.old steps.new
+        (events_left (modes_of rules.now) (rules_of rules.now) pairs.now js store.old
+        tasks.old.items) result }
 {
     let mut tries: u64 = 0;
     while settle(rules, facts, tasks) {

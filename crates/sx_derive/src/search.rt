@@ -26,8 +26,8 @@ use sx_arena::{Fact, Limit, Pair};
 use sx_rules::{Goal, Hyps, RuleSet};
 use sx_term::{NoMemory, Steps};
 
-/// A search for the derivations of a goal, which goes on where it stopped. It holds what is still to be tried; the rules and
-/// the hypotheses are lent to each call.
+/// A search for the derivations of a goal, which goes on where it stopped. It holds what is still
+/// to be tried; the rules and the hypotheses are lent to each call.
 #[derive(Drop)]
 pub struct Search {
     pub(crate) store: Store,
@@ -59,8 +59,11 @@ impl Search {
         requires holds { ShallowJudgements (hypotheses given.now).judgements }
         requires apart { ArePairsShallow (hypotheses given.now).pairs }
         requires goal { AreShallow (goal_of goal).terms }
-        ensures { IfOk result (λ search. Stands (modes_of rules.now) (rules_of rules.now) (hypotheses given.now) search
-            (events (modes_of rules.now) (rules_of rules.now) (hypotheses given.now) (goal_of goal) 1)) }
+        ensures { IfOk result
+            (λ search. Stands (modes_of rules.now) (rules_of rules.now) (hypotheses given.now)
+            search
+            (events (modes_of rules.now) (rules_of rules.now) (hypotheses given.now) (goal_of goal)
+            1)) }
     {
         let problem = enter_problem(alloc, rules, given, &goal, None)?;
         let mark = problem.store.mark();
@@ -74,13 +77,13 @@ impl Search {
         })
     }
 
-    /// The next derivation, with the tries made in this call; or that the budget is spent or that none is left. Each try is
-    /// counted.
+    /// The next derivation, with the tries made in this call; or that the budget is spent or that
+    /// none is left. Each try is counted.
     ///
-    /// # Errors
-    /// `DepthSpent` where a derivation would have more than 3,000 levels, `TooDeep` and `TooBig` where a term would be deeper
-    /// than 1,000 or bigger than 1,000,000, with its depth or size. After these each later call answers the same. `Memory`
-    /// where memory is lacking, and from then on.
+    /// # Errors `DepthSpent` where a derivation would have more than 3,000 levels, `TooDeep` and
+    /// `TooBig` where a term would be deeper than 1,000 or bigger than 1,000,000, with its depth or
+    /// size. After these each later call answers the same. `Memory` where memory is lacking, and
+    /// from then on.
     pub fn next<L: Ledger>(
         &mut self,
         rules: &RuleSet,
@@ -88,11 +91,16 @@ impl Search {
         budget: u64,
         steps: &mut Steps<L>,
     ) -> Result<Found, SearchError>
-        requires stands { CanGoOn (modes_of rules.now) (rules_of rules.now) (hypotheses given.now) self.old }
-        ensures next { (es : List (Event Answer)) → Stands (modes_of rules.now) (rules_of rules.now) (hypotheses given.now) self.old es →
-            IsNextOf (modes_of rules.now) (rules_of rules.now) (hypotheses given.now) budget steps.old steps.new es self.new result }
-        ensures goes_on { CanGoOn (modes_of rules.now) (rules_of rules.now) (hypotheses given.now) self.new }
-        ensures failed { HasFailed self.old → HasFailed self.new × (result ≡ Err Memory) × (steps.new ≡ steps.old) }
+        requires stands { CanGoOn (modes_of rules.now) (rules_of rules.now) (hypotheses given.now)
+            self.old }
+        ensures next { (es : List (Event Answer)) →
+            Stands (modes_of rules.now) (rules_of rules.now) (hypotheses given.now) self.old es →
+            IsNextOf (modes_of rules.now) (rules_of rules.now) (hypotheses given.now) budget
+            steps.old steps.new es self.new result }
+        ensures goes_on { CanGoOn (modes_of rules.now) (rules_of rules.now) (hypotheses given.now)
+            self.new }
+        ensures failed { HasFailed self.old → HasFailed self.new × (result ≡ Err Memory)
+            × (steps.new ≡ steps.old) }
     {
         match self.state {
             State::Failed => Err(SearchError::Memory),
@@ -110,10 +118,13 @@ impl Search {
         budget: u64,
         steps: &mut Steps<L>,
     ) -> Result<Found, SearchError>
-        requires stands { (es : List (Event Answer)) × Stands (modes_of rules.now) (rules_of rules.now) (hypotheses given.now) self.old es }
+        requires stands { (es : List (Event Answer))
+            × Stands (modes_of rules.now) (rules_of rules.now) (hypotheses given.now) self.old es }
         requires open { self.old.state ≡ Open }
-        ensures { (es : List (Event Answer)) → Stands (modes_of rules.now) (rules_of rules.now) (hypotheses given.now) self.old es →
-            IsNextOf (modes_of rules.now) (rules_of rules.now) (hypotheses given.now) budget steps.old steps.new es self.new result }
+        ensures { (es : List (Event Answer)) →
+            Stands (modes_of rules.now) (rules_of rules.now) (hypotheses given.now) self.old es →
+            IsNextOf (modes_of rules.now) (rules_of rules.now) (hypotheses given.now) budget
+            steps.old steps.new es self.new result }
     {
         let alloc = *self.tasks.allocator();
         let reached = reach(
@@ -153,7 +164,14 @@ impl Search {
     /// Memory is lacking, from now on.
     fn fail(&mut self) -> SearchError
         ensures error { result ≡ Memory }
-        ensures failed { self.new ≡ record { store = self.old.store; facts = self.old.facts; pairs = self.old.pairs; tasks = self.old.tasks; state = Failed } }
+        ensures failed { self.new
+            ≡ record {
+              store = self.old.store;
+              facts = self.old.facts;
+              pairs = self.old.pairs;
+              tasks = self.old.tasks;
+              state = Failed;
+            } }
     {
         self.state = State::Failed;
         SearchError::Memory

@@ -19,7 +19,8 @@ use sx_arena::{Limit, make_places, passed, roles};
 use sx_rules::{Judgement, Rule, RuleSet};
 use sx_term::NoMemory;
 
-/// What comes of a candidate: nothing, a limit, an answer for the frames that wait, or a new goal with its frames.
+/// What comes of a candidate: nothing, a limit, an answer for the frames that wait, or a new goal
+/// with its frames.
 #[derive(Drop)]
 pub enum Step {
     Nothing,
@@ -51,7 +52,10 @@ pub fn concluded(
     requires store { IsStore (modes_of rules.now) (rules_of rules.now) store.old }
     requires env { env ≤ length store.old.binds.cells.items }
     requires kids { kids ≤ length store.old.kids.items }
-    ensures { IfOk result (λ step. IsConcluded (modes_of rules.now) (rules_of rules.now) store.old store.new number (rule_of rule.now) (filled (env_at (store_envs store.old) env)) (kids_at (store_kids store.old) kids) step) }
+    ensures { IfOk result
+        (λ step. IsConcluded (modes_of rules.now) (rules_of rules.now) store.old store.new number
+        (rule_of rule.now) (filled (env_at (store_envs store.old) env))
+        (kids_at (store_kids store.old) kids) step) }
 {
     let outputs = make_places(
         alloc,
@@ -90,7 +94,9 @@ pub fn asked(
     requires env { waiting.env ≤ length store.old.binds.cells.items }
     requires kids { waiting.kids ≤ length store.old.kids.items }
     requires before { waiting.before ≤ length store.old.frames.items }
-    ensures { IfOk result (λ step. IsAsked (modes_of rules.now) (rules_of rules.now) store.old store.new (judgement_of judgement.now) waiting step) }
+    ensures { IfOk result
+        (λ step. IsAsked (modes_of rules.now) (rules_of rules.now) store.old store.new
+        (judgement_of judgement.now) waiting step) }
 {
     let terms = make_places(
         alloc,

@@ -83,10 +83,15 @@ fn stuck_below(
     requires few { length facts.now < 2 ^ 32 }
     requires store { IsStore (modes_of rules.now) (rules_of rules.now) store.old }
     requires terms { AreBelow (length (store_trees store.old)) first.terms.items }
-    requires quiet { (hyps : Hypotheses) × AreHyps (modes_of rules.now) store.old facts.now pairs.now hyps
-        × IsSilent false budget (goal_events (modes_of rules.now) (rules_of rules.now) hyps levels (spot_goal store.old first)) }
-    ensures { IfOk result (λ b. (hyps : Hypotheses) → AreHyps (modes_of rules.now) store.old facts.now pairs.now hyps →
-        IsStuck (modes_of rules.now) (subjects_of rules.now) (rules_of rules.now) hyps levels (spot_goal store.old first) first.path.items (blame_of b)) }
+    requires quiet { (hyps : Hypotheses)
+        × AreHyps (modes_of rules.now) store.old facts.now pairs.now hyps
+        × IsSilent false budget
+        (goal_events (modes_of rules.now) (rules_of rules.now) hyps levels
+        (spot_goal store.old first)) }
+    ensures { IfOk result (λ b. (hyps : Hypotheses) →
+        AreHyps (modes_of rules.now) store.old facts.now pairs.now hyps →
+        IsStuck (modes_of rules.now) (subjects_of rules.now) (rules_of rules.now) hyps levels
+        (spot_goal store.old first) first.path.items (blame_of b)) }
 {
     let mut here = first;
     let mut left = levels;
@@ -104,7 +109,8 @@ fn stuck_below(
     unreachable!()
 }
 
-/// The stuck goal of a goal without an answer, which is found by first answers and without counting a try.
+/// The stuck goal of a goal without an answer, which is found by first answers and without counting
+/// a try.
 pub(crate) fn stuck_goal(
     alloc: Global,
     rules: &RuleSet,
@@ -116,8 +122,12 @@ pub(crate) fn stuck_goal(
     requires holds { ShallowJudgements (hypotheses given.now).judgements }
     requires apart { ArePairsShallow (hypotheses given.now).pairs }
     requires goal { AreShallow (goal_of goal.now).terms }
-    requires quiet { IsQuiet budget (events (modes_of rules.now) (rules_of rules.now) (hypotheses given.now) (goal_of goal.now) 1) }
-    ensures { IfOk result (λ b. IsStuck (modes_of rules.now) (subjects_of rules.now) (rules_of rules.now) (hypotheses given.now) 3000 (goal_of goal.now) [] (blame_of b)) }
+    requires quiet { IsQuiet budget
+        (events (modes_of rules.now) (rules_of rules.now) (hypotheses given.now) (goal_of goal.now)
+        1) }
+    ensures { IfOk result
+        (λ b. IsStuck (modes_of rules.now) (subjects_of rules.now) (rules_of rules.now)
+        (hypotheses given.now) 3000 (goal_of goal.now) [] (blame_of b)) }
 {
     let problem = enter_problem(alloc, rules, given, goal, None)?;
     let Problem {

@@ -1,6 +1,18 @@
 //! The way from the subject of a rule's conclusion to that of a premise.
 
-ghost use Rattle.std.specs.Prelude.{◌≡◌, ℕ, ◌≤◌, false, IfOk, MatchOption, List, [], ◌∷◌, map, get_or};
+ghost use Rattle.std.specs.Prelude.{
+  ◌≡◌,
+  ℕ,
+  ◌≤◌,
+  false,
+  IfOk,
+  MatchOption,
+  List,
+  [],
+  ◌∷◌,
+  map,
+  get_or,
+};
 ghost use Rattle.sx_term.specs.Tree.{Tree, depth_of};
 ghost use Rattle.sx_term.specs.Term.{tree};
 ghost use Rattle.sx_rules.specs.Modes.{outputs, outputs_of};
@@ -12,10 +24,12 @@ ghost use Rattle.sx_derive.specs.Ways.{subject_mask, subjects_of, IsWay};
 use sx_rules::{Judgement, Place, Rule, RuleSet};
 use sx_term::{NoMemory, Role, Term};
 
-/// Appends the way to the variable, where the variable stands in the term, and says whether it does.
+/// Appends the way to the variable, where the variable stands in the term, and says whether it
+/// does.
 fn put_way(term: &Term, variable: u32, path: &mut Vec<usize>) -> Result<bool, NoMemory>
     requires depth { depth_of (tree term.now) ≤ 1000 }
-    ensures { IfOk result (λ found. IsWay path.old.items path.new.items (place_in variable (tree term.now)) found) }
+    ensures { IfOk result
+        (λ found. IsWay path.old.items path.new.items (place_in variable (tree term.now)) found) }
 {
     match term {
         Term::Node { label: _, kids } => {
@@ -55,8 +69,11 @@ fn is_subject(places: &[Place], place: usize) -> bool
 
 /// The first term at a subject place.
 fn subject_at<'a>(places: &[Place], terms: &'a [Term]) -> Option<&'a Term>
-    ensures { MatchOption result (outputs (subject_mask places.entry.now) (map tree terms.entry.now) ≡ [])
-        (λ t. (rest : List Tree) × (outputs (subject_mask places.entry.now) (map tree terms.entry.now) ≡ tree t.now ∷ rest)) }
+    ensures { MatchOption result (outputs (subject_mask places.entry.now) (map tree terms.entry.now)
+        ≡ [])
+        (λ t. (rest : List Tree)
+        × (outputs (subject_mask places.entry.now) (map tree terms.entry.now) ≡ tree t.now
+        ∷ rest)) }
 {
     for i in 0..terms.len() {
         if is_subject(places, i) {
@@ -68,13 +85,17 @@ fn subject_at<'a>(places: &[Place], terms: &'a [Term]) -> Option<&'a Term>
 
 /// The subject of a judgement, where its form has one.
 fn subject<'a>(rules: &RuleSet, judgement: &'a Judgement) -> Option<&'a Term>
-    ensures { MatchOption result (outputs_of (subjects_of rules.entry.now) (judgement_of judgement.entry.now) ≡ [])
-        (λ t. (rest : List Tree) × (outputs_of (subjects_of rules.entry.now) (judgement_of judgement.entry.now) ≡ tree t.now ∷ rest)) }
+    ensures { MatchOption result
+        (outputs_of (subjects_of rules.entry.now) (judgement_of judgement.entry.now) ≡ [])
+        (λ t. (rest : List Tree)
+        × (outputs_of (subjects_of rules.entry.now) (judgement_of judgement.entry.now)
+        ≡ tree t.now ∷ rest)) }
 {
     subject_at(places_of(rules, judgement.form), &judgement.places)
 }
 
-/// Appends to the path of a goal the way from its subject to the subject of a premise, where both have one.
+/// Appends to the path of a goal the way from its subject to the subject of a premise, where both
+/// have one.
 pub(crate) fn put_premise_way(
     rules: &RuleSet,
     rule: &Rule,
@@ -82,7 +103,10 @@ pub(crate) fn put_premise_way(
     path: &mut Vec<usize>,
 ) -> Result<(), NoMemory>
     requires shallow { AreShallow (map tree rule.now.conclusion.places.items) }
-    ensures { IfOk result (λ _. path.new.items ≡ path_of (subjects_of rules.now) path.old.items (rule_of rule.now) (judgement_of premise.now)) }
+    ensures { IfOk result
+        (λ _. path.new.items
+        ≡ path_of (subjects_of rules.now) path.old.items (rule_of rule.now)
+        (judgement_of premise.now)) }
 {
     match subject(rules, premise) {
         Some(Term::Var(variable)) => match subject(rules, &rule.conclusion) {

@@ -1,6 +1,21 @@
 //! What is still to be tried, and one try.
 
-ghost use Rattle.std.specs.Prelude.{◌≡◌, ℕ, ◌+◌, ◌^◌, ◌≤◌, ◌<◌, ◌↔◌, ◌∷◌, ◌++◌, [], List, IsTrue, IfOk, length};
+ghost use Rattle.std.specs.Prelude.{
+  ◌≡◌,
+  ℕ,
+  ◌+◌,
+  ◌^◌,
+  ◌≤◌,
+  ◌<◌,
+  ◌↔◌,
+  ◌∷◌,
+  ◌++◌,
+  [],
+  List,
+  IsTrue,
+  IfOk,
+  length,
+};
 ghost use Rattle.sx_rules.specs.Rules.{Judgement};
 ghost use Rattle.sx_derive.specs.Candidates.{AreFacts};
 ghost use Rattle.sx_arena.specs.Pairs.{ArePairs};
@@ -63,13 +78,17 @@ pub(crate) fn try_next(
     task: &Task,
 ) -> Result<Step, NoMemory>
     requires few { length facts.now < 2 ^ 32 }
-    requires facts { (js : List Judgement) × AreFacts (modes_of rules.now) (store_trees store.old) js facts.now }
+    requires facts { (js : List Judgement)
+        × AreFacts (modes_of rules.now) (store_trees store.old) js facts.now }
     requires store { IsStore (modes_of rules.now) (rules_of rules.now) store.old }
     requires pairs { ArePairs (length (store_trees store.old)) pairs.now }
-    requires task { TaskFits (modes_of rules.now) (rules_of rules.now) store.old (length facts.now + length (rules_of rules.now)) task.now }
+    requires task { TaskFits (modes_of rules.now) (rules_of rules.now) store.old
+        (length facts.now + length (rules_of rules.now)) task.now }
     requires next { task.now.next < length facts.now + length (rules_of rules.now) }
-    ensures { IfOk result (λ step. (js : List Judgement) → AreFacts (modes_of rules.now) (store_trees store.old) js facts.now →
-        IsNext (modes_of rules.now) (rules_of rules.now) pairs.now js store.old store.new task.now step) }
+    ensures { IfOk result (λ step. (js : List Judgement) →
+        AreFacts (modes_of rules.now) (store_trees store.old) js facts.now →
+        IsNext (modes_of rules.now) (rules_of rules.now) pairs.now js store.old store.new task.now
+        step) }
 {
     rules.facts();
     if task.next < facts.len() {

@@ -1,6 +1,20 @@
 //! The turns of a walk.
 
-ghost use Rattle.std.specs.Prelude.{◌≡◌, ℕ, ◌+◌, ◌^◌, ◌≤◌, ◌<◌, ◌↔◌, IsTrue, IfOk, length, List, MatchOption, true};
+ghost use Rattle.std.specs.Prelude.{
+  ◌≡◌,
+  ℕ,
+  ◌+◌,
+  ◌^◌,
+  ◌≤◌,
+  ◌<◌,
+  ◌↔◌,
+  IsTrue,
+  IfOk,
+  length,
+  List,
+  MatchOption,
+  true,
+};
 ghost use Rattle.sx_rules.specs.Rules.{Judgement};
 ghost use Rattle.sx_derive.specs.Candidates.{AreFacts};
 ghost use Rattle.sx_arena.specs.Pairs.{ArePairs};
@@ -21,7 +35,8 @@ use sx_term::NoMemory;
 
 /// Whether the outputs are the wanted ones, where some are wanted.
 fn is_wanted(wanted: &Option<Vec<usize>>, outputs: &[usize]) -> bool
-    ensures { MatchOption wanted.now (result ≡ true) (λ w. IsTrue result ↔ (outputs.now ≡ w.items)) }
+    ensures { MatchOption wanted.now (result ≡ true)
+        (λ w. IsTrue result ↔ (outputs.now ≡ w.items)) }
 {
     match wanted {
         None => true,
@@ -31,8 +46,10 @@ fn is_wanted(wanted: &Option<Vec<usize>>, outputs: &[usize]) -> bool
 
 /// The last task that has a candidate left.
 pub(crate) fn next_task(rules: &RuleSet, facts: &[Fact], tasks: &mut Vec<Task>) -> Option<Task>
-    ensures { (pairs : List PairOf) (js : List Judgement) (s : StoreOf) → length js ≡ length facts.now →
-        IsPopped (modes_of rules.now) (rules_of rules.now) pairs js s (length facts.now + length (rules_of rules.now)) tasks.old.items tasks.new.items result }
+    ensures { (pairs : List PairOf) (js : List Judgement) (s : StoreOf) →
+        length js ≡ length facts.now →
+        IsPopped (modes_of rules.now) (rules_of rules.now) pairs js s
+        (length facts.now + length (rules_of rules.now)) tasks.old.items tasks.new.items result }
 {
     while let Some(task) = tasks.pop() {
         if is_candidate(rules, facts, task.next) {
@@ -42,7 +59,8 @@ pub(crate) fn next_task(rules: &RuleSet, facts: &[Fact], tasks: &mut Vec<Task>) 
     None
 }
 
-/// What comes of the next candidate of a task. Where it is nothing, what was made for it is cut off.
+/// What comes of the next candidate of a task. Where it is nothing, what was made for it is cut
+/// off.
 fn try_task(
     alloc: Global,
     rules: &RuleSet,
@@ -52,13 +70,17 @@ fn try_task(
     task: &Task,
 ) -> Result<Step, NoMemory>
     requires few { length facts.now < 2 ^ 32 }
-    requires facts { (js : List Judgement) × AreFacts (modes_of rules.now) (store_trees store.old) js facts.now }
+    requires facts { (js : List Judgement)
+        × AreFacts (modes_of rules.now) (store_trees store.old) js facts.now }
     requires store { IsStore (modes_of rules.now) (rules_of rules.now) store.old }
     requires pairs { ArePairs (length (store_trees store.old)) pairs.now }
-    requires task { TaskFits (modes_of rules.now) (rules_of rules.now) store.old (length facts.now + length (rules_of rules.now)) task.now }
+    requires task { TaskFits (modes_of rules.now) (rules_of rules.now) store.old
+        (length facts.now + length (rules_of rules.now)) task.now }
     requires next { task.now.next < length facts.now + length (rules_of rules.now) }
-    ensures { IfOk result (λ step. (js : List Judgement) → AreFacts (modes_of rules.now) (store_trees store.old) js facts.now →
-        IsNext (modes_of rules.now) (rules_of rules.now) pairs.now js store.old store.new task.now step) }
+    ensures { IfOk result (λ step. (js : List Judgement) →
+        AreFacts (modes_of rules.now) (store_trees store.old) js facts.now →
+        IsNext (modes_of rules.now) (rules_of rules.now) pairs.now js store.old store.new task.now
+        step) }
 {
     let mark = store.mark();
     match try_next(alloc, rules, facts, pairs, store, task)? {
@@ -82,15 +104,21 @@ pub(crate) fn turn(
     tasks: &mut Vec<Task>,
 ) -> Result<Option<Ending>, NoMemory>
     requires few { length facts.now < 2 ^ 32 }
-    requires facts { (js : List Judgement) × AreFacts (modes_of rules.now) (store_trees store.old) js facts.now }
+    requires facts { (js : List Judgement)
+        × AreFacts (modes_of rules.now) (store_trees store.old) js facts.now }
     requires store { IsStore (modes_of rules.now) (rules_of rules.now) store.old }
     requires pairs { ArePairs (length (store_trees store.old)) pairs.now }
     requires wanted { WantedBelow (length (store_trees store.old)) wanted.now }
-    requires task { TaskFits (modes_of rules.now) (rules_of rules.now) store.old (length facts.now + length (rules_of rules.now)) task }
+    requires task { TaskFits (modes_of rules.now) (rules_of rules.now) store.old
+        (length facts.now + length (rules_of rules.now)) task }
     requires next { task.next < length facts.now + length (rules_of rules.now) }
-    requires tasks { TasksFit (modes_of rules.now) (rules_of rules.now) store.old (length facts.now + length (rules_of rules.now)) tasks.old.items }
-    ensures { IfOk result (λ o. (js : List Judgement) → AreFacts (modes_of rules.now) (store_trees store.old) js facts.now →
-        IsTurn (modes_of rules.now) (rules_of rules.now) pairs.now js wanted.now (length facts.now + length (rules_of rules.now)) store.old store.new task tasks.old.items tasks.new.items o) }
+    requires tasks { TasksFit (modes_of rules.now) (rules_of rules.now) store.old
+        (length facts.now + length (rules_of rules.now)) tasks.old.items }
+    ensures { IfOk result (λ o. (js : List Judgement) →
+        AreFacts (modes_of rules.now) (store_trees store.old) js facts.now →
+        IsTurn (modes_of rules.now) (rules_of rules.now) pairs.now js wanted.now
+        (length facts.now + length (rules_of rules.now)) store.old store.new task tasks.old.items
+        tasks.new.items o) }
 {
     let step = try_task(alloc, rules, facts, pairs, store, &task)?;
     tasks.push(Task {

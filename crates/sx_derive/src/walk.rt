@@ -32,14 +32,18 @@ fn walk_tasks<L: Ledger>(
     steps: &mut Steps<L>,
 ) -> Result<Ending, NoMemory>
     requires few { length facts.now < 2 ^ 32 }
-    requires facts { (js : List Judgement) × AreFacts (modes_of rules.now) (store_trees store.old) js facts.now }
+    requires facts { (js : List Judgement)
+        × AreFacts (modes_of rules.now) (store_trees store.old) js facts.now }
     requires store { IsStore (modes_of rules.now) (rules_of rules.now) store.old }
     requires pairs { ArePairs (length (store_trees store.old)) pairs.now }
     requires wanted { WantedBelow (length (store_trees store.old)) wanted.now }
-    requires tasks { Piled (modes_of rules.now) (rules_of rules.now) (length facts.now + length (rules_of rules.now)) store.old tasks.items store.old }
-    ensures { (js : List Judgement) → AreFacts (modes_of rules.now) (store_trees store.old) js facts.now →
+    requires tasks { Piled (modes_of rules.now) (rules_of rules.now)
+        (length facts.now + length (rules_of rules.now)) store.old tasks.items store.old }
+    ensures { (js : List Judgement) →
+        AreFacts (modes_of rules.now) (store_trees store.old) js facts.now →
         IsWalked (modes_of rules.now) (rules_of rules.now) store.old store.new wanted.now budget
-        (events_left (modes_of rules.now) (rules_of rules.now) pairs.now js store.old tasks.items) steps.old steps.new result }
+        (events_left (modes_of rules.now) (rules_of rules.now) pairs.now js store.old tasks.items)
+        steps.old steps.new result }
 {
     let mut tasks = tasks;
     let mut left = budget;
@@ -71,14 +75,18 @@ pub(crate) fn walk_uncounted(
     budget: u64,
 ) -> Result<Ending, NoMemory>
     requires few { length facts.now < 2 ^ 32 }
-    requires facts { (js : List Judgement) × AreFacts (modes_of rules.now) (store_trees store.old) js facts.now }
+    requires facts { (js : List Judgement)
+        × AreFacts (modes_of rules.now) (store_trees store.old) js facts.now }
     requires store { IsStore (modes_of rules.now) (rules_of rules.now) store.old }
     requires pairs { ArePairs (length (store_trees store.old)) pairs.now }
     requires wanted { WantedBelow (length (store_trees store.old)) wanted.now }
-    requires tasks { Piled (modes_of rules.now) (rules_of rules.now) (length facts.now + length (rules_of rules.now)) store.old tasks.items store.old }
-    ensures { IfOk result (λ ending. (js : List Judgement) → AreFacts (modes_of rules.now) (store_trees store.old) js facts.now →
+    requires tasks { Piled (modes_of rules.now) (rules_of rules.now)
+        (length facts.now + length (rules_of rules.now)) store.old tasks.items store.old }
+    ensures { IfOk result (λ ending. (js : List Judgement) →
+        AreFacts (modes_of rules.now) (store_trees store.old) js facts.now →
         IsWalkedTo (modes_of rules.now) (rules_of rules.now) store.old store.new wanted.now budget
-        (events_left (modes_of rules.now) (rules_of rules.now) pairs.now js store.old tasks.items) ending) }
+        (events_left (modes_of rules.now) (rules_of rules.now) pairs.now js store.old tasks.items)
+        ending) }
 {
     let mut tasks = tasks;
     let mut left = budget;
@@ -105,7 +113,10 @@ pub(crate) fn first_task(
     levels: usize,
     mark: Mark,
 ) -> Result<Vec<Task>, NoMemory>
-    ensures { IfOk result (λ r. r.items ≡ record { next = 0; form = form; terms = terms; levels = levels; frames = 0; mark = mark } ∷ []) }
+    ensures { IfOk result
+        (λ r. r.items
+        ≡ record { next = 0; form = form; terms = terms; levels = levels; frames = 0; mark = mark }
+        ∷ []) }
 {
     let mut tasks = Vec::new(alloc);
     tasks.push(Task {
@@ -134,14 +145,17 @@ pub(crate) fn walk<L: Ledger>(
     steps: &mut Steps<L>,
 ) -> Result<Ending, NoMemory>
     requires few { length facts.now < 2 ^ 32 }
-    requires facts { (js : List Judgement) × AreFacts (modes_of rules.now) (store_trees store.old) js facts.now }
+    requires facts { (js : List Judgement)
+        × AreFacts (modes_of rules.now) (store_trees store.old) js facts.now }
     requires store { IsStore (modes_of rules.now) (rules_of rules.now) store.old }
     requires pairs { ArePairs (length (store_trees store.old)) pairs.now }
     requires wanted { WantedBelow (length (store_trees store.old)) wanted.now }
     requires terms { AreBelow (length (store_trees store.old)) terms.items }
-    ensures { (js : List Judgement) → AreFacts (modes_of rules.now) (store_trees store.old) js facts.now →
+    ensures { (js : List Judgement) →
+        AreFacts (modes_of rules.now) (store_trees store.old) js facts.now →
         IsWalked (modes_of rules.now) (rules_of rules.now) store.old store.new wanted.now budget
-        (events_in (modes_of rules.now) (rules_of rules.now) pairs.now js store.old levels form terms.items) steps.old steps.new result }
+        (events_in (modes_of rules.now) (rules_of rules.now) pairs.now js store.old levels form
+        terms.items) steps.old steps.new result }
 {
     let mark = store.mark();
     match first_task(alloc, form, terms, levels, mark) {
