@@ -24,11 +24,13 @@ ghost use Rattle.sx_derive.specs.Stuck.{rule_match, IsStuck};
 ghost use Rattle.sx_derive.specs.Walk.{goal_events, rules_events};
 ghost use Rattle.sx_derive.specs.Ways.{subjects_of};
 
+use crate::bounds::Bounds;
+use crate::candidate::Candidate;
 use crate::descent::{Descent, Reason, Spot};
+use crate::given::Given;
 use crate::premise_descent::descend_premises;
 use crate::store::Store;
-use std::alloc::Global;
-use sx_arena::{Fact, Pair, copied, fit_places, roles, rule_at, same_numbers};
+use sx_arena::{Fact, copied, fit_places, roles, rule_at, same_numbers};
 use sx_rules::{Rule, RuleSet};
 use sx_term::NoMemory;
 
@@ -115,97 +117,93 @@ fn first_rule(
 /// Where the rules lead from a goal that is no hypothesis, of which it may be known that it has no
 /// answer.
 fn descend_rules(
-    alloc: Global,
-    rules: &RuleSet,
-    facts: &[Fact],
-    pairs: &[Pair],
+    given: &Given,
     store: &mut Store,
     spot: Spot,
-    levels: usize,
-    budget: u64,
+    bounds: Bounds,
     known: bool,
 ) -> Result<Descent, NoMemory>
-    requires few { length facts.now < 2 ^ 32 }
-    requires store { IsStore (modes_of rules.now) (rules_of rules.now) store.old }
+    requires few { length given.now.facts.now < 2 ^ 32 }
+    requires store { IsStore (modes_of given.now.rules.now) (rules_of given.now.rules.now)
+        store.old }
     requires terms { AreBelow (length (store_trees store.old)) spot.terms.items }
     requires quiet { (hyps : Hypotheses)
-        × AreHyps (modes_of rules.now) store.old facts.now pairs.now hyps
-        × IsSilent known budget
-        (rules_events (modes_of rules.now) hyps
-        (goal_events (modes_of rules.now) (rules_of rules.now) hyps levels) 0 (rules_of rules.now)
+        × AreHyps (modes_of given.now.rules.now) store.old given.now.facts.now given.now.pairs.now
+        hyps
+        × IsSilent known bounds.budget
+        (rules_events (modes_of given.now.rules.now) hyps
+        (goal_events (modes_of given.now.rules.now) (rules_of given.now.rules.now) hyps
+        bounds.levels) 0 (rules_of given.now.rules.now)
         (spot_goal store.old spot)) }
     ensures grows { IfOk result
-        (λ _. Grows (modes_of rules.now) (rules_of rules.now) store.old store.new) }
+        (λ _. Grows (modes_of given.now.rules.now) (rules_of given.now.rules.now) store.old
+        store.new) }
     ensures descent { IfOk result (λ d. (hyps : Hypotheses) →
-        AreHyps (modes_of rules.now) store.old facts.now pairs.now hyps →
-        IsDescent (modes_of rules.now) (subjects_of rules.now) (rules_of rules.now) hyps budget
-        levels store.new
-        (RulesLead (modes_of rules.now) (subjects_of rules.now) (rules_of rules.now) hyps budget
-        levels (spot_goal store.old spot) spot.path.items) d) }
+        AreHyps (modes_of given.now.rules.now) store.old given.now.facts.now given.now.pairs.now
+        hyps →
+        IsDescent (modes_of given.now.rules.now) (subjects_of given.now.rules.now)
+        (rules_of given.now.rules.now) hyps bounds.budget
+        bounds.levels store.new
+        (RulesLead (modes_of given.now.rules.now) (subjects_of given.now.rules.now)
+        (rules_of given.now.rules.now) hyps bounds.budget
+        bounds.levels (spot_goal store.old spot) spot.path.items) d) }
 {
+    let rules = given.rules;
     rules.facts();
     match first_rule(rules, store, spot.form, &spot.terms)? {
         None => Ok(Descent::Stuck {
             spot,
             reason: Reason::NoRule,
         }),
-        Some((number, env)) => descend_premises(
-            alloc,
-            rules,
-            facts,
-            pairs,
-            store,
-            rule_at(rules, number),
-            number,
-            env,
-            spot,
-            levels,
-            budget,
-            known,
-        ),
+        Some((number, env)) => {
+            let rule = rule_at(rules, number);
+            let candidate = Candidate { rule, number, env };
+            descend_premises(given, store, &candidate, spot, bounds, known)
+        }
     }
 }
 
 /// Where a goal leads that has no answer, which may be known, or none that is wanted.
 pub(crate) fn descend(
-    alloc: Global,
-    rules: &RuleSet,
-    facts: &[Fact],
-    pairs: &[Pair],
+    given: &Given,
     store: &mut Store,
     spot: Spot,
-    levels: usize,
-    budget: u64,
+    bounds: Bounds,
     known: bool,
 ) -> Result<Descent, NoMemory>
-    requires few { length facts.now < 2 ^ 32 }
-    requires store { IsStore (modes_of rules.now) (rules_of rules.now) store.old }
+    requires few { length given.now.facts.now < 2 ^ 32 }
+    requires store { IsStore (modes_of given.now.rules.now) (rules_of given.now.rules.now)
+        store.old }
     requires terms { AreBelow (length (store_trees store.old)) spot.terms.items }
     requires quiet { (hyps : Hypotheses)
-        × AreHyps (modes_of rules.now) store.old facts.now pairs.now hyps
-        × IsSilent known budget
-        (goal_events (modes_of rules.now) (rules_of rules.now) hyps (suc levels)
+        × AreHyps (modes_of given.now.rules.now) store.old given.now.facts.now given.now.pairs.now
+        hyps
+        × IsSilent known bounds.budget
+        (goal_events (modes_of given.now.rules.now) (rules_of given.now.rules.now) hyps
+        (suc bounds.levels)
         (spot_goal store.old spot)) }
     ensures grows { IfOk result
-        (λ _. Grows (modes_of rules.now) (rules_of rules.now) store.old store.new) }
+        (λ _. Grows (modes_of given.now.rules.now) (rules_of given.now.rules.now) store.old
+        store.new) }
     ensures descent { IfOk result (λ d. (hyps : Hypotheses) →
-        AreHyps (modes_of rules.now) store.old facts.now pairs.now hyps →
-        IsDescent (modes_of rules.now) (subjects_of rules.now) (rules_of rules.now) hyps budget
-        levels store.new
-        (IsStuck (modes_of rules.now) (subjects_of rules.now) (rules_of rules.now) hyps (suc levels)
+        AreHyps (modes_of given.now.rules.now) store.old given.now.facts.now given.now.pairs.now
+        hyps →
+        IsDescent (modes_of given.now.rules.now) (subjects_of given.now.rules.now)
+        (rules_of given.now.rules.now) hyps bounds.budget
+        bounds.levels store.new
+        (IsStuck (modes_of given.now.rules.now) (subjects_of given.now.rules.now)
+        (rules_of given.now.rules.now) hyps (suc bounds.levels)
         (spot_goal store.old spot) spot.path.items) d) }
 {
-    rules.facts();
-    match first_fact(facts, spot.form, &spot.terms) {
+    given.rules.facts();
+    match first_fact(given.facts, spot.form, &spot.terms) {
         Some(fact) => {
-            let got = copied(alloc, &fact.outputs)?;
+            let got = copied(given.alloc, &fact.outputs)?;
             Ok(Descent::Stuck {
                 spot,
                 reason: Reason::Mismatch { by: None, got },
             })
         }
-        None => descend_rules(
-            alloc, rules, facts, pairs, store, spot, levels, budget, known,
-        ),
+        None => descend_rules(given, store, spot, bounds, known),
     }
 }

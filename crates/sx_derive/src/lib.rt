@@ -3,6 +3,8 @@
 
 mod ask;
 mod blame;
+mod bounds;
+mod candidate;
 mod candidate_descent;
 mod candidates;
 mod chains;
@@ -15,6 +17,7 @@ mod export_list;
 mod export_proof;
 mod first;
 mod found;
+mod given;
 mod handing;
 mod laws;
 mod list_derivation;

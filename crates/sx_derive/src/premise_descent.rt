@@ -22,11 +22,13 @@ ghost use Rattle.sx_derive.specs.declared.descent.Descent.TheVariants.{Stuck};
 ghost use Rattle.sx_derive.specs.declared.descent.Reason.TheVariants.{Equal, Mismatch};
 
 use crate::ask::{Asked, ask_known};
+use crate::bounds::Bounds;
+use crate::candidate::Candidate;
 use crate::descent::{Descent, Reason, Spot};
+use crate::given::Given;
 use crate::store::Store;
 use crate::subject_way::put_premise_way;
-use std::alloc::Global;
-use sx_arena::{Fact, Pair, instances_apart, make_places, roles};
+use sx_arena::{instances_apart, make_places, roles};
 use sx_rules::{Judgement, Premise, Rule, RuleSet};
 use sx_term::NoMemory;
 
@@ -78,61 +80,74 @@ fn differs(spot: Spot, rule: u32, premise: usize, got: Vec<usize>) -> Descent
 /// Where the premises of a goal's first candidate lead, gone through with first answers. It may be
 /// known that the goal has no answer.
 pub(crate) fn descend_premises(
-    alloc: Global,
-    rules: &RuleSet,
-    facts: &[Fact],
-    pairs: &[Pair],
+    given: &Given,
     store: &mut Store,
-    rule: &Rule,
-    number: u32,
-    first: usize,
+    candidate: &Candidate,
     spot: Spot,
-    levels: usize,
-    budget: u64,
+    bounds: Bounds,
     known: bool,
 ) -> Result<Descent, NoMemory>
-    requires few { length facts.now < 2 ^ 32 }
-    requires store { IsStore (modes_of rules.now) (rules_of rules.now) store.old }
-    requires shallow { RuleIsShallow (rule_of rule.now) }
-    requires env { first ≤ length store.old.binds.cells.items }
+    requires few { length given.now.facts.now < 2 ^ 32 }
+    requires store { IsStore (modes_of given.now.rules.now) (rules_of given.now.rules.now)
+        store.old }
+    requires shallow { RuleIsShallow (rule_of candidate.now.rule.now) }
+    requires env { candidate.now.env ≤ length store.old.binds.cells.items }
     requires terms { AreBelow (length (store_trees store.old)) spot.terms.items }
     requires quiet { (hyps : Hypotheses)
-        × AreHyps (modes_of rules.now) store.old facts.now pairs.now hyps
-        × IsSilent known budget
-        (premise_events (modes_of rules.now) hyps
-        (goal_events (modes_of rules.now) (rules_of rules.now) hyps levels)
-        (rule_of rule.now).premises (env_at (store_envs store.old) first)) }
+        × AreHyps (modes_of given.now.rules.now) store.old given.now.facts.now given.now.pairs.now
+        hyps
+        × IsSilent known bounds.budget
+        (premise_events (modes_of given.now.rules.now) hyps
+        (goal_events (modes_of given.now.rules.now) (rules_of given.now.rules.now) hyps
+        bounds.levels)
+        (rule_of candidate.now.rule.now).premises
+        (env_at (store_envs store.old) candidate.now.env)) }
     ensures grows { IfOk result
-        (λ _. Grows (modes_of rules.now) (rules_of rules.now) store.old store.new) }
+        (λ _. Grows (modes_of given.now.rules.now) (rules_of given.now.rules.now) store.old
+        store.new) }
     ensures descent { IfOk result (λ d. (hyps : Hypotheses) →
-        AreHyps (modes_of rules.now) store.old facts.now pairs.now hyps →
-        IsDescent (modes_of rules.now) (subjects_of rules.now) (rules_of rules.now) hyps budget
-        levels store.new
-        (PremisesLead (modes_of rules.now) (subjects_of rules.now) (rules_of rules.now) hyps budget
-        levels number (rule_of rule.now) (spot_goal store.old spot) spot.path.items 0
-        (rule_of rule.now).premises (env_at (store_envs store.old) first)) d) }
+        AreHyps (modes_of given.now.rules.now) store.old given.now.facts.now given.now.pairs.now
+        hyps →
+        IsDescent (modes_of given.now.rules.now) (subjects_of given.now.rules.now)
+        (rules_of given.now.rules.now) hyps bounds.budget bounds.levels store.new
+        (PremisesLead (modes_of given.now.rules.now) (subjects_of given.now.rules.now)
+        (rules_of given.now.rules.now) hyps bounds.budget bounds.levels candidate.now.number
+        (rule_of candidate.now.rule.now) (spot_goal store.old spot) spot.path.items 0
+        (rule_of candidate.now.rule.now).premises
+        (env_at (store_envs store.old) candidate.now.env)) d) }
 {
+    let rules = given.rules;
+    let rule = candidate.rule;
     rules.facts();
-    let mut env = first;
+    let mut env = candidate.env;
     for k in 0..rule.premises.len() {
         match &rule.premises[k] {
             Premise::Apart(one, other) => {
                 if !instances_apart(
-                    alloc,
+                    given.alloc,
                     &mut store.arena,
                     &store.binds,
                     env,
-                    pairs,
+                    given.pairs,
                     one,
                     other,
                 )? {
-                    return Ok(equal(spot, number, k));
+                    return Ok(equal(spot, candidate.number, k));
                 }
             }
             Premise::Holds(judgement) => {
                 let last = known && k + 1 == rule.premises.len();
                 match ask_known(
-                    alloc, rules, facts, pairs, store, judgement, env, levels, budget, last,
+                    given.alloc,
+                    rules,
+                    given.facts,
+                    given.pairs,
+                    store,
+                    judgement,
+                    env,
+                    bounds.levels,
+                    bounds.budget,
+                    last,
                 )? {
                     Asked::Matched(next) => env = next,
                     Asked::Unanswered(terms) => {
@@ -141,14 +156,14 @@ pub(crate) fn descend_premises(
                     }
                     Asked::Differs { terms, got } => {
                         let kid = premise_spot(rules, rule, judgement, terms, spot.path)?;
-                        return Ok(differs(kid, number, k, got));
+                        return Ok(differs(kid, candidate.number, k, got));
                     }
                 }
             }
         }
     }
     let got = make_places(
-        alloc,
+        given.alloc,
         &mut store.arena,
         &store.binds,
         env,

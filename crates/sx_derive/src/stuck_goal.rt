@@ -18,12 +18,14 @@ ghost use Rattle.sx_derive.specs.Walk.{goal_events, events};
 ghost use Rattle.sx_derive.specs.Ways.{subjects_of};
 
 use crate::blame::{Blame, Cause};
+use crate::bounds::Bounds;
 use crate::candidate_descent::descend;
 use crate::descent::{Descent, Reason, Spot};
+use crate::given::Given;
 use crate::problem::{Problem, enter_problem};
 use crate::store::Store;
 use std::alloc::Global;
-use sx_arena::{Fact, Pair, export_all};
+use sx_arena::export_all;
 use sx_rules::{Goal, Hyps, RuleSet};
 use sx_term::{NoMemory, Path};
 
@@ -71,35 +73,45 @@ fn export_blame(alloc: Global, store: &Store, spot: Spot, reason: Reason) -> Res
 
 /// The stuck goal that a goal without an answer leads to, level by level in one store.
 fn stuck_below(
-    alloc: Global,
-    rules: &RuleSet,
-    facts: &[Fact],
-    pairs: &[Pair],
+    given: &Given,
     store: &mut Store,
     first: Spot,
-    levels: usize,
-    budget: u64,
+    bounds: Bounds,
 ) -> Result<Blame, NoMemory>
-    requires few { length facts.now < 2 ^ 32 }
-    requires store { IsStore (modes_of rules.now) (rules_of rules.now) store.old }
+    requires few { length given.now.facts.now < 2 ^ 32 }
+    requires store { IsStore (modes_of given.now.rules.now) (rules_of given.now.rules.now)
+        store.old }
     requires terms { AreBelow (length (store_trees store.old)) first.terms.items }
     requires quiet { (hyps : Hypotheses)
-        × AreHyps (modes_of rules.now) store.old facts.now pairs.now hyps
-        × IsSilent false budget
-        (goal_events (modes_of rules.now) (rules_of rules.now) hyps levels
+        × AreHyps (modes_of given.now.rules.now) store.old given.now.facts.now given.now.pairs.now
+        hyps
+        × IsSilent false bounds.budget
+        (goal_events (modes_of given.now.rules.now) (rules_of given.now.rules.now) hyps
+        bounds.levels
         (spot_goal store.old first)) }
     ensures { IfOk result (λ b. (hyps : Hypotheses) →
-        AreHyps (modes_of rules.now) store.old facts.now pairs.now hyps →
-        IsStuck (modes_of rules.now) (subjects_of rules.now) (rules_of rules.now) hyps levels
+        AreHyps (modes_of given.now.rules.now) store.old given.now.facts.now given.now.pairs.now
+        hyps →
+        IsStuck (modes_of given.now.rules.now) (subjects_of given.now.rules.now)
+        (rules_of given.now.rules.now) hyps bounds.levels
         (spot_goal store.old first) first.path.items (blame_of b)) }
 {
     let mut here = first;
-    let mut left = levels;
+    let mut left = bounds.levels;
     let mut known = false;
     while left > 0 {
         left -= 1;
-        match descend(alloc, rules, facts, pairs, store, here, left, budget, known)? {
-            Descent::Stuck { spot, reason } => return export_blame(alloc, store, spot, reason),
+        let below = Bounds {
+            levels: left,
+            budget: bounds.budget,
+        };
+        match descend(given, store, here, below, known)? {
+            Descent::Stuck { spot, reason } => return export_blame(
+                given.alloc,
+                store,
+                spot,
+                reason,
+            ),
             Descent::Below(next) => {
                 here = next;
                 known = true;
@@ -144,9 +156,17 @@ pub(crate) fn stuck_goal(
         terms,
         path: Vec::new(alloc),
     };
-    let blame = stuck_below(
-        alloc, rules, &facts, &pairs, &mut store, first, 3000, budget,
-    );
+    let hypotheses = Given {
+        alloc,
+        rules,
+        facts: &facts,
+        pairs: &pairs,
+    };
+    let bounds = Bounds {
+        levels: 3000,
+        budget,
+    };
+    let blame = stuck_below(&hypotheses, &mut store, first, bounds);
     drop(store);
     drop(pairs);
     drop(facts);

@@ -9,27 +9,27 @@ use Rattle.sx_derive.proofs.candidate_descent.descend.Goals as goal
 
 pub descend_rules-requires-clause-quiet : goal.descend_rules-requires-clause-quiet
 descend_rules-requires-clause-quiet c =
-    let m = modes_of c.args.rules.now in
-    let rs = rules_of c.args.rules.now in
+    let m = modes_of c.args.given.now.rules.now in
+    let rs = rules_of c.args.given.now.rules.now in
     let s = c.args.store.now in
-    (c.requires.quiet.0, c.requires.quiet.1, quiet_rules m rs c.requires.quiet.0 c.args.known c.args.budget c.args.levels (spot_goal s c.args.spot) c.requires.quiet.2)
+    (c.requires.quiet.0, c.requires.quiet.1, quiet_rules m rs c.requires.quiet.0 c.args.known c.args.bounds.budget c.args.bounds.levels (spot_goal s c.args.spot) c.requires.quiet.2)
 
 pub returns-in_ok-got-in-Some-clause-descent : goal.returns-in_ok-got-in-Some-clause-descent
 returns-in_ok-got-in-Some-clause-descent c =
-    let m = modes_of c.args.rules.now in
-    let su = subjects_of c.args.rules.now in
-    let rs = rules_of c.args.rules.now in
+    let m = modes_of c.args.given.now.rules.now in
+    let su = subjects_of c.args.given.now.rules.now in
+    let rs = rules_of c.args.given.now.rules.now in
     let s = c.args.store.now in
-    let f = subst (λ is. IsFirstFact c.args.spot.form is c.args.facts.now (Some c.in-Some.fact.now)) c.deref.ensures.value c.in-Some.ensures in
-    λ hyps are. stuck_at_fact m su rs hyps c.args.levels s c.args.facts.now c.args.pairs.now c.args.spot c.requires.store are c.requires.terms c.args.budget c.in-Some.fact.now c.in_ok-got-in-Some.got f (c.in_ok-got-in-Some.ensures ∙ c.deref-in-Some.ensures.value)
+    let f = subst (λ is. IsFirstFact c.args.spot.form is c.args.given.now.facts.now (Some c.in-Some.fact.now)) c.deref.ensures.value c.in-Some.ensures in
+    λ hyps are. stuck_at_fact m su rs hyps c.args.bounds.levels s c.args.given.now.facts.now c.args.given.now.pairs.now c.args.spot c.requires.store are c.requires.terms c.args.bounds.budget c.in-Some.fact.now c.in_ok-got-in-Some.got f (c.in_ok-got-in-Some.ensures ∙ c.deref-in-Some.ensures.value)
 
 pub returns-in-None-clause-descent : goal.returns-in-None-clause-descent
 returns-in-None-clause-descent c =
-    let m = modes_of c.args.rules.now in
-    let su = subjects_of c.args.rules.now in
-    let rs = rules_of c.args.rules.now in
+    let m = modes_of c.args.given.now.rules.now in
+    let su = subjects_of c.args.given.now.rules.now in
+    let rs = rules_of c.args.given.now.rules.now in
     let s = c.args.store.now in
-    let f = subst (λ is. IsFirstFact c.args.spot.form is c.args.facts.now None) c.deref.ensures.value c.in-None.ensures in
-    ok_weaker _ _ (λ d h hyps are. descent_weaker m su rs hyps c.args.budget c.args.levels c.descend_rules.new.store
-    (RulesLead m su rs hyps c.args.budget c.args.levels (spot_goal s c.args.spot) c.args.spot.path.items) (IsStuck m su rs hyps (suc c.args.levels) (spot_goal s c.args.spot) c.args.spot.path.items)
-    (λ blame r. stuck_at_rules m su rs hyps c.args.levels s c.args.facts.now c.args.pairs.now c.args.spot c.requires.store are c.requires.terms f blame r) d (h hyps are)) c.descend_rules.result c.descend_rules.ensures.descent
+    let f = subst (λ is. IsFirstFact c.args.spot.form is c.args.given.now.facts.now None) c.deref.ensures.value c.in-None.ensures in
+    ok_weaker _ _ (λ d h hyps are. descent_weaker m su rs hyps c.args.bounds.budget c.args.bounds.levels c.descend_rules.new.store
+    (RulesLead m su rs hyps c.args.bounds.budget c.args.bounds.levels (spot_goal s c.args.spot) c.args.spot.path.items) (IsStuck m su rs hyps (suc c.args.bounds.levels) (spot_goal s c.args.spot) c.args.spot.path.items)
+    (λ blame r. stuck_at_rules m su rs hyps c.args.bounds.levels s c.args.given.now.facts.now c.args.given.now.pairs.now c.args.spot c.requires.store are c.requires.terms f blame r) d (h hyps are)) c.descend_rules.result c.descend_rules.ensures.descent

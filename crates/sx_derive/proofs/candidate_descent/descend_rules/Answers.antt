@@ -9,39 +9,39 @@ use Rattle.sx_derive.proofs.Led.{sought_none, sought_env, sought_within, sought_
 use Rattle.sx_derive.proofs.Resumed.{shallow_at}
 use Rattle.sx_derive.proofs.candidate_descent.descend_rules.Goals as goal
 
-pub rule_at-requires : goal.rule_at-requires
-rule_at-requires c =
-    let m = modes_of c.args.rules.now in
-    let su = subjects_of c.args.rules.now in
-    let rs = rules_of c.args.rules.now in
+pub rule_at-rule-requires : goal.rule_at-rule-requires
+rule_at-rule-requires c =
+    let m = modes_of c.args.given.now.rules.now in
+    let su = subjects_of c.args.given.now.rules.now in
+    let rs = rules_of c.args.given.now.rules.now in
     let s = c.args.store.now in
     let t = c.first_rule.new.store in
     let g = c.in_ok-first_rule.ensures.grows in
     let f0 = subst (λ is. IsFirstRule m t (goal_in s c.args.spot.form is) 0 rs c.in_ok-first_rule.field-0) c.deref.ensures.value c.in_ok-first_rule.ensures.first in
     let f = subst (λ o. IsFirstRule m t (spot_goal s c.args.spot) 0 rs o) c.in-Some.is f0 in
-    sought_within m su rs c.requires.quiet.0 c.args.known c.args.budget c.args.levels s t c.args.facts.now c.args.pairs.now c.args.spot c.requires.quiet.1 c.requires.terms g c.in-Some.number c.in-Some.env f
+    sought_within m su rs c.requires.quiet.0 c.args.known c.args.bounds.budget c.args.bounds.levels s t c.args.given.now.facts.now c.args.given.now.pairs.now c.args.spot c.requires.quiet.1 c.requires.terms g c.in-Some.number c.in-Some.env f
 
 pub descend_premises-requires-clause-shallow : goal.descend_premises-requires-clause-shallow
 descend_premises-requires-clause-shallow c =
-    let rs = rules_of c.args.rules.now in
-    shallow_at rs c.in-Some.number _ c.facts.ensures.shallow c.rule_at.ensures
+    let rs = rules_of c.args.given.now.rules.now in
+    shallow_at rs c.in-Some.number _ c.facts.ensures.shallow c.rule_at-rule.ensures
 
 pub descend_premises-requires-clause-env : goal.descend_premises-requires-clause-env
 descend_premises-requires-clause-env c =
-    let m = modes_of c.args.rules.now in
-    let su = subjects_of c.args.rules.now in
-    let rs = rules_of c.args.rules.now in
+    let m = modes_of c.args.given.now.rules.now in
+    let su = subjects_of c.args.given.now.rules.now in
+    let rs = rules_of c.args.given.now.rules.now in
     let s = c.args.store.now in
     let t = c.first_rule.new.store in
     let g = c.in_ok-first_rule.ensures.grows in
     let f0 = subst (λ is. IsFirstRule m t (goal_in s c.args.spot.form is) 0 rs c.in_ok-first_rule.field-0) c.deref.ensures.value c.in_ok-first_rule.ensures.first in
     let f = subst (λ o. IsFirstRule m t (spot_goal s c.args.spot) 0 rs o) c.in-Some.is f0 in
-    sought_env m su rs c.requires.quiet.0 c.args.known c.args.budget c.args.levels s t c.args.facts.now c.args.pairs.now c.args.spot c.requires.quiet.1 c.requires.terms g c.in-Some.number c.in-Some.env f
+    sought_env m su rs c.requires.quiet.0 c.args.known c.args.bounds.budget c.args.bounds.levels s t c.args.given.now.facts.now c.args.given.now.pairs.now c.args.spot c.requires.quiet.1 c.requires.terms g c.in-Some.number c.in-Some.env f
 
 pub descend_premises-requires-clause-terms : goal.descend_premises-requires-clause-terms
 descend_premises-requires-clause-terms c =
-    let m = modes_of c.args.rules.now in
-    let rs = rules_of c.args.rules.now in
+    let m = modes_of c.args.given.now.rules.now in
+    let rs = rules_of c.args.given.now.rules.now in
     let s = c.args.store.now in
     let t = c.first_rule.new.store in
     let g = c.in_ok-first_rule.ensures.grows in
@@ -49,36 +49,36 @@ descend_premises-requires-clause-terms c =
 
 pub descend_premises-requires-clause-quiet : goal.descend_premises-requires-clause-quiet
 descend_premises-requires-clause-quiet c =
-    let m = modes_of c.args.rules.now in
-    let su = subjects_of c.args.rules.now in
-    let rs = rules_of c.args.rules.now in
+    let m = modes_of c.args.given.now.rules.now in
+    let su = subjects_of c.args.given.now.rules.now in
+    let rs = rules_of c.args.given.now.rules.now in
     let s = c.args.store.now in
     let t = c.first_rule.new.store in
     let g = c.in_ok-first_rule.ensures.grows in
     let f0 = subst (λ is. IsFirstRule m t (goal_in s c.args.spot.form is) 0 rs c.in_ok-first_rule.field-0) c.deref.ensures.value c.in_ok-first_rule.ensures.first in
     let f = subst (λ o. IsFirstRule m t (spot_goal s c.args.spot) 0 rs o) c.in-Some.is f0 in
-    sought_quiet m su rs c.requires.quiet.0 c.args.known c.args.budget c.args.levels s t c.args.facts.now c.args.pairs.now c.args.spot c.requires.quiet.1 c.requires.terms g c.in-Some.number c.in-Some.env f (rule_of c.rule_at.result.now) c.rule_at.ensures c.requires.quiet.2
+    sought_quiet m su rs c.requires.quiet.0 c.args.known c.args.bounds.budget c.args.bounds.levels s t c.args.given.now.facts.now c.args.given.now.pairs.now c.args.spot c.requires.quiet.1 c.requires.terms g c.in-Some.number c.in-Some.env f (rule_of c.rule_at-rule.result.now) c.rule_at-rule.ensures c.requires.quiet.2
 
 pub returns-in-None-clause-descent : goal.returns-in-None-clause-descent
 returns-in-None-clause-descent c =
-    let m = modes_of c.args.rules.now in
-    let su = subjects_of c.args.rules.now in
-    let rs = rules_of c.args.rules.now in
+    let m = modes_of c.args.given.now.rules.now in
+    let su = subjects_of c.args.given.now.rules.now in
+    let rs = rules_of c.args.given.now.rules.now in
     let s = c.args.store.now in
     let t = c.first_rule.new.store in
     let g = c.in_ok-first_rule.ensures.grows in
     let f0 = subst (λ is. IsFirstRule m t (goal_in s c.args.spot.form is) 0 rs c.in_ok-first_rule.field-0) c.deref.ensures.value c.in_ok-first_rule.ensures.first in
     let f = subst (λ o. IsFirstRule m t (spot_goal s c.args.spot) 0 rs o) c.in-None.is f0 in
-    λ hyps are. sought_none m su rs hyps c.args.known c.args.budget c.args.levels s t c.args.facts.now c.args.pairs.now c.args.spot are c.requires.terms g f
+    λ hyps are. sought_none m su rs hyps c.args.known c.args.bounds.budget c.args.bounds.levels s t c.args.given.now.facts.now c.args.given.now.pairs.now c.args.spot are c.requires.terms g f
 
 pub returns-in-Some-clause-descent : goal.returns-in-Some-clause-descent
 returns-in-Some-clause-descent c =
-    let m = modes_of c.args.rules.now in
-    let su = subjects_of c.args.rules.now in
-    let rs = rules_of c.args.rules.now in
+    let m = modes_of c.args.given.now.rules.now in
+    let su = subjects_of c.args.given.now.rules.now in
+    let rs = rules_of c.args.given.now.rules.now in
     let s = c.args.store.now in
     let t = c.first_rule.new.store in
     let g = c.in_ok-first_rule.ensures.grows in
     let f0 = subst (λ is. IsFirstRule m t (goal_in s c.args.spot.form is) 0 rs c.in_ok-first_rule.field-0) c.deref.ensures.value c.in_ok-first_rule.ensures.first in
     let f = subst (λ o. IsFirstRule m t (spot_goal s c.args.spot) 0 rs o) c.in-Some.is f0 in
-    ok_weaker _ _ (λ d h hyps are. sought_leads m su rs hyps c.args.known c.args.budget c.args.levels s t c.args.facts.now c.args.pairs.now c.args.spot are c.requires.terms g c.in-Some.number c.in-Some.env f (rule_of c.rule_at.result.now) c.rule_at.ensures c.descend_premises.new.store d (h hyps (hyps_stay m rs s t c.args.facts.now c.args.pairs.now hyps g are))) c.descend_premises.result c.descend_premises.ensures.descent
+    ok_weaker _ _ (λ d h hyps are. sought_leads m su rs hyps c.args.known c.args.bounds.budget c.args.bounds.levels s t c.args.given.now.facts.now c.args.given.now.pairs.now c.args.spot are c.requires.terms g c.in-Some.number c.in-Some.env f (rule_of c.rule_at-rule.result.now) c.rule_at-rule.ensures c.descend_premises.new.store d (h hyps (hyps_stay m rs s t c.args.given.now.facts.now c.args.given.now.pairs.now hyps g are))) c.descend_premises.result c.descend_premises.ensures.descent

@@ -23,181 +23,181 @@ use Rattle.sx_derive.proofs.premise_descent.descend_premises.Goals.{then-known, 
 
 pub instances_apart-requires-clause-first : goal.instances_apart-requires-clause-first
 instances_apart-requires-clause-first c =
-    let l : c.loop-k.k < length c.args.rule.now.premises.items = (let a = c.loop-k-test.true in let b = c.len-k-end.ensures in let e = c.args.rule.now.premises.ok in omega arith) in
+    let l : c.loop-k.k < length c.args.candidate.now.rule.now.premises.items = (let a = c.loop-k-test.true in let b = c.len-k-end.ensures in let e = c.args.candidate.now.rule.now.premises.ok in omega arith) in
     let h = subst IsShallowPremise c.in-Apart.is (shallow_premise_at _ c.requires.shallow.1 c.loop-k.k _ l c.index.ensures) in
     h.0
 
 pub instances_apart-requires-clause-second : goal.instances_apart-requires-clause-second
 instances_apart-requires-clause-second c =
-    let l : c.loop-k.k < length c.args.rule.now.premises.items = (let a = c.loop-k-test.true in let b = c.len-k-end.ensures in let e = c.args.rule.now.premises.ok in omega arith) in
+    let l : c.loop-k.k < length c.args.candidate.now.rule.now.premises.items = (let a = c.loop-k-test.true in let b = c.len-k-end.ensures in let e = c.args.candidate.now.rule.now.premises.ok in omega arith) in
     let h = subst IsShallowPremise c.in-Apart.is (shallow_premise_at _ c.requires.shallow.1 c.loop-k.k _ l c.index.ensures) in
     h.1
 
 pub instances_apart-requires-clause-pairs : goal.instances_apart-requires-clause-pairs
 instances_apart-requires-clause-pairs c =
-    let m = modes_of c.args.rules.now in
-    let rs = rules_of c.args.rules.now in
+    let m = modes_of c.args.given.now.rules.now in
+    let rs = rules_of c.args.given.now.rules.now in
     let s = c.args.store.now in
     let x = c.loop-k.invariant.0 in
     let d = c.loop-k.invariant.1 in
-    (hyps_stay m rs s c.loop-k.store c.args.facts.now c.args.pairs.now x d.grows d.are).pairs_below
+    (hyps_stay m rs s c.loop-k.store c.args.given.now.facts.now c.args.given.now.pairs.now x d.grows d.are).pairs_below
 
 pub returns-then-not-branch-clause-grows : goal.returns-then-not-branch-clause-grows
 returns-then-not-branch-clause-grows c =
-    let m = modes_of c.args.rules.now in
-    let su = subjects_of c.args.rules.now in
-    let rs = rules_of c.args.rules.now in
-    let r = rule_of c.args.rule.now in
+    let m = modes_of c.args.given.now.rules.now in
+    let su = subjects_of c.args.given.now.rules.now in
+    let rs = rules_of c.args.given.now.rules.now in
+    let r = rule_of c.args.candidate.now.rule.now in
     let s = c.args.store.now in
     let x = c.loop-k.invariant.0 in
     let d = c.loop-k.invariant.1 in
-    let l : c.loop-k.k < length c.args.rule.now.premises.items = (let a = c.loop-k-test.true in let b = c.len-k-end.ensures in let e = c.args.rule.now.premises.ok in omega arith) in
-    apart_grown m su rs x c.facts.ensures.moded c.args.known c.args.budget c.args.levels c.args.number r s c.args.facts.now c.args.pairs.now c.args.first c.args.spot c.requires.terms c.loop-k.store (record { arena = c.instances_apart.new.arena; binds = c.loop-k.store.binds; kids = c.loop-k.store.kids; frames = c.loop-k.store.frames }) c.loop-k.k c.loop-k.env _ _ _ (descending_as m su rs x c.facts.ensures.moded c.args.known c.args.budget c.args.levels c.args.number r s c.args.facts.now c.args.pairs.now c.args.first c.args.spot c.requires.terms c.loop-k.store c.loop-k.k c.loop-k.env _ _ (drop_premise _ c.loop-k.k _ _ l c.index.ensures c.in-Apart.is) d) _ c.in_ok-instances_apart-in-Apart.ensures refl refl refl
+    let l : c.loop-k.k < length c.args.candidate.now.rule.now.premises.items = (let a = c.loop-k-test.true in let b = c.len-k-end.ensures in let e = c.args.candidate.now.rule.now.premises.ok in omega arith) in
+    apart_grown m su rs x c.facts.ensures.moded c.args.known c.args.bounds.budget c.args.bounds.levels c.args.candidate.now.number r s c.args.given.now.facts.now c.args.given.now.pairs.now c.args.candidate.now.env c.args.spot c.requires.terms c.loop-k.store (record { arena = c.instances_apart.new.arena; binds = c.loop-k.store.binds; kids = c.loop-k.store.kids; frames = c.loop-k.store.frames }) c.loop-k.k c.loop-k.env _ _ _ (descending_as m su rs x c.facts.ensures.moded c.args.known c.args.bounds.budget c.args.bounds.levels c.args.candidate.now.number r s c.args.given.now.facts.now c.args.given.now.pairs.now c.args.candidate.now.env c.args.spot c.requires.terms c.loop-k.store c.loop-k.k c.loop-k.env _ _ (drop_premise _ c.loop-k.k _ _ l c.index.ensures c.in-Apart.is) d) _ c.in_ok-instances_apart-in-Apart.ensures refl refl refl
 
 pub returns-then-not-branch-clause-descent : goal.returns-then-not-branch-clause-descent
 returns-then-not-branch-clause-descent c =
-    let m = modes_of c.args.rules.now in
-    let su = subjects_of c.args.rules.now in
-    let rs = rules_of c.args.rules.now in
-    let r = rule_of c.args.rule.now in
+    let m = modes_of c.args.given.now.rules.now in
+    let su = subjects_of c.args.given.now.rules.now in
+    let rs = rules_of c.args.given.now.rules.now in
+    let r = rule_of c.args.candidate.now.rule.now in
     let s = c.args.store.now in
     let x = c.loop-k.invariant.0 in
     let d = c.loop-k.invariant.1 in
-    let l : c.loop-k.k < length c.args.rule.now.premises.items = (let a = c.loop-k-test.true in let b = c.len-k-end.ensures in let e = c.args.rule.now.premises.ok in omega arith) in
-    λ hyps are. for_hyps m s c.args.facts.now c.args.pairs.now x hyps d.are are
-    (λ hs. IsDescent m su rs hs c.args.budget c.args.levels (record { arena = c.instances_apart.new.arena; binds = c.loop-k.store.binds; kids = c.loop-k.store.kids; frames = c.loop-k.store.frames }) (PremisesLead m su rs hs c.args.budget c.args.levels c.args.number r (spot_goal s c.args.spot) c.args.spot.path.items 0 r.premises (env_at (store_envs s) c.args.first)) c.equal.result)
-    (subst (λ (q : Descent). IsDescent m su rs x c.args.budget c.args.levels (record { arena = c.instances_apart.new.arena; binds = c.loop-k.store.binds; kids = c.loop-k.store.kids; frames = c.loop-k.store.frames }) (PremisesLead m su rs x c.args.budget c.args.levels c.args.number r (spot_goal s c.args.spot) c.args.spot.path.items 0 r.premises (env_at (store_envs s) c.args.first)) q) (sym c.equal.ensures)
-    (apart_fails m su rs x c.facts.ensures.moded c.args.known c.args.budget c.args.levels c.args.number r s c.args.facts.now c.args.pairs.now c.args.first c.args.spot c.requires.terms c.loop-k.store (record { arena = c.instances_apart.new.arena; binds = c.loop-k.store.binds; kids = c.loop-k.store.kids; frames = c.loop-k.store.frames }) c.loop-k.k c.loop-k.env _ _ _ (descending_as m su rs x c.facts.ensures.moded c.args.known c.args.budget c.args.levels c.args.number r s c.args.facts.now c.args.pairs.now c.args.first c.args.spot c.requires.terms c.loop-k.store c.loop-k.k c.loop-k.env _ _ (drop_premise _ c.loop-k.k _ _ l c.index.ensures c.in-Apart.is) d) _ c.in_ok-instances_apart-in-Apart.ensures refl refl refl c.if-not-branch.true))
+    let l : c.loop-k.k < length c.args.candidate.now.rule.now.premises.items = (let a = c.loop-k-test.true in let b = c.len-k-end.ensures in let e = c.args.candidate.now.rule.now.premises.ok in omega arith) in
+    λ hyps are. for_hyps m s c.args.given.now.facts.now c.args.given.now.pairs.now x hyps d.are are
+    (λ hs. IsDescent m su rs hs c.args.bounds.budget c.args.bounds.levels (record { arena = c.instances_apart.new.arena; binds = c.loop-k.store.binds; kids = c.loop-k.store.kids; frames = c.loop-k.store.frames }) (PremisesLead m su rs hs c.args.bounds.budget c.args.bounds.levels c.args.candidate.now.number r (spot_goal s c.args.spot) c.args.spot.path.items 0 r.premises (env_at (store_envs s) c.args.candidate.now.env)) c.equal.result)
+    (subst (λ (q : Descent). IsDescent m su rs x c.args.bounds.budget c.args.bounds.levels (record { arena = c.instances_apart.new.arena; binds = c.loop-k.store.binds; kids = c.loop-k.store.kids; frames = c.loop-k.store.frames }) (PremisesLead m su rs x c.args.bounds.budget c.args.bounds.levels c.args.candidate.now.number r (spot_goal s c.args.spot) c.args.spot.path.items 0 r.premises (env_at (store_envs s) c.args.candidate.now.env)) q) (sym c.equal.ensures)
+    (apart_fails m su rs x c.facts.ensures.moded c.args.known c.args.bounds.budget c.args.bounds.levels c.args.candidate.now.number r s c.args.given.now.facts.now c.args.given.now.pairs.now c.args.candidate.now.env c.args.spot c.requires.terms c.loop-k.store (record { arena = c.instances_apart.new.arena; binds = c.loop-k.store.binds; kids = c.loop-k.store.kids; frames = c.loop-k.store.frames }) c.loop-k.k c.loop-k.env _ _ _ (descending_as m su rs x c.facts.ensures.moded c.args.known c.args.bounds.budget c.args.bounds.levels c.args.candidate.now.number r s c.args.given.now.facts.now c.args.given.now.pairs.now c.args.candidate.now.env c.args.spot c.requires.terms c.loop-k.store c.loop-k.k c.loop-k.env _ _ (drop_premise _ c.loop-k.k _ _ l c.index.ensures c.in-Apart.is) d) _ c.in_ok-instances_apart-in-Apart.ensures refl refl refl c.if-not-branch.true))
 
 pub ask_known-requires-clause-facts : goal.ask_known-requires-clause-facts
 ask_known-requires-clause-facts c =
-    let m = modes_of c.args.rules.now in
-    let su = subjects_of c.args.rules.now in
-    let rs = rules_of c.args.rules.now in
-    let r = rule_of c.args.rule.now in
+    let m = modes_of c.args.given.now.rules.now in
+    let su = subjects_of c.args.given.now.rules.now in
+    let rs = rules_of c.args.given.now.rules.now in
+    let r = rule_of c.args.candidate.now.rule.now in
     let s = c.args.store.now in
     let x = c.loop-k.invariant.0 in
     let d = c.loop-k.invariant.1 in
-    let l : c.loop-k.k < length c.args.rule.now.premises.items = (let a = c.loop-k-test.true in let b = c.len-k-end.ensures in let e = c.args.rule.now.premises.ok in omega arith) in
-    ask_facts m su rs x c.facts.ensures.moded c.args.known c.args.budget c.args.levels c.args.number r s c.args.facts.now c.args.pairs.now c.args.first c.args.spot c.requires.terms c.loop-k.store s c.loop-k.k c.loop-k.env _ _ (descending_as m su rs x c.facts.ensures.moded c.args.known c.args.budget c.args.levels c.args.number r s c.args.facts.now c.args.pairs.now c.args.first c.args.spot c.requires.terms c.loop-k.store c.loop-k.k c.loop-k.env _ _ (drop_premise _ c.loop-k.k _ _ l c.index.ensures c.in-Holds.is) d)
+    let l : c.loop-k.k < length c.args.candidate.now.rule.now.premises.items = (let a = c.loop-k-test.true in let b = c.len-k-end.ensures in let e = c.args.candidate.now.rule.now.premises.ok in omega arith) in
+    ask_facts m su rs x c.facts.ensures.moded c.args.known c.args.bounds.budget c.args.bounds.levels c.args.candidate.now.number r s c.args.given.now.facts.now c.args.given.now.pairs.now c.args.candidate.now.env c.args.spot c.requires.terms c.loop-k.store s c.loop-k.k c.loop-k.env _ _ (descending_as m su rs x c.facts.ensures.moded c.args.known c.args.bounds.budget c.args.bounds.levels c.args.candidate.now.number r s c.args.given.now.facts.now c.args.given.now.pairs.now c.args.candidate.now.env c.args.spot c.requires.terms c.loop-k.store c.loop-k.k c.loop-k.env _ _ (drop_premise _ c.loop-k.k _ _ l c.index.ensures c.in-Holds.is) d)
 
 pub ask_known-requires-clause-pairs : goal.ask_known-requires-clause-pairs
 ask_known-requires-clause-pairs c =
-    let m = modes_of c.args.rules.now in
-    let rs = rules_of c.args.rules.now in
+    let m = modes_of c.args.given.now.rules.now in
+    let rs = rules_of c.args.given.now.rules.now in
     let s = c.args.store.now in
     let x = c.loop-k.invariant.0 in
     let d = c.loop-k.invariant.1 in
-    (hyps_stay m rs s c.loop-k.store c.args.facts.now c.args.pairs.now x d.grows d.are).pairs_below
+    (hyps_stay m rs s c.loop-k.store c.args.given.now.facts.now c.args.given.now.pairs.now x d.grows d.are).pairs_below
 
 pub ask_known-requires-clause-shallow : goal.ask_known-requires-clause-shallow
 ask_known-requires-clause-shallow c =
-    let l : c.loop-k.k < length c.args.rule.now.premises.items = (let a = c.loop-k-test.true in let b = c.len-k-end.ensures in let e = c.args.rule.now.premises.ok in omega arith) in
+    let l : c.loop-k.k < length c.args.candidate.now.rule.now.premises.items = (let a = c.loop-k-test.true in let b = c.len-k-end.ensures in let e = c.args.candidate.now.rule.now.premises.ok in omega arith) in
     let h = subst IsShallowPremise c.in-Holds.is (shallow_premise_at _ c.requires.shallow.1 c.loop-k.k _ l c.index.ensures) in
     h
 
 pub ask_known-requires-clause-quiet : goal.ask_known-requires-clause-quiet
 ask_known-requires-clause-quiet c =
-    let m = modes_of c.args.rules.now in
-    let su = subjects_of c.args.rules.now in
-    let rs = rules_of c.args.rules.now in
-    let r = rule_of c.args.rule.now in
+    let m = modes_of c.args.given.now.rules.now in
+    let su = subjects_of c.args.given.now.rules.now in
+    let rs = rules_of c.args.given.now.rules.now in
+    let r = rule_of c.args.candidate.now.rule.now in
     let s = c.args.store.now in
     let x = c.loop-k.invariant.0 in
     let d = c.loop-k.invariant.1 in
-    let l : c.loop-k.k < length c.args.rule.now.premises.items = (let a = c.loop-k-test.true in let b = c.len-k-end.ensures in let e = c.args.rule.now.premises.ok in omega arith) in
-    ask_quiet m su rs x c.facts.ensures.moded c.args.known c.args.budget c.args.levels c.args.number r s c.args.facts.now c.args.pairs.now c.args.first c.args.spot c.requires.terms c.loop-k.store s c.loop-k.k c.loop-k.env _ _ (descending_as m su rs x c.facts.ensures.moded c.args.known c.args.budget c.args.levels c.args.number r s c.args.facts.now c.args.pairs.now c.args.first c.args.spot c.requires.terms c.loop-k.store c.loop-k.k c.loop-k.env _ _ (drop_premise _ c.loop-k.k _ _ l c.index.ensures c.in-Holds.is) d)
+    let l : c.loop-k.k < length c.args.candidate.now.rule.now.premises.items = (let a = c.loop-k-test.true in let b = c.len-k-end.ensures in let e = c.args.candidate.now.rule.now.premises.ok in omega arith) in
+    ask_quiet m su rs x c.facts.ensures.moded c.args.known c.args.bounds.budget c.args.bounds.levels c.args.candidate.now.number r s c.args.given.now.facts.now c.args.given.now.pairs.now c.args.candidate.now.env c.args.spot c.requires.terms c.loop-k.store s c.loop-k.k c.loop-k.env _ _ (descending_as m su rs x c.facts.ensures.moded c.args.known c.args.bounds.budget c.args.bounds.levels c.args.candidate.now.number r s c.args.given.now.facts.now c.args.given.now.pairs.now c.args.candidate.now.env c.args.spot c.requires.terms c.loop-k.store c.loop-k.k c.loop-k.env _ _ (drop_premise _ c.loop-k.k _ _ l c.index.ensures c.in-Holds.is) d)
 
 pub ask_known-requires-clause-silent : goal.ask_known-requires-clause-silent
 ask_known-requires-clause-silent c =
-    let m = modes_of c.args.rules.now in
-    let su = subjects_of c.args.rules.now in
-    let rs = rules_of c.args.rules.now in
-    let r = rule_of c.args.rule.now in
+    let m = modes_of c.args.given.now.rules.now in
+    let su = subjects_of c.args.given.now.rules.now in
+    let rs = rules_of c.args.given.now.rules.now in
+    let r = rule_of c.args.candidate.now.rule.now in
     let s = c.args.store.now in
     let x = c.loop-k.invariant.0 in
     let d = c.loop-k.invariant.1 in
-    let l : c.loop-k.k < length c.args.rule.now.premises.items = (let a = c.loop-k-test.true in let b = c.len-k-end.ensures in let e = c.args.rule.now.premises.ok in omega arith) in
+    let l : c.loop-k.k < length c.args.candidate.now.rule.now.premises.items = (let a = c.loop-k-test.true in let b = c.len-k-end.ensures in let e = c.args.candidate.now.rule.now.premises.ok in omega arith) in
     elim c.if-known.branch [
       | then-known w ↦ λ last js are. (let n = nat_same (c.loop-k.k + 1) w.len.result (sym w.last-is ∙ last) in let q = w.len.ensures in
-          ask_silent m su rs x c.facts.ensures.moded c.args.known c.args.budget c.args.levels c.args.number r s c.args.facts.now c.args.pairs.now c.args.first c.args.spot c.requires.terms c.loop-k.store s c.loop-k.k c.loop-k.env _ _ (descending_as m su rs x c.facts.ensures.moded c.args.known c.args.budget c.args.levels c.args.number r s c.args.facts.now c.args.pairs.now c.args.first c.args.spot c.requires.terms c.loop-k.store c.loop-k.k c.loop-k.env _ _ (drop_premise _ c.loop-k.k _ _ l c.index.ensures c.in-Holds.is) d)
-          w.if-known.true (drop_premises_end c.args.rule.now.premises.items (c.loop-k.k + 1) (omega arith)) js are)
+          ask_silent m su rs x c.facts.ensures.moded c.args.known c.args.bounds.budget c.args.bounds.levels c.args.candidate.now.number r s c.args.given.now.facts.now c.args.given.now.pairs.now c.args.candidate.now.env c.args.spot c.requires.terms c.loop-k.store s c.loop-k.k c.loop-k.env _ _ (descending_as m su rs x c.facts.ensures.moded c.args.known c.args.bounds.budget c.args.bounds.levels c.args.candidate.now.number r s c.args.given.now.facts.now c.args.given.now.pairs.now c.args.candidate.now.env c.args.spot c.requires.terms c.loop-k.store c.loop-k.k c.loop-k.env _ _ (drop_premise _ c.loop-k.k _ _ l c.index.ensures c.in-Holds.is) d)
+          w.if-known.true (drop_premises_end c.args.candidate.now.rule.now.premises.items (c.loop-k.k + 1) (omega arith)) js are)
       | else-known w ↦ λ last js are. (let f = w.last-is in let z : ⊥ = cc in absurd z)
     ]
 
 pub returns-in-Unanswered-clause-descent : goal.returns-in-Unanswered-clause-descent
 returns-in-Unanswered-clause-descent c =
-    let m = modes_of c.args.rules.now in
-    let su = subjects_of c.args.rules.now in
-    let rs = rules_of c.args.rules.now in
-    let r = rule_of c.args.rule.now in
+    let m = modes_of c.args.given.now.rules.now in
+    let su = subjects_of c.args.given.now.rules.now in
+    let rs = rules_of c.args.given.now.rules.now in
+    let r = rule_of c.args.candidate.now.rule.now in
     let s = c.args.store.now in
     let x = c.loop-k.invariant.0 in
     let d = c.loop-k.invariant.1 in
-    let l : c.loop-k.k < length c.args.rule.now.premises.items = (let a = c.loop-k-test.true in let b = c.len-k-end.ensures in let e = c.args.rule.now.premises.ok in omega arith) in
-    λ hyps are. for_hyps m s c.args.facts.now c.args.pairs.now x hyps d.are are
-    (λ hs. IsDescent m su rs hs c.args.budget c.args.levels c.ask_known.new.store (PremisesLead m su rs hs c.args.budget c.args.levels c.args.number r (spot_goal s c.args.spot) c.args.spot.path.items 0 r.premises (env_at (store_envs s) c.args.first)) (Below c.in_ok-kid-in-Unanswered.kid))
-    (answered_below m su rs x c.facts.ensures.moded c.args.known c.args.budget c.args.levels c.args.number r s c.args.facts.now c.args.pairs.now c.args.first c.args.spot c.requires.terms c.loop-k.store c.ask_known.new.store c.loop-k.k c.loop-k.env _ (judgement_of c.in-Holds.judgement) (descending_as m su rs x c.facts.ensures.moded c.args.known c.args.budget c.args.levels c.args.number r s c.args.facts.now c.args.pairs.now c.args.first c.args.spot c.requires.terms c.loop-k.store c.loop-k.k c.loop-k.env _ _ (drop_premise _ c.loop-k.k _ _ l c.index.ensures c.in-Holds.is) d) c.in_ok-next-in-Holds.ensures.grows c.in-Unanswered.terms c.in_ok-kid-in-Unanswered.kid (subst (λ a. IsAnswered m c.loop-k.store c.ask_known.new.store c.loop-k.env (judgement_of c.in-Holds.judgement) (first_given (asked_events m rs c.args.pairs.now x.judgements c.loop-k.store c.loop-k.env c.args.levels (judgement_of c.in-Holds.judgement))) a) c.in-Unanswered.is (c.in_ok-next-in-Holds.ensures.answered x.judgements (hyps_stay m rs s c.loop-k.store c.args.facts.now c.args.pairs.now x d.grows d.are).facts_are)) c.in_ok-kid-in-Unanswered.ensures)
+    let l : c.loop-k.k < length c.args.candidate.now.rule.now.premises.items = (let a = c.loop-k-test.true in let b = c.len-k-end.ensures in let e = c.args.candidate.now.rule.now.premises.ok in omega arith) in
+    λ hyps are. for_hyps m s c.args.given.now.facts.now c.args.given.now.pairs.now x hyps d.are are
+    (λ hs. IsDescent m su rs hs c.args.bounds.budget c.args.bounds.levels c.ask_known.new.store (PremisesLead m su rs hs c.args.bounds.budget c.args.bounds.levels c.args.candidate.now.number r (spot_goal s c.args.spot) c.args.spot.path.items 0 r.premises (env_at (store_envs s) c.args.candidate.now.env)) (Below c.in_ok-kid-in-Unanswered.kid))
+    (answered_below m su rs x c.facts.ensures.moded c.args.known c.args.bounds.budget c.args.bounds.levels c.args.candidate.now.number r s c.args.given.now.facts.now c.args.given.now.pairs.now c.args.candidate.now.env c.args.spot c.requires.terms c.loop-k.store c.ask_known.new.store c.loop-k.k c.loop-k.env _ (judgement_of c.in-Holds.judgement) (descending_as m su rs x c.facts.ensures.moded c.args.known c.args.bounds.budget c.args.bounds.levels c.args.candidate.now.number r s c.args.given.now.facts.now c.args.given.now.pairs.now c.args.candidate.now.env c.args.spot c.requires.terms c.loop-k.store c.loop-k.k c.loop-k.env _ _ (drop_premise _ c.loop-k.k _ _ l c.index.ensures c.in-Holds.is) d) c.in_ok-next-in-Holds.ensures.grows c.in-Unanswered.terms c.in_ok-kid-in-Unanswered.kid (subst (λ a. IsAnswered m c.loop-k.store c.ask_known.new.store c.loop-k.env (judgement_of c.in-Holds.judgement) (first_given (asked_events m rs c.args.given.now.pairs.now x.judgements c.loop-k.store c.loop-k.env c.args.bounds.levels (judgement_of c.in-Holds.judgement))) a) c.in-Unanswered.is (c.in_ok-next-in-Holds.ensures.answered x.judgements (hyps_stay m rs s c.loop-k.store c.args.given.now.facts.now c.args.given.now.pairs.now x d.grows d.are).facts_are)) c.in_ok-kid-in-Unanswered.ensures)
 
 pub returns-in-Differs-clause-descent : goal.returns-in-Differs-clause-descent
 returns-in-Differs-clause-descent c =
-    let m = modes_of c.args.rules.now in
-    let su = subjects_of c.args.rules.now in
-    let rs = rules_of c.args.rules.now in
-    let r = rule_of c.args.rule.now in
+    let m = modes_of c.args.given.now.rules.now in
+    let su = subjects_of c.args.given.now.rules.now in
+    let rs = rules_of c.args.given.now.rules.now in
+    let r = rule_of c.args.candidate.now.rule.now in
     let s = c.args.store.now in
     let x = c.loop-k.invariant.0 in
     let d = c.loop-k.invariant.1 in
-    let l : c.loop-k.k < length c.args.rule.now.premises.items = (let a = c.loop-k-test.true in let b = c.len-k-end.ensures in let e = c.args.rule.now.premises.ok in omega arith) in
-    λ hyps are. for_hyps m s c.args.facts.now c.args.pairs.now x hyps d.are are
-    (λ hs. IsDescent m su rs hs c.args.budget c.args.levels c.ask_known.new.store (PremisesLead m su rs hs c.args.budget c.args.levels c.args.number r (spot_goal s c.args.spot) c.args.spot.path.items 0 r.premises (env_at (store_envs s) c.args.first)) c.differs.result)
-    (subst (λ (q : Descent). IsDescent m su rs x c.args.budget c.args.levels c.ask_known.new.store (PremisesLead m su rs x c.args.budget c.args.levels c.args.number r (spot_goal s c.args.spot) c.args.spot.path.items 0 r.premises (env_at (store_envs s) c.args.first)) q) (sym c.differs.ensures)
-    (answered_differs m su rs x c.facts.ensures.moded c.args.known c.args.budget c.args.levels c.args.number r s c.args.facts.now c.args.pairs.now c.args.first c.args.spot c.requires.terms c.loop-k.store c.ask_known.new.store c.loop-k.k c.loop-k.env _ (judgement_of c.in-Holds.judgement) (descending_as m su rs x c.facts.ensures.moded c.args.known c.args.budget c.args.levels c.args.number r s c.args.facts.now c.args.pairs.now c.args.first c.args.spot c.requires.terms c.loop-k.store c.loop-k.k c.loop-k.env _ _ (drop_premise _ c.loop-k.k _ _ l c.index.ensures c.in-Holds.is) d) c.in_ok-next-in-Holds.ensures.grows c.in-Differs.terms c.in-Differs.got c.in_ok-kid-in-Differs.kid (subst (λ a. IsAnswered m c.loop-k.store c.ask_known.new.store c.loop-k.env (judgement_of c.in-Holds.judgement) (first_given (asked_events m rs c.args.pairs.now x.judgements c.loop-k.store c.loop-k.env c.args.levels (judgement_of c.in-Holds.judgement))) a) c.in-Differs.is (c.in_ok-next-in-Holds.ensures.answered x.judgements (hyps_stay m rs s c.loop-k.store c.args.facts.now c.args.pairs.now x d.grows d.are).facts_are)) c.in_ok-kid-in-Differs.ensures))
+    let l : c.loop-k.k < length c.args.candidate.now.rule.now.premises.items = (let a = c.loop-k-test.true in let b = c.len-k-end.ensures in let e = c.args.candidate.now.rule.now.premises.ok in omega arith) in
+    λ hyps are. for_hyps m s c.args.given.now.facts.now c.args.given.now.pairs.now x hyps d.are are
+    (λ hs. IsDescent m su rs hs c.args.bounds.budget c.args.bounds.levels c.ask_known.new.store (PremisesLead m su rs hs c.args.bounds.budget c.args.bounds.levels c.args.candidate.now.number r (spot_goal s c.args.spot) c.args.spot.path.items 0 r.premises (env_at (store_envs s) c.args.candidate.now.env)) c.differs.result)
+    (subst (λ (q : Descent). IsDescent m su rs x c.args.bounds.budget c.args.bounds.levels c.ask_known.new.store (PremisesLead m su rs x c.args.bounds.budget c.args.bounds.levels c.args.candidate.now.number r (spot_goal s c.args.spot) c.args.spot.path.items 0 r.premises (env_at (store_envs s) c.args.candidate.now.env)) q) (sym c.differs.ensures)
+    (answered_differs m su rs x c.facts.ensures.moded c.args.known c.args.bounds.budget c.args.bounds.levels c.args.candidate.now.number r s c.args.given.now.facts.now c.args.given.now.pairs.now c.args.candidate.now.env c.args.spot c.requires.terms c.loop-k.store c.ask_known.new.store c.loop-k.k c.loop-k.env _ (judgement_of c.in-Holds.judgement) (descending_as m su rs x c.facts.ensures.moded c.args.known c.args.bounds.budget c.args.bounds.levels c.args.candidate.now.number r s c.args.given.now.facts.now c.args.given.now.pairs.now c.args.candidate.now.env c.args.spot c.requires.terms c.loop-k.store c.loop-k.k c.loop-k.env _ _ (drop_premise _ c.loop-k.k _ _ l c.index.ensures c.in-Holds.is) d) c.in_ok-next-in-Holds.ensures.grows c.in-Differs.terms c.in-Differs.got c.in_ok-kid-in-Differs.kid (subst (λ a. IsAnswered m c.loop-k.store c.ask_known.new.store c.loop-k.env (judgement_of c.in-Holds.judgement) (first_given (asked_events m rs c.args.given.now.pairs.now x.judgements c.loop-k.store c.loop-k.env c.args.bounds.levels (judgement_of c.in-Holds.judgement))) a) c.in-Differs.is (c.in_ok-next-in-Holds.ensures.answered x.judgements (hyps_stay m rs s c.loop-k.store c.args.given.now.facts.now c.args.given.now.pairs.now x d.grows d.are).facts_are)) c.in_ok-kid-in-Differs.ensures))
 
 pub loop-k-preserved : goal.loop-k-preserved
 loop-k-preserved c =
-    let m = modes_of c.args.rules.now in
-    let su = subjects_of c.args.rules.now in
-    let rs = rules_of c.args.rules.now in
-    let r = rule_of c.args.rule.now in
+    let m = modes_of c.args.given.now.rules.now in
+    let su = subjects_of c.args.given.now.rules.now in
+    let rs = rules_of c.args.given.now.rules.now in
+    let r = rule_of c.args.candidate.now.rule.now in
     let s = c.args.store.now in
     let x = c.loop-k.invariant.0 in
     let d = c.loop-k.invariant.1 in
-    let l : c.loop-k.k < length c.args.rule.now.premises.items = (let a = c.loop-k-test.true in let b = c.len-k-end.ensures in let e = c.args.rule.now.premises.ok in omega arith) in
+    let l : c.loop-k.k < length c.args.candidate.now.rule.now.premises.items = (let a = c.loop-k-test.true in let b = c.len-k-end.ensures in let e = c.args.candidate.now.rule.now.premises.ok in omega arith) in
     elim c.match-index.branch [
-      | in-Apart+in_ok-instances_apart-in-Apart+else-not-branch w ↦ (x, descending_at m su rs x c.facts.ensures.moded c.args.known c.args.budget c.args.levels c.args.number r s c.args.facts.now c.args.pairs.now c.args.first c.args.spot c.requires.terms _ _ (c.loop-k.k + 1) _ _ _ w.store-is w.env-is (apart_holds m su rs x c.facts.ensures.moded c.args.known c.args.budget c.args.levels c.args.number r s c.args.facts.now c.args.pairs.now c.args.first c.args.spot c.requires.terms c.loop-k.store (record { arena = w.instances_apart.new.arena; binds = c.loop-k.store.binds; kids = c.loop-k.store.kids; frames = c.loop-k.store.frames }) c.loop-k.k c.loop-k.env _ _ _ (descending_as m su rs x c.facts.ensures.moded c.args.known c.args.budget c.args.levels c.args.number r s c.args.facts.now c.args.pairs.now c.args.first c.args.spot c.requires.terms c.loop-k.store c.loop-k.k c.loop-k.env _ _ (drop_premise _ c.loop-k.k _ _ l c.index.ensures w.in-Apart.is) d) _ w.in_ok-instances_apart-in-Apart.ensures refl refl refl w.if-not-branch.false))
-      | in-Holds+in_ok-next-in-Holds+in-Matched w ↦ (x, descending_at m su rs x c.facts.ensures.moded c.args.known c.args.budget c.args.levels c.args.number r s c.args.facts.now c.args.pairs.now c.args.first c.args.spot c.requires.terms _ _ (c.loop-k.k + 1) _ _ _ w.store-is w.env-is (answered_matched m su rs x c.facts.ensures.moded c.args.known c.args.budget c.args.levels c.args.number r s c.args.facts.now c.args.pairs.now c.args.first c.args.spot c.requires.terms c.loop-k.store w.ask_known.new.store c.loop-k.k c.loop-k.env _ (judgement_of w.in-Holds.judgement) (descending_as m su rs x c.facts.ensures.moded c.args.known c.args.budget c.args.levels c.args.number r s c.args.facts.now c.args.pairs.now c.args.first c.args.spot c.requires.terms c.loop-k.store c.loop-k.k c.loop-k.env _ _ (drop_premise _ c.loop-k.k _ _ l c.index.ensures w.in-Holds.is) d) w.in_ok-next-in-Holds.ensures.grows w.in-Matched.next (subst (λ a. IsAnswered m c.loop-k.store w.ask_known.new.store c.loop-k.env (judgement_of w.in-Holds.judgement) (first_given (asked_events m rs c.args.pairs.now x.judgements c.loop-k.store c.loop-k.env c.args.levels (judgement_of w.in-Holds.judgement))) a) w.in-Matched.is (w.in_ok-next-in-Holds.ensures.answered x.judgements (hyps_stay m rs s c.loop-k.store c.args.facts.now c.args.pairs.now x d.grows d.are).facts_are))))
+      | in-Apart+in_ok-instances_apart-in-Apart+else-not-branch w ↦ (x, descending_at m su rs x c.facts.ensures.moded c.args.known c.args.bounds.budget c.args.bounds.levels c.args.candidate.now.number r s c.args.given.now.facts.now c.args.given.now.pairs.now c.args.candidate.now.env c.args.spot c.requires.terms _ _ (c.loop-k.k + 1) _ _ _ w.store-is w.env-is (apart_holds m su rs x c.facts.ensures.moded c.args.known c.args.bounds.budget c.args.bounds.levels c.args.candidate.now.number r s c.args.given.now.facts.now c.args.given.now.pairs.now c.args.candidate.now.env c.args.spot c.requires.terms c.loop-k.store (record { arena = w.instances_apart.new.arena; binds = c.loop-k.store.binds; kids = c.loop-k.store.kids; frames = c.loop-k.store.frames }) c.loop-k.k c.loop-k.env _ _ _ (descending_as m su rs x c.facts.ensures.moded c.args.known c.args.bounds.budget c.args.bounds.levels c.args.candidate.now.number r s c.args.given.now.facts.now c.args.given.now.pairs.now c.args.candidate.now.env c.args.spot c.requires.terms c.loop-k.store c.loop-k.k c.loop-k.env _ _ (drop_premise _ c.loop-k.k _ _ l c.index.ensures w.in-Apart.is) d) _ w.in_ok-instances_apart-in-Apart.ensures refl refl refl w.if-not-branch.false))
+      | in-Holds+in_ok-next-in-Holds+in-Matched w ↦ (x, descending_at m su rs x c.facts.ensures.moded c.args.known c.args.bounds.budget c.args.bounds.levels c.args.candidate.now.number r s c.args.given.now.facts.now c.args.given.now.pairs.now c.args.candidate.now.env c.args.spot c.requires.terms _ _ (c.loop-k.k + 1) _ _ _ w.store-is w.env-is (answered_matched m su rs x c.facts.ensures.moded c.args.known c.args.bounds.budget c.args.bounds.levels c.args.candidate.now.number r s c.args.given.now.facts.now c.args.given.now.pairs.now c.args.candidate.now.env c.args.spot c.requires.terms c.loop-k.store w.ask_known.new.store c.loop-k.k c.loop-k.env _ (judgement_of w.in-Holds.judgement) (descending_as m su rs x c.facts.ensures.moded c.args.known c.args.bounds.budget c.args.bounds.levels c.args.candidate.now.number r s c.args.given.now.facts.now c.args.given.now.pairs.now c.args.candidate.now.env c.args.spot c.requires.terms c.loop-k.store c.loop-k.k c.loop-k.env _ _ (drop_premise _ c.loop-k.k _ _ l c.index.ensures w.in-Holds.is) d) w.in_ok-next-in-Holds.ensures.grows w.in-Matched.next (subst (λ a. IsAnswered m c.loop-k.store w.ask_known.new.store c.loop-k.env (judgement_of w.in-Holds.judgement) (first_given (asked_events m rs c.args.given.now.pairs.now x.judgements c.loop-k.store c.loop-k.env c.args.bounds.levels (judgement_of w.in-Holds.judgement))) a) w.in-Matched.is (w.in_ok-next-in-Holds.ensures.answered x.judgements (hyps_stay m rs s c.loop-k.store c.args.given.now.facts.now c.args.given.now.pairs.now x d.grows d.are).facts_are))))
     ]
 
 pub returns-clause-grows : goal.returns-clause-grows
 returns-clause-grows c =
-    let m = modes_of c.args.rules.now in
-    let su = subjects_of c.args.rules.now in
-    let rs = rules_of c.args.rules.now in
-    let r = rule_of c.args.rule.now in
+    let m = modes_of c.args.given.now.rules.now in
+    let su = subjects_of c.args.given.now.rules.now in
+    let rs = rules_of c.args.given.now.rules.now in
+    let r = rule_of c.args.candidate.now.rule.now in
     let s = c.args.store.now in
     let x = c.loop-k.invariant.0 in
     let d = c.loop-k.invariant.1 in
-    let d' = descending_as m su rs x c.facts.ensures.moded c.args.known c.args.budget c.args.levels c.args.number r s c.args.facts.now c.args.pairs.now c.args.first c.args.spot c.requires.terms c.loop-k.store c.loop-k.k c.loop-k.env _ _ (drop_premises_end c.args.rule.now.premises.items c.loop-k.k (let a = c.loop-k-test.false in let b = c.len-k-end.ensures in let e = c.args.rule.now.premises.ok in omega arith)) d in
+    let d' = descending_as m su rs x c.facts.ensures.moded c.args.known c.args.bounds.budget c.args.bounds.levels c.args.candidate.now.number r s c.args.given.now.facts.now c.args.given.now.pairs.now c.args.candidate.now.env c.args.spot c.requires.terms c.loop-k.store c.loop-k.k c.loop-k.env _ _ (drop_premises_end c.args.candidate.now.rule.now.premises.items c.loop-k.k (let a = c.loop-k-test.false in let b = c.len-k-end.ensures in let e = c.args.candidate.now.rule.now.premises.ok in omega arith)) d in
     let S = filled (env_at (store_envs c.loop-k.store) c.loop-k.env) in
     let held = held_as _ _ _ _ _ (λ i. selected true (c.roles.ensures i) (map (instance S) (map tree (c.deref.ensures.value i)))) c.in_ok-got.ensures in
-    end_grown m su rs x c.facts.ensures.moded c.args.known c.args.budget c.args.levels c.args.number r s c.args.facts.now c.args.pairs.now c.args.first c.args.spot c.requires.terms c.loop-k.store (record { arena = c.make_places.new.arena; binds = c.loop-k.store.binds; kids = c.loop-k.store.kids; frames = c.loop-k.store.frames }) c.loop-k.k c.loop-k.env [] d' c.in_ok-got.got held refl refl refl
+    end_grown m su rs x c.facts.ensures.moded c.args.known c.args.bounds.budget c.args.bounds.levels c.args.candidate.now.number r s c.args.given.now.facts.now c.args.given.now.pairs.now c.args.candidate.now.env c.args.spot c.requires.terms c.loop-k.store (record { arena = c.make_places.new.arena; binds = c.loop-k.store.binds; kids = c.loop-k.store.kids; frames = c.loop-k.store.frames }) c.loop-k.k c.loop-k.env [] d' c.in_ok-got.got held refl refl refl
 
 pub returns-clause-descent : goal.returns-clause-descent
 returns-clause-descent c =
-    let m = modes_of c.args.rules.now in
-    let su = subjects_of c.args.rules.now in
-    let rs = rules_of c.args.rules.now in
-    let r = rule_of c.args.rule.now in
+    let m = modes_of c.args.given.now.rules.now in
+    let su = subjects_of c.args.given.now.rules.now in
+    let rs = rules_of c.args.given.now.rules.now in
+    let r = rule_of c.args.candidate.now.rule.now in
     let s = c.args.store.now in
     let x = c.loop-k.invariant.0 in
     let d = c.loop-k.invariant.1 in
-    let d' = descending_as m su rs x c.facts.ensures.moded c.args.known c.args.budget c.args.levels c.args.number r s c.args.facts.now c.args.pairs.now c.args.first c.args.spot c.requires.terms c.loop-k.store c.loop-k.k c.loop-k.env _ _ (drop_premises_end c.args.rule.now.premises.items c.loop-k.k (let a = c.loop-k-test.false in let b = c.len-k-end.ensures in let e = c.args.rule.now.premises.ok in omega arith)) d in
+    let d' = descending_as m su rs x c.facts.ensures.moded c.args.known c.args.bounds.budget c.args.bounds.levels c.args.candidate.now.number r s c.args.given.now.facts.now c.args.given.now.pairs.now c.args.candidate.now.env c.args.spot c.requires.terms c.loop-k.store c.loop-k.k c.loop-k.env _ _ (drop_premises_end c.args.candidate.now.rule.now.premises.items c.loop-k.k (let a = c.loop-k-test.false in let b = c.len-k-end.ensures in let e = c.args.candidate.now.rule.now.premises.ok in omega arith)) d in
     let S = filled (env_at (store_envs c.loop-k.store) c.loop-k.env) in
     let held = held_as _ _ _ _ _ (λ i. selected true (c.roles.ensures i) (map (instance S) (map tree (c.deref.ensures.value i)))) c.in_ok-got.ensures in
-    λ hyps are. for_hyps m s c.args.facts.now c.args.pairs.now x hyps d.are are
-    (λ hs. IsDescent m su rs hs c.args.budget c.args.levels (record { arena = c.make_places.new.arena; binds = c.loop-k.store.binds; kids = c.loop-k.store.kids; frames = c.loop-k.store.frames }) (PremisesLead m su rs hs c.args.budget c.args.levels c.args.number r (spot_goal s c.args.spot) c.args.spot.path.items 0 r.premises (env_at (store_envs s) c.args.first)) (Stuck c.args.spot (Mismatch None c.in_ok-got.got)))
-    (end_stuck m su rs x c.facts.ensures.moded c.args.known c.args.budget c.args.levels c.args.number r s c.args.facts.now c.args.pairs.now c.args.first c.args.spot c.requires.terms c.loop-k.store (record { arena = c.make_places.new.arena; binds = c.loop-k.store.binds; kids = c.loop-k.store.kids; frames = c.loop-k.store.frames }) c.loop-k.k c.loop-k.env [] d' c.in_ok-got.got held refl refl refl)
+    λ hyps are. for_hyps m s c.args.given.now.facts.now c.args.given.now.pairs.now x hyps d.are are
+    (λ hs. IsDescent m su rs hs c.args.bounds.budget c.args.bounds.levels (record { arena = c.make_places.new.arena; binds = c.loop-k.store.binds; kids = c.loop-k.store.kids; frames = c.loop-k.store.frames }) (PremisesLead m su rs hs c.args.bounds.budget c.args.bounds.levels c.args.candidate.now.number r (spot_goal s c.args.spot) c.args.spot.path.items 0 r.premises (env_at (store_envs s) c.args.candidate.now.env)) (Stuck c.args.spot (Mismatch None c.in_ok-got.got)))
+    (end_stuck m su rs x c.facts.ensures.moded c.args.known c.args.bounds.budget c.args.bounds.levels c.args.candidate.now.number r s c.args.given.now.facts.now c.args.given.now.pairs.now c.args.candidate.now.env c.args.spot c.requires.terms c.loop-k.store (record { arena = c.make_places.new.arena; binds = c.loop-k.store.binds; kids = c.loop-k.store.kids; frames = c.loop-k.store.frames }) c.loop-k.k c.loop-k.env [] d' c.in_ok-got.got held refl refl refl)
 
 pub loop-k-init : goal.loop-k-init
 loop-k-init c =
@@ -205,7 +205,7 @@ loop-k-init c =
       q.0,
       record {
         are = q.1;
-        grows = grows_same (modes_of c.args.rules.now) (rules_of c.args.rules.now) c.args.store.now c.requires.store;
+        grows = grows_same (modes_of c.args.given.now.rules.now) (rules_of c.args.given.now.rules.now) c.args.store.now c.requires.store;
         within = c.requires.env;
         quiet = q.2;
         leads = λ blame h. h;

@@ -9,54 +9,54 @@ use Rattle.sx_derive.proofs.stuck_goal.stuck_below.Goals as goal
 pub loop-left-init : goal.loop-left-init
 loop-left-init c =
     let q = c.requires.quiet in
-    (q.0, sinking_first (modes_of c.args.rules.now) (subjects_of c.args.rules.now) (rules_of c.args.rules.now) q.0 c.args.budget c.args.levels c.args.store.now c.args.facts.now c.args.pairs.now c.args.first c.requires.store c.requires.terms q.1 q.2)
+    (q.0, sinking_first (modes_of c.args.given.now.rules.now) (subjects_of c.args.given.now.rules.now) (rules_of c.args.given.now.rules.now) q.0 c.args.bounds.budget c.args.bounds.levels c.args.store.now c.args.given.now.facts.now c.args.given.now.pairs.now c.args.first c.requires.store c.requires.terms q.1 q.2)
 
 pub descend-requires-clause-quiet : goal.descend-requires-clause-quiet
 descend-requires-clause-quiet c =
-    sink_quiet (modes_of c.args.rules.now) (subjects_of c.args.rules.now) (rules_of c.args.rules.now) c.loop-left.invariant.0 c.args.budget c.args.levels c.args.store.now c.args.facts.now c.args.pairs.now c.args.first
+    sink_quiet (modes_of c.args.given.now.rules.now) (subjects_of c.args.given.now.rules.now) (rules_of c.args.given.now.rules.now) c.loop-left.invariant.0 c.args.bounds.budget c.args.bounds.levels c.args.store.now c.args.given.now.facts.now c.args.given.now.pairs.now c.args.first
     c.loop-left.store c.loop-left.left c.loop-left.known c.loop-left.here c.loop-left-test.true c.loop-left.invariant.1
 
 pub export_blame-requires-clause-terms : goal.export_blame-requires-clause-terms
 export_blame-requires-clause-terms c =
-    let m = modes_of c.args.rules.now in
-    let su = subjects_of c.args.rules.now in
-    let rs = rules_of c.args.rules.now in
+    let m = modes_of c.args.given.now.rules.now in
+    let su = subjects_of c.args.given.now.rules.now in
+    let rs = rules_of c.args.given.now.rules.now in
     let x = c.loop-left.invariant.0 in
-    let f = subst (λ d. From m su rs x c.args.budget c.args.levels c.args.store.now c.args.facts.now c.args.pairs.now c.args.first c.loop-left.store c.loop-left.left c.loop-left.known c.loop-left.here c.loop-left-test.true c.loop-left.invariant.1 c.descend.new.store d) c.in-Stuck.is c.in_ok-spot.ensures.descent in
-    (sink_descent m su rs x c.args.budget c.args.levels c.args.store.now c.args.facts.now c.args.pairs.now c.args.first c.loop-left.store c.loop-left.left c.loop-left.known c.loop-left.here c.loop-left-test.true c.loop-left.invariant.1 c.descend.new.store (Stuck c.in-Stuck.spot c.in-Stuck.reason) f).0
+    let f = subst (λ d. From m su rs x c.args.bounds.budget c.args.bounds.levels c.args.store.now c.args.given.now.facts.now c.args.given.now.pairs.now c.args.first c.loop-left.store c.loop-left.left c.loop-left.known c.loop-left.here c.loop-left-test.true c.loop-left.invariant.1 c.descend.new.store d) c.in-Stuck.is c.in_ok-spot.ensures.descent in
+    (sink_descent m su rs x c.args.bounds.budget c.args.bounds.levels c.args.store.now c.args.given.now.facts.now c.args.given.now.pairs.now c.args.first c.loop-left.store c.loop-left.left c.loop-left.known c.loop-left.here c.loop-left-test.true c.loop-left.invariant.1 c.descend.new.store (Stuck c.in-Stuck.spot c.in-Stuck.reason) f).0
 
 pub export_blame-requires-clause-reason : goal.export_blame-requires-clause-reason
 export_blame-requires-clause-reason c =
-    let m = modes_of c.args.rules.now in
-    let su = subjects_of c.args.rules.now in
-    let rs = rules_of c.args.rules.now in
+    let m = modes_of c.args.given.now.rules.now in
+    let su = subjects_of c.args.given.now.rules.now in
+    let rs = rules_of c.args.given.now.rules.now in
     let x = c.loop-left.invariant.0 in
-    let f = subst (λ d. From m su rs x c.args.budget c.args.levels c.args.store.now c.args.facts.now c.args.pairs.now c.args.first c.loop-left.store c.loop-left.left c.loop-left.known c.loop-left.here c.loop-left-test.true c.loop-left.invariant.1 c.descend.new.store d) c.in-Stuck.is c.in_ok-spot.ensures.descent in
-    (sink_descent m su rs x c.args.budget c.args.levels c.args.store.now c.args.facts.now c.args.pairs.now c.args.first c.loop-left.store c.loop-left.left c.loop-left.known c.loop-left.here c.loop-left-test.true c.loop-left.invariant.1 c.descend.new.store (Stuck c.in-Stuck.spot c.in-Stuck.reason) f).1
+    let f = subst (λ d. From m su rs x c.args.bounds.budget c.args.bounds.levels c.args.store.now c.args.given.now.facts.now c.args.given.now.pairs.now c.args.first c.loop-left.store c.loop-left.left c.loop-left.known c.loop-left.here c.loop-left-test.true c.loop-left.invariant.1 c.descend.new.store d) c.in-Stuck.is c.in_ok-spot.ensures.descent in
+    (sink_descent m su rs x c.args.bounds.budget c.args.bounds.levels c.args.store.now c.args.given.now.facts.now c.args.given.now.pairs.now c.args.first c.loop-left.store c.loop-left.left c.loop-left.known c.loop-left.here c.loop-left-test.true c.loop-left.invariant.1 c.descend.new.store (Stuck c.in-Stuck.spot c.in-Stuck.reason) f).1
 
 pub returns-in-Stuck : goal.returns-in-Stuck
 returns-in-Stuck c =
-    let m = modes_of c.args.rules.now in
-    let su = subjects_of c.args.rules.now in
-    let rs = rules_of c.args.rules.now in
+    let m = modes_of c.args.given.now.rules.now in
+    let su = subjects_of c.args.given.now.rules.now in
+    let rs = rules_of c.args.given.now.rules.now in
     let x = c.loop-left.invariant.0 in
-    let f = subst (λ d. From m su rs x c.args.budget c.args.levels c.args.store.now c.args.facts.now c.args.pairs.now c.args.first c.loop-left.store c.loop-left.left c.loop-left.known c.loop-left.here c.loop-left-test.true c.loop-left.invariant.1 c.descend.new.store d) c.in-Stuck.is c.in_ok-spot.ensures.descent in
-    ok_weaker _ _ (λ b e. sink_ends m su rs x c.args.budget c.args.levels c.args.store.now c.args.facts.now c.args.pairs.now c.args.first c.loop-left.store c.loop-left.left c.loop-left.known c.loop-left.here c.loop-left-test.true c.loop-left.invariant.1 c.descend.new.store
+    let f = subst (λ d. From m su rs x c.args.bounds.budget c.args.bounds.levels c.args.store.now c.args.given.now.facts.now c.args.given.now.pairs.now c.args.first c.loop-left.store c.loop-left.left c.loop-left.known c.loop-left.here c.loop-left-test.true c.loop-left.invariant.1 c.descend.new.store d) c.in-Stuck.is c.in_ok-spot.ensures.descent in
+    ok_weaker _ _ (λ b e. sink_ends m su rs x c.args.bounds.budget c.args.bounds.levels c.args.store.now c.args.given.now.facts.now c.args.given.now.pairs.now c.args.first c.loop-left.store c.loop-left.left c.loop-left.known c.loop-left.here c.loop-left-test.true c.loop-left.invariant.1 c.descend.new.store
     c.in-Stuck.spot c.in-Stuck.reason b f e) c.export_blame.result c.export_blame.ensures
 
 pub loop-left-preserved : goal.loop-left-preserved
 loop-left-preserved c =
-    let m = modes_of c.args.rules.now in
-    let su = subjects_of c.args.rules.now in
-    let rs = rules_of c.args.rules.now in
+    let m = modes_of c.args.given.now.rules.now in
+    let su = subjects_of c.args.given.now.rules.now in
+    let rs = rules_of c.args.given.now.rules.now in
     let x = c.loop-left.invariant.0 in
-    let f = subst (λ d. From m su rs x c.args.budget c.args.levels c.args.store.now c.args.facts.now c.args.pairs.now c.args.first c.loop-left.store c.loop-left.left c.loop-left.known c.loop-left.here c.loop-left-test.true c.loop-left.invariant.1 c.descend.new.store d) c.in-Below.is c.in_ok-spot.ensures.descent in (
+    let f = subst (λ d. From m su rs x c.args.bounds.budget c.args.bounds.levels c.args.store.now c.args.given.now.facts.now c.args.given.now.pairs.now c.args.first c.loop-left.store c.loop-left.left c.loop-left.known c.loop-left.here c.loop-left-test.true c.loop-left.invariant.1 c.descend.new.store d) c.in-Below.is c.in_ok-spot.ensures.descent in (
       x,
-      sink_goes m su rs x c.args.budget c.args.levels c.args.store.now c.args.facts.now c.args.pairs.now c.args.first c.loop-left.store c.loop-left.left c.loop-left.known c.loop-left.here c.loop-left-test.true c.loop-left.invariant.1 c.descend.new.store
+      sink_goes m su rs x c.args.bounds.budget c.args.bounds.levels c.args.store.now c.args.given.now.facts.now c.args.given.now.pairs.now c.args.first c.loop-left.store c.loop-left.left c.loop-left.known c.loop-left.here c.loop-left-test.true c.loop-left.invariant.1 c.descend.new.store
           c.in_ok-spot.ensures.grows c.in-Below.next f,
     )
 
 pub unreachable-requires : goal.unreachable-requires
 unreachable-requires c =
-    sunk (modes_of c.args.rules.now) (subjects_of c.args.rules.now) (rules_of c.args.rules.now) c.loop-left.invariant.0 c.args.budget c.args.levels c.args.store.now c.args.facts.now c.args.pairs.now c.args.first
+    sunk (modes_of c.args.given.now.rules.now) (subjects_of c.args.given.now.rules.now) (rules_of c.args.given.now.rules.now) c.loop-left.invariant.0 c.args.bounds.budget c.args.bounds.levels c.args.store.now c.args.given.now.facts.now c.args.given.now.pairs.now c.args.first
     c.loop-left.store c.loop-left.left c.loop-left.known c.loop-left.here c.loop-left-test.false c.loop-left.invariant.1
