@@ -30,12 +30,15 @@ fn entry_at(list: &[Entry], index: usize) -> Entry
     list[index]
 }
 
+/// The most levels of a derivation.
+const MOST_LEVELS: usize = 3000;
+
 /// Whether the entry with this number may stand at a goal for which `level` rules wait, and no term up to the next entry
 /// passes a limit.
 fn checked(level: usize, noted: Noted, number: u32) -> Result<(), ReplayError>
     ensures { IsChecked level noted number result }
 {
-    if level >= 3000 {
+    if level >= MOST_LEVELS {
         return Err(ReplayError::DeepList(number));
     }
     match noted.deep {
