@@ -11,12 +11,13 @@ ghost use Rattle.sx_derive.specs.Quiet.{IsQuiet, IsSilent, first_given};
 ghost use Rattle.sx_derive.specs.Store.{IsStore, Grows, store_trees};
 ghost use Rattle.sx_arena.specs.Views.{rules_of, modes_of, judgement_of};
 
+use crate::bounds::Bounds;
 use crate::first::first_answer;
+use crate::given::Given;
 use crate::open::is_open;
 use crate::store::Store;
-use std::alloc::Global;
-use sx_arena::{Fact, Pair, copied, fit_places, make_places, roles};
-use sx_rules::{Judgement, RuleSet};
+use sx_arena::{copied, fit_places, make_places, roles};
+use sx_rules::Judgement;
 use sx_term::NoMemory;
 
 /// The goal has no answer, or the outputs of its first answer are not those of the premise, or they
@@ -30,57 +31,52 @@ pub enum Asked {
 
 /// What the goal of a premise has as its first answer.
 pub(crate) fn ask(
-    alloc: Global,
-    rules: &RuleSet,
-    facts: &[Fact],
-    pairs: &[Pair],
+    given: &Given,
     store: &mut Store,
     judgement: &Judgement,
     env: usize,
-    levels: usize,
-    budget: u64,
+    bounds: Bounds,
 ) -> Result<Asked, NoMemory>
-    requires few { length facts.now < 2 ^ 32 }
+    requires few { length given.now.facts.now < 2 ^ 32 }
     requires facts { (js : List JudgementOf)
-        × AreFacts (modes_of rules.now) (store_trees store.old) js facts.now }
-    requires store { IsStore (modes_of rules.now) (rules_of rules.now) store.old }
-    requires pairs { ArePairs (length (store_trees store.old)) pairs.now }
+        × AreFacts (modes_of given.now.rules.now) (store_trees store.old) js given.now.facts.now }
+    requires store { IsStore (modes_of given.now.rules.now) (rules_of given.now.rules.now)
+        store.old }
+    requires pairs { ArePairs (length (store_trees store.old)) given.now.pairs.now }
     requires shallow { AreShallow (map tree judgement.now.places.items) }
     requires env { env ≤ length store.old.binds.cells.items }
     requires quiet { (js : List JudgementOf) →
-        AreFacts (modes_of rules.now) (store_trees store.old) js facts.now →
-        IsQuiet budget
-        (asked_events (modes_of rules.now) (rules_of rules.now) pairs.now js store.old env levels
+        AreFacts (modes_of given.now.rules.now) (store_trees store.old) js given.now.facts.now →
+        IsQuiet bounds.budget
+        (asked_events (modes_of given.now.rules.now) (rules_of given.now.rules.now)
+        given.now.pairs.now js store.old env bounds.levels
         (judgement_of judgement.now)) }
     ensures grows { IfOk result
-        (λ r. Grows (modes_of rules.now) (rules_of rules.now) store.old store.new) }
+        (λ r. Grows (modes_of given.now.rules.now) (rules_of given.now.rules.now) store.old
+        store.new) }
     ensures answered { IfOk result (λ r. (js : List JudgementOf) →
-        AreFacts (modes_of rules.now) (store_trees store.old) js facts.now →
-        IsAnswered (modes_of rules.now) store.old store.new env (judgement_of judgement.now)
-        (first_given (asked_events (modes_of rules.now) (rules_of rules.now) pairs.now js store.old
-        env levels (judgement_of judgement.now))) r) }
+        AreFacts (modes_of given.now.rules.now) (store_trees store.old) js given.now.facts.now →
+        IsAnswered (modes_of given.now.rules.now) store.old store.new env
+        (judgement_of judgement.now)
+        (first_given (asked_events (modes_of given.now.rules.now) (rules_of given.now.rules.now)
+        given.now.pairs.now js store.old
+        env bounds.levels (judgement_of judgement.now))) r) }
 {
     let terms = make_places(
-        alloc,
+        given.alloc,
         &mut store.arena,
         &store.binds,
         env,
-        roles(rules, judgement.form),
+        roles(given.rules, judgement.form),
         false,
         &judgement.places,
     )?;
-    let kept = copied(alloc, &terms)?;
-    let first = first_answer(
-        alloc,
-        rules,
-        facts,
-        pairs,
-        store,
-        judgement.form,
-        terms,
-        levels - 1,
-        budget,
-    )?;
+    let kept = copied(given.alloc, &terms)?;
+    let below = Bounds {
+        levels: bounds.levels - 1,
+        budget: bounds.budget,
+    };
+    let first = first_answer(given, store, judgement.form, terms, below)?;
     match first {
         None => Ok(Asked::Unanswered(kept)),
         Some(got) => {
@@ -88,7 +84,7 @@ pub(crate) fn ask(
                 &store.arena,
                 &mut store.binds,
                 env,
-                roles(rules, judgement.form),
+                roles(given.rules, judgement.form),
                 true,
                 &judgement.places,
                 &got,
@@ -105,47 +101,49 @@ pub(crate) fn ask(
 /// rule's last one, gives nothing: where its outputs then fit whatever is got for them, its goal
 /// has no answer, and is not walked.
 pub(crate) fn ask_known(
-    alloc: Global,
-    rules: &RuleSet,
-    facts: &[Fact],
-    pairs: &[Pair],
+    given: &Given,
     store: &mut Store,
     judgement: &Judgement,
     env: usize,
-    levels: usize,
-    budget: u64,
+    bounds: Bounds,
     known: bool,
 ) -> Result<Asked, NoMemory>
-    requires few { length facts.now < 2 ^ 32 }
+    requires few { length given.now.facts.now < 2 ^ 32 }
     requires facts { (js : List JudgementOf)
-        × AreFacts (modes_of rules.now) (store_trees store.old) js facts.now }
-    requires store { IsStore (modes_of rules.now) (rules_of rules.now) store.old }
-    requires pairs { ArePairs (length (store_trees store.old)) pairs.now }
+        × AreFacts (modes_of given.now.rules.now) (store_trees store.old) js given.now.facts.now }
+    requires store { IsStore (modes_of given.now.rules.now) (rules_of given.now.rules.now)
+        store.old }
+    requires pairs { ArePairs (length (store_trees store.old)) given.now.pairs.now }
     requires shallow { AreShallow (map tree judgement.now.places.items) }
     requires env { env ≤ length store.old.binds.cells.items }
     requires quiet { (js : List JudgementOf) →
-        AreFacts (modes_of rules.now) (store_trees store.old) js facts.now →
-        IsQuiet budget
-        (asked_events (modes_of rules.now) (rules_of rules.now) pairs.now js store.old env levels
+        AreFacts (modes_of given.now.rules.now) (store_trees store.old) js given.now.facts.now →
+        IsQuiet bounds.budget
+        (asked_events (modes_of given.now.rules.now) (rules_of given.now.rules.now)
+        given.now.pairs.now js store.old env bounds.levels
         (judgement_of judgement.now)) }
     requires silent { known ≡ true → (js : List JudgementOf) →
-        AreFacts (modes_of rules.now) (store_trees store.old) js facts.now →
-        IsSilent true budget
-        (last_events (modes_of rules.now) (rules_of rules.now) pairs.now js store.old env levels
+        AreFacts (modes_of given.now.rules.now) (store_trees store.old) js given.now.facts.now →
+        IsSilent true bounds.budget
+        (last_events (modes_of given.now.rules.now) (rules_of given.now.rules.now)
+        given.now.pairs.now js store.old env bounds.levels
         (judgement_of judgement.now)) }
     ensures grows { IfOk result
-        (λ r. Grows (modes_of rules.now) (rules_of rules.now) store.old store.new) }
+        (λ r. Grows (modes_of given.now.rules.now) (rules_of given.now.rules.now) store.old
+        store.new) }
     ensures answered { IfOk result (λ r. (js : List JudgementOf) →
-        AreFacts (modes_of rules.now) (store_trees store.old) js facts.now →
-        IsAnswered (modes_of rules.now) store.old store.new env (judgement_of judgement.now)
-        (first_given (asked_events (modes_of rules.now) (rules_of rules.now) pairs.now js store.old
-        env levels (judgement_of judgement.now))) r) }
+        AreFacts (modes_of given.now.rules.now) (store_trees store.old) js given.now.facts.now →
+        IsAnswered (modes_of given.now.rules.now) store.old store.new env
+        (judgement_of judgement.now)
+        (first_given (asked_events (modes_of given.now.rules.now) (rules_of given.now.rules.now)
+        given.now.pairs.now js store.old
+        env bounds.levels (judgement_of judgement.now))) r) }
 {
-    rules.facts();
-    let roles = roles(rules, judgement.form);
-    if known && facts.is_empty() && is_open(&store.binds, env, roles, &judgement.places) {
+    given.rules.facts();
+    let roles = roles(given.rules, judgement.form);
+    if known && given.facts.is_empty() && is_open(&store.binds, env, roles, &judgement.places) {
         let terms = make_places(
-            alloc,
+            given.alloc,
             &mut store.arena,
             &store.binds,
             env,
@@ -155,7 +153,5 @@ pub(crate) fn ask_known(
         )?;
         return Ok(Asked::Unanswered(terms));
     }
-    ask(
-        alloc, rules, facts, pairs, store, judgement, env, levels, budget,
-    )
+    ask(given, store, judgement, env, bounds)
 }

@@ -10,48 +10,47 @@ ghost use Rattle.sx_derive.specs.Store.{IsStore, store_trees};
 ghost use Rattle.sx_derive.specs.Walked.{events_in};
 ghost use Rattle.sx_arena.specs.Views.{rules_of, modes_of};
 
+use crate::bounds::Bounds;
+use crate::given::Given;
 use crate::store::Store;
 use crate::tasks::Ending;
 use crate::walk::{first_task, walk_uncounted};
-use std::alloc::Global;
-use sx_arena::{Fact, Pair};
-use sx_rules::RuleSet;
 use sx_term::NoMemory;
 
 /// The outputs of a goal's first answer, where it has one. No try is counted. Of what is made on
 /// the way only terms stay where there is an answer, and else nothing.
 pub(crate) fn first_answer(
-    alloc: Global,
-    rules: &RuleSet,
-    facts: &[Fact],
-    pairs: &[Pair],
+    given: &Given,
     store: &mut Store,
     form: u32,
     terms: Vec<usize>,
-    levels: usize,
-    budget: u64,
+    bounds: Bounds,
 ) -> Result<Option<Vec<usize>>, NoMemory>
-    requires few { length facts.now < 2 ^ 32 }
+    requires few { length given.now.facts.now < 2 ^ 32 }
     requires facts { (js : List Judgement)
-        × AreFacts (modes_of rules.now) (store_trees store.old) js facts.now }
-    requires store { IsStore (modes_of rules.now) (rules_of rules.now) store.old }
-    requires pairs { ArePairs (length (store_trees store.old)) pairs.now }
+        × AreFacts (modes_of given.now.rules.now) (store_trees store.old) js given.now.facts.now }
+    requires store { IsStore (modes_of given.now.rules.now) (rules_of given.now.rules.now)
+        store.old }
+    requires pairs { ArePairs (length (store_trees store.old)) given.now.pairs.now }
     requires terms { AreBelow (length (store_trees store.old)) terms.items }
     requires quiet { (js : List Judgement) →
-        AreFacts (modes_of rules.now) (store_trees store.old) js facts.now →
-        IsQuiet budget
-        (events_in (modes_of rules.now) (rules_of rules.now) pairs.now js store.old levels form
+        AreFacts (modes_of given.now.rules.now) (store_trees store.old) js given.now.facts.now →
+        IsQuiet bounds.budget
+        (events_in (modes_of given.now.rules.now) (rules_of given.now.rules.now) given.now.pairs.now
+        js store.old bounds.levels form
         terms.items) }
     ensures { IfOk result (λ r. (js : List Judgement) →
-        AreFacts (modes_of rules.now) (store_trees store.old) js facts.now →
-        IsFirstFound (modes_of rules.now) (rules_of rules.now) store.old store.new
-        (events_in (modes_of rules.now) (rules_of rules.now) pairs.now js store.old levels form
+        AreFacts (modes_of given.now.rules.now) (store_trees store.old) js given.now.facts.now →
+        IsFirstFound (modes_of given.now.rules.now) (rules_of given.now.rules.now) store.old
+        store.new
+        (events_in (modes_of given.now.rules.now) (rules_of given.now.rules.now) given.now.pairs.now
+        js store.old bounds.levels form
         terms.items) r) }
 {
     let mark = store.mark();
-    let tasks = first_task(alloc, form, terms, levels, mark)?;
+    let tasks = first_task(given.alloc, form, terms, bounds.levels, mark)?;
     let wanted: Option<Vec<usize>> = None;
-    let ending = walk_uncounted(alloc, rules, facts, pairs, store, &wanted, tasks, budget)?;
+    let ending = walk_uncounted(given, store, &wanted, tasks, bounds.budget)?;
     match ending {
         Ending::Found { head: _, outputs } => {
             store.cut_chains(mark);

@@ -137,18 +137,7 @@ pub(crate) fn descend_premises(
             }
             Premise::Holds(judgement) => {
                 let last = known && k + 1 == rule.premises.len();
-                match ask_known(
-                    given.alloc,
-                    rules,
-                    given.facts,
-                    given.pairs,
-                    store,
-                    judgement,
-                    env,
-                    bounds.levels,
-                    bounds.budget,
-                    last,
-                )? {
+                match ask_known(given, store, judgement, env, bounds, last)? {
                     Asked::Matched(next) => env = next,
                     Asked::Unanswered(terms) => {
                         let kid = premise_spot(rules, rule, judgement, terms, spot.path)?;

@@ -10,6 +10,7 @@ ghost use Rattle.sx_derive.specs.Tasks.{events_left, Piled, WantedBelow};
 ghost use Rattle.sx_derive.specs.Walked.{events_in, IsWalked, IsWalkedTo};
 ghost use Rattle.sx_arena.specs.Views.{rules_of, modes_of};
 
+use crate::given::Given;
 use crate::store::{Mark, Store};
 use crate::tasks::{Ending, Task};
 use crate::turns::{next_task, turn};
@@ -65,38 +66,48 @@ fn walk_tasks<L: Ledger>(
 
 /// How the walk of what is left of the tasks ends, where no try is counted.
 pub(crate) fn walk_uncounted(
-    alloc: Global,
-    rules: &RuleSet,
-    facts: &[Fact],
-    pairs: &[Pair],
+    given: &Given,
     store: &mut Store,
     wanted: &Option<Vec<usize>>,
     tasks: Vec<Task>,
     budget: u64,
 ) -> Result<Ending, NoMemory>
-    requires few { length facts.now < 2 ^ 32 }
+    requires few { length given.now.facts.now < 2 ^ 32 }
     requires facts { (js : List Judgement)
-        × AreFacts (modes_of rules.now) (store_trees store.old) js facts.now }
-    requires store { IsStore (modes_of rules.now) (rules_of rules.now) store.old }
-    requires pairs { ArePairs (length (store_trees store.old)) pairs.now }
+        × AreFacts (modes_of given.now.rules.now) (store_trees store.old) js given.now.facts.now }
+    requires store { IsStore (modes_of given.now.rules.now) (rules_of given.now.rules.now)
+        store.old }
+    requires pairs { ArePairs (length (store_trees store.old)) given.now.pairs.now }
     requires wanted { WantedBelow (length (store_trees store.old)) wanted.now }
-    requires tasks { Piled (modes_of rules.now) (rules_of rules.now)
-        (length facts.now + length (rules_of rules.now)) store.old tasks.items store.old }
+    requires tasks { Piled (modes_of given.now.rules.now) (rules_of given.now.rules.now)
+        (length given.now.facts.now + length (rules_of given.now.rules.now)) store.old tasks.items
+        store.old }
     ensures { IfOk result (λ ending. (js : List Judgement) →
-        AreFacts (modes_of rules.now) (store_trees store.old) js facts.now →
-        IsWalkedTo (modes_of rules.now) (rules_of rules.now) store.old store.new wanted.now budget
-        (events_left (modes_of rules.now) (rules_of rules.now) pairs.now js store.old tasks.items)
+        AreFacts (modes_of given.now.rules.now) (store_trees store.old) js given.now.facts.now →
+        IsWalkedTo (modes_of given.now.rules.now) (rules_of given.now.rules.now) store.old store.new
+        wanted.now budget
+        (events_left (modes_of given.now.rules.now) (rules_of given.now.rules.now)
+        given.now.pairs.now js store.old tasks.items)
         ending) }
 {
     let mut tasks = tasks;
     let mut left = budget;
-    while let Some(task) = next_task(rules, facts, &mut tasks) {
+    while let Some(task) = next_task(given.rules, given.facts, &mut tasks) {
         if left == 0 {
             return Ok(Ending::Spent);
         }
         left -= 1;
         store.cut(task.mark);
-        match turn(alloc, rules, facts, pairs, store, wanted, task, &mut tasks) {
+        match turn(
+            given.alloc,
+            given.rules,
+            given.facts,
+            given.pairs,
+            store,
+            wanted,
+            task,
+            &mut tasks,
+        ) {
             Err(e) => return Err(e),
             Ok(None) => {}
             Ok(Some(ending)) => return Ok(ending),

@@ -22,20 +22,20 @@ use Rattle.sx_derive.proofs.ask.ask_known.Goals as goal
 
 pub returns-then-is_open-clause-grows : goal.returns-then-is_open-clause-grows
 returns-then-is_open-clause-grows c =
-    let m = modes_of c.args.rules.now in
-    let rs = rules_of c.args.rules.now in
+    let m = modes_of c.args.given.now.rules.now in
+    let rs = rules_of c.args.given.now.rules.now in
     let s = c.args.store.now in
     let t : Store = record { arena = c.make_places.new.arena; binds = s.binds; kids = s.kids; frames = s.frames } in
     let j = judgement_of c.args.judgement.now in
     let S = filled (env_at (store_envs s) c.args.env) in
     let held : AreHeld s.arena t.arena c.in_ok-terms.terms.items (inputs_of m (judgement_instance S j)) =
     held_as _ _ _ _ _ (λ i. selected false (c.roles-roles.ensures i) (map (instance S) (map tree (c.deref-then-is_open.ensures.value i)))) c.in_ok-terms.ensures in
-    made_grows m rs c.args.pairs.now s t c.args.env c.args.levels c.args.budget j c.in_ok-terms.terms.items c.requires.store c.requires.pairs c.requires.env held refl refl refl
+    made_grows m rs c.args.given.now.pairs.now s t c.args.env c.args.bounds.levels c.args.bounds.budget j c.in_ok-terms.terms.items c.requires.store c.requires.pairs c.requires.env held refl refl refl
 
 pub returns-then-is_open-clause-answered : goal.returns-then-is_open-clause-answered
 returns-then-is_open-clause-answered c =
-    let m = modes_of c.args.rules.now in
-    let rs = rules_of c.args.rules.now in
+    let m = modes_of c.args.given.now.rules.now in
+    let rs = rules_of c.args.given.now.rules.now in
     let s = c.args.store.now in
     let t : Store = record { arena = c.make_places.new.arena; binds = s.binds; kids = s.kids; frames = s.frames } in
     let j = judgement_of c.args.judgement.now in
@@ -43,13 +43,13 @@ returns-then-is_open-clause-answered c =
     let held : AreHeld s.arena t.arena c.in_ok-terms.terms.items (inputs_of m (judgement_instance S j)) =
     held_as _ _ _ _ _ (λ i. selected false (c.roles-roles.ensures i) (map (instance S) (map tree (c.deref-then-is_open.ensures.value i)))) c.in_ok-terms.ensures in
     λ js are.
-    let none = no_facts m (store_trees s) js c.args.facts.now are (let e : length c.args.facts.now ≡ 0 = grind (arith, nat_tests, c.is_empty.ensures, c.if-is_empty.true) in e) in
-    let fit = sorted_fit (shapes_in c.args.rules.now) (forms_in c.args.rules.now) rs c.facts.ensures.sorted in
+    let none = no_facts m (store_trees s) js c.args.given.now.facts.now are (let e : length c.args.given.now.facts.now ≡ 0 = grind (arith, nat_tests, c.is_empty.ensures, c.if-is_empty.true) in e) in
+    let fit = sorted_fit (shapes_in c.args.given.now.rules.now) (forms_in c.args.given.now.rules.now) rs c.facts.ensures.sorted in
     let all_open = (c.is_open.ensures (store_trees s) c.requires.store.binds).0 c.if-is_open.true in
     let l : length (map tree c.args.judgement.now.places.items) ≡ length (m j.form) =
     length-map c.args.judgement.now.places.items tree ∙ sym (ap length c.deref.ensures.value) ∙ all_open.0 ∙ ap length c.roles-roles.ensures in
     let all : IsOpen (env_at (store_envs s) c.args.env) (selected true (m j.form) (map tree c.args.judgement.now.places.items)) =
     subst (λ (ts : List Tree). IsOpen (env_at (store_envs s) c.args.env) ts) (λ i. selected true (c.roles-roles.ensures i) (map tree (c.deref.ensures.value i))) all_open.1 in (
       record { below = held.within; are = held.are },
-      last_unanswered m rs (hyps_in c.args.pairs.now s js) none fit j (env_at (store_envs s) c.args.env) c.args.levels c.args.budget l all (c.requires.silent c.if-known.true js are),
+      last_unanswered m rs (hyps_in c.args.given.now.pairs.now s js) none fit j (env_at (store_envs s) c.args.env) c.args.bounds.levels c.args.bounds.budget l all (c.requires.silent c.if-known.true js are),
     )
