@@ -3,9 +3,11 @@ pub mod Filling
 pub mod Fitting
 pub mod Growing
 pub mod RuleGrammars
+pub mod Further
 pub mod Numbers
 pub mod Copied
 pub mod TextReading
+pub mod AmongNames
 pub mod TreeTexts
 pub mod SameReadings
 pub mod OneReasons

@@ -25,7 +25,9 @@ use Rattle.sx_forest.specs.Fitting.{HaveNames}
 use Rattle.sx_forest.specs.Names.{IsMarked, names_in, AddsEach, AddsFront}
 use Rattle.sx_forest.proofs.Fits.{readings_marked, readings_few}
 use Rattle.sx_forest.proofs.Naming.{each_long}
-use Rattle.sx_notation.specs.ReadText.{IsKnownCut, IsRead}
+use Rattle.sx_notation.specs.declared.notation_error.NotationError.{NotationError}
+use Rattle.sx_notation.specs.declared.notation_error.NotationError.TheVariants.{Memory, NotUtf8, Notation, Token as BadTokens, Grammar, Read, Rules}
+use Rattle.sx_notation.specs.ReadText.{IsKnownCut, IsRead, IsUncut, IsRefused}
 
 -- what follows of an error that is passed on
 pub err_if : {T E : Type 0} (r : Result T E) (P Q : E → Type 0) → IsErrAnd r P → ((e : E) → P e → Q e) → IfErr r Q
@@ -63,16 +65,30 @@ pub answer_at : (p : Parts) (stems : Stems) (sort : Sort) (r : Reading) (items h
     IsAnswer (numbered p) (plain_tokens stems here) (number_of sort) (only r) → IsAnswer (numbered p) (plain_tokens stems ts) (number_of sort) (only r)
 answer_at p stems sort r items here ts was same answer = subst (λ l. IsAnswer (numbered p) (plain_tokens stems l) (number_of sort) (only r)) (was ∙ sym same) answer
 
+-- a line without tokens is refused
+pub uncut_refused : (p : Parts) (stems : Stems) (sort : Sort) (line : Text) (number : ℕ) (e : NotationError) → IsUncut p stems line number e → IsRefused p stems sort line number e
+uncut_refused p stems sort line number Memory h = tt
+uncut_refused p stems sort line number (NotUtf8 place) h = absurd h
+uncut_refused p stems sort line number (Notation at kind) h = h
+uncut_refused p stems sort line number (BadTokens at e) h = h
+uncut_refused p stems sort line number (Grammar e) h = absurd h
+uncut_refused p stems sort line number (Read at e) h = absurd h
+uncut_refused p stems sort line number (Rules e v) h = absurd h
+
 module _ (p : Parts) (stems : Stems) (line : Text) (ts : List Token) (known : IsKnownCut p stems line ts) where
   pub few_tokens : length ts ≤ 10000
   few_tokens = as_many_tokens ts 10000 known.0.1
+
+  -- each metavariable is `~` and a name
+  pub tokens_named : HaveNames ts
+  tokens_named = named_tokens ts (named_pieces known.0.2)
 
   pub known_tokens : AreKnown (literals_of p) stems ts
   known_tokens = cut_known stems ts known.0.2 (λ t there. stem_at stems ts t known.1 there)
 
   module _ (sort : Sort) (r : Reading) (answer : IsAnswer (numbered p) (plain_tokens stems ts) (number_of sort) (only r)) where
     pub is_marked : IsMarked ts r
-    is_marked = readings_marked (numbered p) stems ts (number_of sort) 0 0 (length (plain_tokens stems ts)) r (named_tokens ts (named_pieces known.0.2)) answer.1.0
+    is_marked = readings_marked (numbered p) stems ts (number_of sort) 0 0 (length (plain_tokens stems ts)) r tokens_named answer.1.0
 
     few_names : length (names_in ts r) ≤ 10000
     few_names =

@@ -7,5 +7,6 @@ pub mod Language
 pub mod WhyUnread
 pub mod OneReason
 pub mod ReadText
+pub mod ReadAmong
 pub mod ReadLaws
 pub mod Directives

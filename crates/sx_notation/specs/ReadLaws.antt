@@ -8,6 +8,7 @@ use Rattle.sx_grammar.specs.Tables.{literals_of}
 use Rattle.sx_earley.specs.Tokens.{Stems}
 use Rattle.sx_print.specs.Cut.{HasLexemes}
 use Rattle.sx_notation.specs.ReadText.{IsRead}
+use Rattle.sx_notation.specs.ReadAmong.{IsReadAmong}
 
 -- each lexeme of it is a token of its kind, and none of the literals
 abbrev pub ReadsHaveLexemes : Type 0
@@ -18,3 +19,8 @@ ReadsHaveLexemes = (p : Parts) (stems : Stems) (sort : Sort) (line : Text) (old 
 abbrev pub ReadsAreShallow : Type 0
 ReadsAreShallow = (p : Parts) (stems : Stems) (sort : Sort) (line : Text) (old new : List Text)
     (t : Tree) → IsRead p stems sort line old new t → depth_of t ≤ 1000
+
+-- what is read with variables among some names is read so without a further name
+abbrev pub AmongIsRead : Type 0
+AmongIsRead = (p : Parts) (stems : Stems) (sort : Sort) (line : Text) (names : List Text)
+    (t : Tree) → IsReadAmong p stems sort line names t → IsRead p stems sort line names names t

@@ -58,6 +58,14 @@ abbrev pub HasUnknown : Parts → Stems → (line : Text) → Type 0
 HasUnknown p stems line = (ts : List Token) × (place : ℕ) × IsCut p line ts ×
     IsFirstUnknown stems ts (Some place)
 
+-- why the line with this number has no tokens whose stems are known, out of memory aside
+abbrev pub IsUncut : Parts → Stems → (line : Text) → (number : ℕ) → NotationError → Type 0
+IsUncut p stems line number Memory = Unit {0}
+IsUncut p stems line number (BadTokens at e) = (at ≡ number) × HasDefect p line e
+IsUncut p stems line number (Notation at kind) = (at ≡ number) × (kind ≡ Variable) ×
+    HasUnknown p stems line
+IsUncut p stems line number _ = ⊥
+
 -- why the line with this number is refused, out of memory aside
 abbrev pub IsRefused : Parts → Stems → Sort → (line : Text) → (number : ℕ) → NotationError → Type 0
 IsRefused p stems sort line number Memory = Unit {0}

@@ -2,7 +2,7 @@
 
 ghost use Rattle.sx_notation.specs.OneReason.{OneReason};
 ghost use Rattle.sx_notation.specs.RuleLaws.{ProductionsStay, FormsFollow, SortedGoalsFit};
-ghost use Rattle.sx_notation.specs.ReadLaws.{ReadsHaveLexemes, ReadsAreShallow};
+ghost use Rattle.sx_notation.specs.ReadLaws.{ReadsHaveLexemes, ReadsAreShallow, AmongIsRead};
 
 /// The productions of a grammar keep their labels in the grammar by which rules are read. The forms
 /// follow them in order, each with parts of the sorts of its places, and then three productions for
@@ -23,6 +23,12 @@ pub fn sorted_goals_fit()
 pub fn read_terms_are_usable()
     ensures lexemes { ReadsHaveLexemes }
     ensures shallow { ReadsAreShallow }
+{}
+
+/// What is read with variables among some names is what `read_text` reads after these names, and it
+/// adds none.
+pub fn read_among_is_read()
+    ensures { AmongIsRead }
 {}
 
 /// Tokens have one reason why they have not one reading, and the two readings that it shows are the

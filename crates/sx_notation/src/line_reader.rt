@@ -12,9 +12,12 @@ ghost use Rattle.sx_earley.specs.Completed.{IsSort, number_of};
 ghost use Rattle.sx_forest.specs.Readings.{plain_reading};
 ghost use Rattle.sx_notation.specs.WhyUnread.{IsReadError};
 ghost use Rattle.sx_notation.specs.declared.notation_error.NotationError.TheVariants.{Memory};
-ghost use Rattle.sx_notation.specs.ReadText.{IsCut, IsKnownCut, IsRead, IsRefused, IsUnreadLine};
-ghost use Rattle.sx_notation.specs.ReadText.{of_token_error};
+ghost use Rattle.sx_notation.specs.ReadText.{IsCut, IsKnownCut, IsRead, IsUncut, IsRefused};
+ghost use Rattle.sx_notation.specs.ReadText.{IsUnreadLine, of_token_error};
+ghost use Rattle.sx_notation.specs.ReadAmong.{IsNamedCut, IsReadAmong, IsRefusedAmong};
 
+use crate::named_tokens::are_named;
+use crate::names::copy_names;
 use crate::notation_error::NotationError;
 use crate::telling::why_unread;
 use std::alloc::Global;
@@ -87,8 +90,8 @@ fn cut_line(
 ) -> Result<Vec<Token>, NotationError>
     requires { length line.now ≤ 262144 }
     ensures cut { IfOk result (λ ts. IsCut by.now.parts line.now ts.items) }
-    ensures refused { IfErr result (λ e. (stems : Stems) (sort : Sort) →
-        IsRefused by.now.parts stems sort line.now number e) }
+    ensures refused { IfErr result (λ e. (stems : Stems) →
+        IsUncut by.now.parts stems line.now number e) }
 {
     let literals = &by.literals;
     match literals.tokens(alloc, line, true) {
@@ -106,8 +109,7 @@ fn known_tokens(
 ) -> Result<Vec<Token>, NotationError>
     requires { length line.now ≤ 262144 }
     ensures known { IfOk result (λ ts. IsKnownCut by.now.parts by.now.stems line.now ts.items) }
-    ensures refused { IfErr result (λ e. (sort : Sort) →
-        IsRefused by.now.parts by.now.stems sort line.now number e) }
+    ensures refused { IfErr result (IsUncut by.now.parts by.now.stems line.now number) }
 {
     let tokens = cut_line(alloc, by, line, number)?;
     let stems = &by.stems;
@@ -117,6 +119,41 @@ fn known_tokens(
             line: number,
             kind: Kind::Variable,
         }),
+    }
+}
+
+/// The same, where the name of each metavariable is among the names, of which `copy` is a copy.
+fn named_tokens(
+    alloc: Global,
+    by: &LineReader,
+    line: &[u8],
+    number: u32,
+    names: &Vars,
+    copy: &mut Vars,
+) -> Result<Vec<Token>, NotationError>
+    requires short { length line.now ≤ 262144 }
+    requires room { length names.now + 10000 < 2 ^ 32 }
+    requires same { copy.old ≡ names.now }
+    ensures named { IfOk result (λ ts.
+        IsNamedCut by.now.parts by.now.stems names.now line.now ts.items) }
+    ensures same { IfOk result (λ _. copy.new ≡ names.now) }
+    ensures refused { IfErr result (λ e. (sort : Sort) →
+        IsRefusedAmong by.now.parts by.now.stems sort line.now names.now number e) }
+{
+    let tokens = known_tokens(alloc, by, line, number)?;
+    match are_named(alloc, names, copy, &tokens) {
+        Ok(true) => Ok(tokens),
+        Ok(false) => {
+            drop(tokens);
+            Err(NotationError::Notation {
+                line: number,
+                kind: Kind::Variable,
+            })
+        }
+        Err(_) => {
+            drop(tokens);
+            Err(NotationError::Memory)
+        }
     }
 }
 
@@ -192,6 +229,33 @@ impl<'a> LineReader<'a> {
         let tokens = known_tokens(alloc, self, line, number)?;
         let reading = reading_of(alloc, self, sort, &tokens, line.len(), number)?;
         let term = strip(alloc, &reading, &tokens, vars)?;
+        Ok(term)
+    }
+
+    /// The term of the line's only reading as the sort, whose variables have the numbers of their
+    /// names among these. The line is refused, with its number, where it has no tokens, where the
+    /// stem of a metavariable is unknown or its name is none of these, and where its tokens have
+    /// not one reading, in this order.
+    pub fn read_among(
+        &self,
+        alloc: Global,
+        sort: Sort,
+        line: &[u8],
+        number: u32,
+        names: &Vars,
+    ) -> Result<Term, NotationError>
+        requires sort { IsSort self.now.parts sort }
+        requires short { length line.now ≤ 262144 }
+        requires room { length names.now + 10000 < 2 ^ 32 }
+        ensures read { IfOk result (λ t.
+            IsReadAmong self.now.parts self.now.stems sort line.now names.now (tree t)) }
+        ensures refused { IfErr result
+            (IsRefusedAmong self.now.parts self.now.stems sort line.now names.now number) }
+    {
+        let mut copy = copy_names(alloc, names)?;
+        let tokens = named_tokens(alloc, self, line, number, names, &mut copy)?;
+        let reading = reading_of(alloc, self, sort, &tokens, line.len(), number)?;
+        let term = strip(alloc, &reading, &tokens, &mut copy)?;
         Ok(term)
     }
 }

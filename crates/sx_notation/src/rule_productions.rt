@@ -1,10 +1,11 @@
 //! The grammar by which rules are read.
 
-ghost use Rattle.std.specs.Prelude.{◌≡◌, ◌++◌, ◌∷◌, [], IfOk, OnOk, map, codes};
+ghost use Rattle.std.specs.Prelude.{◌≡◌, ◌++◌, ◌∷◌, [], List, IfOk, OnOk, map, length, codes};
 ghost use Rattle.std.specs.Str.{IsUtf8};
-ghost use Rattle.sx_grammar.specs.Parts.{line, parts};
+ghost use Rattle.sx_grammar.specs.Parts.{Parts, line, parts};
 ghost use Rattle.sx_grammar.specs.Tables.{IsWithinLimits, IsMade};
 ghost use Rattle.sx_directives.specs.Spelling.{lex_text};
+ghost use Rattle.sx_directives.specs.declared.rows.FormLine.{FormLine as FormData};
 ghost use Rattle.sx_notation.specs.RuleParts.{symbol_for, judgement_sort, form_line, apart_line};
 ghost use Rattle.sx_notation.specs.RuleParts.{apart_lines, rule_parts};
 
@@ -145,5 +146,63 @@ pub fn rule_grammar(
     ensures { IsMade (rule_parts grammar.now.parts forms.now) result }
 {
     let parts = rule_parts(alloc, grammar.parts(), forms)?;
+    Grammar::make(alloc, parts)
+}
+
+/// Adds equal productions.
+fn add_copies(
+    alloc: Global,
+    productions: &[Production],
+    into: &mut Vec<Production>,
+) -> Result<(), NoMemory>
+    ensures { OnOk result (map line into.new.items ≡ map line into.old.items ++ map line
+        productions.now) }
+{
+    for i in 0..productions.len() {
+        let production = &productions[i];
+        into.push(production.copy(alloc)?)?;
+    }
+    Ok(())
+}
+
+/// The parts of the one, with a sort of judgements and the last productions of the other: those of
+/// so many forms, and three for `!=`.
+fn further_parts(
+    alloc: Global,
+    from: &GrammarParts,
+    by_rules: &GrammarParts,
+    forms: usize,
+) -> Result<GrammarParts, NoMemory>
+    requires { (lines : List FormData) × (p : Parts) ×
+        (parts by_rules.now ≡ rule_parts p lines) × (length lines ≡ forms) }
+    ensures { IfOk result (λ r. (lines : List FormData) (p : Parts) →
+        parts by_rules.now ≡ rule_parts p lines → length lines ≡ forms →
+        parts r ≡ rule_parts (parts from.now) lines) }
+{
+    let mut all = from.copy(alloc)?;
+    all.sorts.push(judgement_sort(alloc)?)?;
+    let first = by_rules.productions.len() - (forms + 3);
+    let further = by_rules.productions.split_at(first).1;
+    add_copies(alloc, further, &mut all.productions)?;
+    Ok(all)
+}
+
+/// The grammar by which the rules of an extension are read: that of `rule_grammar`, where the
+/// productions of the extended grammar stand in place of those before the productions of its forms,
+/// of which there are so many. Or the first refusal that holds of its parts.
+pub fn extended_rule_grammar(
+    alloc: Global,
+    grammar: &Grammar,
+    rule_grammar: &Grammar,
+    forms: usize,
+) -> Result<Grammar, GrammarError>
+    requires { (lines : List FormData) × (p : Parts) ×
+        (rule_grammar.now.parts ≡ rule_parts p lines) × (length lines ≡ forms) ×
+        IsWithinLimits (rule_parts grammar.now.parts lines) }
+    ensures { (lines : List FormData) (p : Parts) →
+        rule_grammar.now.parts ≡ rule_parts p lines → length lines ≡ forms →
+        IsMade (rule_parts grammar.now.parts lines) result }
+{
+    let parts = further_parts(alloc, grammar.parts(), rule_grammar.parts(), forms)?;
     Grammar::make(alloc, parts)
 }

@@ -2,13 +2,14 @@ use Rattle.std.proofs.Common.{[], sym, subst}
 use Rattle.sx_term.specs.Term.{tree}
 use Rattle.sx_forest.specs.Readings.{plain_reading}
 use Rattle.sx_notation.specs.ReadText.{IsRefused}
-use Rattle.sx_notation.proofs.TextReading.{err_if, known_at, answer_at, is_marked, has_room, grown, grown_front, is_read}
+use Rattle.sx_notation.proofs.TextReading.{err_if, uncut_refused, known_at, answer_at, is_marked, has_room, grown, grown_front, is_read}
 use Rattle.sx_notation.proofs.line_reader.LineReader.read_line.Goals as goal
 
 pub returns-in_err-tokens-clause-refused : goal.returns-in_err-tokens-clause-refused
 returns-in_err-tokens-clause-refused c =
     let P = IsRefused c.args.self.now.parts c.args.self.now.stems c.args.sort c.args.line.now c.args.number in
-    err_if c.from_residual.result _ P c.from_residual.ensures.1 (λ e is. subst P (sym is) (c.in_err-tokens.ensures.refused c.args.sort))
+    err_if c.from_residual.result _ P c.from_residual.ensures.1 (λ e is. subst P (sym is)
+    (uncut_refused c.args.self.now.parts c.args.self.now.stems c.args.sort c.args.line.now c.args.number _ c.in_err-tokens.ensures.refused))
 
 pub strip-requires-clause-marked : goal.strip-requires-clause-marked
 strip-requires-clause-marked c =
