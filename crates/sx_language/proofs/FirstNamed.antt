@@ -1,10 +1,13 @@
 -- The names of the first rule with a name, found one by one.
-use Rattle.std.proofs.Common.{◌≡◌, ℕ, zero, suc, ◌+◌, ◌<◌, ◌≤◌, true, false, List, [], ◌∷◌, length, drop, get_or, map, slice_get, refl, ap, ◌∙◌, sym, add-one}
+use Rattle.std.proofs.Common.{◌≡◌, ℕ, zero, suc, Bool, ◌++◌, inl, inr, if◌then◌else◌, arith, ◌+◌, ◌<◌, ◌≤◌, true, false, List, [], ◌∷◌, length, drop, get_or, map, slice_get, refl, ap, ◌∙◌, sym, add-one}
 use Rattle.std.specs.Prelude.{unwrap_or}
 use Rattle.std.specs.Str.{bytes_eq}
 use Rattle.std.proofs.lemmas.List.{drop_more, drop_all}
+use Rattle.std.proofs.lemmas.Slice.Eq.{bytes_eq-Decides}
 use Rattle.sx_grammar.specs.Grammar.{Text}
+use Rattle.sx_rules.specs.Good.{IsAmong}
 use Rattle.sx_outline.specs.declared.rule_lines.RuleLines.{RuleLines}
+use Rattle.sx_language.specs.Laws.{UnboundIsLater}
 use Rattle.sx_language.specs.States.{names_in}
 
 abbrev titles : List RuleLines → List Text
@@ -52,3 +55,19 @@ module _ (rs : List RuleLines) (ns : List (List Text)) (i : ℕ) (r : RuleLines)
 -- no rule has the name
 pub none_named : (rs : List RuleLines) (ns : List (List Text)) (i : ℕ) (name : Text) → length rs ≤ i → names_in (titles (drop i rs)) (drop i ns) name ≡ names_in (titles rs) ns name → names_in (titles rs) ns name ≡ []
 none_named rs ns i name past before = sym before ∙ ap (λ l. names_in (titles l) (drop i ns) name) (drop_all i rs past)
+
+-- the name is none of those before
+not_before : (before known : List Text) (names later : List (List Text)) (name : Text) → length names ≡ length before → (IsAmong name before → ⊥) →
+    names_in (before ++ known) (names ++ later) name ≡ names_in known later name
+not_before [] known [] later name many new = refl
+not_before [] known (n ∷ ns) later name many new = absurd (omega (arith, many))
+not_before (t ∷ ts) known [] later name many new = absurd (omega (arith, many))
+not_before (t ∷ ts) known (n ∷ ns) later name many new = by (bytes_eq t name) refl (not_before ts known ns later name (omega (arith, many)) (λ h. new (inr h)))
+  where
+    by : (b : Bool) → bytes_eq t name ≡ b → names_in (ts ++ known) (ns ++ later) name ≡ names_in known later name →
+        (if b then n else names_in (ts ++ known) (ns ++ later) name) ≡ names_in known later name
+    by true e rest = absurd (new (inl ((bytes_eq-Decides t name).0 e)))
+    by false e rest = rest
+
+pub unbound_is_later : UnboundIsLater
+unbound_is_later before known names later name variable many new = ap (λ (ns : List Text). slice_get ns variable) (not_before before known names later name many new)

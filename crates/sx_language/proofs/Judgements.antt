@@ -11,7 +11,7 @@ use Rattle.sx_term.specs.declared.mark.Mark.{Mark}
 use Rattle.sx_term.specs.declared.mark.Mark.TheVariants as marks
 use Rattle.sx_term.specs.declared.sort.Sort.{Sort}
 use Rattle.sx_term.specs.declared.sort.Sort.TheVariants as TheSort
-use Rattle.sx_term.specs.Tree.{node, listed}
+use Rattle.sx_term.specs.Tree.{Tree, node, listed}
 use Rattle.sx_term.proofs.Kids.{forest-listed}
 use Rattle.sx_token.specs.declared.token.Token.{Token}
 use Rattle.sx_grammar.specs.Grammar as plain
@@ -25,12 +25,14 @@ use Rattle.sx_grammar.proofs.Finding.{at_contains, is_head, in_flat_map, mapped_
 use Rattle.sx_earley.specs.Completed.{IsSort}
 use Rattle.sx_earley.specs.Tokens.{Stems, sort_of, found_stem, shown, plain_tokens, stem_of}
 use Rattle.sx_rules.specs.Rules.{Premise, holds, apart}
+use Rattle.sx_rules.specs.Views.{FormData}
 use Rattle.sx_directives.specs.declared.rows.FormLine.{FormLine}
 use Rattle.sx_directives.specs.declared.rows.VarLine.{VarLine}
+use Rattle.sx_notation.specs.ReadText.{IsRead}
 use Rattle.sx_notation.specs.RuleParts.{judgement_sort, form_line, apart_line, apart_lines, rule_parts}
 use Rattle.sx_notation.proofs.Growing.{got_behind-at}
 use Rattle.sx_notation.proofs.RuleGrammars.{productions_stay}
-use Rattle.sx_language.specs.RuleLine.{Reader, judgements, label_of, Says, CanRead}
+use Rattle.sx_language.specs.RuleLine.{Reader, judgements, subject_sort, label_of, Says, CanRead}
 use Rattle.sx_language.specs.States.{IsSortNamed, AreStems}
 
 -- a production of a grammar has one of its sorts
@@ -163,12 +165,12 @@ module _ (p : Parts) (fs : List FormLine) (is : IsGrammar p) where
       let none : pair_of (numbered (rule_parts p fs)) (length p.sorts) ≡ None = ap plain.brackets_of here in
       absurd (none-some pair (sym none ∙ e))
 
-  module _ (vs : List VarLine) (stems : Stems) (are : AreStems p vs stems) (ts : List Token) (ns : List Text) where
+  module _ (vs : List VarLine) (stems : Stems) (forms : List FormData) (are : AreStems p vs stems) (as_many : length forms ≡ length fs) (ts : List Token) (ns : List Text) where
     abbrev by_rules : Reader
-    by_rules = record { parts = rule_parts p fs; stems = stems; forms = length fs }
+    by_rules = record { parts = rule_parts p fs; stems = stems; forms = forms }
 
     labelled : (label : ℕ) → length p.productions ≤ label → label_of by_rules (label - length p.productions) ≡ label
-    labelled label le = omega (arith, many, le)
+    labelled label le = omega (arith, many, as_many, le)
 
     says_node : (label : ℕ) (r : Production) (from to : ℕ) (kids : Readings) → slice_get (numbered (rule_parts p fs)).productions label ≡ Some r → r.sort ≡ length p.sorts
         → ReadsAll (numbered (rule_parts p fs)) (plain_tokens stems ts) r.symbols from to kids → (q : Premise) × Says by_rules (node label (terms_of (plain_tokens stems ts) ns kids)) q
@@ -182,7 +184,7 @@ module _ (p : Parts) (fs : List FormLine) (is : IsGrammar p) where
             let here = labelled label (late label r at sort) in (
               holds (record { form = label - length p.productions; places = listed (terms_of (plain_tokens stems ts) ns kids) }),
               (
-                lt,
+                omega (arith, lt, as_many),
                 ap (λ l. node l (terms_of (plain_tokens stems ts) ns kids)) (sym here)
                     ∙ ap (node (label_of by_rules (label - length p.productions))) (sym (forest-listed (terms_of (plain_tokens stems ts) ns kids))),
               ),
@@ -193,14 +195,14 @@ module _ (p : Parts) (fs : List FormLine) (is : IsGrammar p) where
             let total : length (numbered (rule_parts p fs)).productions ≡ length (rule_parts p fs).productions = length-map (rule_parts p fs).productions (numbered_line (names (rule_parts p fs))) in
             let two = two_parts (numbered (rule_parts p fs)) (plain_tokens stems ts) all (last_pair label r at (omega (arith, past, le))) in
             let kind = label - length p.productions - length fs in
-            let number : length fs + kind ≡ label - length p.productions = omega (arith, past) in
-            let here : label_of by_rules (length fs + kind) ≡ label = ap (label_of by_rules) number ∙ labelled label le in (
+            let number : length forms + kind ≡ label - length p.productions = omega (arith, past, as_many) in
+            let here : label_of by_rules (length forms + kind) ≡ label = ap (label_of by_rules) number ∙ labelled label le in (
               apart (term_of (plain_tokens stems ts) ns two.0) (term_of (plain_tokens stems ts) ns two.1),
               (
                 kind,
                 omega (arith, within, total, many, past, le),
                 ap (λ l. node l (terms_of (plain_tokens stems ts) ns kids)) (sym here)
-                    ∙ ap (λ k. node (label_of by_rules (length fs + kind)) (terms_of (plain_tokens stems ts) ns k)) two.2,
+                    ∙ ap (λ k. node (label_of by_rules (length forms + kind)) (terms_of (plain_tokens stems ts) ns k)) two.2,
               ),
             )
 
@@ -218,19 +220,23 @@ module _ (p : Parts) (fs : List FormLine) (is : IsGrammar p) where
       let here : length (rule_parts p fs).sorts - 1 ≡ length p.sorts + 0 = omega (arith, last_sort) in
       (omega (arith, last_sort), ap is_typed (got_behind-at p.sorts (judgement_sort ∷ []) (length (rule_parts p fs).sorts - 1) 0 here))
 
-  module _ (vs : List VarLine) (stems : Stems) (are : AreStems p vs stems) where
-    reader_can : CanRead (record { parts = rule_parts p fs; stems = stems; forms = length fs })
-    reader_can = record {
-      room = omega (arith, many);
-      sort = is_judgements;
-      says = λ text old new t read.
-          let here : length (rule_parts p fs).sorts - 1 ≡ length p.sorts = omega (arith, last_sort) in
-          let q = says vs stems are read.tokens new read.answer.1.0 here in
-          (q.0, subst (λ x. Says (record { parts = rule_parts p fs; stems = stems; forms = length fs }) x q.0) (sym read.term) q.1);
-    }
+  module _ (vs : List VarLine) (r : Reader) (are : AreStems p vs r.stems) (parts : r.parts ≡ rule_parts p fs) (as_many : length r.forms ≡ length fs) where
+    -- the reader, whose parts are those of the grammar of rules
+    same : r ≡ record { parts = rule_parts p fs; stems = r.stems; forms = r.forms }
+    same = λ i. record { parts = parts i; stems = r.stems; forms = r.forms }
 
--- the lines of rules can be read
-pub can_read : (p : Parts) (fs : List FormLine) (vs : List VarLine) (r : Reader) → IsGrammar p → AreStems p vs r.stems → r.parts ≡ rule_parts p fs → r.forms ≡ length fs → CanRead r
-can_read p fs vs r is are parts forms =
-    let e : r ≡ record { parts = rule_parts p fs; stems = r.stems; forms = length fs } = λ i. record { parts = parts i; stems = r.stems; forms = forms i } in
-    subst CanRead (sym e) (reader_can p fs is vs r.stems are)
+    pub reads_say : (text : Text) (old new : List Text) (t : Tree) → IsRead (rule_parts p fs) r.stems (judgements (rule_parts p fs)) text old new t →
+        (q : Premise) × Says (record { parts = rule_parts p fs; stems = r.stems; forms = r.forms }) t q
+    reads_say text old new t read =
+        let here : length (rule_parts p fs).sorts - 1 ≡ length p.sorts = omega (arith, last_sort) in
+        let q = says vs r.stems r.forms are as_many read.tokens new read.answer.1.0 here in
+        (q.0, subst (λ x. Says (record { parts = rule_parts p fs; stems = r.stems; forms = r.forms }) x q.0) (sym read.term) q.1)
+
+    room : length r.forms + 3 ≤ length (rule_parts p fs).productions
+    room = omega (arith, many, as_many)
+
+    -- the lines of rules can be read
+    pub can_read : ((form : ℕ) (sort : Sort) → subject_sort r.forms form ≡ Some sort → IsSort (rule_parts p fs) sort) → CanRead r
+    can_read subjects =
+        let reads : CanRead (record { parts = rule_parts p fs; stems = r.stems; forms = r.forms }) = record { room = room; sort = is_judgements; says = reads_say; subjects = subjects } in
+        subst CanRead (sym same) reads

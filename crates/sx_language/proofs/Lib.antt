@@ -1,4 +1,5 @@
 pub mod Saying
+pub mod Subjects
 pub mod Premising
 pub mod StemNames
 pub mod NamedSorts
@@ -8,7 +9,9 @@ pub mod Judgements
 pub mod KnownForms
 pub mod UsableRules
 pub mod MainForms
+pub mod FitForms
 pub mod Stating
+pub mod StemLines
 pub mod FirstNamed
 pub mod Stepwise
 pub mod OneGrammar
@@ -16,5 +19,6 @@ pub mod OneCut
 pub mod OneReading
 pub mod OneLine
 pub mod OneRules
+pub mod SortedReads
 pub mod OneOutline
 pub mod OneLanguage

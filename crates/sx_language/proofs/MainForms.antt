@@ -38,7 +38,7 @@ past_end (x ∷ xs) zero h = absurd (omega (arith, h))
 past_end (x ∷ xs) (suc n) h = past_end xs n (omega (arith, h))
 
 -- the place of a name leads to the first sort with it
-first_named : (ss : List SortLine) (name : Text) → slice_get ss (number_of (map (λ s. s.name) ss) name) ≡ find (λ s. bytes_eq s.name name) ss
+pub first_named : (ss : List SortLine) (name : Text) → slice_get ss (number_of (map (λ s. s.name) ss) name) ≡ find (λ s. bytes_eq s.name name) ss
 first_named ss name = by (first_at name (map (λ s. s.name) ss)) refl
   where
     by : (r : Option ℕ) → first_at name (map (λ s. s.name) ss) ≡ r → slice_get ss (number_of (map (λ s. s.name) ss) name) ≡ find (λ s. bytes_eq s.name name) ss
@@ -54,7 +54,7 @@ first_named ss name = by (first_at name (map (λ s. s.name) ss)) refl
 
 module _ (p : Parts) where
   -- the sorts of the places with a role
-  sorts_are : (role : Role) (ss : List FormSymbol) → sorts_with role (flat_map (places_of p) ss) ≡ map (sort_of p) (sorts_at role ss)
+  pub sorts_are : (role : Role) (ss : List FormSymbol) → sorts_with role (flat_map (places_of p) ss) ≡ map (sort_of p) (sorts_at role ss)
   sorts_are role [] = refl
   sorts_are role (Lit text ∷ ss) = by role (sorts_are role ss)
     where

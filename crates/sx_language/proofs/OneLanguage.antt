@@ -1,6 +1,7 @@
 -- A text states one language, or has one refusal, but for the two readings that it may show.
 use Rattle.std.proofs.Common.{◌≡◌, ◌≢◌, List, ◌⊎◌, inl, inr, length, map, refl, ap, ◌∙◌, sym, subst}
-use Rattle.std.specs.Prelude.{Option, Ok, Err}
+use Rattle.std.specs.Prelude.{Option, None, Ok, Err}
+use Rattle.sx_term.specs.Tree.{Tree}
 use Rattle.sx_term.specs.Sorts.{Shape}
 use Rattle.sx_grammar.specs.declared.grammar_error.GrammarError.{GrammarError}
 use Rattle.sx_grammar.specs.Grammar.{Text}
@@ -24,7 +25,7 @@ use Rattle.sx_notation.specs.declared.notation_error.NotationError.{NotationErro
 use Rattle.sx_notation.specs.declared.notation_error.NotationError.TheVariants.{Memory, NotUtf8, Notation, Token, Grammar, Read, Rules}
 use Rattle.sx_notation.specs.RuleParts.{rule_parts}
 use Rattle.sx_language.specs.RuleLine.{Reader}
-use Rattle.sx_language.specs.RuleTexts.{AreRules, IsFirstBad}
+use Rattle.sx_language.specs.RuleTexts.{AreBareRules, IsFirstBad}
 use Rattle.sx_language.specs.States.{IsReadable, forms_of, States, IsNoGrammar, HasNoGrammar, HasBadRule, name_unbound, IsNoRules, HasNoRuleSet, IsRefused}
 use Rattle.sx_language.specs.Laws.{SameLanguage, OneLanguage}
 use Rattle.sx_language.proofs.Stepwise.{AreAlike, Step, step_alike, step_none}
@@ -34,6 +35,13 @@ use Rattle.sx_language.proofs.OneRules.{rules_one, first_bad_one, rules_or_bad}
 use Rattle.sx_language.proofs.OneOutline.{outline_one, defect_one, outline_or_defect, parts_same, rule_parts_same, forms_same, reader_one}
 
 -- ---- rules
+
+abbrev no_bodies : Outline → List (Option Tree)
+no_bodies o = map (λ l. None) (map rule_data o.rules.items)
+
+-- the same of rules without bodies
+bare_one : (r : Reader) (ls : List RuleData) (ns ms : List (List Text)) (qs ws : List NamedRule) → AreBareRules r ls ns qs → AreBareRules r ls ms ws → (ns ≡ ms) × (qs ≡ ws)
+bare_one r ls ns ms qs ws h k = let same = rules_one r ls ns ms qs ws (map (λ l. None) ls) (map (λ l. None) ls) h k in (same.0, same.1)
 
 -- the refusal of rules, which is not want of memory
 no_rules : (o : Outline) (qs : List NamedRule) (e : RuleError) → IsNoRules o qs e → IsNoRuleSet (shapes_of (parts o.parts)) (forms_of o) qs e × (e ≢ rules.Memory)
@@ -83,7 +91,7 @@ module _ (name bytes : Text) where
   HasReader = (o : Outline) × (r : Reader) × IsReadable name bytes o r
 
   abbrev HasRules : Type 0
-  HasRules = (o : Outline) × (r : Reader) × (names : List (List Text)) × (qs : List NamedRule) × IsReadable name bytes o r × AreRules r (map rule_data o.rules.items) names qs
+  HasRules = (o : Outline) × (r : Reader) × (names : List (List Text)) × (qs : List NamedRule) × IsReadable name bytes o r × AreBareRules r (map rule_data o.rules.items) names qs
 
   abbrev ByReader : NotationError → Type 0
   ByReader = Step ByRuleLines HasRules ByRules
@@ -155,15 +163,15 @@ module _ (name bytes : Text) where
       (subst (λ (ls : List RuleData). IsFirstBad r ls e) (rules_there o q h.outlined k.outlined) bad)
 
   are_there : (o q : Outline) (r s : Reader) (names : List (List Text)) (qs : List NamedRule) → IsReadable name bytes o r → IsReadable name bytes q s →
-      AreRules r (map rule_data o.rules.items) names qs → AreRules s (map rule_data q.rules.items) names qs
+      AreBareRules r (map rule_data o.rules.items) names qs → AreBareRules s (map rule_data q.rules.items) names qs
   are_there o q r s names qs h k are =
-      subst (λ (t : Reader). AreRules t (map rule_data q.rules.items) names qs) (reader_one name bytes o q r s h k)
-      (subst (λ (ls : List RuleData). AreRules r ls names qs) (rules_there o q h.outlined k.outlined) are)
+      subst (λ (t : Reader). AreBareRules t (map rule_data q.rules.items) names qs) (reader_one name bytes o q r s h k)
+      (subst (λ (ls : List RuleData). AreBareRules r ls names qs) (rules_there o q h.outlined k.outlined) are)
 
   not_rule_lines : (e : NotationError) → ByRuleLines e → HasRules → ⊥
   not_rule_lines e h k =
       let bad = h.1 in
-      rules_or_bad k.1 (map rule_data k.0.rules.items) k.2 k.3 e h.0 k.5 (bad_there bad.0 k.0 bad.1 k.1 e bad.2 k.4 bad.3)
+      rules_or_bad k.1 (map rule_data k.0.rules.items) k.2 k.3 (no_bodies k.0) e h.0 k.5 (bad_there bad.0 k.0 bad.1 k.1 e bad.2 k.4 bad.3)
 
   -- ---- each is one
 
@@ -194,7 +202,7 @@ module _ (name bytes : Text) where
 
       stated : (a.names ≡ b.names) × (a.rules ≡ b.rules)
       stated =
-          rules_one b.reader (map rule_data b.outline.rules.items) a.names b.names a.rules b.rules
+          bare_one b.reader (map rule_data b.outline.rules.items) a.names b.names a.rules b.rules
           (are_there a.outline b.outline a.reader b.reader a.names a.rules a.readable b.readable a.read) b.read
 
       here : IsNoRuleSet (shapes_of (parts b.outline.parts)) (forms_of b.outline) b.rules h.0
@@ -229,7 +237,7 @@ module _ (name bytes : Text) where
 
         stated : (a.names ≡ l.names.items) × (a.rules ≡ rules_in l.rules)
         stated =
-            rules_one s.reader (map rule_data s.outline.rules.items) a.names l.names.items a.rules (rules_in l.rules)
+            bare_one s.reader (map rule_data s.outline.rules.items) a.names l.names.items a.rules (rules_in l.rules)
             (are_there a.outline s.outline a.reader s.reader a.names a.rules a.readable s.readable a.read) s.rules
 
         here : IsNoRuleSet (shapes_of (parts s.outline.parts)) (forms_of s.outline) (rules_in l.rules) h.0
@@ -275,7 +283,7 @@ module _ (name bytes : Text) where
 
       stated : (l.names.items ≡ k.names.items) × (rules_in l.rules ≡ rules_in k.rules)
       stated =
-          rules_one t.reader (map rule_data t.outline.rules.items) l.names.items k.names.items (rules_in l.rules) (rules_in k.rules)
+          bare_one t.reader (map rule_data t.outline.rules.items) l.names.items k.names.items (rules_in l.rules) (rules_in k.rules)
           (are_there s.outline t.outline s.reader t.reader l.names.items (rules_in l.rules) s.readable t.readable s.rules) t.rules
 
       main : l.main ≡ k.main

@@ -142,7 +142,7 @@ pair_same a b c d e = let first : a ≡ c = cc in let second : b ≡ d = cc in (
 module _ (r : Reader) where
   -- the label of the first form
   abbrev base : ℕ
-  base = length r.parts.productions - (r.forms + 3)
+  base = length r.parts.productions - (length r.forms + 3)
 
   says_one : (t : Tree) (q w : Premise) → Says r t q → Says r t w → q ≡ w
   says_one t (holds j) (holds k) h g =
@@ -151,11 +151,11 @@ module _ (r : Reader) where
       let places = same_kids (label_of r j.form) (label_of r k.form) j.places k.places e in
       λ i. holds (record { form = forms i; places = places i })
   says_one t (holds j) (apart u v) h g =
-      absurd (clash base j.form r.forms g.0 h.0 (same_label (label_of r j.form) (label_of r (r.forms + g.0)) (forest j.places) (forest (u ∷ v ∷ [])) (sym h.1 ∙ g.2)))
+      absurd (clash base j.form (length r.forms) g.0 h.0 (same_label (label_of r j.form) (label_of r (length r.forms + g.0)) (forest j.places) (forest (u ∷ v ∷ [])) (sym h.1 ∙ g.2)))
   says_one t (apart u v) (holds k) h g =
-      absurd (clash base k.form r.forms h.0 g.0 (same_label (label_of r k.form) (label_of r (r.forms + h.0)) (forest k.places) (forest (u ∷ v ∷ [])) (sym g.1 ∙ h.2)))
+      absurd (clash base k.form (length r.forms) h.0 g.0 (same_label (label_of r k.form) (label_of r (length r.forms + h.0)) (forest k.places) (forest (u ∷ v ∷ [])) (sym g.1 ∙ h.2)))
   says_one t (apart u v) (apart x y) h g =
-      let both = pair_same u v x y (same_kids (label_of r (r.forms + h.0)) (label_of r (r.forms + g.0)) (u ∷ v ∷ []) (x ∷ y ∷ []) (sym h.2 ∙ g.2)) in
+      let both = pair_same u v x y (same_kids (label_of r (length r.forms + h.0)) (label_of r (length r.forms + g.0)) (u ∷ v ∷ []) (x ∷ y ∷ []) (sym h.2 ∙ g.2)) in
       λ i. apart (both.0 i) (both.1 i)
 
   -- ---- lines

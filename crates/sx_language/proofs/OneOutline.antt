@@ -1,7 +1,6 @@
 -- A text is read by one outline and one reader of rules.
-use Rattle.std.proofs.Common.{◌≡◌, ℕ, List, [], ◌∷◌, ◌++◌, inl, inr, length, map, codes, refl, ap, ◌∙◌, sym, subst, arith}
+use Rattle.std.proofs.Common.{◌≡◌, ℕ, List, [], ◌∷◌, ◌++◌, inl, inr, map, codes, refl, ap, ◌∙◌, sym, subst, arith}
 use Rattle.std.specs.Prelude.{Result, Ok, Err, flat_map}
-use Rattle.std.proofs.lemmas.List.{length-map}
 use Rattle.sx_term.specs.declared.lex_kind.LexKind.{LexKind}
 use Rattle.sx_term.specs.declared.lex_kind.LexKind.TheVariants.{Id, Num, Str}
 use Rattle.sx_term.specs.declared.sort.Sort.{Sort}
@@ -82,9 +81,6 @@ module _ (o q : Outline) (same : outline o ≡ outline q) where
   pub forms_same : forms_of o ≡ forms_of q
   forms_same = forms_are (parts o.parts) o.forms.items ∙ ap (λ (d : OutlineData). map (spelled_by d.parts) d.forms) same ∙ sym (forms_are (parts q.parts) q.forms.items)
 
-  many_same : length o.forms.items ≡ length q.forms.items
-  many_same = sym (length-map o.forms.items form) ∙ ap (λ (d : OutlineData). length d.forms) same ∙ length-map q.forms.items form
-
 -- ---- stems
 
 abbrev first : Text → ℕ
@@ -129,5 +125,5 @@ reader_one name bytes o q r s h k =
     let there = subst (λ (d : OutlineData). AreStems d.parts d.vars r.stems) same h.stems in
     let whole = h.read_by ∙ rule_parts_same o q same ∙ sym k.read_by in
     let stems = stems_one (parts q.parts) q.vars.items r.stems s.stems there k.stems in
-    let forms = h.forms ∙ many_same o q same ∙ sym k.forms in
+    let forms = h.forms ∙ forms_same o q same ∙ sym k.forms in
     λ i. record { parts = whole i; stems = stems i; forms = forms i }

@@ -25,28 +25,28 @@ same_label a b ts us e = cc
 pub same_kids : (a b : ℕ) (ts us : List Tree) → node a (forest ts) ≡ node b (forest us) → ts ≡ us
 same_kids a b ts us e = let q : forest ts ≡ forest us = cc in sym (listed-forest ts) ∙ ap listed q ∙ listed-forest us
 
-module _ (r : Reader) (t : Tree) (label first : ℕ) (kids : List Tree) (first_is : first ≡ length r.parts.productions - (r.forms + 3)) (is : t ≡ node label (forest kids)) where
+module _ (r : Reader) (t : Tree) (label first : ℕ) (kids : List Tree) (first_is : first ≡ length r.parts.productions - (length r.forms + 3)) (is : t ≡ node label (forest kids)) where
   -- the label is not before the first of these
   pub behind : (q : Premise) → Says r t q → first ≤ label
   behind (holds j) h = omega (arith, first_is, same_label label (label_of r j.form) (forest kids) (forest j.places) (sym is ∙ h.1))
-  behind (apart u v) h = omega (arith, first_is, same_label label (label_of r (r.forms + h.0)) (forest kids) (forest (u ∷ v ∷ [])) (sym is ∙ h.2))
+  behind (apart u v) h = omega (arith, first_is, same_label label (label_of r (length r.forms + h.0)) (forest kids) (forest (u ∷ v ∷ [])) (sym is ∙ h.2))
 
   place : (q : Premise) → Says r t q → label ≡ label_of r (label - first)
   place q h = omega (arith, first_is, behind q h)
 
   -- a judgement
-  pub says_holds : (q : Premise) → Says r t q → label - first < r.forms → Says r t (holds (record { form = label - first; places = kids }))
+  pub says_holds : (q : Premise) → Says r t q → label - first < length r.forms → Says r t (holds (record { form = label - first; places = kids }))
   says_holds q h lt = (lt, is ∙ ap (λ l. node l (forest kids)) (place q h))
 
   -- two lexemes that are to be apart
-  pub two_apart : (q : Premise) → Says r t q → r.forms ≤ label - first → length kids ≡ 2
+  pub two_apart : (q : Premise) → Says r t q → length r.forms ≤ label - first → length kids ≡ 2
   two_apart (holds j) h past =
       absurd (omega (arith, first_is, h.0, past, same_label label (label_of r j.form) (forest kids) (forest j.places) (sym is ∙ h.1)))
-  two_apart (apart u v) h past = ap length (same_kids label (label_of r (r.forms + h.0)) kids (u ∷ v ∷ []) (sym is ∙ h.2))
+  two_apart (apart u v) h past = ap length (same_kids label (label_of r (length r.forms + h.0)) kids (u ∷ v ∷ []) (sym is ∙ h.2))
 
-  pub says_apart : (q : Premise) → Says r t q → r.forms ≤ label - first → (u v : Tree) → kids ≡ u ∷ v ∷ [] → Says r t (apart u v)
+  pub says_apart : (q : Premise) → Says r t q → length r.forms ≤ label - first → (u v : Tree) → kids ≡ u ∷ v ∷ [] → Says r t (apart u v)
   says_apart (holds j) h past u v e =
       absurd (omega (arith, first_is, h.0, past, same_label label (label_of r j.form) (forest kids) (forest j.places) (sym is ∙ h.1)))
   says_apart (apart x y) h past u v e =
-      let same = same_label label (label_of r (r.forms + h.0)) (forest kids) (forest (x ∷ y ∷ [])) (sym is ∙ h.2) in
+      let same = same_label label (label_of r (length r.forms + h.0)) (forest kids) (forest (x ∷ y ∷ [])) (sym is ∙ h.2) in
       (h.0, h.1, is ∙ (λ i. node (same i) (forest (e i))))

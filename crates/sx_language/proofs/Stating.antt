@@ -1,6 +1,6 @@
 -- From an outline to a language, step by step.
 use Rattle.std.proofs.Common.{◌≡◌, ℕ, ◌+◌, ◌<◌, ◌≤◌, inl, inr, List, [], ◌∷◌, ◌++◌, length, take, get_or, map, zero, suc, Option, Some, None, slice_get, Ok, Err, refl, ap, ◌∙◌, sym, subst, add-one, arith, Vec}
-use Rattle.std.specs.Prelude.{flat_map, MatchOption}
+use Rattle.std.specs.Prelude.{flat_map, IfSome, MatchOption}
 use Rattle.std.specs.declared.alloc.Global.{Global}
 use Rattle.std.specs.List.{AllByRecursion}
 use Rattle.std.proofs.lemmas.List.{length-map}
@@ -36,20 +36,21 @@ use Rattle.sx_outline.specs.Sized.{HasShortLines, IsSized, IsFit}
 use Rattle.sx_notation.specs.declared.language.Language.{Language}
 use Rattle.sx_notation.specs.declared.notation_error.NotationError.{NotationError}
 use Rattle.sx_notation.specs.declared.notation_error.NotationError.TheVariants.{Memory, NotUtf8, Notation, Token, Grammar, Read, Rules}
+use Rattle.sx_notation.specs.ReadText.{IsRefused as IsUnreadText}
 use Rattle.sx_notation.specs.RuleParts.{rule_parts}
 use Rattle.sx_notation.specs.RuleLaws.{HaveSortsOf, form_of}
-use Rattle.sx_notation.specs.Language.{RuleHasLexemes, IsMain, IsLanguage}
+use Rattle.sx_notation.specs.Language.{FormFits, RuleHasLexemes, IsMain, IsLanguage}
 use Rattle.sx_notation.proofs.Numbers.{number_is}
 use Rattle.sx_language.specs.declared.preparing.Prepared.{Prepared}
-use Rattle.sx_language.specs.Readers.{reader}
-use Rattle.sx_language.specs.RuleLine.{Reader, IsBadLine}
-use Rattle.sx_language.specs.RuleTexts.{AreRules, IsBadPremise, IsBadConclusion, IsBadRule, IsFirstBad, OrMemory}
+use Rattle.sx_language.specs.RuleLine.{Reader, judgements, subject_sort, IsBadLine}
+use Rattle.sx_language.specs.RuleTexts.{IsShortRule, AreBareRules, IsBadPremise, IsBadConclusion, IsBadBody, IsBadEnd, IsBadRule, IsFirstBad, OrMemory}
 use Rattle.sx_language.specs.States.{IsNameOfSort, IsSortNamed, AreStems, States, IsNoRules, HasBadRule, HasNoRuleSet, IsRefused, forms_of, name_unbound}
-use Rattle.sx_language.specs.Prepared.{whole, IsPrepared, IsUsable, IsReason, IsRuleRefusal, IsGrammarRefusal, IsNoGrammars}
+use Rattle.sx_language.specs.Prepared.{whole, reader_in, IsPrepared, IsUsable, IsReason, IsRuleRefusal, IsGrammarRefusal, IsNoGrammars}
 use Rattle.sx_language.proofs.Judgements.{can_read}
 use Rattle.sx_language.proofs.KnownForms.{within_limits, rule_limits, have_sorts}
 use Rattle.sx_language.proofs.UsableRules.{rules_shallow, rules_lexical, rule_names}
 use Rattle.sx_language.proofs.MainForms.{is_main}
+use Rattle.sx_language.proofs.FitForms.{forms_fit, subjects_read}
 
 -- ---- stems
 
@@ -57,13 +58,13 @@ pub sort_is_named : (p : Parts) (name bytes : Text) (n : ℕ) (s : Sort) → IsG
 sort_is_named p name bytes n s is other same at e =
     inr (subst NotLexical same other, at_contains (names p) n name at, e ∙ ap (sort_with p.sorts) (sym (number_is p name n is at)))
 
-are_append : (p : Parts) (vs : List VarLine) (ss : Stems) (v : VarLine) (s : Text × Sort) → AreStems p vs ss → s.0 ≡ v.stem → IsSortNamed p v.sort s.1 → AreStems p (vs ++ v ∷ []) (ss ++ s ∷ [])
+pub are_append : (p : Parts) (vs : List VarLine) (ss : Stems) (v : VarLine) (s : Text × Sort) → AreStems p vs ss → s.0 ≡ v.stem → IsSortNamed p v.sort s.1 → AreStems p (vs ++ v ∷ []) (ss ++ s ∷ [])
 are_append p [] [] v s h same sort = (same, sort, tt)
 are_append p [] (t ∷ ss) v s h same sort = absurd h
 are_append p (w ∷ vs) [] v s h same sort = absurd h
 are_append p (w ∷ vs) (t ∷ ss) v s h same sort = (h.0, h.1, are_append p vs ss v s h.2 same sort)
 
-take_next : {X : Type 0} (xs : List X) (i : ℕ) (x : X) → i < length xs → x ≡ get_or xs i x → take (suc i) xs ≡ take i xs ++ x ∷ []
+pub take_next : {X : Type 0} (xs : List X) (i : ℕ) (x : X) → i < length xs → x ≡ get_or xs i x → take (suc i) xs ≡ take i xs ++ x ∷ []
 take_next [] i x low is = absurd (omega (arith, low))
 take_next (y ∷ ys) zero x low is = ap (λ z. z ∷ []) (sym is)
 take_next (y ∷ ys) (suc i) x low is = ap (λ z. y ∷ z) (take_next ys i x (omega (arith, low)) is)
@@ -118,9 +119,14 @@ short_line : (size : ℕ) (l : List Numbered) → size ≤ 262144 → AllByRecur
 short_line size [] low h = tt
 short_line size (x ∷ xs) low h = (omega (arith, low, h.0), short_line size xs low h.1)
 
-short_rules : (size : ℕ) (ls : List RuleLines) → size ≤ 262144 → AllByRecursion (HasShortLines size) (map rule_data ls) → AllByRecursion (λ l. HasShortLines 262144 (rule_data l)) ls
-short_rules size [] low h = tt
-short_rules size (l ∷ ls) low h = ((omega (arith, low, h.0.0), short_line size (rule_data l).premises low h.0.1, omega (arith, low, h.0.2)), short_rules size ls low h.1)
+no_body : (o : Option Numbered) → o ≡ None → IfSome o (λ l. length l.text ≤ 262144)
+no_body o e = subst (λ (x : Option Numbered). IfSome x (λ l. length l.text ≤ 262144)) (sym e) tt
+
+short_rules : (size : ℕ) (ls : List RuleLines) → size ≤ 262144 → AllByRecursion (HasShortLines size) (map rule_data ls) → AllByRecursion (λ l. l.body ≡ None) (map rule_data ls) →
+    AllByRecursion (λ l. IsShortRule 262144 (rule_data l)) ls
+short_rules size [] low h bare = tt
+short_rules size (l ∷ ls) low h bare =
+    ((omega (arith, low, h.0.0), short_line size (rule_data l).premises low h.0.1, omega (arith, low, h.0.2), no_body (rule_data l).body bare.0), short_rules size ls low h.1 bare.1)
 
 pub usable : (name bytes : Text) (o : Outline) → length bytes ≤ 262144 → IsOutlined name bytes (Ok o) → IsSized (length bytes) (outline o) → IsFit (outline o) → IsUsable name bytes o
 usable name bytes o low outlined sized fit = record {
@@ -128,7 +134,7 @@ usable name bytes o low outlined sized fit = record {
   fit = fit;
   limits = within_limits (parts o.parts) o.forms.items (length bytes) low few sized.levels sized.asked;
   rule_limits = rule_limits (parts o.parts) o.forms.items (length bytes) low few sized.levels sized.asked;
-  short = short_rules (length bytes) o.rules.items low sized.lines;
+  short = short_rules (length bytes) o.rules.items low sized.lines fit.bodies;
 }
   where
     few : length (parts o.parts).sorts + length (parts o.parts).productions + length o.forms.items + (length (literals (parts o.parts)) + length (flat_map (λ f. f.symbols) (map form o.forms.items))) ≤ length bytes
@@ -136,21 +142,21 @@ usable name bytes o low outlined sized fit = record {
 
 -- ---- languages
 
-module _ (name bytes : Text) (x : Prepared) (h : IsPrepared name bytes x) (names : List (List Text)) (qs : List NamedRule) (read : AreRules (reader x.by) (map rule_data x.rules.items) names qs) where
-  read_here : AreRules (reader x.by) (map rule_data h.from.rules.items) names qs
-  read_here = subst (λ l. AreRules (reader x.by) (map rule_data l) names qs) h.rules read
+module _ (name bytes : Text) (x : Prepared) (h : IsPrepared name bytes x) (names : List (List Text)) (qs : List NamedRule) (read : AreBareRules (reader_in x) (map rule_data x.rules.items) names qs) where
+  read_here : AreBareRules (reader_in x) (map rule_data h.from.rules.items) names qs
+  read_here = subst (λ l. AreBareRules (reader_in x) (map rule_data l) names qs) h.rules read
 
   shapes_same : shapes_of x.grammar.parts ≡ shapes_of (parts h.from.parts)
   shapes_same = ap (λ g. shapes_of g.parts) h.grammar
 
   module _ (set : RuleSet) (made : IsMade (shapes_of x.grammar.parts) (forms x.forms.items) qs (Ok set)) where
-    read_set : AreRules (reader x.by) (map rule_data h.from.rules.items) names (rules_in set)
-    read_set = subst (AreRules (reader x.by) (map rule_data h.from.rules.items) names) (sym made.2) read_here
+    read_set : AreBareRules (reader_in x) (map rule_data h.from.rules.items) names (rules_in set)
+    read_set = subst (AreBareRules (reader_in x) (map rule_data h.from.rules.items) names) (sym made.2) read_here
 
-    pub states : (l : Language) → l.name ≡ name → l.grammar ≡ x.grammar → l.rule_grammar ≡ x.by.grammar → l.metas ≡ x.by.metas → l.rules ≡ set → l.names.items ≡ names → l.main ≡ x.main → States name bytes l
+    pub states : (l : Language) → l.name ≡ name → l.grammar ≡ x.grammar → l.rule_grammar ≡ x.rule_grammar → l.metas ≡ x.metas → l.rules ≡ set → l.names.items ≡ names → l.main ≡ x.main → States name bytes l
     states l named base rule metas rules called main = record {
       outline = h.from;
-      reader = reader x.by;
+      reader = reader_in x;
       readable = h.readable;
       named = named;
       grammar = base ∙ h.grammar;
@@ -158,15 +164,15 @@ module _ (name bytes : Text) (x : Prepared) (h : IsPrepared name bytes x) (names
       metas = ap (λ m. m.stems.items) metas;
       shapes = ap shapes_in rules ∙ made.0 ∙ shapes_same;
       forms = ap forms_in rules ∙ made.1 ∙ h.forms;
-      rules = subst (λ n. AreRules (reader x.by) (map rule_data h.from.rules.items) n (rules_in l.rules)) (sym called)
-          (subst (λ s. AreRules (reader x.by) (map rule_data h.from.rules.items) names (rules_in s)) (sym rules) read_set);
+      rules = subst (λ n. AreBareRules (reader_in x) (map rule_data h.from.rules.items) n (rules_in l.rules)) (sym called)
+          (subst (λ s. AreBareRules (reader_in x) (map rule_data h.from.rules.items) names (rules_in s)) (sym rules) read_set);
       rule_set = subst (λ s. IsRuleSet (shapes_of (parts h.from.parts)) (forms_of h.from) (rules_in s)) (sym rules)
           (subst (IsRuleSet (shapes_of (parts h.from.parts)) (forms_of h.from)) (sym made.2)
           (subst (λ f. IsRuleSet (shapes_of (parts h.from.parts)) f qs) h.forms (subst (λ s. IsRuleSet s (forms x.forms.items) qs) shapes_same made.3)));
       main = main ∙ h.main;
     }
 
-    pub fits : (l : Language) → l.grammar ≡ x.grammar → l.rule_grammar ≡ x.by.grammar → l.rules ≡ set → l.main ≡ x.main → IsLanguage l
+    pub fits : (l : Language) → l.grammar ≡ x.grammar → l.rule_grammar ≡ x.rule_grammar → l.rules ≡ set → l.main ≡ x.main → IsLanguage l
     fits l base rule rules main =
         let p = parts h.from.parts in
         let same : l.grammar.parts ≡ p = ap (λ g. g.parts) (base ∙ h.grammar) in
@@ -175,7 +181,9 @@ module _ (name bytes : Text) (x : Prepared) (h : IsPrepared name bytes x) (names
         let formed : forms_in l.rules ≡ map (form_of l.grammar.parts) h.from.forms.items = ap forms_in rules ∙ made.1 ∙ h.forms ∙ ap (λ y. map (form_of y) h.from.forms.items) (sym same) in
         let d = declared_by (outline h.from) h.fit.line in
         let mains : IsMain p (map (form_of p) h.from.forms.items) h.from.main = is_main p h.from.forms.items d refl refl refl h.known h.fit.places h.fit.line h.from.main h.fit.main in
-        let lexical : AllByRecursion (RuleHasLexemes (literals_of p)) (rules_in set) = rules_lexical p h.from.forms.items (reader x.by) (map rule_data h.from.rules.items) names (rules_in set) h.readable.read_by read_set in
+        let lines = map rule_data h.from.rules.items in
+        let fitted : AllByRecursion FormFits (map (form_of p) h.from.forms.items) = forms_fit p d refl h.from.forms.items h.fit.places h.fit.subjects h.known in
+        let lexical : AllByRecursion (RuleHasLexemes (literals_of p)) (rules_in set) = (rules_lexical p h.from.forms.items (reader_in x) lines names (rules_in set) (map (λ l. None) lines) h.readable.read_by read_set).0 in
         record {
           lines = h.from.forms.items;
           base = ap (λ g. g.base) (base ∙ h.grammar) ∙ ap (λ y. length y.productions) (sym same);
@@ -183,6 +191,7 @@ module _ (name bytes : Text) (x : Prepared) (h : IsPrepared name bytes x) (names
           read_by = by;
           shapes = ap shapes_in rules ∙ made.0 ∙ shapes_same ∙ ap shapes_of (sym same);
           forms = formed;
+          fit = subst (AllByRecursion FormFits) (sym (ap forms_in rules ∙ made.1 ∙ h.forms)) fitted;
           lexemes = subst (λ s. AllByRecursion (RuleHasLexemes (literals_of l.grammar.parts)) (rules_in s)) (sym rules) (subst (λ y. AllByRecursion (RuleHasLexemes (literals_of y)) (rules_in set)) (sym same) lexical);
           main = subst (λ m. IsMain l.grammar.parts (forms_in l.rules) m) (sym (main ∙ h.main))
               (subst (λ f. IsMain l.grammar.parts f h.from.main) (sym formed) (subst (λ y. IsMain y (map (form_of y) h.from.forms.items) h.from.main) (sym same) mains));
@@ -192,13 +201,13 @@ module _ (name bytes : Text) (x : Prepared) (h : IsPrepared name bytes x) (names
   no_set : (e : RuleError) → IsNoRules h.from qs e → HasNoRuleSet name bytes e (name_unbound (map (λ l. l.name) x.rules.items) names e)
   no_set e refused = record {
     outline = h.from;
-    reader = reader x.by;
+    reader = reader_in x;
     readable = h.readable;
     names = names;
     rules = qs;
     read = read_here;
     refused = refused;
-    named = ap (λ l. name_unbound l names e) (lines_named x.rules.items ∙ sym (rule_names (reader x.by) (map rule_data x.rules.items) names qs read));
+    named = ap (λ l. name_unbound l names e) (lines_named x.rules.items ∙ sym (rule_names (reader_in x) (map rule_data x.rules.items) names qs (map (λ l. None) (map rule_data x.rules.items)) read));
   }
     where
       lines_named : (ls : List RuleLines) → map (λ l. l.name) ls ≡ map (λ l. l.name) (map rule_data ls)
@@ -231,14 +240,17 @@ IsLineError (Grammar e) = ⊥
 IsLineError (Rules e v) = ⊥
 IsLineError _ = Unit {0}
 
+text_kind : (p : Parts) (stems : Stems) (sort : Sort) (text : Text) (number : ℕ) (e : NotationError) → IsUnreadText p stems sort text number e → IsLineError e
+text_kind p stems sort text number Memory h = tt
+text_kind p stems sort text number (NotUtf8 place) h = absurd h
+text_kind p stems sort text number (Notation n k) h = tt
+text_kind p stems sort text number (Token n e) h = tt
+text_kind p stems sort text number (Grammar e) h = absurd h
+text_kind p stems sort text number (Read n e) h = tt
+text_kind p stems sort text number (Rules e v) h = absurd h
+
 line_kind : (r : Reader) (l : Numbered) (e : NotationError) → IsBadLine r l e → IsLineError e
-line_kind r l Memory h = tt
-line_kind r l (NotUtf8 place) h = absurd h
-line_kind r l (Notation n k) h = tt
-line_kind r l (Token n e) h = tt
-line_kind r l (Grammar e) h = absurd h
-line_kind r l (Read n e) h = tt
-line_kind r l (Rules e v) h = absurd h
+line_kind r l e h = text_kind r.parts r.stems (judgements r.parts) l.text l.number e h
 
 premise_kind : (r : Reader) (ls : List Numbered) (old : List Text) (e : NotationError) → IsBadPremise r ls old e → IsLineError e
 premise_kind r [] old e h = absurd h
@@ -249,35 +261,44 @@ conclusion_kind : (r : Reader) (l : Numbered) (old : List Text) (e : NotationErr
 conclusion_kind r l old e (inl h) = line_kind r l e h
 conclusion_kind r l old e (inr h) = subst IsLineError (sym h.4) tt
 
+body_kind : (r : Reader) (line : Option Numbered) (subject : Option Sort) (e : NotationError) → IsBadBody r line subject e → IsLineError e
+body_kind r None subject e h = absurd h
+body_kind r (Some l) None e h = absurd h
+body_kind r (Some l) (Some sort) e h = text_kind r.parts r.stems sort l.text l.number e h
+
+end_kind : (r : Reader) (l : RuleData) (old : List Text) (e : NotationError) → IsBadEnd r l old e → IsLineError e
+end_kind r l old e (inl h) = conclusion_kind r l.conclusion old e h
+end_kind r l old e (inr h) = body_kind r l.body (subject_sort r.forms h.1.form) e h.3
+
 rule_kind : (r : Reader) (l : RuleData) (e : NotationError) → IsBadRule r l e → IsLineError e
 rule_kind r l e (inl h) = premise_kind r l.premises [] e h
-rule_kind r l e (inr h) = conclusion_kind r l.conclusion h.0 e h.3
+rule_kind r l e (inr h) = end_kind r l h.0 e h.3
 
 rules_kind : (r : Reader) (ls : List RuleData) (e : NotationError) → IsFirstBad r ls e → IsLineError e
 rules_kind r [] e h = absurd h
 rules_kind r (l ∷ ls) e (inl h) = rule_kind r l e h
-rules_kind r (l ∷ ls) e (inr h) = rules_kind r ls e h.3
+rules_kind r (l ∷ ls) e (inr h) = rules_kind r ls e h.4
 
 -- the first bad line of the rules is the refusal of the text
 module _ (name bytes : Text) (x : Prepared) (h : IsPrepared name bytes x) where
-  bad_rule : (e : NotationError) → IsFirstBad (reader x.by) (map rule_data x.rules.items) e → HasBadRule name bytes e
-  bad_rule e b = (h.from, reader x.by, h.readable, subst (λ l. IsFirstBad (reader x.by) (map rule_data l) e) h.rules b)
+  bad_rule : (e : NotationError) → IsFirstBad (reader_in x) (map rule_data x.rules.items) e → HasBadRule name bytes e
+  bad_rule e b = (h.from, reader_in x, h.readable, subst (λ l. IsFirstBad (reader_in x) (map rule_data l) e) h.rules b)
 
-  first_refused : (e : NotationError) → OrMemory (IsFirstBad (reader x.by) (map rule_data x.rules.items)) e → IsRefused name bytes e
+  first_refused : (e : NotationError) → OrMemory (IsFirstBad (reader_in x) (map rule_data x.rules.items)) e → IsRefused name bytes e
   first_refused Memory b = tt
-  first_refused (NotUtf8 place) b = absurd (rules_kind (reader x.by) (map rule_data x.rules.items) (NotUtf8 place) b)
+  first_refused (NotUtf8 place) b = absurd (rules_kind (reader_in x) (map rule_data x.rules.items) (NotUtf8 place) b)
   first_refused (Notation n k) b = inr (bad_rule (Notation n k) b)
   first_refused (Token n e) b = bad_rule (Token n e) b
-  first_refused (Grammar e) b = absurd (rules_kind (reader x.by) (map rule_data x.rules.items) (Grammar e) b)
+  first_refused (Grammar e) b = absurd (rules_kind (reader_in x) (map rule_data x.rules.items) (Grammar e) b)
   first_refused (Read n e) b = bad_rule (Read n e) b
-  first_refused (Rules e v) b = absurd (rules_kind (reader x.by) (map rule_data x.rules.items) (Rules e v) b)
+  first_refused (Rules e v) b = absurd (rules_kind (reader_in x) (map rule_data x.rules.items) (Rules e v) b)
 
-  pub line_refused : (lines : List RuleLines) → lines ≡ x.rules.items → (e : NotationError) → OrMemory (IsFirstBad (reader x.by) (map rule_data lines)) e → IsRefused name bytes e
-  line_refused lines same e b = first_refused e (subst (λ l. OrMemory (IsFirstBad (reader x.by) (map rule_data l)) e) same b)
+  pub line_refused : (lines : List RuleLines) → lines ≡ x.rules.items → (e : NotationError) → OrMemory (IsFirstBad (reader_in x) (map rule_data lines)) e → IsRefused name bytes e
+  line_refused lines same e b = first_refused e (subst (λ l. OrMemory (IsFirstBad (reader_in x) (map rule_data l)) e) same b)
 
 -- the terms of the rules are not too deep
-pub shallow : (r : Reader) (ls : List RuleData) (names : List (List Text)) (rs : List Rule) → AreRules r ls names (map named rs) → RulesAreShallow (map rule rs)
-shallow r ls names rs read = subst RulesAreShallow (bare rs) (rules_shallow r ls names (map named rs) read)
+pub shallow : (r : Reader) (ls : List RuleData) (names : List (List Text)) (rs : List Rule) → AreBareRules r ls names (map named rs) → RulesAreShallow (map rule rs)
+shallow r ls names rs read = subst RulesAreShallow (bare rs) (rules_shallow r ls names (map named rs) (map (λ l. None) ls) read).0
   where
     bare : (xs : List Rule) → map (λ q. q.rule) (map named xs) ≡ map rule xs
     bare [] = refl
@@ -295,24 +316,30 @@ pub forms_known : (name bytes : Text) (o : Outline) (b : GrammarData) → b ≡ 
 forms_known name bytes o b base is h = subst (λ y. HaveSortsOf y.parts o.forms.items) (sym base) (have_sorts (parts o.parts) o.forms.items is h.fit.named)
 
 pub prepared : (name bytes : Text) (o : Outline) (x : Prepared) (b : GrammarData) → IsUsable name bytes o → b ≡ whole (parts o.parts) → IsGrammar (parts o.parts)
-    → (x.by.grammar ≡ whole (rule_parts (parts o.parts) o.forms.items)) × IsGrammar (rule_parts (parts o.parts) o.forms.items) → x.grammar ≡ b → AreStems b.parts o.vars.items x.by.metas.stems.items
-    → x.by.forms ≡ length o.forms.items → forms x.forms.items ≡ map (form_of b.parts) o.forms.items → x.main ≡ o.main → x.rules.items ≡ o.rules.items → IsPrepared name bytes x
-prepared name bytes o x b h base is rule same stems many known main lines =
+    → (x.rule_grammar ≡ whole (rule_parts (parts o.parts) o.forms.items)) × IsGrammar (rule_parts (parts o.parts) o.forms.items) → x.grammar ≡ b → AreStems b.parts o.vars.items x.metas.stems.items
+    → forms x.forms.items ≡ map (form_of b.parts) o.forms.items → x.main ≡ o.main → x.rules.items ≡ o.rules.items → IsPrepared name bytes x
+prepared name bytes o x b h base is rule same stems known main lines =
     let p = parts o.parts in
-    let read_by : x.by.grammar.parts ≡ rule_parts p o.forms.items = ap (λ g. g.parts) rule.0 in
-    let are : AreStems p o.vars.items x.by.metas.stems.items = stems_are p b o.vars.items x.by.metas.stems.items base stems in
+    let read_by : x.rule_grammar.parts ≡ rule_parts p o.forms.items = ap (λ g. g.parts) rule.0 in
+    let are : AreStems p o.vars.items x.metas.stems.items = stems_are p b o.vars.items x.metas.stems.items base stems in
+    let have : HaveSortsOf p o.forms.items = have_sorts p o.forms.items rule.1 h.fit.named in
+    let stated : forms x.forms.items ≡ map (form_of p) o.forms.items = known ∙ ap (λ y. map (form_of y.parts) o.forms.items) base in
+    let fitted : AllByRecursion FormFits (map (form_of p) o.forms.items) = forms_fit p (declared_by (outline o) h.fit.line) refl o.forms.items h.fit.places h.fit.subjects have in
+    let many : length (forms x.forms.items) ≡ length o.forms.items = ap length stated ∙ length-map o.forms.items (form_of p) in
     record {
       from = o;
-      readable = record { outlined = h.outlined; grammar = is; rule_grammar = rule.1; read_by = read_by; stems = are; forms = many };
+      readable = record { outlined = h.outlined; grammar = is; rule_grammar = rule.1; read_by = read_by; stems = are; forms = stated };
       fit = h.fit;
-      known = have_sorts p o.forms.items rule.1 h.fit.named;
+      known = have;
       grammar = same ∙ base;
       rule_grammar = rule.0;
-      forms = known ∙ ap (λ y. map (form_of y.parts) o.forms.items) base;
+      forms = stated;
       main = main;
       rules = lines;
-      short = subst (λ l. AllByRecursion (λ y. HasShortLines 262144 (rule_data y)) l) (sym lines) h.short;
-      can = can_read p o.forms.items o.vars.items (reader x.by) is are read_by many;
+      short = subst (λ l. AllByRecursion (λ y. IsShortRule 262144 (rule_data y)) l) (sym lines) h.short;
+      bare = subst (λ l. AllByRecursion (λ y. y.body ≡ None) (map rule_data l)) (sym lines) h.fit.bodies;
+      can = can_read p o.forms.items is o.vars.items (reader_in x) are read_by many
+          (subjects_read p o.forms.items (forms x.forms.items) stated have (subst (AllByRecursion FormFits) (sym stated) fitted));
     }
 
 -- ---- forms

@@ -1,20 +1,24 @@
 -- The names of the variables of lines that are read have stems with sorts.
-use Rattle.std.proofs.Common.{◌≡◌, ℕ, zero, suc, ◌⊎◌, inl, inr, true, List, [], ◌∷◌, ◌++◌, drop, Contains, sym, subst}
+use Rattle.std.proofs.Common.{◌≡◌, ℕ, zero, suc, ◌⊎◌, inl, inr, true, List, [], ◌∷◌, ◌++◌, drop, Contains, Option, Some, None, sym, subst}
 use Rattle.std.specs.Prelude.{is_some, slice_get, slice_index_or}
 use Rattle.std.specs.List.{AllByRecursion}
+use Rattle.sx_term.specs.declared.sort.Sort.{Sort}
+use Rattle.sx_term.specs.Tree.{Tree}
 use Rattle.sx_term.specs.Vars.{IsAdded}
 use Rattle.sx_token.specs.declared.token.Token.{Token}
 use Rattle.sx_grammar.specs.Grammar.{Text}
+use Rattle.sx_grammar.specs.Parts.{Parts}
 use Rattle.sx_grammar.specs.Reading.{Reading, Readings, branch, bracket, leaf, variable, done, ◌▸◌}
 use Rattle.sx_earley.specs.Tokens.{Stems, sort_of, without_digits}
 use Rattle.sx_earley.specs.Unknown.{HasStem}
 use Rattle.sx_forest.specs.Text.{texts}
 use Rattle.sx_forest.specs.Names.{IsMetavariable, IsMarked, AreMarked, names_in, names_of, AddsEach}
-use Rattle.sx_rules.specs.Rules.{Premise}
-use Rattle.sx_outline.specs.Stages.{Numbered}
+use Rattle.sx_rules.specs.Rules.{Judgement, Premise, holds}
+use Rattle.sx_outline.specs.Stages.{Numbered, RuleData}
+use Rattle.sx_notation.specs.ReadText.{IsRead}
 use Rattle.sx_notation.proofs.TextReading.{is_marked}
-use Rattle.sx_language.specs.RuleLine.{Reader, judgements, IsLine}
-use Rattle.sx_language.specs.RuleTexts.{HaveStems, ArePremises}
+use Rattle.sx_language.specs.RuleLine.{Reader, judgements, subject_sort, IsLine}
+use Rattle.sx_language.specs.RuleTexts.{HaveStems, ArePremises, IsBody, AreStated}
 
 stems_append : (stems : Stems) (xs ys : List Text) → HaveStems stems xs → HaveStems stems ys → HaveStems stems (xs ++ ys)
 stems_append stems [] ys h k = k
@@ -49,15 +53,42 @@ each_stems : (stems : Stems) (old names new : List Text) → HaveStems stems old
 each_stems stems old [] new h k e = subst (HaveStems stems) (sym e) h
 each_stems stems old (name ∷ names) new h k e = each_stems stems e.0 names new (added_stems stems old e.0 name e.1 h k.0 e.2) k.1 e.3
 
--- the names after a line, and after the premises
-pub line_stems : (r : Reader) (text : Text) (old new : List Text) (q : Premise) → IsLine r text old new q → HaveStems r.stems old → HaveStems r.stems new
-line_stems r text old new q line h =
-    let read = line.read in
-    each_stems r.stems old (names_in read.tokens read.reading) new h
-    (reading_stems r.stems read.tokens read.known.1 read.reading (is_marked r.parts r.stems text read.tokens read.known (judgements r.parts) read.reading read.answer)) read.names
+-- the names after a text that is read
+read_stems : (p : Parts) (stems : Stems) (sort : Sort) (text : Text) (old new : List Text) (t : Tree) →
+    IsRead p stems sort text old new t → HaveStems stems old → HaveStems stems new
+read_stems p stems sort text old new t read h =
+    each_stems stems old (names_in read.tokens read.reading) new h
+    (reading_stems stems read.tokens read.known.1 read.reading
+    (is_marked p stems text read.tokens read.known sort read.reading read.answer)) read.names
 
-pub premise_stems : (r : Reader) (ls : List Numbered) (old new : List Text) (qs : List Premise) → ArePremises r ls old new qs → HaveStems r.stems old → HaveStems r.stems new
-premise_stems r [] old new [] h k = subst (HaveStems r.stems) (sym h) k
-premise_stems r [] old new (q ∷ qs) h k = absurd h
-premise_stems r (l ∷ ls) old new [] h k = absurd h
-premise_stems r (l ∷ ls) old new (q ∷ qs) h k = premise_stems r ls h.0 new qs h.2 (line_stems r l.text old h.0 q h.1 k)
+module _ (r : Reader) where
+  -- the names after a line, after the premises, and after a body
+  line_stems : (text : Text) (old new : List Text) (q : Premise) → IsLine r text old new q →
+      HaveStems r.stems old → HaveStems r.stems new
+  line_stems text old new q line h =
+      read_stems r.parts r.stems (judgements r.parts) text old new line.term line.read h
+
+  premise_stems : (ls : List Numbered) (old new : List Text) (qs : List Premise) →
+      ArePremises r ls old new qs → HaveStems r.stems old → HaveStems r.stems new
+  premise_stems [] old new [] h k = subst (HaveStems r.stems) (sym h) k
+  premise_stems [] old new (q ∷ qs) h k = absurd h
+  premise_stems (l ∷ ls) old new [] h k = absurd h
+  premise_stems (l ∷ ls) old new (q ∷ qs) h k =
+      premise_stems ls h.0 new qs h.2 (line_stems l.text old h.0 q h.1 k)
+
+  body_stems : (line : Option Numbered) (subject : Option Sort) (old new : List Text)
+      (body : Option Tree) → IsBody r line subject old new body → HaveStems r.stems old →
+      HaveStems r.stems new
+  body_stems None subject old new body h k = subst (HaveStems r.stems) (sym h.0) k
+  body_stems (Some l) None old new body h k = subst (HaveStems r.stems) (sym h.0) k
+  body_stems (Some l) (Some sort) old new None h k = absurd h
+  body_stems (Some l) (Some sort) old new (Some t) h k =
+      read_stems r.parts r.stems sort l.text old new t h k
+
+  -- the names of a rule
+  pub stated_stems : (lines : RuleData) (names : List Text) (qs : List Premise) (j : Judgement)
+      (body : Option Tree) → AreStated r lines names qs j body → HaveStems r.stems names
+  stated_stems lines names qs j body h =
+      let before = premise_stems lines.premises [] h.middle qs h.premises tt in
+      let after = line_stems lines.conclusion.text h.middle h.last (holds j) h.conclusion before in
+      body_stems lines.body (subject_sort r.forms j.form) h.last names body h.bodied after

@@ -1,5 +1,6 @@
 -- The language that a text states, or why it states none.
-use Rattle.std.specs.Prelude.{◌≡◌, ◌⊎◌, if◌then◌else◌, List, [], ◌∷◌, Option, None, map, length, slice_get, Contains, Err, Ok}
+use Rattle.std.specs.Prelude.{◌≡◌, ◌⊎◌, if◌then◌else◌, List, [], ◌∷◌, Option, None, map, length}
+use Rattle.std.specs.Prelude.{slice_get, Contains, Err, Ok}
 use Rattle.std.specs.Str.{bytes_eq}
 use Rattle.sx_term.specs.declared.lex_kind.LexKind.{LexKind}
 use Rattle.sx_term.specs.declared.sort.Sort.{Sort}
@@ -24,11 +25,14 @@ use Rattle.sx_outline.specs.Stages.{rule_data}
 use Rattle.sx_outline.specs.Outlined.{IsOutlined}
 use Rattle.sx_notation.specs.declared.language.Language.{Language}
 use Rattle.sx_notation.specs.declared.notation_error.NotationError.{NotationError}
-use Rattle.sx_notation.specs.declared.notation_error.NotationError.TheVariants.{Memory, NotUtf8, Notation, Token, Grammar, Read, Rules}
+use Rattle.sx_notation.specs.declared.notation_error.NotationError.TheVariants.{Memory, NotUtf8}
+use Rattle.sx_notation.specs.declared.notation_error.NotationError.TheVariants.{Notation, Token}
+use Rattle.sx_notation.specs.declared.notation_error.NotationError.TheVariants.{Grammar, Read}
+use Rattle.sx_notation.specs.declared.notation_error.NotationError.TheVariants.{Rules}
 use Rattle.sx_notation.specs.RuleParts.{rule_parts}
 use Rattle.sx_notation.specs.RuleLaws.{form_of}
 use Rattle.sx_language.specs.RuleLine.{Reader}
-use Rattle.sx_language.specs.RuleTexts.{AreRules, IsFirstBad}
+use Rattle.sx_language.specs.RuleTexts.{AreBareRules, IsFirstBad}
 
 -- the name is that of a lexical sort, or of a sort line
 abbrev pub IsNameOfSort : Parts → (name : Text) → Type 0
@@ -38,7 +42,8 @@ IsNameOfSort p name = ((kind : LexKind) × (name ≡ lex_text kind)) ⊎ Contain
 abbrev pub IsSortNamed : Parts → (name : Text) → Sort → Type 0
 IsSortNamed p name sort =
     ((kind : LexKind) × (name ≡ lex_text kind) × (sort ≡ Lex kind))
-    ⊎ (NotLexical name × Contains (names p) name × (sort ≡ sort_with p.sorts (number_of (names p) name)))
+    ⊎ (NotLexical name × Contains (names p) name ×
+    (sort ≡ sort_with p.sorts (number_of (names p) name)))
 
 -- the stems of the var lines in order, with the sorts that these name
 abbrev pub AreStems : Parts → List VarLine → Stems → Type 0
@@ -46,18 +51,19 @@ AreStems p [] [] = Unit {0}
 AreStems p (v ∷ vs) (s ∷ ss) = (s.0 ≡ v.stem) × IsSortNamed p v.sort s.1 × AreStems p vs ss
 AreStems p _ _ = ⊥
 
--- the text has this outline, whose grammar and grammar of rules are made, and its rules are read by this
+-- the forms that the outline states
+abbrev pub forms_of : Outline → List FormData
+forms_of o = map (form_of (parts o.parts)) o.forms.items
+
+-- the text has this outline, whose grammar and grammar of rules are made, and its rules are read by
+-- this
 pub record IsReadable (name bytes : Text) (o : Outline) (r : Reader) : Type 0 where
   pub outlined : IsOutlined name bytes (Ok o)
   pub grammar : IsGrammar (parts o.parts)
   pub rule_grammar : IsGrammar (rule_parts (parts o.parts) o.forms.items)
   pub read_by : r.parts ≡ rule_parts (parts o.parts) o.forms.items
   pub stems : AreStems (parts o.parts) o.vars.items r.stems
-  pub forms : r.forms ≡ length o.forms.items
-
--- the forms that the outline states
-abbrev pub forms_of : Outline → List FormData
-forms_of o = map (form_of (parts o.parts)) o.forms.items
+  pub forms : r.forms ≡ forms_of o
 
 -- the text states the language
 pub record States (name bytes : Text) (l : Language) : Type 0 where
@@ -65,12 +71,15 @@ pub record States (name bytes : Text) (l : Language) : Type 0 where
   pub reader : Reader
   pub readable : IsReadable name bytes outline reader
   pub named : l.name ≡ name
-  pub grammar : l.grammar ≡ record { parts = parts outline.parts; base = length (parts outline.parts).productions }
-  pub rule_grammar : l.rule_grammar ≡ record { parts = reader.parts; base = length reader.parts.productions }
+  pub grammar : l.grammar ≡
+      record { parts = parts outline.parts; base = length (parts outline.parts).productions }
+  pub rule_grammar : l.rule_grammar ≡
+      record { parts = reader.parts; base = length reader.parts.productions }
   pub metas : l.metas.stems.items ≡ reader.stems
   pub shapes : shapes_in l.rules ≡ shapes_of (parts outline.parts)
   pub forms : forms_in l.rules ≡ forms_of outline
-  pub rules : AreRules reader (map rule_data outline.rules.items) l.names.items (rules_in l.rules)
+  pub rules : AreBareRules reader (map rule_data outline.rules.items) l.names.items
+      (rules_in l.rules)
   pub rule_set : IsRuleSet (shapes_of (parts outline.parts)) (forms_of outline) (rules_in l.rules)
   pub main : l.main ≡ outline.main
 
@@ -82,11 +91,13 @@ IsNoGrammar p e = IsNotMade p e
 -- the text has an outline, and its grammar, or else its grammar of rules, is refused
 abbrev pub HasNoGrammar : (name bytes : Text) → GrammarError → Type 0
 HasNoGrammar name bytes e = (o : Outline) × IsOutlined name bytes (Ok o) ×
-    (IsNoGrammar (parts o.parts) e ⊎ (IsGrammar (parts o.parts) × IsNoGrammar (rule_parts (parts o.parts) o.forms.items) e))
+    (IsNoGrammar (parts o.parts) e
+    ⊎ (IsGrammar (parts o.parts) × IsNoGrammar (rule_parts (parts o.parts) o.forms.items) e))
 
 -- the text has its grammars, and the first bad line of its rules is refused
 abbrev pub HasBadRule : (name bytes : Text) → NotationError → Type 0
-HasBadRule name bytes e = (o : Outline) × (r : Reader) × IsReadable name bytes o r × IsFirstBad r (map rule_data o.rules.items) e
+HasBadRule name bytes e = (o : Outline) × (r : Reader) × IsReadable name bytes o r ×
+    IsFirstBad r (map rule_data o.rules.items) e
 
 -- the names of the variables of the first rule with this name
 abbrev pub names_in : (rules : List Text) → (names : List (List Text)) → Text → List Text
@@ -94,9 +105,12 @@ names_in [] names name = []
 names_in (rule ∷ rules) [] name = []
 names_in (rule ∷ rules) (n ∷ ns) name = if bytes_eq rule name then n else names_in rules ns name
 
--- the name of the variable that is not bound, if that is why the rules with these names are no rule set
-abbrev pub name_unbound : (known : List Text) → (names : List (List Text)) → RuleError → Option Text
-name_unbound known names (rules.NotModed name variable) = slice_get (names_in known names name) variable
+-- the name of the variable that is not bound, if that is why the rules with these names are no rule
+-- set
+abbrev pub name_unbound : (known : List Text) → (names : List (List Text)) → RuleError →
+    Option Text
+name_unbound known names (rules.NotModed name variable) =
+    slice_get (names_in known names name) variable
 name_unbound known names _ = None
 
 -- why the rules are no rule set
@@ -111,7 +125,7 @@ pub record HasNoRuleSet (name bytes : Text) (e : RuleError) (unbound : Option Te
   pub readable : IsReadable name bytes outline reader
   pub names : List (List Text)
   pub rules : List NamedRule
-  pub read : AreRules reader (map rule_data outline.rules.items) names rules
+  pub read : AreBareRules reader (map rule_data outline.rules.items) names rules
   pub refused : IsNoRules outline rules e
   pub named : unbound ≡ name_unbound (map (λ q. q.name) rules) names e
 
@@ -119,7 +133,9 @@ pub record HasNoRuleSet (name bytes : Text) (e : RuleError) (unbound : Option Te
 abbrev pub IsRefused : (name bytes : Text) → NotationError → Type 0
 IsRefused name bytes Memory = Unit {0}
 IsRefused name bytes (NotUtf8 place) = IsOutlined name bytes (Err (outline.NotUtf8 place))
-IsRefused name bytes (Notation line kind) = IsOutlined name bytes (Err (outline.Notation line kind)) ⊎ HasBadRule name bytes (Notation line kind)
+IsRefused name bytes (Notation line kind) =
+    IsOutlined name bytes (Err (outline.Notation line kind))
+    ⊎ HasBadRule name bytes (Notation line kind)
 IsRefused name bytes (Token line e) = HasBadRule name bytes (Token line e)
 IsRefused name bytes (Grammar e) = HasNoGrammar name bytes e
 IsRefused name bytes (Read line e) = HasBadRule name bytes (Read line e)

@@ -1,12 +1,17 @@
 //! Reading a language.
 
-ghost use Rattle.std.specs.Prelude.{◌≤◌, length, map, IfOk, IfErr};
+ghost use Rattle.std.specs.Prelude.{◌≡◌, ◌≤◌, length, map, None, IfOk, IfErr};
+ghost use Rattle.std.specs.List.{AllByRecursion};
 ghost use Rattle.sx_grammar.specs.Told.{shapes_of};
 ghost use Rattle.sx_rules.specs.Deep.{RulesAreShallow};
 ghost use Rattle.sx_rules.specs.Made.{IsMade};
 ghost use Rattle.sx_rules.specs.Views as view;
+ghost use Rattle.sx_outline.specs.Stages.{rule_data};
 ghost use Rattle.sx_notation.specs.Language.{IsLanguage};
+ghost use Rattle.sx_language.specs.RuleLine.{CanRead};
+ghost use Rattle.sx_language.specs.RuleTexts.{IsShortRule, AreBareRules, IsFirstBad, OrMemory};
 ghost use Rattle.sx_language.specs.States.{States, IsRefused};
+ghost use Rattle.sx_language.specs.Prepared.{reader_in};
 
 use crate::preparing::{Prepared, prepare};
 use crate::rule_naming::rule_error;
@@ -18,6 +23,25 @@ use sx_notation::{Language, NotationError};
 use sx_rules::{Form, Rule, RuleError, RuleSet};
 use sx_term::Text;
 
+/// The rules of the language.
+fn read_prepared(alloc: Global, prepared: &Prepared) -> Result<ReadRules, NotationError>
+    requires can { CanRead (reader_in prepared.now) }
+    requires short { AllByRecursion (λ l. IsShortRule 262144 (rule_data l))
+        prepared.now.rules.items }
+    requires bare { AllByRecursion (λ l. l.body ≡ None) (map rule_data prepared.now.rules.items) }
+    ensures read { IfOk result (λ x. AreBareRules (reader_in prepared.now)
+        (map rule_data prepared.now.rules.items) x.names.items (map view.named x.rules.items)) }
+    ensures refused { IfErr result (OrMemory (IsFirstBad (reader_in prepared.now)
+        (map rule_data prepared.now.rules.items))) }
+{
+    let by = RuleReader {
+        grammar: &prepared.rule_grammar,
+        metas: &prepared.metas,
+        forms: &prepared.forms,
+    };
+    read_rules(alloc, &by, &prepared.rules)
+}
+
 /// The rule set of the rules, with the constructors of the grammar.
 fn rule_set(
     alloc: Global,
@@ -26,47 +50,54 @@ fn rule_set(
     rules: Vec<Rule>,
 ) -> Result<RuleSet, RuleError>
     requires { RulesAreShallow (map view.rule rules.items) }
-    ensures { IsMade (shapes_of grammar.now.parts) (view.forms forms.items) (map view.named rules.items) result }
+    ensures { IsMade (shapes_of grammar.now.parts) (view.forms forms.items)
+        (map view.named rules.items) result }
 {
     let shapes = grammar.shapes(alloc)?;
     RuleSet::make(alloc, &shapes, forms, rules)
 }
 
-/// The language that the text states, whose name is to be this one, or why it states none: the refusals of its lines, of its grammars,
-/// of the lines of its rules in order, and of its rule set, in this order.
+/// The language that the text states, whose name is to be this one, or why it states none: the
+/// refusals of its lines, of its grammars, of the lines of its rules in order, and of its rule set,
+/// in this order.
 pub fn read_language(alloc: Global, name: &Text, bytes: &[u8]) -> Result<Language, NotationError>
     requires short { length bytes.now ≤ 262144 }
     ensures stated { IfOk result (States name.now bytes.now) }
     ensures refused { IfErr result (IsRefused name.now bytes.now) }
     ensures fit { IfOk result IsLanguage }
 {
-    let Prepared {
-        grammar,
-        by,
-        forms,
-        main,
-        rules: lines,
-    } = match prepare(alloc, name, bytes) {
+    let prepared = match prepare(alloc, name, bytes) {
         Ok(prepared) => prepared,
         Err(error) => return Err(error),
     };
-    let ReadRules { rules, names } = match read_rules(alloc, &by, &lines) {
+    let ReadRules {
+        rules,
+        bodies,
+        names,
+    } = match read_prepared(alloc, &prepared) {
         Ok(read) => read,
         Err(error) => {
-            drop(lines);
-            drop(forms);
-            drop(by);
-            drop(grammar);
+            drop(prepared);
             return Err(error);
         }
     };
+    drop(bodies);
+    let Prepared {
+        grammar,
+        rule_grammar,
+        metas,
+        forms,
+        main,
+        rules: lines,
+    } = prepared;
     let rules = match rule_set(alloc, &grammar, forms, rules) {
         Ok(rules) => rules,
         Err(error) => {
             let refusal = rule_error(alloc, &lines, &names, error);
             drop(names);
             drop(lines);
-            drop(by);
+            drop(metas);
+            drop(rule_grammar);
             drop(grammar);
             return Err(refusal);
         }
@@ -77,16 +108,12 @@ pub fn read_language(alloc: Global, name: &Text, bytes: &[u8]) -> Result<Languag
         Err(_) => {
             drop(rules);
             drop(names);
-            drop(by);
+            drop(metas);
+            drop(rule_grammar);
             drop(grammar);
             return Err(NotationError::Memory);
         }
     };
-    let RuleReader {
-        grammar: rule_grammar,
-        metas,
-        forms: _,
-    } = by;
     Ok(Language {
         name,
         grammar,

@@ -15,7 +15,8 @@ use sx_term::Term;
 /// The two terms are to be apart.
 fn apart(kids: Vec<Term>) -> Premise
     requires { length kids.items ≡ 2 }
-    ensures { (t : Tree) × (u : Tree) × (map tree kids.items ≡ t ∷ u ∷ []) × (view.premise result ≡ apart t u) }
+    ensures { (t : Tree) × (u : Tree) × (map tree kids.items ≡ t ∷ u ∷ []) ×
+        (view.premise result ≡ apart t u) }
 {
     let mut kids = kids;
     match kids.pop() {
@@ -29,15 +30,17 @@ fn apart(kids: Vec<Term>) -> Premise
 
 /// The premise that the term of a line says.
 pub(crate) fn premise_of(by: &RuleReader, term: Term) -> Premise
-    requires room { by.now.forms + 3 ≤ length by.now.grammar.parts.productions }
+    requires room { length (reader by.now).forms + 3
+        ≤ length (reader by.now).parts.productions }
     requires says { (q : Said) × Says (reader by.now) (tree term) q }
     ensures { Says (reader by.now) (tree term) (view.premise result) }
 {
     match term {
         Term::Node { label, kids } => {
-            let first = by.grammar.productions().len() - (by.forms + 3);
+            let forms = by.forms.len();
+            let first = by.grammar.productions().len() - (forms + 3);
             let number = label as usize - first;
-            if number < by.forms {
+            if number < forms {
                 return Premise::Holds(Judgement {
                     form: number as u32,
                     places: kids,

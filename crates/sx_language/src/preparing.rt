@@ -6,23 +6,26 @@ ghost use Rattle.sx_grammar.specs.Tables.{IsWithinLimits};
 ghost use Rattle.sx_grammar.specs.Made.{IsGrammar};
 ghost use Rattle.sx_notation.specs.RuleParts.{rule_parts};
 ghost use Rattle.sx_language.specs.States.{IsRefused};
-ghost use Rattle.sx_language.specs.Prepared.{whole, IsUsable, IsPrepared, IsGrammarRefusal, IsNoGrammars};
+ghost use Rattle.sx_language.specs.Prepared.{whole, IsUsable, IsPrepared, IsGrammarRefusal};
+ghost use Rattle.sx_language.specs.Prepared.{IsNoGrammars};
 
-use crate::rule_reader::RuleReader;
 use crate::stems::metas_of;
 use std::alloc::Global;
 use sx_directives::FormLine;
+use sx_earley::Metas;
 use sx_grammar::{Grammar, GrammarError, GrammarParts};
 use sx_notation::{NotationError, forms_of, rule_grammar};
 use sx_outline::{MainForm, Outline, OutlineError, RuleLines, read_outline};
 use sx_rules::Form;
 use sx_term::Text;
 
-/// The grammar of a language, what the lines of its rules are read by, its forms, its main form, and the lines of its rules.
+/// The grammar of a language, what the lines of its rules are read by, its main form, and the lines
+/// of its rules.
 #[derive(Drop)]
 pub(crate) struct Prepared {
     pub(crate) grammar: Grammar,
-    pub(crate) by: RuleReader,
+    pub(crate) rule_grammar: Grammar,
+    pub(crate) metas: Metas,
     pub(crate) forms: Vec<Form>,
     pub(crate) main: MainForm,
     pub(crate) rules: Vec<RuleLines>,
@@ -68,7 +71,8 @@ fn make_grammars(
     requires limits { IsWithinLimits (parts from) }
     requires rule_limits { IsWithinLimits (rule_parts (parts from) forms.now) }
     ensures base { IfOk result (λ g. (g.base ≡ whole (parts from)) × IsGrammar (parts from)) }
-    ensures rule { IfOk result (λ g. (g.rule ≡ whole (rule_parts (parts from) forms.now)) × IsGrammar (rule_parts (parts from) forms.now)) }
+    ensures rule { IfOk result (λ g. (g.rule ≡ whole (rule_parts (parts from) forms.now)) ×
+        IsGrammar (rule_parts (parts from) forms.now)) }
     ensures refused { IfErr result (IsNoGrammars (parts from) forms.now) }
 {
     let base = match Grammar::make(alloc, from) {
@@ -123,15 +127,11 @@ pub(crate) fn prepare(alloc: Global, name: &Text, bytes: &[u8]) -> Result<Prepar
     drop(vars);
     match forms_of(alloc, &base, &forms) {
         Ok(Some(known)) => {
-            let many = forms.len();
             drop(forms);
             Ok(Prepared {
                 grammar: base,
-                by: RuleReader {
-                    grammar: rule,
-                    metas,
-                    forms: many,
-                },
+                rule_grammar: rule,
+                metas,
                 forms: known,
                 main,
                 rules,

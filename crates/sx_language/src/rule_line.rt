@@ -2,9 +2,10 @@
 
 ghost use Rattle.std.specs.Prelude.{◌≡◌, ◌+◌, ◌<◌, ◌≤◌, ◌^◌, length, IfOk, IfErr};
 ghost use Rattle.sx_term.specs.Term.{tree};
+ghost use Rattle.sx_earley.specs.Completed.{IsSort};
 ghost use Rattle.sx_rules.specs.Views as view;
 ghost use Rattle.sx_outline.specs.Stages.{numbered};
-ghost use Rattle.sx_notation.specs.ReadText.{IsRead};
+ghost use Rattle.sx_notation.specs.ReadText.{IsRead, IsRefused};
 ghost use Rattle.sx_language.specs.RuleLine.{judgements, CanRead, IsLine, IsBadLine};
 ghost use Rattle.sx_language.specs.Readers.{reader, AreTables};
 
@@ -26,8 +27,30 @@ fn judgements(grammar: &Grammar) -> Sort
     Sort::Typed((grammar.parts().sorts.len() - 1) as u32)
 }
 
+/// The term of the line's only reading as the sort. Names of variables that `vars` lacks are added.
+pub(crate) fn line_term(
+    alloc: Global,
+    by: &RuleReader,
+    tables: &LineReader,
+    sort: Sort,
+    line: &RuleLine,
+    vars: &mut Vars,
+) -> Result<Term, NotationError>
+    requires sort { IsSort (reader by.now).parts sort }
+    requires tables { AreTables (reader by.now) tables.now }
+    requires short { length line.now.text ≤ 262144 }
+    requires room { length vars.now + 10000 < 2 ^ 32 }
+    ensures read { IfOk result (λ t. IsRead (reader by.now).parts (reader by.now).stems sort
+        line.now.text vars.old vars.new (tree t)) }
+    ensures refused { IfErr result (IsRefused (reader by.now).parts (reader by.now).stems sort
+        line.now.text line.now.number) }
+    ensures grows { length vars.new ≤ length vars.old + 10000 }
+{
+    tables.read_line(alloc, sort, line.text.bytes(), line.number, vars)
+}
+
 /// The term that the line spells as a judgement. Names of variables that `vars` lacks are added.
-fn line_term(
+fn judgement_term(
     alloc: Global,
     by: &RuleReader,
     tables: &LineReader,
@@ -38,12 +61,13 @@ fn line_term(
     requires tables { AreTables (reader by.now) tables.now }
     requires short { length line.now.text ≤ 262144 }
     requires room { length vars.now + 10000 < 2 ^ 32 }
-    ensures read { IfOk result (λ t. IsRead by.now.grammar.parts by.now.metas.stems.items (judgements by.now.grammar.parts) line.now.text vars.old vars.new (tree t)) }
+    ensures read { IfOk result (λ t. IsRead (reader by.now).parts (reader by.now).stems
+        (judgements (reader by.now).parts) line.now.text vars.old vars.new (tree t)) }
     ensures refused { IfErr result (IsBadLine (reader by.now) (numbered line.now)) }
     ensures grows { length vars.new ≤ length vars.old + 10000 }
 {
-    let sort = judgements(&by.grammar);
-    tables.read_line(alloc, sort, line.text.bytes(), line.number, vars)
+    let sort = judgements(by.grammar);
+    line_term(alloc, by, tables, sort, line, vars)
 }
 
 /// The premise that the line states. Names of variables that `vars` lacks are added.
@@ -58,11 +82,12 @@ pub(crate) fn read_line(
     requires tables { AreTables (reader by.now) tables.now }
     requires short { length line.now.text ≤ 262144 }
     requires room { length vars.now + 10000 < 2 ^ 32 }
-    ensures read { IfOk result (λ q. IsLine (reader by.now) line.now.text vars.old vars.new (view.premise q)) }
+    ensures read { IfOk result (λ q.
+        IsLine (reader by.now) line.now.text vars.old vars.new (view.premise q)) }
     ensures refused { IfErr result (IsBadLine (reader by.now) (numbered line.now)) }
     ensures grows { length vars.new ≤ length vars.old + 10000 }
 {
-    match line_term(alloc, by, tables, line, vars) {
+    match judgement_term(alloc, by, tables, line, vars) {
         Ok(term) => Ok(premise_of(by, term)),
         Err(error) => Err(error),
     }

@@ -12,8 +12,10 @@ use sx_term::{NoMemory, Text, Vars};
 
 /// The names of the variables of the first rule with this name.
 fn names_in<'a>(rules: &[RuleLines], names: &'a [Vars], name: &Text) -> Option<&'a Vars>
-    ensures { MatchOption result (names_in (map (λ l. l.name) rules.entry.now) names.entry.now name.entry.now ≡ [])
-        (λ v. v.now ≡ names_in (map (λ l. l.name) rules.entry.now) names.entry.now name.entry.now) }
+    ensures { MatchOption result
+        (names_in (map (λ l. l.name) rules.entry.now) names.entry.now name.entry.now ≡ [])
+        (λ v. v.now ≡
+        names_in (map (λ l. l.name) rules.entry.now) names.entry.now name.entry.now) }
 {
     for i in 0..rules.len() {
         let rule = &rules[i];
@@ -31,7 +33,8 @@ fn name_unbound(
     names: &[Vars],
     error: &RuleError,
 ) -> Result<Option<Text>, NoMemory>
-    ensures { IfOk result (λ x. x ≡ name_unbound (map (λ l. l.name) rules.now) names.now error.now) }
+    ensures { IfOk result (λ x.
+        x ≡ name_unbound (map (λ l. l.name) rules.now) names.now error.now) }
 {
     match error {
         RuleError::NotModed(name, variable) => match names_in(rules, names, name) {
@@ -45,8 +48,9 @@ fn name_unbound(
     }
 }
 
-/// The refusal of rules that are no rule set.
-pub(crate) fn rule_error(
+/// The refusal of rules that are no rule set. Where a variable is not bound, it has the variable's
+/// name: that among the names of the first rule with the name that the error tells.
+pub fn rule_error(
     alloc: Global,
     rules: &[RuleLines],
     names: &[Vars],

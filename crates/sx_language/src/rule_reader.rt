@@ -2,11 +2,12 @@
 
 use sx_earley::Metas;
 use sx_grammar::Grammar;
+use sx_rules::Form;
 
-/// The grammar of rules, the stems of metavariables, and the number of forms.
-#[derive(Drop)]
-pub(crate) struct RuleReader {
-    pub(crate) grammar: Grammar,
-    pub(crate) metas: Metas,
-    pub(crate) forms: usize,
+/// The grammar of rules, the stems of metavariables, and the forms.
+#[derive(Clone, Copy)]
+pub struct RuleReader<'a> {
+    pub grammar: &'a Grammar,
+    pub metas: &'a Metas,
+    pub forms: &'a [Form],
 }

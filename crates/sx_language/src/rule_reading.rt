@@ -1,15 +1,18 @@
 //! Reading the lines of a rule.
 
-ghost use Rattle.std.specs.Prelude.{◌≡◌, ◌+◌, ◌*◌, ◌<◌, ◌≤◌, ◌^◌, [], map, length, IfOk, IfErr};
+ghost use Rattle.std.specs.Prelude.{◌≡◌, ◌+◌, ◌*◌, ◌<◌, ◌≤◌, ◌^◌, [], map, length, option_map};
+ghost use Rattle.std.specs.Prelude.{IfOk, IfErr};
 ghost use Rattle.std.specs.List.{AllByRecursion};
+ghost use Rattle.sx_term.specs.Term.{tree};
 ghost use Rattle.sx_rules.specs.Rules.{holds};
 ghost use Rattle.sx_rules.specs.Views as view;
 ghost use Rattle.sx_outline.specs.Stages.{numbered, rule_data};
-ghost use Rattle.sx_outline.specs.Sized.{HasShortLines};
 ghost use Rattle.sx_language.specs.RuleLine.{CanRead, IsLine};
-ghost use Rattle.sx_language.specs.RuleTexts.{ArePremises, IsRule, IsBadPremise, IsBadConclusion, IsBadRule, OrMemory};
+ghost use Rattle.sx_language.specs.RuleTexts.{IsShortRule, ArePremises, AreStated, IsRule};
+ghost use Rattle.sx_language.specs.RuleTexts.{IsBadPremise, IsBadConclusion, IsBadRule, OrMemory};
 ghost use Rattle.sx_language.specs.Readers.{reader, AreTables};
 
+use crate::rule_body::read_body;
 use crate::rule_line::read_line;
 use crate::rule_reader::RuleReader;
 use crate::stem_sorts::sorts_of;
@@ -18,13 +21,22 @@ use sx_lines::Kind;
 use sx_notation::{LineReader, NotationError};
 use sx_outline::{RuleLine, RuleLines};
 use sx_rules::{Judgement, Premise, Rule};
-use sx_term::Vars;
+use sx_term::{Term, Vars};
 
-/// A rule that was read, and the names of its variables.
+/// A rule that was read, its body if it has one, and the names of its variables.
 #[derive(Drop)]
 pub(crate) struct ReadRule {
     pub(crate) rule: Rule,
+    pub(crate) body: Option<Term>,
     pub(crate) names: Vars,
+}
+
+/// What the lines of a rule state.
+#[derive(Drop)]
+struct Stated {
+    premises: Vec<Premise>,
+    conclusion: Judgement,
+    body: Option<Term>,
 }
 
 /// The premises that the lines state.
@@ -40,8 +52,10 @@ fn read_premises(
     requires short { AllByRecursion (λ l. length l.text ≤ 262144) lines.now }
     requires few { length lines.now ≤ 262144 }
     requires none { vars.now ≡ [] }
-    ensures read { IfOk result (λ v. ArePremises (reader by.now) (map numbered lines.now) [] vars.new (map view.premise v.items)) }
-    ensures refused { IfErr result (OrMemory (IsBadPremise (reader by.now) (map numbered lines.now) [])) }
+    ensures read { IfOk result (λ v. ArePremises (reader by.now) (map numbered lines.now) []
+        vars.new (map view.premise v.items)) }
+    ensures refused { IfErr result
+        (OrMemory (IsBadPremise (reader by.now) (map numbered lines.now) [])) }
     ensures grows { length vars.new ≤ 10000 * length lines.now }
 {
     let mut premises = Vec::with_capacity(alloc, lines.len())?;
@@ -70,8 +84,10 @@ fn read_conclusion(
     requires tables { AreTables (reader by.now) tables.now }
     requires short { length line.now.text ≤ 262144 }
     requires room { length vars.now + 10000 < 2 ^ 32 }
-    ensures read { IfOk result (λ j. IsLine (reader by.now) line.now.text vars.old vars.new (holds (view.judgement j))) }
-    ensures refused { IfErr result (IsBadConclusion (reader by.now) (numbered line.now) vars.old) }
+    ensures read { IfOk result (λ j. IsLine (reader by.now) line.now.text vars.old vars.new
+        (holds (view.judgement j))) }
+    ensures refused { IfErr result
+        (IsBadConclusion (reader by.now) (numbered line.now) vars.old) }
     ensures grows { length vars.new ≤ length vars.old + 10000 }
 {
     match read_line(alloc, by, tables, line, vars) {
@@ -84,6 +100,46 @@ fn read_conclusion(
     }
 }
 
+/// The premises, the conclusion and the body that the lines state, one after the other.
+fn read_stated(
+    alloc: Global,
+    by: &RuleReader,
+    tables: &LineReader,
+    lines: &RuleLines,
+    vars: &mut Vars,
+) -> Result<Stated, NotationError>
+    requires can { CanRead (reader by.now) }
+    requires tables { AreTables (reader by.now) tables.now }
+    requires short { IsShortRule 262144 (rule_data lines.now) }
+    requires none { vars.now ≡ [] }
+    ensures read { IfOk result (λ x. AreStated (reader by.now) (rule_data lines.now) vars.new
+        (map view.premise x.premises.items) (view.judgement x.conclusion)
+        (option_map tree x.body)) }
+    ensures refused { IfErr result (OrMemory (IsBadRule (reader by.now) (rule_data lines.now))) }
+    ensures few { length vars.new < 2 ^ 32 }
+{
+    let premises = read_premises(alloc, by, tables, &lines.premises, vars)?;
+    let conclusion = match read_conclusion(alloc, by, tables, &lines.conclusion, vars) {
+        Ok(conclusion) => conclusion,
+        Err(error) => {
+            drop(premises);
+            return Err(error);
+        }
+    };
+    match read_body(alloc, by, tables, conclusion.form, lines, vars) {
+        Ok(body) => Ok(Stated {
+            premises,
+            conclusion,
+            body,
+        }),
+        Err(error) => {
+            drop(conclusion);
+            drop(premises);
+            Err(error)
+        }
+    }
+}
+
 /// The rule that the lines state.
 pub(crate) fn read_rule(
     alloc: Global,
@@ -93,22 +149,15 @@ pub(crate) fn read_rule(
 ) -> Result<ReadRule, NotationError>
     requires can { CanRead (reader by.now) }
     requires tables { AreTables (reader by.now) tables.now }
-    requires short { HasShortLines 262144 (rule_data lines.now) }
-    ensures read { IfOk result (λ x. IsRule (reader by.now) (rule_data lines.now) x.names (view.named x.rule)) }
+    requires short { IsShortRule 262144 (rule_data lines.now) }
+    ensures read { IfOk result (λ x. IsRule (reader by.now) (rule_data lines.now) x.names
+        (view.named x.rule) (option_map tree x.body)) }
     ensures refused { IfErr result (OrMemory (IsBadRule (reader by.now) (rule_data lines.now))) }
 {
     let mut names = Vars::new(alloc);
-    let premises = match read_premises(alloc, by, tables, &lines.premises, &mut names) {
-        Ok(premises) => premises,
+    let stated = match read_stated(alloc, by, tables, lines, &mut names) {
+        Ok(stated) => stated,
         Err(error) => {
-            drop(names);
-            return Err(error);
-        }
-    };
-    let conclusion = match read_conclusion(alloc, by, tables, &lines.conclusion, &mut names) {
-        Ok(conclusion) => conclusion,
-        Err(error) => {
-            drop(premises);
             drop(names);
             return Err(error);
         }
@@ -116,8 +165,7 @@ pub(crate) fn read_rule(
     let vars = match sorts_of(alloc, tables.stems(), &names) {
         Ok(vars) => vars,
         Err(_) => {
-            drop(conclusion);
-            drop(premises);
+            drop(stated);
             drop(names);
             return Err(NotationError::Memory);
         }
@@ -126,8 +174,7 @@ pub(crate) fn read_rule(
         Ok(name) => name,
         Err(_) => {
             drop(vars);
-            drop(conclusion);
-            drop(premises);
+            drop(stated);
             drop(names);
             return Err(NotationError::Memory);
         }
@@ -136,9 +183,10 @@ pub(crate) fn read_rule(
         rule: Rule {
             name,
             vars,
-            premises,
-            conclusion,
+            premises: stated.premises,
+            conclusion: stated.conclusion,
         },
+        body: stated.body,
         names,
     })
 }

@@ -1,5 +1,5 @@
 -- What holds of each language that a text states.
-use Rattle.std.specs.Prelude.{◌≡◌, ℕ, List, [], ◌∷◌, Some, map, flat_map, slice_get, length}
+use Rattle.std.specs.Prelude.{◌≡◌, ℕ, ◌≤◌, List, [], ◌∷◌, Some, map, flat_map, slice_get, length}
 use Rattle.std.specs.List.{AllByRecursion}
 use Rattle.sx_term.specs.declared.lex_kind.LexKind.TheVariants.{Id}
 use Rattle.sx_term.specs.declared.sort.Sort.{Sort}
@@ -13,7 +13,8 @@ use Rattle.sx_term.specs.declared.role.Role.{Role}
 use Rattle.sx_term.specs.declared.role.Role.TheVariants.{In, Sub, Out}
 use Rattle.sx_rules.specs.declared.rule.Place.{Place}
 use Rattle.sx_rules.specs.Rules.{Premise, holds, apart}
-use Rattle.sx_rules.specs.Views.{FormData, NamedRule}
+use Rattle.sx_rules.specs.Subjects.{is_typed}
+use Rattle.sx_rules.specs.Views.{FormData, NamedRule, is_sub}
 use Rattle.sx_rules.specs.Sets.{shapes_in, forms_in, rules_in}
 use Rattle.sx_directives.specs.declared.rows.FormLine.{FormLine}
 use Rattle.sx_notation.specs.RuleParts.{rule_parts}
@@ -31,6 +32,14 @@ sort_when _ _ sort = []
 -- the sorts of the places with this role, in order
 abbrev pub sorts_with : Role → List Place → List Sort
 sorts_with role places = flat_map (λ p. sort_when role p.role p.sort) places
+
+-- a subject's sort is typed, and that of another place is not
+abbrev pub PlaceFits : Place → Type 0
+PlaceFits p = is_typed (Some p.sort) ≡ is_sub p.role
+
+-- so it is of each place of the form, and at most one is a subject
+abbrev pub FormFits : FormData → Type 0
+FormFits f = AllByRecursion PlaceFits f.places × (length (sorts_with Sub f.places) ≤ 1)
 
 -- The main form has one input, for an environment, one subject and one output, for a signature. The
 -- empty constructor has no parts, the other one an environment, a name and a signature.
@@ -63,8 +72,8 @@ pub record RuleHasLexemes (literals : List Text) (r : NamedRule) : Type 0 where
   pub conclusion : AllByRecursion (HasLexemes literals) r.rule.conclusion.places
 
 -- The rules have the constructors of the grammar, and their lexemes are tokens of it. The grammar
--- by which rules are read, and the forms, are those of some form lines. The main form is one of
--- them.
+-- by which rules are read, and the forms, are those of some form lines, and the forms fit. The main
+-- form is one of them.
 pub record IsLanguage (l : Language) : Type 0 where
   pub lines : List FormLine
   pub base : l.grammar.base ≡ length l.grammar.parts.productions
@@ -72,6 +81,7 @@ pub record IsLanguage (l : Language) : Type 0 where
   pub read_by : l.rule_grammar.parts ≡ rule_parts l.grammar.parts lines
   pub shapes : shapes_in l.rules ≡ shapes_of l.grammar.parts
   pub forms : forms_in l.rules ≡ map (form_of l.grammar.parts) lines
+  pub fit : AllByRecursion FormFits (forms_in l.rules)
   pub lexemes : AllByRecursion (RuleHasLexemes (literals_of l.grammar.parts)) (rules_in l.rules)
   pub main : IsMain l.grammar.parts (forms_in l.rules) l.main
 

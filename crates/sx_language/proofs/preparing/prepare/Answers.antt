@@ -34,5 +34,5 @@ returns-in-Ok-Some-clause-prepared c =
     let rule = c.in-Ok-make_grammars.grammars.rule in
     prepared c.args.name.now c.args.bytes.now c.in-Ok.outline _ base c.in-Ok.ensures.usable c.in-Ok-make_grammars.ensures.base.0 c.in-Ok-make_grammars.ensures.base.1
     (subst (λ l. (rule ≡ whole (rule_parts p l)) × IsGrammar (rule_parts p l)) c.deref.ensures.value c.in-Ok-make_grammars.ensures.rule) refl
-    (subst (λ l. AreStems base.parts l c.in-Ok-metas_of.metas.stems.items) c.deref-2.ensures.value c.in-Ok-metas_of.ensures) (c.len-many.ensures ∙ sym c.deref-3.ensures.len ∙ ap length c.deref-3.ensures.value)
+    (subst (λ l. AreStems base.parts l c.in-Ok-metas_of.metas.stems.items) c.deref-2.ensures.value c.in-Ok-metas_of.ensures)
     (some_forms base.parts c.deref-3.result.now c.in-Ok-Some.field-0 c.in-Ok.outline.forms.items c.in-Ok-Some.known c.deref-3.ensures.value c.in-Ok-Some.field-0-is c.in-Ok-Some.ensures) refl refl
