@@ -1,24 +1,23 @@
 -- The places of forms fit, and bodies can be read at the sorts of their subjects.
-use Rattle.std.proofs.Common.{◌≡◌, ℕ, zero, suc, ◌<◌, ◌≤◌, Bool, true, false, cond, if◌then◌else◌, List, [], ◌∷◌, ◌++◌, length, length-append, map, Option, Some, None, slice_get, Contains, refl, ap, ◌∙◌, sym, subst, arith}
+use Rattle.std.proofs.Common.{◌≡◌, ℕ, zero, suc, ◌<◌, Bool, true, false, cond, if◌then◌else◌, List, [], ◌∷◌, length, length-append, map, Option, Some, None, slice_get, refl, ap, ◌∙◌, sym, subst, arith}
 use Rattle.std.specs.Prelude.{flat_map, option_map, IfSome}
 use Rattle.std.specs.List.{find, AllByRecursion}
 use Rattle.std.specs.Str.{bytes_eq}
 use Rattle.std.proofs.lemmas.List.{length-map}
-use Rattle.std.proofs.lemmas.Option.{slice_get_within, slice_get-map, none-some}
+use Rattle.std.proofs.lemmas.Option.{slice_get_within, none-some}
 use Rattle.std.proofs.lemmas.Bool.{false≢true}
 use Rattle.sx_term.specs.declared.role.Role.{Role}
 use Rattle.sx_term.specs.declared.role.Role.TheVariants.{Sub}
 use Rattle.sx_term.specs.declared.sort.Sort.{Sort}
 use Rattle.sx_term.specs.declared.sort.Sort.TheVariants as TheSort
 use Rattle.sx_grammar.specs.declared.sort_line.SortLine.{SortLine}
-use Rattle.sx_grammar.specs.Grammar.{Text}
 use Rattle.sx_grammar.specs.Parts.{Parts, names, number_of}
 use Rattle.sx_grammar.specs.Told as told
 use Rattle.sx_grammar.proofs.Finding.{mapped_at, named_at}
 use Rattle.sx_earley.specs.Completed.{IsSort}
 use Rattle.sx_rules.specs.declared.rule.Place.{Place as PlaceOf}
 use Rattle.sx_rules.specs.Subjects.{is_typed}
-use Rattle.sx_rules.specs.Views.{FormData, places_or_none, is_sub}
+use Rattle.sx_rules.specs.Views.{FormData, is_sub}
 use Rattle.sx_directives.specs.declared.spelled.SpelledSort.{SpelledSort}
 use Rattle.sx_directives.specs.declared.spelled.SpelledSort.TheVariants.{Lex, Named}
 use Rattle.sx_directives.specs.declared.spelled.FormSymbol.{FormSymbol}

@@ -1,6 +1,6 @@
 -- What is read at a sort has the sort, where variables have the sorts of their stems.
-use Rattle.std.proofs.Common.{◌≡◌, ℕ, zero, suc, ◌+◌, ◌-◌, ◌<◌, ◌⊎◌, inl, inr, Bool, true, false, cond, if◌then◌else◌, List, [], ◌∷◌, ◌++◌, length, map, drop, Option, Some, None, slice_get, Contains, refl, ap, ◌∙◌, sym, subst, arith}
-use Rattle.std.specs.Prelude.{flat_map, option_map, unwrap_or, position, slice_index_or, is_some}
+use Rattle.std.proofs.Common.{◌≡◌, ℕ, zero, suc, ◌<◌, inl, inr, Bool, true, false, cond, if◌then◌else◌, List, [], ◌∷◌, ◌++◌, length, drop, Option, Some, None, slice_get, Contains, refl, ap, ◌∙◌, sym, subst, arith}
+use Rattle.std.specs.Prelude.{flat_map, option_map, unwrap_or, position, slice_index_or}
 use Rattle.std.specs.List.{AllByRecursion}
 use Rattle.std.specs.Str.{bytes_eq}
 use Rattle.std.proofs.lemmas.List.{length-map}
@@ -12,14 +12,13 @@ use Rattle.sx_term.specs.declared.mark.Mark.TheVariants as marks
 use Rattle.sx_term.specs.declared.sort.Sort.{Sort}
 use Rattle.sx_term.specs.declared.sort.Sort.TheVariants as TheSort
 use Rattle.sx_term.specs.Sorts.{HasSort, KidsHaveSorts}
-use Rattle.sx_term.specs.Tree.{Tree, hole}
-use Rattle.sx_term.specs.Vars.{IsAdded}
+use Rattle.sx_term.specs.Tree.{Tree}
 use Rattle.sx_token.specs.declared.token.Token.{Token}
 use Rattle.sx_grammar.specs.Grammar as plain
 use Rattle.sx_grammar.specs.Grammar.{Text, Symbol, Production}
 use Rattle.sx_grammar.specs.Parts.{Parts, names, number_of, numbered}
 use Rattle.sx_grammar.specs.Told.{sort_with, is_typed, kid_sorts, shape_of, shapes_of}
-use Rattle.sx_grammar.specs.Reading.{Reading, Readings, branch, bracket, leaf, variable, done, ◌▸◌, Marked, Reads, ReadsAll, by_production, by_brackets, by_variable, all_read, by_literal, by_lexeme, by_lexical_variable, by_part}
+use Rattle.sx_grammar.specs.Reading.{Reading, Readings, Marked, Reads, ReadsAll, by_production, by_brackets, by_variable, all_read, by_literal, by_lexeme, by_lexical_variable, by_part}
 use Rattle.sx_grammar.specs.Print.{leaf_term, variable_term, term_of, terms_of}
 use Rattle.sx_grammar.proofs.Finding.{at_contains, named_at}
 use Rattle.sx_earley.specs.Completed.{IsSort, number_of as sort_number}
@@ -29,13 +28,12 @@ use Rattle.sx_forest.specs.Names.{names_in, names_of, AddsEach}
 use Rattle.sx_forest.proofs.Naming.{each_more}
 use Rattle.sx_directives.specs.declared.rows.FormLine.{FormLine}
 use Rattle.sx_directives.specs.declared.rows.VarLine.{VarLine}
-use Rattle.sx_outline.specs.Stages.{Numbered, RuleData}
-use Rattle.sx_rules.specs.Views.{NamedRule}
+use Rattle.sx_outline.specs.Stages.{Numbered}
 use Rattle.sx_notation.specs.ReadText.{IsRead}
 use Rattle.sx_notation.specs.RuleParts.{judgement_sort, rule_parts}
 use Rattle.sx_notation.proofs.Growing.{got_before}
-use Rattle.sx_language.specs.RuleLine.{Reader, subject_sort, CanRead}
-use Rattle.sx_language.specs.RuleTexts.{HaveStemSorts, IsBody, IsRule}
+use Rattle.sx_language.specs.RuleLine.{Reader, subject_sort}
+use Rattle.sx_language.specs.RuleTexts.{HaveStemSorts, IsBody}
 use Rattle.sx_language.specs.States.{IsSortNamed, AreStems}
 use Rattle.sx_language.specs.Laws.{ReadsAreSorted, BodiesAreSorted}
 

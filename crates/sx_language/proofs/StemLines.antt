@@ -7,7 +7,7 @@ use Rattle.sx_term.specs.declared.sort.Sort.{Sort}
 use Rattle.sx_term.specs.declared.sort.Sort.TheVariants as TheSort
 use Rattle.sx_grammar.specs.Grammar.{Text}
 use Rattle.sx_grammar.specs.Parts.{Parts, names, number_of}
-use Rattle.sx_grammar.specs.Told.{is_typed, sort_with}
+use Rattle.sx_grammar.specs.Told.{is_typed}
 use Rattle.sx_grammar.proofs.Finding.{named_at}
 use Rattle.sx_earley.specs.Completed.{number_of as sort_number}
 use Rattle.sx_earley.specs.Tokens.{Stems}

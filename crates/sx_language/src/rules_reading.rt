@@ -46,11 +46,13 @@ fn read_each(
     for i in 0..lines.len() {
         let here = &lines[i];
         match read_rule(alloc, by, tables, here) {
-            Ok(ReadRule {
-                rule,
-                body,
-                names: named,
-            }) => {
+            Ok(
+                ReadRule {
+                    rule,
+                    body,
+                    names: named,
+                },
+            ) => {
                 rules.push(rule)?;
                 bodies.push(body)?;
                 names.push(named)?;

@@ -29,11 +29,7 @@ fn sort_named(grammar: &Grammar, name: &Text) -> Sort
 }
 
 /// The stems of the lines in order, with the sorts of the grammar that these name.
-pub fn metas_of(
-    alloc: Global,
-    grammar: &Grammar,
-    vars: &[VarLine],
-) -> Result<Metas, NoMemory>
+pub fn metas_of(alloc: Global, grammar: &Grammar, vars: &[VarLine]) -> Result<Metas, NoMemory>
     requires { AllByRecursion (λ v. IsNameOfSort grammar.now.parts v.sort) vars.now }
     ensures { IfOk result (λ m. AreStems grammar.now.parts vars.now m.stems.items) }
 {
@@ -70,11 +66,7 @@ fn name_of(alloc: Global, grammar: &Grammar, sort: Sort) -> Result<Text, NoMemor
 }
 
 /// The lines of which the stems are: each stem with the name of its sort.
-pub fn var_lines(
-    alloc: Global,
-    grammar: &Grammar,
-    metas: &Metas,
-) -> Result<Vec<VarLine>, NoMemory>
+pub fn var_lines(alloc: Global, grammar: &Grammar, metas: &Metas) -> Result<Vec<VarLine>, NoMemory>
     requires { (vars : List VarData) × AreStems grammar.now.parts vars metas.now.stems.items }
     ensures { IfOk result (λ v. AreStems grammar.now.parts v.items metas.now.stems.items) }
 {

@@ -38,12 +38,7 @@ fn is_among(names: &Vars, copy: &mut Vars, name: Text) -> Result<bool, NoMemory>
 }
 
 /// Whether the token's name is among the names, if it is a metavariable.
-fn is_named(
-    alloc: Global,
-    names: &Vars,
-    copy: &mut Vars,
-    token: &Token,
-) -> Result<bool, NoMemory>
+fn is_named(alloc: Global, names: &Vars, copy: &mut Vars, token: &Token) -> Result<bool, NoMemory>
     requires same { copy.old ≡ names.now }
     requires room { length names.now + 1 < 2 ^ 32 }
     requires text { token.now.mark ≡ Mark.Meta → (name : List ℕ) × (token.now.text ≡ 126 ∷ name) }

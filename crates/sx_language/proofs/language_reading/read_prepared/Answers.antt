@@ -30,9 +30,9 @@ pub returns-clause-read : goal.returns-clause-read
 returns-clause-read c =
     let x = c.args.prepared.now in
     let here = subst (λ (fs : List Form). IfOk c.read_rules.result (λ y.
-        AreRules (with_forms x fs) (map rule_data c.deref-2.result.now) y.names.items (map view.named y.rules.items) (map (option_map tree) y.bodies.items))) c.deref.ensures.value c.read_rules.ensures.read in
+    AreRules (with_forms x fs) (map rule_data c.deref-2.result.now) y.names.items (map view.named y.rules.items) (map (option_map tree) y.bodies.items))) c.deref.ensures.value c.read_rules.ensures.read in
     let there = subst (λ (ls : List RuleLines). IfOk c.read_rules.result (λ y.
-        AreRules (with_forms x x.forms.items) (map rule_data ls) y.names.items (map view.named y.rules.items) (map (option_map tree) y.bodies.items))) c.deref-2.ensures.value here in
+    AreRules (with_forms x x.forms.items) (map rule_data ls) y.names.items (map view.named y.rules.items) (map (option_map tree) y.bodies.items))) c.deref-2.ensures.value here in
     ok_map c.read_rules.result _ _
     (λ y. none_bodied (with_forms x x.forms.items) (map rule_data x.rules.items) y.names.items (map view.named y.rules.items) (map (option_map tree) y.bodies.items) c.requires.bare) there
 

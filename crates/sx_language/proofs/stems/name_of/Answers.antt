@@ -1,9 +1,8 @@
-use Rattle.std.proofs.Common.{◌≡◌, ℕ, Some, Ok, Err, Result, slice_get, sym, subst}
+use Rattle.std.proofs.Common.{Ok, Err, Result, sym, subst}
 use Rattle.std.specs.Prelude.{IfOk}
 use Rattle.sx_term.specs.declared.sort.Sort.{Sort}
 use Rattle.sx_term.specs.declared.sort.Sort.TheVariants as TheSort
 use Rattle.sx_language.specs.States.{IsSortNamed}
-use Rattle.sx_grammar.specs.Parts.{Parts, names}
 use Rattle.sx_language.proofs.StemLines.{number_low, line_named}
 use Rattle.sx_language.proofs.stems.name_of.Goals as goal
 
