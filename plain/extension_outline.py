@@ -57,6 +57,15 @@ class PlainLines:
         self.body = None
 
 
+def declaring_row(parts):
+    """The row that a line spells where it declares something, is the first of a plain pair or begins a rule; else a bad shape."""
+    need(parts[0] in (b"prod", b"var", b"plain", b"rule"))
+    if parts[0] != b"plain":
+        return spell(parts)
+    need(len(parts) > 1 and is_name(parts[1]) and all(stem_of(name) for name in parts[2:]))
+    return parts[1:]
+
+
 def body_start(line):
     """Where the body begins in a line whose first part is `to`; None where no blank stands behind it."""
     start = len(line.content) - len(line.content.lstrip(BLANKS)) + 2
@@ -77,23 +86,23 @@ class ExtensionOutline:
         self._read(kept)
 
     def _declare(self, kept):
-        """What the lines before the first rule declare, in any order; of two of one name the first counts."""
+        """What the lines before the first rule declare, in any order; of two of one name the first counts. A line that spells no row
+        declares nothing, nor does the body of a plain pair, which is the line behind one that spells a `plain` row."""
         is_body = False
-        for line, parts in kept:
-            word = parts[0]
-            if is_body or word not in (b"prod", b"var", b"plain", b"rule"):
+        for _, parts in kept:
+            if is_body:
                 is_body = False
                 continue
-            if word == b"rule":
-                return
-            is_body = word == b"plain"
             try:
-                row = None if is_body else spell(parts)
+                row = declaring_row(parts)
             except Shape:
                 continue
-            if word == b"prod":
+            if parts[0] == b"rule":
+                return
+            is_body = parts[0] == b"plain"
+            if parts[0] == b"prod":
                 self.known_productions.setdefault(row.label, row)
-            elif word == b"var":
+            elif parts[0] == b"var":
                 self.known_stems.setdefault(*row)
 
     def _read(self, kept):

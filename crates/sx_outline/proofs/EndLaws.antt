@@ -1,11 +1,9 @@
 -- The outline at the end of the lines.
 use Rattle.std.proofs.Common.{◌≡◌, List, [], ◌∷◌, Some, refl, sym, ap, subst, ◌∙◌}
-use Rattle.sx_grammar.specs.Parts.{Parts, Line}
-use Rattle.sx_grammar.specs.declared.sort_line.SortLine.{SortLine}
-use Rattle.sx_directives.specs.declared.rows.VarLine.{VarLine}
+use Rattle.sx_grammar.specs.Parts.{Parts}
 use Rattle.sx_directives.specs.declared.rows.MainLine.{MainLine}
 use Rattle.sx_outline.specs.declared.main_form.MainForm.{MainForm}
-use Rattle.sx_outline.specs.Declarations.{Declared, FormData, parts_of}
+use Rattle.sx_outline.specs.Declarations.{Declared, parts_of}
 use Rattle.sx_outline.specs.Fitting.{IsMainOf}
 use Rattle.sx_outline.specs.Stages.{State}
 use Rattle.sx_outline.specs.Outlined.{OutlineData, declared_by, IsOutlineOf}
@@ -16,23 +14,18 @@ one_main known main [] h = absurd h
 one_main known main (m ∷ []) h = (m, refl, h)
 one_main known main (m ∷ n ∷ mains) h = absurd h
 
-pub all_same : (d e : Declared) → d.sorts ≡ e.sorts → d.productions ≡ e.productions → d.vars ≡ e.vars → d.forms ≡ e.forms → d.mains ≡ e.mains → d ≡ e
-all_same d e a b c f g =
-    ap (λ (x : List SortLine). let all : Declared = record { sorts = x; productions = d.productions; vars = d.vars; forms = d.forms; mains = d.mains } in all) a
-    ∙ ap (λ (x : List Line). let all : Declared = record { sorts = e.sorts; productions = x; vars = d.vars; forms = d.forms; mains = d.mains } in all) b
-    ∙ ap (λ (x : List VarLine). let all : Declared = record { sorts = e.sorts; productions = e.productions; vars = x; forms = d.forms; mains = d.mains } in all) c
-    ∙ ap (λ (x : List FormData). let all : Declared = record { sorts = e.sorts; productions = e.productions; vars = e.vars; forms = x; mains = d.mains } in all) f
-    ∙ ap (λ (x : List MainLine). let all : Declared = record { sorts = e.sorts; productions = e.productions; vars = e.vars; forms = e.forms; mains = x } in all) g
+pub all_same : (d e : Declared) → d.sorts ≡ e.sorts → d.productions ≡ e.productions → d.vars ≡ e.vars → d.forms ≡ e.forms → d.mains ≡ e.mains → d.uses ≡ e.uses → d ≡ e
+all_same d e a b c f g u = λ i. record { sorts = a i; productions = b i; vars = c i; forms = f i; mains = g i; uses = u i }
 
 -- an outline that has what is known, and the main form of the main line
-pub finished : (known : Declared) (s : State) (o : OutlineData) → s.declared ≡ known → IsMainRead known (Some o.main) s.declared.mains
+pub finished : (known : Declared) (s : State) (o : OutlineData) → s.declared ≡ known → known.uses ≡ [] → IsMainRead known (Some o.main) s.declared.mains
     → o.parts ≡ parts_of known → o.vars ≡ known.vars → o.forms ≡ known.forms → o.rules ≡ s.rules → IsOutlineOf s o
-finished known s o e main parts vars forms rules =
+finished known s o e uses main parts vars forms rules =
     let one = one_main known o.main s.declared.mains main in
     record {
       line = one.0;
       declared = e ∙ all_same known (declared_by o one.0) (sym (ap (λ (p : Parts). p.sorts) parts)) (sym (ap (λ (p : Parts). p.productions) parts)) (sym vars) (sym forms)
-          (ap (λ (x : Declared). x.mains) (sym e) ∙ one.1);
+          (ap (λ (x : Declared). x.mains) (sym e) ∙ one.1) uses;
       main = subst (λ x. IsMainOf x one.0 o.main) (sym e) one.2;
       rules = sym rules;
     }

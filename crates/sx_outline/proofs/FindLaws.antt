@@ -1,6 +1,6 @@
 -- What a file declares, found by names.
-use Rattle.std.proofs.Common.{◌≡◌, ℕ, ◌<◌, Bool, inl, inr, List, [], ◌∷◌, length, get_or, take, map, Option, Some, None, refl, sym, ap, subst, ◌∙◌, arith, Contains, ◌↔◌, IsTrue}
-use Rattle.std.specs.Prelude.{option_map, slice_get, unwrap_or}
+use Rattle.std.proofs.Common.{◌≡◌, ℕ, zero, suc, ◌<◌, Bool, true, false, inl, inr, Result, Ok, Err, List, [], ◌∷◌, length, get_or, take, map, Option, Some, None, refl, sym, ap, subst, ◌∙◌, arith, Contains, ◌↔◌, IsTrue}
+use Rattle.std.specs.Prelude.{option_map, slice_get, unwrap_or, IfOk}
 use Rattle.std.specs.Option.{is_some}
 use Rattle.std.specs.List.{AllByRecursion}
 use Rattle.std.proofs.lemmas.Option.{slice_get-map, slice_get-get_or, slice_get_within}
@@ -19,12 +19,15 @@ use Rattle.sx_directives.specs.declared.spelled.FormSymbol.{FormSymbol}
 use Rattle.sx_directives.specs.declared.rows.VarLine.{VarLine}
 use Rattle.sx_directives.specs.declared.rows.FormLine.{FormLine}
 use Rattle.sx_directives.specs.declared.rows.MainLine.{MainLine}
+use Rattle.sx_directives.specs.declared.rows.PlainLine.{PlainLine}
+use Rattle.sx_term.specs.declared.no_memory.NoMemory.{NoMemory}
 use Rattle.sx_directives.specs.declared.row.Row.{Row}
-use Rattle.sx_directives.specs.declared.row.Row.TheVariants.{Var, Form}
+use Rattle.sx_directives.specs.declared.row.Row.TheVariants.{Var, Form, Plain}
 use Rattle.sx_outline.specs.declared.main_form.MainForm.{MainForm}
 use Rattle.sx_outline.specs.Declarations.{Declared, FormData, form, parts_of}
-use Rattle.sx_outline.specs.Fitting.{Fits, HasOneSubject, IsConstructor, IsKnownSort, IsMainOf, Kid, SymbolFits, form_names, kids_of, sort_named, sort_names, sorts_at, stems}
-use Rattle.sx_outline.specs.MainSorts.{AreConstructors, AreMainSorts, IsOneName, IsPlain}
+use Rattle.sx_outline.specs.Fitting.{ArePartNames, AreDistinct, Fits, HasOneSubject, IsConstructor, IsKnownSort, IsMainOf, IsPlain, IsVariableOf, Kid, NamesFit, SymbolFits, form_names, kids_of, production_named, sort_named, sort_names, sorts_at, stems, var_named}
+use Rattle.sx_outline.specs.Variables.{stem_of}
+use Rattle.sx_outline.specs.MainSorts.{AreConstructors, AreMainSorts, IsOneName}
 use Rattle.sx_outline.proofs.PlaceLaws.{at, first_at, found_in, none_in, number_found, find_place, find_nothing, position_is}
 
 -- ---- sorts
@@ -194,3 +197,66 @@ pub main_sorts_are : (symbols : List FormSymbol) (count : ℕ) (environment sign
 main_sorts_are symbols count environment signature e one input output =
     let w = one_item (sorts_at Sub symbols) (sym e ∙ one) in
     record { input = input; subject_sort = w.0; subject = w.1; output = output }
+
+-- ---- names that are used, and variables
+
+pub use_there : (d : Declared) (name : List ℕ) (i : ℕ) (b : Bool) → first_at name d.uses ≡ Some i → b ≡ false → IsTrue b ↔ (Contains d.uses name → ⊥)
+use_there d name i b e f = ((λ t. absurd (false≢true (sym f ∙ t))), λ n. absurd (n (found_in d.uses name i e)))
+
+pub use_none : (d : Declared) (name : List ℕ) (b : Bool) → first_at name d.uses ≡ None → b ≡ true → IsTrue b ↔ (Contains d.uses name → ⊥)
+use_none d name b e f = ((λ t. none_in d.uses name e), λ n. f)
+
+-- the stem that is found is the first
+pub var_found : (d : Declared) (vars : List VarLine) (stem : List ℕ) (i : ℕ) (v : VarLine) → d.vars ≡ vars → first_at stem (stems d) ≡ Some i → v ≡ get_or vars i v → var_named d stem ≡ Some v
+var_found d vars stem i v same e is =
+    find_place (λ (x : VarLine). x.stem) d.vars stem i v e ∙ ap Some (sym (is ∙ ap (λ xs. get_or xs i v) (sym same)))
+
+some_var : (a b : VarLine) → Some a ≡ Some b → a ≡ b
+some_var a b e = cc
+
+none_var : (a : VarLine) → None ≡ Some a → ⊥
+none_var a e = cc
+
+pub variable_is : (d : Declared) (name sort : List ℕ) (v : VarLine) (b : Bool) → var_named d (stem_of name) ≡ Some v → IsTrue b ↔ (v.sort ≡ sort) → IsTrue b ↔ IsVariableOf d name sort
+variable_is d name sort v b found h =
+    ((λ t. (v, found, h.0 t)), λ k. h.1 (ap (λ (x : VarLine). x.sort) (some_var v k.0 (sym found ∙ k.1)) ∙ k.2))
+
+pub variable_none : (d : Declared) (name sort : List ℕ) (b : Bool) → first_at (stem_of name) (stems d) ≡ None → b ≡ false → IsTrue b ↔ IsVariableOf d name sort
+variable_none d name sort b e f =
+    ((λ t. absurd (false≢true (sym f ∙ t))), λ k. absurd (none_var k.0 (sym (find_nothing (λ (x : VarLine). x.stem) d.vars (stem_of name) e) ∙ k.1)))
+
+-- ---- the names of parts
+
+pub parts_are : (d : Declared) (label : List ℕ) (names : List (List ℕ)) (p : Line) (b : Bool) → production_named d label ≡ Some p
+    → IsTrue b ↔ (IsPlain d p.sort × AreDistinct names × NamesFit d names (kids_of p.symbols)) → IsTrue b ↔ ArePartNames d label names
+parts_are d label names p b found h = (
+  (λ t. let k = h.0 t in record { line = p; line_is = found; plain = k.0; once = k.1; fit = k.2 }),
+  λ k.
+      let same : k.line ≡ p = some_line k.line p (sym k.line_is ∙ found) in
+      h.1 (subst (λ (x : Line). IsPlain d x.sort) same k.plain, k.once, subst (λ (x : Line). NamesFit d names (kids_of x.symbols)) same k.fit),
+)
+  where
+    some_line : (a b : Line) → Some a ≡ Some b → a ≡ b
+    some_line a b e = cc
+
+pub parts_none : (d : Declared) (label : List ℕ) (names : List (List ℕ)) (b : Bool) → first_at label (labels (parts_of d)) ≡ None → b ≡ false → IsTrue b ↔ ArePartNames d label names
+parts_none d label names b e f =
+    ((λ t. absurd (false≢true (sym f ∙ t))), λ k. absurd (none_line k.line (sym (find_nothing (λ (x : Line). x.label) d.productions label e) ∙ k.line_is)))
+  where
+    none_line : (a : Line) → None ≡ Some a → ⊥
+    none_line a e = cc
+
+-- the production that is found is the first
+pub production_found : (d : Declared) (label : List ℕ) (i : ℕ) (p : Line) → first_at label (labels (parts_of d)) ≡ Some i → slice_get d.productions i ≡ Some p → production_named d label ≡ Some p
+production_found d label i p e is =
+    let many : length (labels (parts_of d)) ≡ length d.productions = length-map d.productions (λ (x : Line). x.label) in
+    let within : i < length (labels (parts_of d)) = number_found (labels (parts_of d)) label i e in
+    find_place (λ (x : Line). x.label) d.productions label i p e ∙ sym (slice_get-get_or d.productions i p (omega (arith, many, within))) ∙ is
+
+pub ok_map : {X : Type 0} {E : Type 0} (r : Result X E) (P Q : X → Type 0) → ((x : X) → P x → Q x) → IfOk r P → IfOk r Q
+ok_map (Ok x) P Q f h = f x h
+ok_map (Err e) P Q f h = tt
+
+pub fits_plain : (known before : Declared) (p : PlainLine) (row : Row) (r : Result Bool NoMemory) → row ≡ Plain p → IfOk r (λ b. IsTrue b ↔ ArePartNames known p.label p.names.items)
+    → IfOk r (λ b. IsTrue b ↔ Fits known before row)
+fits_plain known before p row r e h = subst (λ x. IfOk r (λ b. IsTrue b ↔ Fits known before x)) (sym e) h

@@ -1,4 +1,6 @@
 pub mod PlaceLaws
+pub mod StemLaws
+pub mod OutcomeSteps
 pub mod LineLaws
 pub mod PassLaws
 pub mod FindLaws
@@ -11,10 +13,14 @@ pub mod AheadLaws
 pub mod ReadLaws
 pub mod OutcomeLaws
 pub mod WeightLaws
+pub mod KeptLaws
+pub mod NameLaws
 pub mod FitLaws
 pub mod EndLaws
 pub mod LeftLines
 pub mod LinesLaws
+pub mod LanguageLines
+pub mod LinesDeclared
 pub mod LinesOutlined
 pub mod OneOutline
 mod ReadRows

@@ -1,395 +1,520 @@
--- Lines that are those of an outline state it.
-use Rattle.std.proofs.Common.{◌≡◌, ℕ, List, [], ◌∷◌, ◌++◌, length, None, Ok, refl, sym, ap, subst, ◌∙◌, inl, inr, append_assoc, append-nil, arith}
+-- Lines that are those of a file lead to its end.
+use Rattle.std.proofs.Common.{◌≡◌, ℕ, List, [], ◌∷◌, ◌++◌, length, Option, Some, None, refl, sym, ap, subst, ◌∙◌, inl, inr, append_assoc, append-nil, arith}
 use Rattle.std.specs.List.{AllByRecursion}
-use Rattle.std.specs.Str.{IsUtf8}
 use Rattle.std.proofs.lemmas.List.{length-append}
-use Rattle.sx_lines.specs.Lines.{Lines, over, line, lines_from}
-use Rattle.sx_directives.specs.declared.file_kind.FileKind.TheVariants as files
+use Rattle.sx_lines.specs.Lines.{Lines, over, line}
+use Rattle.sx_directives.specs.declared.file_kind.FileKind.{FileKind}
 use Rattle.sx_directives.specs.Rows.{IsRow}
 use Rattle.sx_directives.specs.declared.rows.MainLine.{MainLine}
+use Rattle.sx_directives.specs.declared.rows.PlainLine.{PlainLine}
 use Rattle.sx_directives.specs.declared.row.Row.{Row}
-use Rattle.sx_directives.specs.declared.row.Row.TheVariants.{Language, Sort, Prod, Var, Form, Main, Rule, End}
-use Rattle.sx_outline.specs.Declarations.{Declared, nothing, declare}
-use Rattle.sx_outline.specs.Fitting.{Fits, IsMainOf}
-use Rattle.sx_outline.specs.Known.{Declares, GoesOn, kept_lines}
-use Rattle.sx_outline.specs.Stages.{Numbered, RuleData, Begun, Stage, at_start, at_declarations, at_rules, at_premises, at_conclusion, at_end, State, start, StepsAt, IsGoodRow, IsBar, MayStandAt, after, at as to, with_premise, concluded}
-use Rattle.sx_outline.specs.Outlined.{OutlineData, declared_by, IsOutcome, IsWhole, IsReadAs}
-use Rattle.sx_outline.specs.Structure.{numbered_lines, IsDeclaring, AreDeclarations, AreRules, AreOutlineLines}
-use Rattle.sx_outline.proofs.LeftLines.{IsRest, IsInRule, LeftPremises, LeftConclusion, LeftEnd, IsRestOfFile, IsLeft, LeftAt}
-
--- ---- lists
-
-none_first : (l : Numbered) (lines : List Numbered) → [] ≡ l ∷ lines → ⊥
-none_first l lines e = cc
-
-head_same : (a b : Numbered) (x y : List Numbered) → a ∷ x ≡ b ∷ y → a ≡ b
-head_same a b x y e = cc
-
-tail_same : (a b : Numbered) (x y : List Numbered) → a ∷ x ≡ b ∷ y → x ≡ y
-tail_same a b x y e = cc
+use Rattle.sx_directives.specs.declared.row.Row.TheVariants.{Sort, Prod, Var, Form, Main, Plain, Rule, End, To}
+use Rattle.sx_outline.specs.declared.main_form.MainForm.{MainForm}
+use Rattle.sx_outline.specs.Declarations.{Declared, declare}
+use Rattle.sx_outline.specs.Fitting.{ArePartNames, Fits, IsMainOf}
+use Rattle.sx_outline.specs.Stages.{Numbered, PlainData, RuleData, Begun, BegunPlain, begun_plain, Stage, at_start, at_declarations, at_body, at_plains, at_rules, at_premises, at_conclusion, at_end, State, StepsAt, IsGoodRow, IsBar, IsWhole, MayStandAt, after, at as to, with_premise, with_body, with_plain, concluded, paired, head_row}
+use Rattle.sx_outline.specs.Structure.{numbered_lines, IsDeclaring, IsPair, AreBodies, AreDeclarations, ArePairs, AreRules}
+use Rattle.sx_outline.proofs.OutcomeSteps.{Reaches}
+use Rattle.sx_outline.proofs.LinesDeclared.{none_first, head_same, tail_same}
+use Rattle.sx_outline.proofs.LeftLines.{Whole, IsRest, IsInRule, LeftPremises, LeftConclusion, LeftEnd, IsBodyLeft, IsInPair, IsRestOfPairs, IsRestOfFile, IsLeft, LeftAt}
 
 -- ---- no line
 
 -- no rule has no lines
-no_rules : (rules : List RuleData) → AreRules [] rules → rules ≡ []
-no_rules [] h = refl
-no_rules (r ∷ rules) (front, back, e, lines, more) = absurd (none_first lines.first ((r.premises ++ lines.bar ∷ r.conclusion ∷ lines.last ∷ []) ++ back) (e ∙ ap (λ (x : List Numbered). x ++ back) lines.lines_are))
+no_rules : (kind : FileKind) (rules : List RuleData) → AreRules kind [] rules → rules ≡ []
+no_rules kind [] h = refl
+no_rules kind (r ∷ rules) (front, back, e, lines, more) =
+    absurd (none_first lines.first ((r.premises ++ lines.bar ∷ r.conclusion ∷ lines.bodies ++ lines.last ∷ []) ++ back) (e ∙ ap (λ (x : List Numbered). x ++ back) lines.lines_are))
 
-end_declared : (known d : Declared) (declarations rule_lines : List Numbered) → [] ≡ declarations ++ rule_lines → AreDeclarations known d declarations known → d ≡ known
-end_declared known d [] rule_lines e h = h
-end_declared known d (l ∷ declarations) rule_lines e h = absurd (none_first l (declarations ++ rule_lines) e)
+no_plains : (kind : FileKind) (known : Declared) (pairs rule_lines : List Numbered) (plains : List PlainData) → [] ≡ pairs ++ rule_lines → ArePairs kind known pairs plains → plains ≡ []
+no_plains kind known [] rule_lines [] e h = refl
+no_plains kind known [] rule_lines (p ∷ plains) e h = absurd h
+no_plains kind known (l ∷ pairs) rule_lines plains e h = absurd (none_first l (pairs ++ rule_lines) e)
 
-end_lines : (declarations rule_lines : List Numbered) → [] ≡ declarations ++ rule_lines → rule_lines ≡ []
-end_lines [] rule_lines e = sym e
-end_lines (l ∷ declarations) rule_lines e = absurd (none_first l (declarations ++ rule_lines) e)
+end_declared : (kind : FileKind) (known d : Declared) (declarations others : List Numbered) → [] ≡ declarations ++ others → AreDeclarations kind known d declarations known → d ≡ known
+end_declared kind known d [] others e h = h
+end_declared kind known d (l ∷ declarations) others e h = absurd (none_first l (declarations ++ others) e)
 
-all_rules : (rules more : List RuleData) (o : OutlineData) → o.rules ≡ rules ++ more → more ≡ [] → rules ≡ o.rules
+end_lines : (front back : List Numbered) → [] ≡ front ++ back → back ≡ []
+end_lines [] back e = sym e
+end_lines (l ∷ front) back e = absurd (none_first l (front ++ back) e)
+
+all_rules : (rules more : List RuleData) (o : Whole) → o.rules ≡ rules ++ more → more ≡ [] → rules ≡ o.rules
 all_rules rules more o e n = sym (e ∙ ap (λ (x : List RuleData). rules ++ x) n ∙ append-nil rules)
 
--- what is left of a rule has a line
-premises_left : (b : Begun) (front back : List Numbered) (r : RuleData) → LeftPremises b front r → [] ≡ front ++ back → ⊥
-premises_left b front back r h e = first_of h.premises (e ∙ ap (λ (x : List Numbered). x ++ back) h.front_is)
-  where
-    first_of : (premises : List Numbered) → [] ≡ (premises ++ h.bar ∷ r.conclusion ∷ h.last ∷ []) ++ back → ⊥
-    first_of [] e = none_first h.bar (r.conclusion ∷ h.last ∷ back) e
-    first_of (p ∷ premises) e = none_first p ((premises ++ h.bar ∷ r.conclusion ∷ h.last ∷ []) ++ back) e
+all_plains : (plains more : List PlainData) (o : Whole) → o.plains ≡ plains ++ more → more ≡ [] → plains ≡ o.plains
+all_plains plains more o e n = sym (e ∙ ap (λ (x : List PlainData). plains ++ x) n ∙ append-nil plains)
 
-ends_whole : (known : Declared) (name : List ℕ) (at : Stage) (d : Declared) (rules : List RuleData) (o : OutlineData) → IsLeft known name at d rules o [] → IsWhole at × (d ≡ known) × (rules ≡ o.rules)
-ends_whole known name at_start d rules o h = absurd (none_first h.first h.others h.lines_are)
-ends_whole known name at_declarations d rules o h = (
-  tt,
-  end_declared known d h.declarations h.rule_lines h.lines_are h.declared,
-  all_rules rules h.more o h.rules_are (no_rules h.more (subst (λ x. AreRules x h.more) (end_lines h.declarations h.rule_lines h.lines_are) h.are)),
-)
-ends_whole known name at_rules d rules o h = (tt, h.declared, all_rules rules h.more o h.rules_are (no_rules h.more h.are))
-ends_whole known name (at_premises b) d rules o h = absurd (premises_left b h.front h.back h.rule h.left h.lines_are)
-ends_whole known name (at_conclusion b) d rules o h =
-    absurd (none_first h.rule.conclusion (h.left.last ∷ h.back) (h.lines_are ∙ ap (λ (x : List Numbered). x ++ h.back) h.left.front_is))
-ends_whole known name (at_end r) d rules o h = absurd (none_first h.left.last h.back (h.lines_are ∙ ap (λ (x : List Numbered). x ++ h.back) h.left.front_is))
+-- the state has all that the file states
+pub record IsAll (known : Declared) (o : Whole) (at : Stage) (d : Declared) (plains : List PlainData) (rules : List RuleData) : Type 0 where
+  pub whole : IsWhole at
+  pub declared : d ≡ known
+  pub plains_are : plains ≡ o.plains
+  pub rules_are : rules ≡ o.rules
+
+pairs_whole : (kind : FileKind) (known : Declared) (at : Stage) (d : Declared) (plains : List PlainData) (rules : List RuleData) (o : Whole) (lines : List Numbered) → [] ≡ lines → IsWhole at
+    → IsRestOfPairs kind known d plains rules o lines → IsAll known o at d plains rules
+pairs_whole kind known at d plains rules o lines e whole h =
+    let none : [] ≡ h.pairs ++ h.rule_lines = e ∙ h.lines_are in
+    record {
+      whole = whole;
+      declared = h.declared;
+      plains_are = all_plains plains h.more_plains o h.plains_are (no_plains kind known h.pairs h.rule_lines h.more_plains none h.pairs_are);
+      rules_are = all_rules rules h.more o h.rules_are (no_rules kind h.more (subst (λ x. AreRules kind x h.more) (end_lines h.pairs h.rule_lines none) h.are));
+    }
+
+-- what is left of a rule has a line
+premises_left : (kind : FileKind) (b : Begun) (front back : List Numbered) (r : RuleData) → LeftPremises kind b front r → [] ≡ front ++ back → ⊥
+premises_left kind b front back r h e = first_of h.premises (e ∙ ap (λ (x : List Numbered). x ++ back) h.front_is)
+  where
+    first_of : (premises : List Numbered) → [] ≡ (premises ++ h.bar ∷ r.conclusion ∷ h.bodies ++ h.last ∷ []) ++ back → ⊥
+    first_of [] e = none_first h.bar (r.conclusion ∷ (h.bodies ++ h.last ∷ []) ++ back) e
+    first_of (p ∷ premises) e = none_first p ((premises ++ h.bar ∷ r.conclusion ∷ h.bodies ++ h.last ∷ []) ++ back) e
+
+bodies_left : (bodies : List Numbered) (last : Numbered) (back : List Numbered) → [] ≡ (bodies ++ last ∷ []) ++ back → ⊥
+bodies_left [] last back e = none_first last back e
+bodies_left (b ∷ bodies) last back e = none_first b ((bodies ++ last ∷ []) ++ back) e
+
+ends_whole : (kind : FileKind) (known : Declared) (name : List ℕ) (at : Stage) (d : Declared) (plains : List PlainData) (rules : List RuleData) (o : Whole) → IsLeft kind known name at d plains rules o []
+    → IsAll known o at d plains rules
+ends_whole kind known name at_start d plains rules o h = absurd (none_first h.first h.others h.lines_are)
+ends_whole kind known name at_declarations d plains rules o h =
+    let same : d ≡ known = end_declared kind known d h.declarations h.others h.lines_are h.declared in
+    let rest : IsAll known o at_declarations known plains rules =
+    pairs_whole kind known at_declarations known plains rules o h.others (sym (end_lines h.declarations h.others h.lines_are)) tt h.rest in
+    record { whole = tt; declared = same; plains_are = rest.plains_are; rules_are = rest.rules_are }
+ends_whole kind known name (at_body b) d plains rules o h = absurd (none_first h.body h.others h.lines_are)
+ends_whole kind known name at_plains d plains rules o h = pairs_whole kind known at_plains d plains rules o [] refl tt h
+ends_whole kind known name at_rules d plains rules o h =
+    record { whole = tt; declared = h.declared; plains_are = h.plains_are; rules_are = all_rules rules h.more o h.rules_are (no_rules kind h.more h.are) }
+ends_whole kind known name (at_premises b) d plains rules o h = absurd (premises_left kind b h.front h.back h.rule h.left h.lines_are)
+ends_whole kind known name (at_conclusion b) d plains rules o h =
+    absurd (none_first h.rule.conclusion ((h.left.bodies ++ h.left.last ∷ []) ++ h.back) (h.lines_are ∙ ap (λ (x : List Numbered). x ++ h.back) h.left.front_is))
+ends_whole kind known name (at_end r) d plains rules o h =
+    absurd (bodies_left h.left.bodies h.left.last h.back (h.lines_are ∙ ap (λ (x : List Numbered). x ++ h.back) h.left.front_is))
 
 -- ---- one line
 
 -- a line leads to a state whose lines are left
-record LeadsOn (known : Declared) (name : List ℕ) (at : Stage) (d : Declared) (rules : List RuleData) (o : OutlineData) (n : ℕ) (text : List ℕ) (lines : List Numbered) : Type 0 where
+record LeadsOn (kind : FileKind) (known : Declared) (name : List ℕ) (at : Stage) (d : Declared) (plains : List PlainData) (rules : List RuleData) (o : Whole) (n : ℕ) (text : List ℕ) (lines : List Numbered) : Type 0 where
   next : State
-  steps : StepsAt at known name (record { stage = at; declared = d; rules = rules }) n text next
-  left : LeftAt known name o lines next
+  steps : StepsAt at kind known name (record { stage = at; declared = d; plains = plains; rules = rules }) n text next
+  left : LeftAt kind known name o lines next
 
 -- the first line of a rule
-begin_rule : (known d : Declared) (rules : List RuleData) (o : OutlineData) (n : ℕ) (text : List ℕ) (lines : List Numbered) (more : List RuleData) → d ≡ known → o.rules ≡ rules ++ more
-    → AreRules (record { number = n; text = text } ∷ lines) more
-    → (given : List ℕ) × IsRow files.Language text (Rule given) × IsInRule (LeftPremises (record { number = n; name = given; premises = [] })) known d rules o lines
-begin_rule known d rules o n text lines [] e are h = absurd (none_first (record { number = n; text = text }) lines (sym h))
-begin_rule known d rules o n text lines (r ∷ more) e are (front, back, parts, rule, others) =
+begin_rule : (kind : FileKind) (known d : Declared) (plains : List PlainData) (rules : List RuleData) (o : Whole) (n : ℕ) (text : List ℕ) (lines : List Numbered) (more : List RuleData) → d ≡ known
+    → plains ≡ o.plains → o.rules ≡ rules ++ more → AreRules kind (record { number = n; text = text } ∷ lines) more
+    → (given : List ℕ) × IsRow kind text (Rule given) × IsInRule (LeftPremises kind (record { number = n; name = given; premises = [] })) kind known d plains rules o lines
+begin_rule kind known d plains rules o n text lines [] e p are h = absurd (none_first (record { number = n; text = text }) lines (sym h))
+begin_rule kind known d plains rules o n text lines (r ∷ more) e p are (front, back, parts, rule, others) =
     let l : Numbered = record { number = n; text = text } in
-    let whole : l ∷ lines ≡ rule.first ∷ (r.premises ++ rule.bar ∷ r.conclusion ∷ rule.last ∷ []) ++ back = parts ∙ ap (λ (x : List Numbered). x ++ back) rule.lines_are in
-    let first : l ≡ rule.first = head_same l rule.first lines ((r.premises ++ rule.bar ∷ r.conclusion ∷ rule.last ∷ []) ++ back) whole in (
+    let whole : l ∷ lines ≡ rule.first ∷ (r.premises ++ rule.bar ∷ r.conclusion ∷ rule.bodies ++ rule.last ∷ []) ++ back = parts ∙ ap (λ (x : List Numbered). x ++ back) rule.lines_are in
+    let first : l ≡ rule.first = head_same l rule.first lines ((r.premises ++ rule.bar ∷ r.conclusion ∷ rule.bodies ++ rule.last ∷ []) ++ back) whole in (
       r.name,
-      subst (λ (x : Numbered). IsRow files.Language x.text (Rule r.name)) (sym first) rule.begins,
+      subst (λ (x : Numbered). IsRow kind x.text (Rule r.name)) (sym first) rule.begins,
       record {
         rule = r;
-        front = r.premises ++ rule.bar ∷ r.conclusion ∷ rule.last ∷ [];
+        front = r.premises ++ rule.bar ∷ r.conclusion ∷ rule.bodies ++ rule.last ∷ [];
         back = back;
-        lines_are = tail_same l rule.first lines ((r.premises ++ rule.bar ∷ r.conclusion ∷ rule.last ∷ []) ++ back) whole;
+        lines_are = tail_same l rule.first lines ((r.premises ++ rule.bar ∷ r.conclusion ∷ rule.bodies ++ rule.last ∷ []) ++ back) whole;
         left = record {
           premises = r.premises;
           bar = rule.bar;
+          bodies = rule.bodies;
           last = rule.last;
           front_is = refl;
           plain = rule.premises;
           divides = rule.divides;
+          body = rule.body;
           ends = rule.ends;
           number = ap (λ (x : Numbered). x.number) first ∙ rule.number;
           name = refl;
           premises_are = refl;
-          body = rule.body;
         };
         declared = e;
+        plains_are = p;
         more = more;
         rules_are = are;
         are = others;
       },
     )
 
-good_rule : (known : Declared) (at : Stage) (d : Declared) (rules : List RuleData) (text given : List ℕ) → IsRow files.Language text (Rule given) → MayStandAt at d.mains (Rule given)
-    → IsGoodRow known (record { stage = at; declared = d; rules = rules }) text (Rule given)
-good_rule known at d rules text given spelled stands = record { spelled = spelled; fits = tt; stands = stands; main = tt }
+good_rule : (kind : FileKind) (known : Declared) (at : Stage) (d : Declared) (plains : List PlainData) (rules : List RuleData) (text given : List ℕ) → IsRow kind text (Rule given)
+    → MayStandAt at d.mains (Rule given) → IsGoodRow kind known (record { stage = at; declared = d; plains = plains; rules = rules }) text (Rule given)
+good_rule kind known at d plains rules text given spelled stands = record { spelled = spelled; fits = tt; stands = stands; main = tt }
 
-rules_lead : (known : Declared) (name : List ℕ) (d : Declared) (rules : List RuleData) (o : OutlineData) (n : ℕ) (text : List ℕ) (lines : List Numbered)
-    → IsRest known d rules o (record { number = n; text = text } ∷ lines) → LeadsOn known name at_rules d rules o n text lines
-rules_lead known name d rules o n text lines h =
-    let rule = begin_rule known d rules o n text lines h.more h.declared h.rules_are h.are in
+rules_lead : (kind : FileKind) (known : Declared) (name : List ℕ) (d : Declared) (plains : List PlainData) (rules : List RuleData) (o : Whole) (n : ℕ) (text : List ℕ) (lines : List Numbered)
+    → IsRest kind known d plains rules o (record { number = n; text = text } ∷ lines) → LeadsOn kind known name at_rules d plains rules o n text lines
+rules_lead kind known name d plains rules o n text lines h =
+    let rule = begin_rule kind known d plains rules o n text lines h.more h.declared h.plains_are h.rules_are h.are in
     record {
-      next = after (record { stage = at_rules; declared = d; rules = rules }) n (Rule rule.0);
-      steps = (Rule rule.0, good_rule known at_rules d rules text rule.0 rule.1 tt, refl);
+      next = after (record { stage = at_rules; declared = d; plains = plains; rules = rules }) n (Rule rule.0);
+      steps = (Rule rule.0, good_rule kind known at_rules d plains rules text rule.0 rule.1 tt, refl);
       left = rule.2;
     }
+
+-- ---- plain pairs
+
+-- the next plain pair begins, or the first rule
+data PairsOn (kind : FileKind) (known d : Declared) (plains : List PlainData) (rules : List RuleData) (o : Whole) (n : ℕ) (text : List ℕ) (lines : List Numbered) : Type 0 where
+  by_plain : (row : PlainLine) → IsRow kind text (Plain row) → ArePartNames known row.label row.names.items → IsInPair kind known d (begun_plain n row) plains rules o lines
+      → PairsOn kind known d plains rules o n text lines
+  by_rule : (given : List ℕ) → IsRow kind text (Rule given) → IsInRule (LeftPremises kind (record { number = n; name = given; premises = [] })) kind known d plains rules o lines
+      → PairsOn kind known d plains rules o n text lines
+
+pair_on : (kind : FileKind) (known d : Declared) (plains : List PlainData) (rules : List RuleData) (o : Whole) (n : ℕ) (text : List ℕ) (lines pairs rule_lines : List Numbered)
+    (more_plains : List PlainData) (more : List RuleData) → record { number = n; text = text } ∷ lines ≡ pairs ++ rule_lines → d ≡ known → o.plains ≡ plains ++ more_plains
+    → ArePairs kind known pairs more_plains → o.rules ≡ rules ++ more → AreRules kind rule_lines more → PairsOn kind known d plains rules o n text lines
+pair_on kind known d plains rules o n text lines [] rule_lines [] more e declared plains_are pairs_are rules_are are =
+    let rule = begin_rule kind known d plains rules o n text lines more declared (sym (plains_are ∙ append-nil plains)) rules_are (subst (λ x. AreRules kind x more) (sym e) are) in
+    by_rule rule.0 rule.1 rule.2
+pair_on kind known d plains rules o n text lines [] rule_lines (p ∷ more_plains) more e declared plains_are pairs_are rules_are are = absurd pairs_are
+pair_on kind known d plains rules o n text lines (first ∷ []) rule_lines more_plains more e declared plains_are pairs_are rules_are are = absurd pairs_are
+pair_on kind known d plains rules o n text lines (first ∷ body ∷ pairs) rule_lines [] more e declared plains_are pairs_are rules_are are = absurd pairs_are
+pair_on kind known d plains rules o n text lines (first ∷ body ∷ pairs) rule_lines (p ∷ more_plains) more e declared plains_are pairs_are rules_are are =
+    let here : Numbered = record { number = n; text = text } in
+    let same : here ≡ first = head_same here first lines (body ∷ pairs ++ rule_lines) e in
+    let pair = pairs_are.0 in
+    let is : p ≡ paired (begun_plain n pair.row) body = pair.is ∙ ap (λ (x : Numbered). paired (begun_plain x.number pair.row) body) (sym same) in
+    by_plain pair.row (subst (λ (x : Numbered). IsRow kind x.text (Plain pair.row)) (sym same) pair.spelled) pair.fits
+    (record {
+      body = body;
+      others = pairs ++ rule_lines;
+      lines_are = tail_same here first lines (body ∷ pairs ++ rule_lines) e;
+      rest = record {
+        pairs = pairs;
+        rule_lines = rule_lines;
+        lines_are = refl;
+        declared = declared;
+        more_plains = more_plains;
+        plains_are = plains_are ∙ ap (λ (x : PlainData). plains ++ x ∷ more_plains) is ∙ sym (append_assoc plains (paired (begun_plain n pair.row) body ∷ []) more_plains);
+        pairs_are = pairs_are.1;
+        more = more;
+        rules_are = rules_are;
+        are = are;
+      };
+    })
+
+pairs_on : (kind : FileKind) (known d : Declared) (plains : List PlainData) (rules : List RuleData) (o : Whole) (n : ℕ) (text : List ℕ) (lines others : List Numbered)
+    → record { number = n; text = text } ∷ lines ≡ others → IsRestOfPairs kind known d plains rules o others → PairsOn kind known d plains rules o n text lines
+pairs_on kind known d plains rules o n text lines others e h =
+    pair_on kind known d plains rules o n text lines h.pairs h.rule_lines h.more_plains h.more (e ∙ h.lines_are) h.declared h.plains_are h.pairs_are h.rules_are h.are
+
+plains_lead : (kind : FileKind) (known : Declared) (name : List ℕ) (d : Declared) (plains : List PlainData) (rules : List RuleData) (o : Whole) (n : ℕ) (text : List ℕ) (lines : List Numbered)
+    → PairsOn kind known d plains rules o n text lines → LeadsOn kind known name at_plains d plains rules o n text lines
+plains_lead kind known name d plains rules o n text lines (by_plain row spelled fits h) = record {
+  next = after (record { stage = at_plains; declared = d; plains = plains; rules = rules }) n (Plain row);
+  steps = (Plain row, record { spelled = spelled; fits = fits; stands = tt; main = tt }, refl);
+  left = h;
+}
+plains_lead kind known name d plains rules o n text lines (by_rule given spelled h) = record {
+  next = after (record { stage = at_plains; declared = d; plains = plains; rules = rules }) n (Rule given);
+  steps = (Rule given, good_rule kind known at_plains d plains rules text given spelled tt, refl);
+  left = h;
+}
+
+undeclared_lead : (kind : FileKind) (known : Declared) (name : List ℕ) (d : Declared) (plains : List PlainData) (rules : List RuleData) (o : Whole) (n : ℕ) (text : List ℕ) (lines : List Numbered)
+    → PairsOn kind known d plains rules o n text lines → LeadsOn kind known name at_declarations d plains rules o n text lines
+undeclared_lead kind known name d plains rules o n text lines (by_plain row spelled fits h) = record {
+  next = after (record { stage = at_declarations; declared = d; plains = plains; rules = rules }) n (Plain row);
+  steps = (Plain row, record { spelled = spelled; fits = fits; stands = tt; main = tt }, refl);
+  left = h;
+}
+undeclared_lead kind known name d plains rules o n text lines (by_rule given spelled h) = record {
+  next = after (record { stage = at_declarations; declared = d; plains = plains; rules = rules }) n (Rule given);
+  steps = (Rule given, good_rule kind known at_declarations d plains rules text given spelled tt, refl);
+  left = h;
+}
 
 -- ---- main lines
 
 -- main lines stay
-mains_stay : (known d all : Declared) (lines : List Numbered) → AreDeclarations known d lines all → (more : List MainLine) × (all.mains ≡ d.mains ++ more)
-mains_stay known d all [] h = ([], ap (λ (x : Declared). x.mains) (sym h) ∙ sym (append-nil d.mains))
-mains_stay known d all (l ∷ lines) (Sort s, spelled, declaring, fits, h) = mains_stay known (declare d (Sort s)) all lines h
-mains_stay known d all (l ∷ lines) (Prod p, spelled, declaring, fits, h) = mains_stay known (declare d (Prod p)) all lines h
-mains_stay known d all (l ∷ lines) (Var v, spelled, declaring, fits, h) = mains_stay known (declare d (Var v)) all lines h
-mains_stay known d all (l ∷ lines) (Form f, spelled, declaring, fits, h) = mains_stay known (declare d (Form f)) all lines h
-mains_stay known d all (l ∷ lines) (Main m, spelled, declaring, fits, h) =
-    let k = mains_stay known (declare d (Main m)) all lines h in
+pub mains_stay : (kind : FileKind) (known d all : Declared) (lines : List Numbered) → AreDeclarations kind known d lines all → (more : List MainLine) × (all.mains ≡ d.mains ++ more)
+mains_stay kind known d all [] h = ([], ap (λ (x : Declared). x.mains) (sym h) ∙ sym (append-nil d.mains))
+mains_stay kind known d all (l ∷ lines) (Sort s, spelled, declaring, fits, h) = mains_stay kind known (declare d (Sort s)) all lines h
+mains_stay kind known d all (l ∷ lines) (Prod p, spelled, declaring, fits, h) = mains_stay kind known (declare d (Prod p)) all lines h
+mains_stay kind known d all (l ∷ lines) (Var v, spelled, declaring, fits, h) = mains_stay kind known (declare d (Var v)) all lines h
+mains_stay kind known d all (l ∷ lines) (Form f, spelled, declaring, fits, h) = mains_stay kind known (declare d (Form f)) all lines h
+mains_stay kind known d all (l ∷ lines) (Main m, spelled, declaring, fits, h) =
+    let k = mains_stay kind known (declare d (Main m)) all lines h in
     (m ∷ k.0, k.1 ∙ append_assoc d.mains (m ∷ []) k.0)
-mains_stay known d all (l ∷ lines) (_, spelled, declaring, fits, h) = absurd declaring
+mains_stay kind known d all (l ∷ lines) (_, spelled, declaring, fits, h) = absurd declaring
 
-one_main : (before more : List MainLine) (m n : MainLine) → n ∷ [] ≡ before ++ m ∷ more → (before ≡ []) × (n ≡ m)
-one_main [] more m n e = (refl, first_same e)
-  where
-    first_same : n ∷ [] ≡ m ∷ more → n ≡ m
-    first_same e = cc
-one_main (b ∷ before) more m n e =
+-- there is at most one main line, and it is of a main form
+abbrev pub AreMains : Declared → List MainLine → Type 0
+AreMains known [] = Unit {0}
+AreMains known (m ∷ []) = (main : MainForm) × IsMainOf known m main
+AreMains known (m ∷ n ∷ mains) = ⊥
+
+-- so a main line is the first, and of a main form
+first_main : (known : Declared) (mains before more : List MainLine) (m : MainLine) → mains ≡ before ++ m ∷ more → AreMains known mains → (before ≡ []) × ((main : MainForm) × IsMainOf known m main)
+first_main known [] before more m e h =
     let many = length-append before (m ∷ more) in
-    let same : length (n ∷ []) ≡ length (b ∷ before ++ m ∷ more) = ap length e in
+    let same : 0 ≡ length (before ++ m ∷ more) = ap (λ (x : List MainLine). length x) e in
     absurd (omega arith)
+first_main known (l ∷ []) [] more m e h = (refl, (h.0, subst (λ x. IsMainOf known x h.0) (first_same l m more e) h.1))
+  where
+    first_same : (l m : MainLine) (more : List MainLine) → l ∷ [] ≡ m ∷ more → l ≡ m
+    first_same l m more e = cc
+first_main known (l ∷ []) (b ∷ before) more m e h =
+    let many = length-append before (m ∷ more) in
+    let same : length (l ∷ []) ≡ length (b ∷ before ++ m ∷ more) = ap length e in
+    absurd (omega arith)
+first_main known (l ∷ k ∷ mains) before more m e h = absurd h
 
 -- ---- declarations
 
-declared_leads : (known : Declared) (name : List ℕ) (d : Declared) (rules : List RuleData) (o : OutlineData) (l : MainLine) → known.mains ≡ l ∷ [] → IsMainOf known l o.main
-    → (n : ℕ) (text : List ℕ) (row : Row) (declarations rule_lines lines : List Numbered) (more : List RuleData) → lines ≡ declarations ++ rule_lines → IsRow files.Language text row → IsDeclaring row
-    → Fits known d row → AreDeclarations known (declare d row) declarations known → o.rules ≡ rules ++ more → AreRules rule_lines more → LeadsOn known name at_declarations d rules o n text lines
-declared_leads known name d rules o l mains main n text (Sort s) declarations rule_lines lines more e spelled declaring fits h are rest = record {
-  next = after (record { stage = at_declarations; declared = d; rules = rules }) n (Sort s);
+-- a declaration other than a main line
+declared_leads : (kind : FileKind) (known : Declared) (name : List ℕ) (d : Declared) (plains : List PlainData) (rules : List RuleData) (o : Whole) → AreMains known known.mains
+    → (n : ℕ) (text : List ℕ) (row : Row) (declarations others lines : List Numbered) → lines ≡ declarations ++ others → IsRow kind text row → IsDeclaring row
+    → Fits known d row → AreDeclarations kind known (declare d row) declarations known → IsRestOfPairs kind known known plains rules o others
+    → LeadsOn kind known name at_declarations d plains rules o n text lines
+declared_leads kind known name d plains rules o mains n text (Sort s) declarations others lines e spelled declaring fits h rest = record {
+  next = after (record { stage = at_declarations; declared = d; plains = plains; rules = rules }) n (Sort s);
   steps = (Sort s, record { spelled = spelled; fits = fits; stands = tt; main = tt }, refl);
-  left = record { declarations = declarations; rule_lines = rule_lines; lines_are = e; declared = h; more = more; rules_are = are; are = rest };
+  left = record { declarations = declarations; others = others; lines_are = e; declared = h; rest = rest };
 }
-declared_leads known name d rules o l mains main n text (Prod p) declarations rule_lines lines more e spelled declaring fits h are rest = record {
-  next = after (record { stage = at_declarations; declared = d; rules = rules }) n (Prod p);
+declared_leads kind known name d plains rules o mains n text (Prod p) declarations others lines e spelled declaring fits h rest = record {
+  next = after (record { stage = at_declarations; declared = d; plains = plains; rules = rules }) n (Prod p);
   steps = (Prod p, record { spelled = spelled; fits = fits; stands = tt; main = tt }, refl);
-  left = record { declarations = declarations; rule_lines = rule_lines; lines_are = e; declared = h; more = more; rules_are = are; are = rest };
+  left = record { declarations = declarations; others = others; lines_are = e; declared = h; rest = rest };
 }
-declared_leads known name d rules o l mains main n text (Var v) declarations rule_lines lines more e spelled declaring fits h are rest = record {
-  next = after (record { stage = at_declarations; declared = d; rules = rules }) n (Var v);
+declared_leads kind known name d plains rules o mains n text (Var v) declarations others lines e spelled declaring fits h rest = record {
+  next = after (record { stage = at_declarations; declared = d; plains = plains; rules = rules }) n (Var v);
   steps = (Var v, record { spelled = spelled; fits = fits; stands = tt; main = tt }, refl);
-  left = record { declarations = declarations; rule_lines = rule_lines; lines_are = e; declared = h; more = more; rules_are = are; are = rest };
+  left = record { declarations = declarations; others = others; lines_are = e; declared = h; rest = rest };
 }
-declared_leads known name d rules o l mains main n text (Form f) declarations rule_lines lines more e spelled declaring fits h are rest = record {
-  next = after (record { stage = at_declarations; declared = d; rules = rules }) n (Form f);
+declared_leads kind known name d plains rules o mains n text (Form f) declarations others lines e spelled declaring fits h rest = record {
+  next = after (record { stage = at_declarations; declared = d; plains = plains; rules = rules }) n (Form f);
   steps = (Form f, record { spelled = spelled; fits = fits; stands = tt; main = tt }, refl);
-  left = record { declarations = declarations; rule_lines = rule_lines; lines_are = e; declared = h; more = more; rules_are = are; are = rest };
+  left = record { declarations = declarations; others = others; lines_are = e; declared = h; rest = rest };
 }
-declared_leads known name d rules o l mains main n text (Main m) declarations rule_lines lines more e spelled declaring fits h are rest =
-    let stay = mains_stay known (declare d (Main m)) known declarations h in
-    let one = one_main d.mains stay.0 m l (sym mains ∙ stay.1 ∙ append_assoc d.mains (m ∷ []) stay.0) in
+declared_leads kind known name d plains rules o mains n text (Main m) declarations others lines e spelled declaring fits h rest =
+    let stay = mains_stay kind known (declare d (Main m)) known declarations h in
+    let first = first_main known known.mains d.mains stay.0 m (stay.1 ∙ append_assoc d.mains (m ∷ []) stay.0) mains in
     record {
-      next = after (record { stage = at_declarations; declared = d; rules = rules }) n (Main m);
-      steps = (Main m, record { spelled = spelled; fits = fits; stands = one.0; main = (o.main, subst (λ x. IsMainOf known x o.main) one.1 main) }, refl);
-      left = record { declarations = declarations; rule_lines = rule_lines; lines_are = e; declared = h; more = more; rules_are = are; are = rest };
+      next = after (record { stage = at_declarations; declared = d; plains = plains; rules = rules }) n (Main m);
+      steps = (Main m, record { spelled = spelled; fits = fits; stands = first.0; main = first.1 }, refl);
+      left = record { declarations = declarations; others = others; lines_are = e; declared = h; rest = rest };
     }
-declared_leads known name d rules o l mains main n text _ declarations rule_lines lines more e spelled declaring fits h are rest = absurd declaring
+declared_leads kind known name d plains rules o mains n text _ declarations others lines e spelled declaring fits h rest = absurd declaring
 
-declarations_lead : (known : Declared) (name : List ℕ) (d : Declared) (rules : List RuleData) (o : OutlineData) (l : MainLine) → known.mains ≡ l ∷ [] → IsMainOf known l o.main
-    → (n : ℕ) (text : List ℕ) (declarations rule_lines lines : List Numbered) (more : List RuleData) → record { number = n; text = text } ∷ lines ≡ declarations ++ rule_lines
-    → AreDeclarations known d declarations known → o.rules ≡ rules ++ more → AreRules rule_lines more → LeadsOn known name at_declarations d rules o n text lines
-declarations_lead known name d rules o l mains main n text [] rule_lines lines more e h are rest =
-    let rule = begin_rule known d rules o n text lines more h are (subst (λ x. AreRules x more) (sym e) rest) in
-    record {
-      next = after (record { stage = at_declarations; declared = d; rules = rules }) n (Rule rule.0);
-      steps = (Rule rule.0, good_rule known at_declarations d rules text rule.0 rule.1 tt, refl);
-      left = rule.2;
-    }
-declarations_lead known name d rules o l mains main n text (first ∷ declarations) rule_lines lines more e (row, spelled, declaring, fits, h) are rest =
+declarations_lead : (kind : FileKind) (known : Declared) (name : List ℕ) (d : Declared) (plains : List PlainData) (rules : List RuleData) (o : Whole) → AreMains known known.mains
+    → (n : ℕ) (text : List ℕ) (declarations others lines : List Numbered) → record { number = n; text = text } ∷ lines ≡ declarations ++ others → AreDeclarations kind known d declarations known
+    → IsRestOfPairs kind known known plains rules o others → LeadsOn kind known name at_declarations d plains rules o n text lines
+declarations_lead kind known name d plains rules o mains n text [] others lines e h rest =
+    undeclared_lead kind known name d plains rules o n text lines
+    (pairs_on kind known d plains rules o n text lines others e (subst (λ x. IsRestOfPairs kind known x plains rules o others) (sym h) rest))
+declarations_lead kind known name d plains rules o mains n text (first ∷ declarations) others lines e (row, spelled, declaring, fits, h) rest =
     let here : Numbered = record { number = n; text = text } in
-    let same : here ≡ first = head_same here first lines (declarations ++ rule_lines) e in
-    declared_leads known name d rules o l mains main n text row declarations rule_lines lines more (tail_same here first lines (declarations ++ rule_lines) e)
-    (subst (λ (x : Numbered). IsRow files.Language x.text row) (sym same) spelled) declaring fits h are rest
+    let same : here ≡ first = head_same here first lines (declarations ++ others) e in
+    declared_leads kind known name d plains rules o mains n text row declarations others lines (tail_same here first lines (declarations ++ others) e)
+    (subst (λ (x : Numbered). IsRow kind x.text row) (sym same) spelled) declaring fits h rest
+
+body_leads : (kind : FileKind) (known : Declared) (name : List ℕ) (b : BegunPlain) (d : Declared) (plains : List PlainData) (rules : List RuleData) (o : Whole) (n : ℕ) (text : List ℕ) (lines : List Numbered)
+    → IsInPair kind known d b plains rules o (record { number = n; text = text } ∷ lines) → LeadsOn kind known name (at_body b) d plains rules o n text lines
+body_leads kind known name b d plains rules o n text lines h =
+    let here : Numbered = record { number = n; text = text } in
+    let same : h.body ≡ here = sym (head_same here h.body lines h.others h.lines_are) in
+    record {
+      next = with_plain (record { stage = at_body b; declared = d; plains = plains; rules = rules }) (paired b here);
+      steps = refl;
+      left = subst (λ (x : Numbered). IsRestOfPairs kind known d (plains ++ paired b x ∷ []) rules o lines) same
+          (subst (IsRestOfPairs kind known d (plains ++ paired b h.body ∷ []) rules o) (sym (tail_same here h.body lines h.others h.lines_are)) h.rest);
+    }
 
 -- ---- the lines of a rule
 
-premises_lead : (known : Declared) (name : List ℕ) (b : Begun) (d : Declared) (rules : List RuleData) (o : OutlineData) (n : ℕ) (text : List ℕ) (lines : List Numbered)
-    (r : RuleData) (bar last : Numbered) (premises back : List Numbered) (more : List RuleData) → record { number = n; text = text } ∷ lines ≡ (premises ++ bar ∷ r.conclusion ∷ last ∷ []) ++ back
-    → AllByRecursion (λ l. IsBar l.text → ⊥) premises → IsBar bar.text → IsRow files.Language last.text End → b.number ≡ r.number → b.name ≡ r.name → r.premises ≡ b.premises ++ premises → r.body ≡ None
-    → d ≡ known → o.rules ≡ rules ++ r ∷ more → AreRules back more → LeadsOn known name (at_premises b) d rules o n text lines
-premises_lead known name b d rules o n text lines r bar last [] back more e plain divides ends number named premises_are body declared are rest =
+premises_lead : (kind : FileKind) (known : Declared) (name : List ℕ) (b : Begun) (d : Declared) (plains : List PlainData) (rules : List RuleData) (o : Whole) (n : ℕ) (text : List ℕ) (lines : List Numbered)
+    (r : RuleData) (bar : Numbered) (bodies : List Numbered) (last : Numbered) (premises back : List Numbered) (more : List RuleData)
+    → record { number = n; text = text } ∷ lines ≡ (premises ++ bar ∷ r.conclusion ∷ bodies ++ last ∷ []) ++ back
+    → AllByRecursion (λ l. IsBar l.text → ⊥) premises → IsBar bar.text → AreBodies kind bodies r.body → IsRow kind last.text End → b.number ≡ r.number → b.name ≡ r.name → r.premises ≡ b.premises ++ premises
+    → d ≡ known → plains ≡ o.plains → o.rules ≡ rules ++ r ∷ more → AreRules kind back more → LeadsOn kind known name (at_premises b) d plains rules o n text lines
+premises_lead kind known name b d plains rules o n text lines r bar bodies last [] back more e plain divides body ends number named premises_are declared plains_are are rest =
     let here : Numbered = record { number = n; text = text } in
-    let same : here ≡ bar = head_same here bar lines (r.conclusion ∷ last ∷ back) e in
+    let same : here ≡ bar = head_same here bar lines (r.conclusion ∷ (bodies ++ last ∷ []) ++ back) e in
     record {
-      next = to (record { stage = at_premises b; declared = d; rules = rules }) (at_conclusion b);
+      next = to (record { stage = at_premises b; declared = d; plains = plains; rules = rules }) (at_conclusion b);
       steps = inl (subst (λ (x : Numbered). IsBar x.text) (sym same) divides, refl);
       left = record {
         rule = r;
-        front = r.conclusion ∷ last ∷ [];
+        front = r.conclusion ∷ bodies ++ last ∷ [];
         back = back;
-        lines_are = tail_same here bar lines (r.conclusion ∷ last ∷ back) e;
-        left = record { last = last; front_is = refl; ends = ends; number = number; name = named; premises_are = premises_are ∙ append-nil b.premises; body = body };
+        lines_are = tail_same here bar lines (r.conclusion ∷ (bodies ++ last ∷ []) ++ back) e;
+        left = record { bodies = bodies; last = last; front_is = refl; body = body; ends = ends; number = number; name = named; premises_are = premises_are ∙ append-nil b.premises };
         declared = declared;
+        plains_are = plains_are;
         more = more;
         rules_are = are;
         are = rest;
       };
     }
-premises_lead known name b d rules o n text lines r bar last (p ∷ premises) back more e plain divides ends number named premises_are body declared are rest =
+premises_lead kind known name b d plains rules o n text lines r bar bodies last (p ∷ premises) back more e plain divides body ends number named premises_are declared plains_are are rest =
     let here : Numbered = record { number = n; text = text } in
-    let same : here ≡ p = head_same here p lines ((premises ++ bar ∷ r.conclusion ∷ last ∷ []) ++ back) e in
+    let same : here ≡ p = head_same here p lines ((premises ++ bar ∷ r.conclusion ∷ bodies ++ last ∷ []) ++ back) e in
     record {
-      next = to (record { stage = at_premises b; declared = d; rules = rules }) (at_premises (with_premise b here));
+      next = to (record { stage = at_premises b; declared = d; plains = plains; rules = rules }) (at_premises (with_premise b here));
       steps = inr (subst (λ (x : Numbered). IsBar x.text → ⊥) (sym same) plain.0, refl);
       left = record {
         rule = r;
-        front = premises ++ bar ∷ r.conclusion ∷ last ∷ [];
+        front = premises ++ bar ∷ r.conclusion ∷ bodies ++ last ∷ [];
         back = back;
-        lines_are = tail_same here p lines ((premises ++ bar ∷ r.conclusion ∷ last ∷ []) ++ back) e;
+        lines_are = tail_same here p lines ((premises ++ bar ∷ r.conclusion ∷ bodies ++ last ∷ []) ++ back) e;
         left = record {
           premises = premises;
           bar = bar;
+          bodies = bodies;
           last = last;
           front_is = refl;
           plain = plain.1;
           divides = divides;
+          body = body;
           ends = ends;
           number = number;
           name = named;
           premises_are = premises_are ∙ sym (append_assoc b.premises (p ∷ []) premises) ∙ ap (λ (x : Numbered). (b.premises ++ x ∷ []) ++ premises) (sym same);
-          body = body;
         };
         declared = declared;
+        plains_are = plains_are;
         more = more;
         rules_are = are;
         are = rest;
       };
     }
 
-same_rule : (b : Begun) (l : Numbered) (r : RuleData) → b.number ≡ r.number → b.name ≡ r.name → r.premises ≡ b.premises → l ≡ r.conclusion → r.body ≡ None → concluded b l ≡ r
-same_rule b l r number named premises conclusion body =
-    λ i. record { number = number i; name = named i; premises = sym premises i; conclusion = conclusion i; body = sym body i }
+same_rule : (b : Begun) (l : Numbered) (r : RuleData) (body : Option Numbered) → b.number ≡ r.number → b.name ≡ r.name → r.premises ≡ b.premises → l ≡ r.conclusion → r.body ≡ body
+    → r ≡ record { number = b.number; name = b.name; premises = b.premises; conclusion = l; body = body }
+same_rule b l r body number named premises conclusion given =
+    λ i. record { number = sym number i; name = sym named i; premises = premises i; conclusion = sym conclusion i; body = given i }
 
-conclusion_leads : (known : Declared) (name : List ℕ) (b : Begun) (d : Declared) (rules : List RuleData) (o : OutlineData) (n : ℕ) (text : List ℕ) (lines : List Numbered)
-    → IsInRule (LeftConclusion b) known d rules o (record { number = n; text = text } ∷ lines) → LeadsOn known name (at_conclusion b) d rules o n text lines
-conclusion_leads known name b d rules o n text lines h =
+-- a rule with its conclusion has what is left as its body
+body_left : (kind : FileKind) (b : Begun) (l : Numbered) (bodies : List Numbered) (r : RuleData) (body : Option Numbered) → r.body ≡ body → AreBodies kind bodies body → b.number ≡ r.number → b.name ≡ r.name
+    → r.premises ≡ b.premises → l ≡ r.conclusion → IsBodyLeft kind (concluded b l) bodies r
+body_left kind b l [] r None e h number named premises conclusion = sym (same_rule b l r None number named premises conclusion e)
+body_left kind b l [] r (Some body) e h number named premises conclusion = absurd h
+body_left kind b l (first ∷ bodies) r None e h number named premises conclusion = absurd (bodies_none kind first bodies h)
+  where
+    bodies_none : (kind : FileKind) (first : Numbered) (bodies : List Numbered) → AreBodies kind (first ∷ bodies) None → ⊥
+    bodies_none kind first [] h = h
+    bodies_none kind first (other ∷ bodies) h = h
+body_left kind b l (first ∷ bodies) r (Some body) e h number named premises conclusion =
+    (refl, body, sym (same_rule b l r (Some body) number named premises conclusion e), h)
+
+conclusion_leads : (kind : FileKind) (known : Declared) (name : List ℕ) (b : Begun) (d : Declared) (plains : List PlainData) (rules : List RuleData) (o : Whole) (n : ℕ) (text : List ℕ) (lines : List Numbered)
+    → IsInRule (LeftConclusion kind b) kind known d plains rules o (record { number = n; text = text } ∷ lines) → LeadsOn kind known name (at_conclusion b) d plains rules o n text lines
+conclusion_leads kind known name b d plains rules o n text lines h =
     let here : Numbered = record { number = n; text = text } in
-    let e : here ∷ lines ≡ h.rule.conclusion ∷ h.left.last ∷ h.back = h.lines_are ∙ ap (λ (x : List Numbered). x ++ h.back) h.left.front_is in
+    let after : List Numbered = (h.left.bodies ++ h.left.last ∷ []) ++ h.back in
+    let e : here ∷ lines ≡ h.rule.conclusion ∷ after = h.lines_are ∙ ap (λ (x : List Numbered). x ++ h.back) h.left.front_is in
     record {
-      next = to (record { stage = at_conclusion b; declared = d; rules = rules }) (at_end (concluded b here));
+      next = to (record { stage = at_conclusion b; declared = d; plains = plains; rules = rules }) (at_end (concluded b here));
       steps = refl;
       left = record {
         rule = h.rule;
-        front = h.left.last ∷ [];
+        front = h.left.bodies ++ h.left.last ∷ [];
         back = h.back;
-        lines_are = tail_same here h.rule.conclusion lines (h.left.last ∷ h.back) e;
+        lines_are = tail_same here h.rule.conclusion lines after e;
         left = record {
+          bodies = h.left.bodies;
           last = h.left.last;
           front_is = refl;
+          body = body_left kind b here h.left.bodies h.rule h.rule.body refl h.left.body h.left.number h.left.name h.left.premises_are (head_same here h.rule.conclusion lines after e);
           ends = h.left.ends;
-          is = same_rule b here h.rule h.left.number h.left.name h.left.premises_are (head_same here h.rule.conclusion lines (h.left.last ∷ h.back) e) h.left.body;
         };
         declared = h.declared;
+        plains_are = h.plains_are;
         more = h.more;
         rules_are = h.rules_are;
         are = h.are;
       };
     }
 
-end_leads : (known : Declared) (name : List ℕ) (r : RuleData) (d : Declared) (rules : List RuleData) (o : OutlineData) (n : ℕ) (text : List ℕ) (lines : List Numbered)
-    → IsInRule (LeftEnd r) known d rules o (record { number = n; text = text } ∷ lines) → LeadsOn known name (at_end r) d rules o n text lines
-end_leads known name r d rules o n text lines h =
+one_body : (kind : FileKind) (first : Numbered) (bodies : List Numbered) (b : Numbered) → AreBodies kind (first ∷ bodies) (Some b) → (bodies ≡ []) × IsRow kind first.text (To b.text) × (first.number ≡ b.number)
+one_body kind first [] b h = (refl, h.0, h.1)
+one_body kind first (other ∷ bodies) b h = absurd h
+
+end_leads : (kind : FileKind) (known : Declared) (name : List ℕ) (given : RuleData) (d : Declared) (plains : List PlainData) (rules : List RuleData) (o : Whole) (n : ℕ) (text : List ℕ) (lines : List Numbered)
+    (r : RuleData) (bodies : List Numbered) (last : Numbered) (back : List Numbered) (more : List RuleData) → record { number = n; text = text } ∷ lines ≡ (bodies ++ last ∷ []) ++ back
+    → IsBodyLeft kind given bodies r → IsRow kind last.text End → d ≡ known → plains ≡ o.plains → o.rules ≡ rules ++ r ∷ more → AreRules kind back more
+    → LeadsOn kind known name (at_end given) d plains rules o n text lines
+end_leads kind known name given d plains rules o n text lines r [] last back more e is ends declared plains_are are rest =
     let here : Numbered = record { number = n; text = text } in
-    let e : here ∷ lines ≡ h.left.last ∷ h.back = h.lines_are ∙ ap (λ (x : List Numbered). x ++ h.back) h.left.front_is in
-    let same : here ≡ h.left.last = head_same here h.left.last lines h.back e in
+    let same : here ≡ last = head_same here last lines back e in
     record {
-      next = after (record { stage = at_end r; declared = d; rules = rules }) n End;
-      steps = (End, record { spelled = subst (λ (x : Numbered). IsRow files.Language x.text End) (sym same) h.left.ends; fits = tt; stands = tt; main = tt }, refl);
+      next = after (record { stage = at_end given; declared = d; plains = plains; rules = rules }) n End;
+      steps = (End, record { spelled = subst (λ (x : Numbered). IsRow kind x.text End) (sym same) ends; fits = tt; stands = tt; main = tt }, refl);
       left = record {
-        declared = h.declared;
-        more = h.more;
-        rules_are = h.rules_are ∙ ap (λ (x : RuleData). rules ++ x ∷ h.more) (sym h.left.is) ∙ sym (append_assoc rules (r ∷ []) h.more);
-        are = subst (λ x. AreRules x h.more) (sym (tail_same here h.left.last lines h.back e)) h.are;
+        declared = declared;
+        plains_are = plains_are;
+        more = more;
+        rules_are = are ∙ ap (λ (x : RuleData). rules ++ x ∷ more) (sym is) ∙ sym (append_assoc rules (given ∷ []) more);
+        are = subst (λ x. AreRules kind x more) (sym (tail_same here last lines back e)) rest;
+      };
+    }
+end_leads kind known name given d plains rules o n text lines r (first ∷ bodies) last back more e (none, b, is, body) ends declared plains_are are rest =
+    let here : Numbered = record { number = n; text = text } in
+    let same : here ≡ first = head_same here first lines ((bodies ++ last ∷ []) ++ back) e in
+    let one = one_body kind first bodies b body in
+    let number : b.number ≡ n = sym one.2 ∙ ap (λ (x : Numbered). x.number) (sym same) in
+    let line_is : record { number = n; text = b.text } ≡ b = λ i. record { number = sym number i; text = b.text } in
+    record {
+      next = after (record { stage = at_end given; declared = d; plains = plains; rules = rules }) n (To b.text);
+      steps = (To b.text, record { spelled = subst (λ (x : Numbered). IsRow kind x.text (To b.text)) (sym same) one.1; fits = tt; stands = none; main = tt }, refl);
+      left = record {
+        rule = r;
+        front = bodies ++ last ∷ [];
+        back = back;
+        lines_are = tail_same here first lines ((bodies ++ last ∷ []) ++ back) e;
+        left = record {
+          bodies = [];
+          last = last;
+          front_is = ap (λ (x : List Numbered). x ++ last ∷ []) one.0;
+          body = ap (with_body given) line_is ∙ is;
+          ends = ends;
+        };
+        declared = declared;
+        plains_are = plains_are;
+        more = more;
+        rules_are = are;
+        are = rest;
       };
     }
 
-leads_on : (known : Declared) (name : List ℕ) (at : Stage) (d : Declared) (rules : List RuleData) (o : OutlineData) (l : MainLine) → known.mains ≡ l ∷ [] → IsMainOf known l o.main
-    → (n : ℕ) (text : List ℕ) (lines : List Numbered) → IsLeft known name at d rules o (record { number = n; text = text } ∷ lines) → LeadsOn known name at d rules o n text lines
-leads_on known name at_start d rules o l mains main n text lines h =
+leads_on : (kind : FileKind) (known : Declared) (name : List ℕ) (at : Stage) (d : Declared) (plains : List PlainData) (rules : List RuleData) (o : Whole) → AreMains known known.mains
+    → (n : ℕ) (text : List ℕ) (lines : List Numbered) → IsLeft kind known name at d plains rules o (record { number = n; text = text } ∷ lines) → LeadsOn kind known name at d plains rules o n text lines
+leads_on kind known name at_start d plains rules o mains n text lines h =
     let here : Numbered = record { number = n; text = text } in
     record {
-      next = to (record { stage = at_start; declared = d; rules = rules }) at_declarations;
-      steps = (subst (λ (x : Numbered). IsRow files.Language x.text (Language name)) (sym (head_same here h.first lines h.others h.lines_are)) h.named, refl);
-      left = subst (IsRestOfFile known d rules o) (sym (tail_same here h.first lines h.others h.lines_are)) h.rest;
+      next = to (record { stage = at_start; declared = d; plains = plains; rules = rules }) at_declarations;
+      steps = (subst (λ (x : Numbered). IsRow kind x.text (head_row kind name)) (sym (head_same here h.first lines h.others h.lines_are)) h.named, refl);
+      left = subst (IsRestOfFile kind known d plains rules o) (sym (tail_same here h.first lines h.others h.lines_are)) h.rest;
     }
-leads_on known name at_declarations d rules o l mains main n text lines h =
-    declarations_lead known name d rules o l mains main n text h.declarations h.rule_lines lines h.more h.lines_are h.declared h.rules_are h.are
-leads_on known name at_rules d rules o l mains main n text lines h = rules_lead known name d rules o n text lines h
-leads_on known name (at_premises b) d rules o l mains main n text lines h =
-    premises_lead known name b d rules o n text lines h.rule h.left.bar h.left.last h.left.premises h.back h.more (h.lines_are ∙ ap (λ (x : List Numbered). x ++ h.back) h.left.front_is)
-    h.left.plain h.left.divides h.left.ends h.left.number h.left.name h.left.premises_are h.left.body h.declared h.rules_are h.are
-leads_on known name (at_conclusion b) d rules o l mains main n text lines h = conclusion_leads known name b d rules o n text lines h
-leads_on known name (at_end r) d rules o l mains main n text lines h = end_leads known name r d rules o n text lines h
+leads_on kind known name at_declarations d plains rules o mains n text lines h =
+    declarations_lead kind known name d plains rules o mains n text h.declarations h.others lines h.lines_are h.declared h.rest
+leads_on kind known name (at_body b) d plains rules o mains n text lines h = body_leads kind known name b d plains rules o n text lines h
+leads_on kind known name at_plains d plains rules o mains n text lines h =
+    plains_lead kind known name d plains rules o n text lines (pairs_on kind known d plains rules o n text lines (record { number = n; text = text } ∷ lines) refl h)
+leads_on kind known name at_rules d plains rules o mains n text lines h = rules_lead kind known name d plains rules o n text lines h
+leads_on kind known name (at_premises b) d plains rules o mains n text lines h =
+    premises_lead kind known name b d plains rules o n text lines h.rule h.left.bar h.left.bodies h.left.last h.left.premises h.back h.more (h.lines_are ∙ ap (λ (x : List Numbered). x ++ h.back) h.left.front_is)
+    h.left.plain h.left.divides h.left.body h.left.ends h.left.number h.left.name h.left.premises_are h.declared h.plains_are h.rules_are h.are
+leads_on kind known name (at_conclusion b) d plains rules o mains n text lines h = conclusion_leads kind known name b d plains rules o n text lines h
+leads_on kind known name (at_end r) d plains rules o mains n text lines h =
+    end_leads kind known name r d plains rules o n text lines h.rule h.left.bodies h.left.last h.back h.more (h.lines_are ∙ ap (λ (x : List Numbered). x ++ h.back) h.left.front_is)
+    h.left.body h.left.ends h.declared h.plains_are h.rules_are h.are
 
-outcome_of : (known : Declared) (name : List ℕ) (s : State) (left : Lines) (o : OutlineData) (l : MainLine) → known ≡ declared_by o l → IsMainOf known l o.main → LeftAt known name o (numbered_lines left) s
-    → IsOutcome known name s left (Ok o)
-outcome_of known name s (over n) o l e main h =
-    let whole = ends_whole known name s.stage s.declared s.rules o h in
-    (whole.0, record { line = l; declared = whole.1 ∙ e; main = subst (λ x. IsMainOf x l o.main) (sym whole.1) main; rules = whole.2 })
-outcome_of known name s (line n text after more) o l e main h =
-    let lead = leads_on known name s.stage s.declared s.rules o l (ap (λ (x : Declared). x.mains) e) main n text (numbered_lines more) h in
-    inl (lead.next, lead.steps, outcome_of known name lead.next more o l e main lead.left)
+-- the lines of a file lead to a state that has all that it states
+pub record HasAll (kind : FileKind) (known : Declared) (name : List ℕ) (s : State) (left : Lines) (o : Whole) : Type 0 where
+  pub state : State
+  pub number : ℕ
+  pub all : IsAll known o state.stage state.declared state.plains state.rules
+  pub reaches : Reaches kind known name s left state number
 
--- ---- what is known
-
-declares_rules : (known d : Declared) (left : Lines) (rules : List RuleData) → d ≡ known → AreRules (numbered_lines left) rules → Declares d left known
-declares_rules known d (over n) rules e h = sym e
-declares_rules known d (line n text after more) [] e h = absurd (none_first (record { number = n; text = text }) (numbered_lines more) (sym h))
-declares_rules known d (line n text after more) (r ∷ rules) e (front, back, parts, rule, others) =
-    let l : Numbered = record { number = n; text = text } in
-    let same : l ≡ rule.first =
-    head_same l rule.first (numbered_lines more) ((r.premises ++ rule.bar ∷ r.conclusion ∷ rule.last ∷ []) ++ back) (parts ∙ ap (λ (x : List Numbered). x ++ back) rule.lines_are) in
-    inl (Rule r.name, subst (λ (x : Numbered). IsRow files.Language x.text (Rule r.name)) (sym same) rule.begins, sym e)
-
-goes_on : (d : Declared) (row : Row) (all : Declared) (Next : Declared → Type 0) → IsDeclaring row → Next (declare d row) → GoesOn d row all Next
-goes_on d (Sort s) all Next declaring h = h
-goes_on d (Prod p) all Next declaring h = h
-goes_on d (Var v) all Next declaring h = h
-goes_on d (Form f) all Next declaring h = h
-goes_on d (Main m) all Next declaring h = h
-goes_on d _ all Next declaring h = absurd declaring
-
-declares_of : (known d : Declared) (left : Lines) (declarations rule_lines : List Numbered) (rules : List RuleData) → numbered_lines left ≡ declarations ++ rule_lines
-    → AreDeclarations known d declarations known → AreRules rule_lines rules → Declares d left known
-declares_of known d left [] rule_lines rules e h rest = declares_rules known d left rules h (subst (λ x. AreRules x rules) (sym e) rest)
-declares_of known d (over n) (first ∷ declarations) rule_lines rules e h rest = absurd (none_first first (declarations ++ rule_lines) e)
-declares_of known d (line n text after more) (first ∷ declarations) rule_lines rules e (row, spelled, declaring, fits, h) rest =
-    let here : Numbered = record { number = n; text = text } in
-    let same : here ≡ first = head_same here first (numbered_lines more) (declarations ++ rule_lines) e in
-    inl (
-      row,
-      subst (λ (x : Numbered). IsRow files.Language x.text row) (sym same) spelled,
-      goes_on d row known (λ next. Declares next more known) declaring
-          (declares_of known (declare d row) more declarations rule_lines rules (tail_same here first (numbered_lines more) (declarations ++ rule_lines) e) h rest),
-    )
-
-declares_file : (known : Declared) (name : List ℕ) (left : Lines) (first : Numbered) (declarations rule_lines : List Numbered) (rules : List RuleData)
-    → numbered_lines left ≡ first ∷ declarations ++ rule_lines → IsRow files.Language first.text (Language name) → AreDeclarations known nothing declarations known → AreRules rule_lines rules
-    → Declares nothing left known
-declares_file known name (over n) first declarations rule_lines rules e named h rest = absurd (none_first first (declarations ++ rule_lines) e)
-declares_file known name (line n text after more) first declarations rule_lines rules e named h rest =
-    let here : Numbered = record { number = n; text = text } in
-    let same : here ≡ first = head_same here first (numbered_lines more) (declarations ++ rule_lines) e in
-    inl (
-      Language name,
-      subst (λ (x : Numbered). IsRow files.Language x.text (Language name)) (sym same) named,
-      declares_of known nothing more declarations rule_lines rules (tail_same here first (numbered_lines more) (declarations ++ rule_lines) e) h rest,
-    )
-
--- ---- the file
-
-pub lines_outlined : (name bytes : List ℕ) (o : OutlineData) → IsUtf8 bytes → AreOutlineLines name (numbered_lines (kept_lines (lines_from 1 bytes))) o → IsReadAs name bytes (Ok o)
-lines_outlined name bytes o utf8 h =
-    let known : Declared = declared_by o h.main_line in
-    record {
-      utf8 = utf8;
-      known = known;
-      declares = declares_file known name (kept_lines (lines_from 1 bytes)) h.first h.declarations h.rules o.rules h.lines_are h.named h.declared h.rules_are;
-      outcome = outcome_of known name start (kept_lines (lines_from 1 bytes)) o h.main_line refl h.main
-          (record {
-            first = h.first;
-            others = h.declarations ++ h.rules;
-            lines_are = h.lines_are;
-            named = h.named;
-            rest = record { declarations = h.declarations; rule_lines = h.rules; lines_are = refl; declared = h.declared; more = o.rules; rules_are = refl; are = h.rules_are };
-          });
-    }
+pub all_of : (kind : FileKind) (known : Declared) (name : List ℕ) (s : State) (left : Lines) (o : Whole) → AreMains known known.mains → LeftAt kind known name o (numbered_lines left) s
+    → HasAll kind known name s left o
+all_of kind known name s (over n) o mains h =
+    record { state = s; number = n; all = ends_whole kind known name s.stage s.declared s.plains s.rules o h; reaches = (refl, refl) }
+all_of kind known name s (line n text after more) o mains h =
+    let lead = leads_on kind known name s.stage s.declared s.plains s.rules o mains n text (numbered_lines more) h in
+    let next = all_of kind known name lead.next more o mains lead.left in
+    record { state = next.state; number = next.number; all = next.all; reaches = inl (lead.next, lead.steps, next.reaches) }

@@ -1,8 +1,10 @@
 -- A language file has one answer.
-use Rattle.std.proofs.Common.{◌≡◌, ◌≢◌, ℕ, List, [], ◌∷◌, Result, Ok, Err, refl, sym, ap, subst, ◌∙◌, inl, inr}
+use Rattle.std.proofs.Common.{◌≡◌, ◌≢◌, ℕ, Bool, true, false, List, [], ◌∷◌, Result, Ok, Err, refl, sym, ap, subst, ◌∙◌, inl, inr}
 use Rattle.sx_lines.specs.Lines.{Lines, over, line, lines_from}
 use Rattle.sx_grammar.specs.Parts.{labels, number_of}
+use Rattle.sx_directives.specs.declared.file_kind.FileKind.{FileKind}
 use Rattle.sx_directives.specs.declared.file_kind.FileKind.TheVariants as files
+use Rattle.sx_directives.specs.declared.rows.PlainLine.{PlainLine}
 use Rattle.sx_directives.specs.Rows.{IsRow, HasWord}
 use Rattle.sx_directives.specs.declared.rows.MainLine.{MainLine}
 use Rattle.sx_directives.specs.declared.row.Row.{Row}
@@ -15,31 +17,37 @@ use Rattle.sx_outline.specs.declared.outline_error.OutlineError.TheVariants.{Mem
 use Rattle.sx_outline.specs.Declarations.{Declared, nothing, declare, parts_of}
 use Rattle.sx_outline.specs.Fitting.{IsMainOf, form_names}
 use Rattle.sx_outline.specs.Known.{Declares, GoesOn, kept_lines}
-use Rattle.sx_outline.specs.Stages.{RuleData, Stage, at_start, at_declarations, at_rules, at_premises, at_conclusion, at_end, State, start, IsDue, MayStand, Steps, StepsAt, StepsByRow, IsBad, after}
-use Rattle.sx_outline.specs.Outlined.{OutlineData, declared_by, IsOutcome, IsEnd, IsMissing, IsInside, IsWhole, IsOutlineOf, IsReadAs, IsOutlineAnswer}
+use Rattle.sx_outline.specs.Stages.{RuleData, Stage, at_start, at_declarations, at_body, at_plains, at_rules, at_premises, at_conclusion, at_end, State, start, begun_plain, IsDue, MayStand, Steps, StepsAt, StepsByRow, IsBad, IsInside, IsWhole, after, at as to}
+use Rattle.sx_outline.specs.Outcomes.{IsOutcome}
+use Rattle.sx_outline.specs.Outlined.{OutlineData, declared_by, IsEnd, IsMissing, IsOutlineOf, IsReadAs, IsOutlineAnswer}
 use Rattle.sx_outline.proofs.SameRows.{SameRow, same_row}
 use Rattle.sx_outline.proofs.SameLaws.{has_word, same_declare, same_stands, same_main, same_goes}
 
 -- ---- what is known
 
-goes_once : (d : Declared) (row : Row) (a b : Declared) (NextA NextB : Declared → Type 0) → ((next : Declared) → NextA next → NextB next → a ≡ b)
+goes_once : (d : Declared) (row : Row) (a b : Declared) (NextA NextB : Bool → Declared → Type 0) → ((is_body : Bool) (next : Declared) → NextA is_body next → NextB is_body next → a ≡ b)
     → GoesOn d row a NextA → GoesOn d row b NextB → a ≡ b
 goes_once d (Rule name) a b NextA NextB f h k = h ∙ sym k
-goes_once d row a b NextA NextB f h k = f (declare d row) h k
+goes_once d (Plain p) a b NextA NextB f h k = f true d h k
+goes_once d row a b NextA NextB f h k = f false (declare d row) h k
 
-one_known : (d : Declared) (left : Lines) (a b : Declared) → Declares d left a → Declares d left b → a ≡ b
-one_known d (over n) a b h k = h ∙ sym k
-one_known d (line n text after more) a b (inl h) (inl k) =
-    goes_once d k.0 a b (λ next. Declares next more a) (λ next. Declares next more b) (λ next x y. one_known next more a b x y)
-    (same_goes d h.0 k.0 a (λ next. Declares next more a) (same_row files.Language text h.0 k.0 h.1 k.1) h.2) k.2
-one_known d (line n text after more) a b (inl h) (inr k) = absurd (k.0 h.0 h.1)
-one_known d (line n text after more) a b (inr h) (inl k) = absurd (h.0 k.0 k.1)
-one_known d (line n text after more) a b (inr h) (inr k) = one_known d more a b h.1 k.1
+pub one_known : (kind : FileKind) (is_body : Bool) (d : Declared) (left : Lines) (a b : Declared) → Declares kind is_body d left a → Declares kind is_body d left b → a ≡ b
+one_known kind is_body d (over n) a b h k = h ∙ sym k
+one_known kind true d (line n text after more) a b h k = one_known kind false d more a b h k
+one_known kind false d (line n text after more) a b (inl h) (inl k) =
+    goes_once d k.0 a b (λ is_body next. Declares kind is_body next more a) (λ is_body next. Declares kind is_body next more b) (λ is_body next x y. one_known kind is_body next more a b x y)
+    (same_goes d h.0 k.0 a (λ is_body next. Declares kind is_body next more a) (same_row kind text h.0 k.0 h.1 k.1) h.2) k.2
+one_known kind false d (line n text after more) a b (inl h) (inr k) = absurd (k.0 h.0 h.1)
+one_known kind false d (line n text after more) a b (inr h) (inl k) = absurd (h.0 k.0 k.1)
+one_known kind false d (line n text after more) a b (inr h) (inr k) = one_known kind false d more a b h.1 k.1
 
 -- ---- where a line leads
 
 declared_with : State → Declared → State
-declared_with s d = record { stage = s.stage; declared = d; rules = s.rules }
+declared_with s d = record { stage = s.stage; declared = d; plains = s.plains; rules = s.rules }
+
+begun_same : (n : ℕ) (a b : PlainLine) → a.label ≡ b.label → a.names.items ≡ b.names.items → begun_plain n a ≡ begun_plain n b
+begun_same n a b e f = λ i. record { number = n; label = e i; names = f i }
 
 same_after : (s : State) (n : ℕ) (r q : Row) → SameRow r q → after s n r ≡ after s n q
 unfolding declared_with
@@ -54,96 +62,100 @@ same_after s n Bar Bar e = refl
 same_after s n End End e = refl
 same_after s n (Extension a) (Extension b) e = refl
 same_after s n (Use a) (Use b) e = refl
-same_after s n (Plain a) (Plain b) e = refl
+same_after s n (Plain a) (Plain b) e = ap (λ x. to s (at_body x)) (begun_same n a b e.0 e.1)
 same_after s n (To a) (To b) e = ap (λ x. after s n (To x)) e
 same_after s n _ _ e = absurd e
 
-one_by_row : (known : Declared) (s : State) (n : ℕ) (text : List ℕ) (t u : State) → StepsByRow known s n text t → StepsByRow known s n text u → t ≡ u
-one_by_row known s n text t u (r, good, e) (q, fine, f) = e ∙ same_after s n r q (same_row files.Language text r q good.spelled fine.spelled) ∙ sym f
+one_by_row : (kind : FileKind) (known : Declared) (s : State) (n : ℕ) (text : List ℕ) (t u : State) → StepsByRow kind known s n text t → StepsByRow kind known s n text u → t ≡ u
+one_by_row kind known s n text t u (r, good, e) (q, fine, f) = e ∙ same_after s n r q (same_row kind text r q good.spelled fine.spelled) ∙ sym f
 
-one_step : (at : Stage) (known : Declared) (name : List ℕ) (s : State) (n : ℕ) (text : List ℕ) (t u : State) → StepsAt at known name s n text t → StepsAt at known name s n text u → t ≡ u
-one_step at_start known name s n text t u h k = h.1 ∙ sym k.1
-one_step at_declarations known name s n text t u h k = one_by_row known s n text t u h k
-one_step at_rules known name s n text t u h k = one_by_row known s n text t u h k
-one_step (at_premises b) known name s n text t u (inl h) (inl k) = h.1 ∙ sym k.1
-one_step (at_premises b) known name s n text t u (inl h) (inr k) = absurd (k.0 h.0)
-one_step (at_premises b) known name s n text t u (inr h) (inl k) = absurd (h.0 k.0)
-one_step (at_premises b) known name s n text t u (inr h) (inr k) = h.1 ∙ sym k.1
-one_step (at_conclusion b) known name s n text t u h k = h ∙ sym k
-one_step (at_end r) known name s n text t u h k = one_by_row known s n text t u h k
+one_step : (at : Stage) (kind : FileKind) (known : Declared) (name : List ℕ) (s : State) (n : ℕ) (text : List ℕ) (t u : State) → StepsAt at kind known name s n text t → StepsAt at kind known name s n text u → t ≡ u
+one_step at_start kind known name s n text t u h k = h.1 ∙ sym k.1
+one_step at_declarations kind known name s n text t u h k = one_by_row kind known s n text t u h k
+one_step (at_body b) kind known name s n text t u h k = h ∙ sym k
+one_step at_plains kind known name s n text t u h k = one_by_row kind known s n text t u h k
+one_step at_rules kind known name s n text t u h k = one_by_row kind known s n text t u h k
+one_step (at_premises b) kind known name s n text t u (inl h) (inl k) = h.1 ∙ sym k.1
+one_step (at_premises b) kind known name s n text t u (inl h) (inr k) = absurd (k.0 h.0)
+one_step (at_premises b) kind known name s n text t u (inr h) (inl k) = absurd (h.0 k.0)
+one_step (at_premises b) kind known name s n text t u (inr h) (inr k) = h.1 ∙ sym k.1
+one_step (at_conclusion b) kind known name s n text t u h k = h ∙ sym k
+one_step (at_end r) kind known name s n text t u h k = one_by_row kind known s n text t u h k
 
 -- ---- a bad line
 
-due_row : (at : Stage) (known : Declared) (name : List ℕ) (s : State) (n : ℕ) (text : List ℕ) (t : State) → IsDue at → StepsAt at known name s n text t → StepsByRow known s n text t
-due_row at_start known name s n text t due h = absurd due
-due_row at_declarations known name s n text t due h = h
-due_row at_rules known name s n text t due h = h
-due_row (at_premises b) known name s n text t due h = absurd due
-due_row (at_conclusion b) known name s n text t due h = absurd due
-due_row (at_end r) known name s n text t due h = h
+due_row : (at : Stage) (kind : FileKind) (known : Declared) (name : List ℕ) (s : State) (n : ℕ) (text : List ℕ) (t : State) → IsDue at → StepsAt at kind known name s n text t → StepsByRow kind known s n text t
+due_row at_start kind known name s n text t due h = absurd due
+due_row at_declarations kind known name s n text t due h = h
+due_row (at_body b) kind known name s n text t due h = absurd due
+due_row at_plains kind known name s n text t due h = h
+due_row at_rules kind known name s n text t due h = h
+due_row (at_premises b) kind known name s n text t due h = absurd due
+due_row (at_conclusion b) kind known name s n text t due h = absurd due
+due_row (at_end r) kind known name s n text t due h = h
 
 -- a line that leads on is not bad
-good_or_bad : (known : Declared) (name : List ℕ) (s : State) (n : ℕ) (text : List ℕ) (t : State) (kind : Kind) → Steps known name s n text t → IsBad known name s text kind → ⊥
-good_or_bad known name s n text t Head steps bad =
-    let h : StepsAt at_start known name s n text t = subst (λ x. StepsAt x known name s n text t) bad.0 steps in
+good_or_bad : (kind : FileKind) (known : Declared) (name : List ℕ) (s : State) (n : ℕ) (text : List ℕ) (t : State) (wrong : Kind) → Steps kind known name s n text t → IsBad kind known name s text wrong → ⊥
+good_or_bad kind known name s n text t Head steps bad =
+    let h : StepsAt at_start kind known name s n text t = subst (λ x. StepsAt x kind known name s n text t) bad.0 steps in
     bad.1 h.0
-good_or_bad known name s n text t Directive steps bad =
-    let h = due_row s.stage known name s n text t bad.0 steps in
-    bad.1 (has_word files.Language text h.0 h.1.spelled)
-good_or_bad known name s n text t Shape steps bad =
-    let h = due_row s.stage known name s n text t bad.0 steps in
+good_or_bad kind known name s n text t Directive steps bad =
+    let h = due_row s.stage kind known name s n text t bad.0 steps in
+    bad.1 (has_word kind text h.0 h.1.spelled)
+good_or_bad kind known name s n text t Shape steps bad =
+    let h = due_row s.stage kind known name s n text t bad.0 steps in
     bad.2 h.0 h.1.spelled h.1.fits
-good_or_bad known name s n text t Order steps bad =
-    let h = due_row s.stage known name s n text t bad.0 steps in
-    bad.4 (same_stands s.stage s.declared.mains h.0 bad.1 (same_row files.Language text h.0 bad.1 h.1.spelled bad.2) h.1.stands)
-good_or_bad known name s n text t NoMain steps bad =
-    let h = due_row s.stage known name s n text t bad.0 steps in
-    let main = same_main known h.0 (Main bad.1) (same_row files.Language text h.0 (Main bad.1) h.1.spelled bad.2) h.1.main in
+good_or_bad kind known name s n text t Order steps bad =
+    let h = due_row s.stage kind known name s n text t bad.0 steps in
+    bad.4 (same_stands s.stage s.declared.mains h.0 bad.1 (same_row kind text h.0 bad.1 h.1.spelled bad.2) h.1.stands)
+good_or_bad kind known name s n text t NoMain steps bad =
+    let h = due_row s.stage kind known name s n text t bad.0 steps in
+    let main = same_main known h.0 (Main bad.1) (same_row kind text h.0 (Main bad.1) h.1.spelled bad.2) h.1.main in
     bad.4 main.0 main.1
-good_or_bad known name s n text t Unfinished steps bad = absurd bad
-good_or_bad known name s n text t Variable steps bad = absurd bad
+good_or_bad kind known name s n text t Unfinished steps bad = absurd bad
+good_or_bad kind known name s n text t Variable steps bad = absurd bad
 
 not_due : (at : Stage) → at ≡ at_start → IsDue at → ⊥
 not_due at e due = subst IsDue e due
 
-unread_word : (text : List ℕ) (row : Row) → (HasWord files.Language text → ⊥) → IsRow files.Language text row → ⊥
-unread_word text row n is = n (has_word files.Language text row is)
+unread_word : (kind : FileKind) (text : List ℕ) (row : Row) → (HasWord kind text → ⊥) → IsRow kind text row → ⊥
+unread_word kind text row n is = n (has_word kind text row is)
 
 -- the main line may stand there, so another row of it may too
-may_stand : (s : State) (text : List ℕ) (row : Row) (m : MainLine) → IsRow files.Language text row → (MayStand s row → ⊥) → IsRow files.Language text (Main m) → MayStand s (Main m) → ⊥
-may_stand s text row m is n main stands = n (same_stands s.stage s.declared.mains (Main m) row (same_row files.Language text (Main m) row main is) stands)
+may_stand : (kind : FileKind) (s : State) (text : List ℕ) (row : Row) (m : MainLine) → IsRow kind text row → (MayStand s row → ⊥) → IsRow kind text (Main m) → MayStand s (Main m) → ⊥
+may_stand kind s text row m is n main stands = n (same_stands s.stage s.declared.mains (Main m) row (same_row kind text (Main m) row main is) stands)
 
 -- a line is bad in one way
-one_kind : (known : Declared) (name : List ℕ) (s : State) (text : List ℕ) (k l : Kind) → IsBad known name s text k → IsBad known name s text l → k ≡ l
-one_kind known name s text Head Head h m = refl
-one_kind known name s text Head Directive h m = absurd (not_due s.stage h.0 m.0)
-one_kind known name s text Head Shape h m = absurd (not_due s.stage h.0 m.0)
-one_kind known name s text Head Order h m = absurd (not_due s.stage h.0 m.0)
-one_kind known name s text Head NoMain h m = absurd (not_due s.stage h.0 m.0)
-one_kind known name s text Directive Head h m = absurd (not_due s.stage m.0 h.0)
-one_kind known name s text Directive Directive h m = refl
-one_kind known name s text Directive Shape h m = absurd (h.1 m.1)
-one_kind known name s text Directive Order h m = absurd (unread_word text m.1 h.1 m.2)
-one_kind known name s text Directive NoMain h m = absurd (unread_word text (Main m.1) h.1 m.2)
-one_kind known name s text Shape Head h m = absurd (not_due s.stage m.0 h.0)
-one_kind known name s text Shape Directive h m = absurd (m.1 h.1)
-one_kind known name s text Shape Shape h m = refl
-one_kind known name s text Shape Order h m = absurd (h.2 m.1 m.2 m.3)
-one_kind known name s text Shape NoMain h m = absurd (h.2 (Main m.1) m.2 tt)
-one_kind known name s text Order Head h m = absurd (not_due s.stage m.0 h.0)
-one_kind known name s text Order Directive h m = absurd (unread_word text h.1 m.1 h.2)
-one_kind known name s text Order Shape h m = absurd (m.2 h.1 h.2 h.3)
-one_kind known name s text Order Order h m = refl
-one_kind known name s text Order NoMain h m = absurd (may_stand s text h.1 m.1 h.2 h.4 m.2 m.3)
-one_kind known name s text NoMain Head h m = absurd (not_due s.stage m.0 h.0)
-one_kind known name s text NoMain Directive h m = absurd (unread_word text (Main h.1) m.1 h.2)
-one_kind known name s text NoMain Shape h m = absurd (m.2 (Main h.1) h.2 tt)
-one_kind known name s text NoMain Order h m = absurd (may_stand s text m.1 h.1 m.2 m.4 h.2 h.3)
-one_kind known name s text NoMain NoMain h m = refl
-one_kind known name s text Unfinished _ h m = absurd h
-one_kind known name s text Variable _ h m = absurd h
-one_kind known name s text _ Unfinished h m = absurd m
-one_kind known name s text _ Variable h m = absurd m
+one_kind : (kind : FileKind) (known : Declared) (name : List ℕ) (s : State) (text : List ℕ) (k l : Kind) → IsBad kind known name s text k → IsBad kind known name s text l → k ≡ l
+one_kind kind known name s text Head Head h m = refl
+one_kind kind known name s text Head Directive h m = absurd (not_due s.stage h.0 m.0)
+one_kind kind known name s text Head Shape h m = absurd (not_due s.stage h.0 m.0)
+one_kind kind known name s text Head Order h m = absurd (not_due s.stage h.0 m.0)
+one_kind kind known name s text Head NoMain h m = absurd (not_due s.stage h.0 m.0)
+one_kind kind known name s text Directive Head h m = absurd (not_due s.stage m.0 h.0)
+one_kind kind known name s text Directive Directive h m = refl
+one_kind kind known name s text Directive Shape h m = absurd (h.1 m.1)
+one_kind kind known name s text Directive Order h m = absurd (unread_word kind text m.1 h.1 m.2)
+one_kind kind known name s text Directive NoMain h m = absurd (unread_word kind text (Main m.1) h.1 m.2)
+one_kind kind known name s text Shape Head h m = absurd (not_due s.stage m.0 h.0)
+one_kind kind known name s text Shape Directive h m = absurd (m.1 h.1)
+one_kind kind known name s text Shape Shape h m = refl
+one_kind kind known name s text Shape Order h m = absurd (h.2 m.1 m.2 m.3)
+one_kind kind known name s text Shape NoMain h m = absurd (h.2 (Main m.1) m.2 tt)
+one_kind kind known name s text Order Head h m = absurd (not_due s.stage m.0 h.0)
+one_kind kind known name s text Order Directive h m = absurd (unread_word kind text h.1 m.1 h.2)
+one_kind kind known name s text Order Shape h m = absurd (m.2 h.1 h.2 h.3)
+one_kind kind known name s text Order Order h m = refl
+one_kind kind known name s text Order NoMain h m = absurd (may_stand kind s text h.1 m.1 h.2 h.4 m.2 m.3)
+one_kind kind known name s text NoMain Head h m = absurd (not_due s.stage m.0 h.0)
+one_kind kind known name s text NoMain Directive h m = absurd (unread_word kind text (Main h.1) m.1 h.2)
+one_kind kind known name s text NoMain Shape h m = absurd (m.2 (Main h.1) h.2 tt)
+one_kind kind known name s text NoMain Order h m = absurd (may_stand kind s text m.1 h.1 m.2 m.4 h.2 h.3)
+one_kind kind known name s text NoMain NoMain h m = refl
+one_kind kind known name s text Unfinished _ h m = absurd h
+one_kind kind known name s text Variable _ h m = absurd h
+one_kind kind known name s text _ Unfinished h m = absurd m
+one_kind kind known name s text _ Variable h m = absurd m
 
 -- ---- the end
 
@@ -173,6 +185,8 @@ one_outline s o p h k =
 inside_or_whole : (at : Stage) (n : ℕ) → IsInside at n → IsWhole at → ⊥
 inside_or_whole at_start n h w = h
 inside_or_whole at_declarations n h w = h
+inside_or_whole (at_body b) n h w = w
+inside_or_whole at_plains n h w = h
 inside_or_whole at_rules n h w = h
 inside_or_whole (at_premises b) n h w = w
 inside_or_whole (at_conclusion b) n h w = w
@@ -181,6 +195,8 @@ inside_or_whole (at_end r) n h w = w
 one_inside : (at : Stage) (n m : ℕ) → IsInside at n → IsInside at m → n ≡ m
 one_inside at_start n m h k = absurd h
 one_inside at_declarations n m h k = absurd h
+one_inside (at_body b) n m h k = sym h ∙ k
+one_inside at_plains n m h k = absurd h
 one_inside at_rules n m h k = absurd h
 one_inside (at_premises b) n m h k = sym h ∙ k
 one_inside (at_conclusion b) n m h k = sym h ∙ k
@@ -244,18 +260,26 @@ one_end s end (Err (NotUtf8 place)) b h k = absurd h
 
 -- ---- the file
 
-one_outcome : (known : Declared) (name : List ℕ) (s : State) (left : Lines) (a b : Result OutlineData OutlineError) → IsOutcome known name s left a → IsOutcome known name s left b → a ≡ b
-one_outcome known name s (over n) a b h k = one_end s n a b h k
-one_outcome known name s (line n text after more) a b (inl h) (inl k) =
-    one_outcome known name k.0 more a b (subst (λ t. IsOutcome known name t more a) (one_step s.stage known name s n text h.0 k.0 h.1 k.1) h.2) k.2
-one_outcome known name s (line n text after more) a b (inl h) (inr k) = absurd (good_or_bad known name s n text h.0 k.0 h.1 k.1)
-one_outcome known name s (line n text after more) a b (inr h) (inl k) = absurd (good_or_bad known name s n text k.0 h.0 k.1 h.1)
-one_outcome known name s (line n text after more) a b (inr h) (inr k) = h.2 ∙ ap (λ x. Err (Notation n x)) (one_kind known name s text h.0 k.0 h.1 k.1) ∙ sym k.2
+-- two outcomes of the same lines are of the same end, or of the same bad line
+pub both_outcomes : (R : Type 0) (AfterA AfterB : State → ℕ → Type 0) (BadA BadB : ℕ → Kind → Type 0) → ((t : State) (end : ℕ) → AfterA t end → AfterB t end → R)
+    → ((n : ℕ) (bad : Kind) → BadA n bad → BadB n bad → R) → (kind : FileKind) (known : Declared) (name : List ℕ) (s : State) (left : Lines)
+    → IsOutcome kind known name s left AfterA BadA → IsOutcome kind known name s left AfterB BadB → R
+both_outcomes R AfterA AfterB BadA BadB f g kind known name s (over n) h k = f s n h k
+both_outcomes R AfterA AfterB BadA BadB f g kind known name s (line n text after more) (inl h) (inl k) =
+    both_outcomes R AfterA AfterB BadA BadB f g kind known name k.0 more
+    (subst (λ t. IsOutcome kind known name t more AfterA BadA) (one_step s.stage kind known name s n text h.0 k.0 h.1 k.1) h.2) k.2
+both_outcomes R AfterA AfterB BadA BadB f g kind known name s (line n text after more) (inl h) (inr k) = absurd (good_or_bad kind known name s n text h.0 k.0 h.1 k.1)
+both_outcomes R AfterA AfterB BadA BadB f g kind known name s (line n text after more) (inr h) (inl k) = absurd (good_or_bad kind known name s n text k.0 h.0 k.1 h.1)
+both_outcomes R AfterA AfterB BadA BadB f g kind known name s (line n text after more) (inr h) (inr k) =
+    g n k.0 (subst (BadA n) (one_kind kind known name s text h.0 k.0 h.1 k.1) h.2) k.2
 
 one_reading : (name bytes : List ℕ) (a b : Result OutlineData OutlineError) → IsReadAs name bytes a → IsReadAs name bytes b → a ≡ b
 one_reading name bytes a b h k =
-    let e : h.known ≡ k.known = one_known nothing (kept_lines (lines_from 1 bytes)) h.known k.known h.declares k.declares in
-    one_outcome k.known name start (kept_lines (lines_from 1 bytes)) a b (subst (λ d. IsOutcome d name start (kept_lines (lines_from 1 bytes)) a) e h.outcome) k.outcome
+    let lines = kept_lines (lines_from 1 bytes) in
+    let e : h.known ≡ k.known = one_known files.Language false nothing lines h.known k.known h.declares k.declares in
+    both_outcomes (a ≡ b) (λ s end. IsEnd s end a) (λ s end. IsEnd s end b) (λ n bad. a ≡ Err (Notation n bad)) (λ n bad. b ≡ Err (Notation n bad))
+    (λ s end x y. one_end s end a b x y) (λ n bad x y. x ∙ sym y) files.Language k.known name start lines
+    (subst (λ d. IsOutcome files.Language d name start lines (λ s end. IsEnd s end a) (λ n bad. a ≡ Err (Notation n bad))) e h.outcome) k.outcome
 
 pub one_answer : (name bytes : List ℕ) (a b : Result OutlineData OutlineError) → IsOutlineAnswer name bytes a → IsOutlineAnswer name bytes b → (a ≢ Err Memory) → (b ≢ Err Memory) → a ≡ b
 one_answer name bytes (Err Memory) b h k n m = absurd (n refl)

@@ -1,4 +1,4 @@
--- What holds of the state in which the lines of a file with an outline end.
+-- What is declared after a row, and the bytes of lines.
 use Rattle.std.proofs.Common.{◌≡◌, ℕ, ◌+◌, ◌≤◌, Bool, true, false, List, [], ◌∷◌, length, Result, Ok, Err, refl, inl, inr, arith}
 use Rattle.std.specs.Prelude.{if◌then◌else◌, ◌==◌, ◌&&◌}
 use Rattle.sx_lines.specs.Bytes.{is_blank, line_feed, carriage_return}
@@ -6,37 +6,16 @@ use Rattle.sx_lines.specs.Lines.{Lines, over, line, lines_from, ends_here}
 use Rattle.sx_lines.specs.Lines as lines
 use Rattle.sx_directives.specs.Parts.{parts_of, begun, with_byte}
 use Rattle.sx_directives.specs.declared.row.Row.{Row}
-use Rattle.sx_directives.specs.declared.row.Row.TheVariants.{Sort, Prod, Var, Form, Main, Rule, End, To}
-use Rattle.sx_lines.specs.declared.kind.Kind.{Kind}
-use Rattle.sx_outline.specs.declared.outline_error.OutlineError.{OutlineError}
-use Rattle.sx_outline.specs.declared.outline_error.OutlineError.TheVariants.{Notation}
+use Rattle.sx_directives.specs.declared.row.Row.TheVariants.{Sort, Prod, Var, Form, Main, Plain, Rule, End, To}
 use Rattle.sx_outline.specs.Declarations.{Declared, declare}
 use Rattle.sx_outline.specs.Known.{kept_lines, is_dropped}
-use Rattle.sx_outline.specs.Stages.{Stage, at_start, at_declarations, at_rules, at_premises, at_conclusion, at_end, Numbered, RuleData, State, Steps, after, bodied, ended}
-use Rattle.sx_outline.specs.Outlined.{OutlineData, IsOutcome, IsOutlineOf, IsWhole}
-
--- the last state, of which this holds
-pub record IsLast (Q : State → Lines → Type 0) (o : OutlineData) : Type 0 where
-  pub state : State
-  pub number : ℕ
-  pub holds : Q state (over number)
-  pub whole : IsWhole state.stage
-  pub is : IsOutlineOf state o
-
-pub no_error : (o : OutlineData) (n : ℕ) (kind : Kind) (r : Result OutlineData OutlineError) → r ≡ Ok o → r ≡ Err (Notation n kind) → ⊥
-no_error o n kind r e f = cc
-
--- what each line keeps holds in the end
-pub last_of : (known : Declared) (name : List ℕ) (Q : State → Lines → Type 0)
-    → ((s : State) (n : ℕ) (text after : List ℕ) (more : Lines) (t : State) → Steps known name s n text t → Q s (line n text after more) → Q t more)
-    → (s : State) (left : Lines) (o : OutlineData) → Q s left → IsOutcome known name s left (Ok o) → IsLast Q o
-last_of known name Q on s (over n) o q h = record { state = s; number = n; holds = q; whole = h.0; is = h.1 }
-last_of known name Q on s (line n text after more) o q (inl h) = last_of known name Q on h.0 more o (on s n text after more h.0 h.1 q) h.2
-last_of known name Q on s (line n text after more) o q (inr h) = absurd (no_error o n h.0 (Ok o) refl h.2)
+use Rattle.sx_outline.specs.Stages.{Stage, at_start, at_declarations, at_body, at_plains, at_rules, at_premises, at_conclusion, at_end, Numbered, RuleData, State, after, bodied, ended}
 
 ended_declared : (at : Stage) (d : Declared) (rules : List RuleData) (s : State) → s.declared ≡ d → (ended s at).declared ≡ d
 ended_declared at_start d rules s e = e
 ended_declared at_declarations d rules s e = e
+ended_declared (at_body b) d rules s e = e
+ended_declared at_plains d rules s e = e
 ended_declared at_rules d rules s e = e
 ended_declared (at_premises b) d rules s e = e
 ended_declared (at_conclusion b) d rules s e = e
@@ -45,6 +24,8 @@ ended_declared (at_end r) d rules s e = e
 bodied_declared : (at : Stage) (l : Numbered) (d : Declared) (s : State) → s.declared ≡ d → (bodied s at l).declared ≡ d
 bodied_declared at_start l d s e = e
 bodied_declared at_declarations l d s e = e
+bodied_declared (at_body b) l d s e = e
+bodied_declared at_plains l d s e = e
 bodied_declared at_rules l d s e = e
 bodied_declared (at_premises b) l d s e = e
 bodied_declared (at_conclusion b) l d s e = e
@@ -57,6 +38,7 @@ after_declared s n (Prod p) = refl
 after_declared s n (Var v) = refl
 after_declared s n (Form f) = refl
 after_declared s n (Main m) = refl
+after_declared s n (Plain p) = refl
 after_declared s n (Rule name) = refl
 after_declared s n End = ended_declared s.stage s.declared s.rules s refl
 after_declared s n (To body) = bodied_declared s.stage (record { number = n; text = body }) s.declared s refl

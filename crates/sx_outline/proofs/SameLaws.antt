@@ -1,5 +1,5 @@
 -- Rows of the same line are as good as each other.
-use Rattle.std.proofs.Common.{◌≡◌, ℕ, List, [], ◌∷◌, ◌++◌, refl, ap, subst}
+use Rattle.std.proofs.Common.{◌≡◌, ℕ, Bool, true, false, List, [], ◌∷◌, ◌++◌, refl, ap, subst}
 use Rattle.std.specs.Prelude.{Contains}
 use Rattle.std.specs.List.{AllByRecursion}
 use Rattle.sx_grammar.specs.Parts.{Line}
@@ -14,9 +14,9 @@ use Rattle.sx_directives.specs.declared.rows.PlainLine.{PlainLine}
 use Rattle.sx_directives.specs.declared.row.Row.{Row}
 use Rattle.sx_directives.specs.declared.row.Row.TheVariants.{Language, Sort, Prod, Var, Form, Main, Rule, Bar, End, Extension, Use, Plain, To}
 use Rattle.sx_outline.specs.Declarations.{Declared, FormData, declare}
-use Rattle.sx_outline.specs.Fitting.{Fits, SymbolFits, HasOneSubject, IsKnownSort, stems, form_names}
+use Rattle.sx_outline.specs.Fitting.{ArePartNames, Fits, SymbolFits, HasOneSubject, IsKnownSort, stems, form_names}
 use Rattle.sx_outline.specs.Known.{GoesOn}
-use Rattle.sx_outline.specs.Stages.{Stage, at_declarations, MayStandAt, HasMain}
+use Rattle.sx_outline.specs.Stages.{Stage, at_declarations, at_plains, MayStandAt, HasMain}
 use Rattle.sx_outline.proofs.SameRows.{SameRow}
 
 -- a row of `to` has a body
@@ -36,7 +36,8 @@ form_stands at_declarations mains f g h = tt
 form_stands _ mains f g h = absurd h
 
 plain_stands : (at : Stage) (mains : List MainLine) (p q : PlainLine) → MayStandAt at mains (Plain p) → MayStandAt at mains (Plain q)
-plain_stands at_declarations mains p q h = absurd h
+plain_stands at_declarations mains p q h = tt
+plain_stands at_plains mains p q h = tt
 plain_stands _ mains p q h = absurd h
 
 pub same_stands : (at : Stage) (mains : List MainLine) (r s : Row) → SameRow r s → MayStandAt at mains r → MayStandAt at mains s
@@ -59,10 +60,10 @@ pub same_declare : (d : Declared) (r s : Row) → SameRow r s → declare d r �
 same_declare d (Language n) (Language m) e = refl
 same_declare d (Sort s) (Sort t) e = ap (λ (x : SortLine). declare d (Sort x)) e
 same_declare d (Prod p) (Prod q) e =
-    ap (λ (x : Line). let all : Declared = record { sorts = d.sorts; productions = d.productions ++ x ∷ []; vars = d.vars; forms = d.forms; mains = d.mains } in all) e
+    ap (λ (x : Line). let all : Declared = record { sorts = d.sorts; productions = d.productions ++ x ∷ []; vars = d.vars; forms = d.forms; mains = d.mains; uses = d.uses } in all) e
 same_declare d (Var v) (Var w) e = ap (λ (x : VarLine). declare d (Var x)) e
 same_declare d (Form f) (Form g) e =
-    ap (λ (x : FormData). let all : Declared = record { sorts = d.sorts; productions = d.productions; vars = d.vars; forms = d.forms ++ x ∷ []; mains = d.mains } in all) e
+    ap (λ (x : FormData). let all : Declared = record { sorts = d.sorts; productions = d.productions; vars = d.vars; forms = d.forms ++ x ∷ []; mains = d.mains; uses = d.uses } in all) e
 same_declare d (Main m) (Main n) e = ap (λ (x : MainLine). declare d (Main x)) e
 same_declare d (Rule n) (Rule m) e = refl
 same_declare d Bar Bar e = refl
@@ -85,8 +86,9 @@ same_fits known before (Rule n) (Rule m) e h = h
 same_fits known before Bar Bar e h = h
 same_fits known before End End e h = h
 same_fits known before (Extension n) (Extension m) e h = h
-same_fits known before (Use n) (Use m) e h = h
-same_fits known before (Plain p) (Plain q) e h = h
+same_fits known before (Use n) (Use m) e h = subst (λ (x : List ℕ). Contains known.uses x → ⊥) e h
+same_fits known before (Plain p) (Plain q) e h =
+    subst (ArePartNames known q.label) e.1 (subst (λ (x : List ℕ). ArePartNames known x p.names.items) e.0 h)
 same_fits known before (To n) (To m) e h = h
 same_fits known before _ _ e h = absurd e
 
@@ -106,13 +108,13 @@ same_main known (Plain p) (Plain q) e h = h
 same_main known (To n) (To m) e h = h
 same_main known _ _ e h = absurd e
 
-pub same_goes : (d : Declared) (r s : Row) (all : Declared) (Next : Declared → Type 0) → SameRow r s → GoesOn d r all Next → GoesOn d s all Next
+pub same_goes : (d : Declared) (r s : Row) (all : Declared) (Next : Bool → Declared → Type 0) → SameRow r s → GoesOn d r all Next → GoesOn d s all Next
 same_goes d (Language n) (Language m) all Next e h = h
-same_goes d (Sort s) (Sort t) all Next e h = subst Next (same_declare d (Sort s) (Sort t) e) h
-same_goes d (Prod p) (Prod q) all Next e h = subst Next (same_declare d (Prod p) (Prod q) e) h
-same_goes d (Var v) (Var w) all Next e h = subst Next (same_declare d (Var v) (Var w) e) h
-same_goes d (Form f) (Form g) all Next e h = subst Next (same_declare d (Form f) (Form g) e) h
-same_goes d (Main m) (Main n) all Next e h = subst Next (same_declare d (Main m) (Main n) e) h
+same_goes d (Sort s) (Sort t) all Next e h = subst (Next false) (same_declare d (Sort s) (Sort t) e) h
+same_goes d (Prod p) (Prod q) all Next e h = subst (Next false) (same_declare d (Prod p) (Prod q) e) h
+same_goes d (Var v) (Var w) all Next e h = subst (Next false) (same_declare d (Var v) (Var w) e) h
+same_goes d (Form f) (Form g) all Next e h = subst (Next false) (same_declare d (Form f) (Form g) e) h
+same_goes d (Main m) (Main n) all Next e h = subst (Next false) (same_declare d (Main m) (Main n) e) h
 same_goes d (Rule n) (Rule m) all Next e h = h
 same_goes d Bar Bar all Next e h = h
 same_goes d End End all Next e h = h

@@ -104,20 +104,20 @@ sort_weighs d parts s h =
     omega arith
 
 prod_weighs : (d : Declared) (parts : List (List ℕ)) (p : Line) → IsProdRow parts p
-    → weight (record { sorts = d.sorts; productions = d.productions ++ p ∷ []; vars = d.vars; forms = d.forms; mains = d.mains }) ≤ weight d + length parts
+    → weight (record { sorts = d.sorts; productions = d.productions ++ p ∷ []; vars = d.vars; forms = d.forms; mains = d.mains; uses = d.uses }) ≤ weight d + length parts
 unfolding weight
 prod_weighs d parts p h =
     let a = pushed d.productions p in
     let b = flat_pushed (λ (r : Line). flat_map symbol_literals r.symbols) d.productions p in
     let l = literals_many d in
-    let m = literals_many (record { sorts = d.sorts; productions = d.productions ++ p ∷ []; vars = d.vars; forms = d.forms; mains = d.mains }) in
+    let m = literals_many (record { sorts = d.sorts; productions = d.productions ++ p ∷ []; vars = d.vars; forms = d.forms; mains = d.mains; uses = d.uses }) in
     let few = literal_few p.symbols in
     let fewer = spelled_few Spells h.symbols p.symbols h.symbols_are in
     let e : length parts ≡ suc (suc (suc (suc (length h.symbols)))) = ap length h.parts_are in
     omega arith
 
 form_weighs : (d : Declared) (parts : List (List ℕ)) (f : FormData) (symbols : List (List ℕ)) → parts ≡ f.name ∷ (58 ∷ []) ∷ symbols → EachSpelled SpellsForm symbols f.symbols
-    → weight (record { sorts = d.sorts; productions = d.productions; vars = d.vars; forms = d.forms ++ f ∷ []; mains = d.mains }) ≤ weight d + length parts
+    → weight (record { sorts = d.sorts; productions = d.productions; vars = d.vars; forms = d.forms ++ f ∷ []; mains = d.mains; uses = d.uses }) ≤ weight d + length parts
 unfolding weight
 form_weighs d parts f symbols are h =
     let a = pushed d.forms f in

@@ -1,4 +1,4 @@
--- Which rows of a language file fit what the file declares.
+-- Which rows of a language file or of an extension file fit what the file declares.
 use Rattle.std.specs.Prelude.{◌≡◌, ℕ, ◌≤◌, ◌⊎◌, false, List, [], ◌∷◌, Option, Some, IfSome, map, flat_map, slice_get, length, Contains}
 use Rattle.std.specs.List.{find, AllByRecursion}
 use Rattle.std.specs.Str.{bytes_eq}
@@ -18,9 +18,12 @@ use Rattle.sx_directives.specs.declared.spelled.FormSymbol.{FormSymbol}
 use Rattle.sx_directives.specs.declared.spelled.FormSymbol.TheVariants.{Lit as FormLit, Place}
 use Rattle.sx_directives.specs.declared.rows.MainLine.{MainLine}
 use Rattle.sx_directives.specs.declared.row.Row.{Row}
-use Rattle.sx_directives.specs.declared.row.Row.TheVariants.{Var, Form}
+use Rattle.sx_directives.specs.declared.rows.VarLine.{VarLine}
+use Rattle.sx_directives.specs.declared.rows.PlainLine.{PlainLine}
+use Rattle.sx_directives.specs.declared.row.Row.TheVariants.{Var, Form, Use, Plain}
 use Rattle.sx_outline.specs.declared.main_form.MainForm.{MainForm}
 use Rattle.sx_outline.specs.Declarations.{Declared, FormData, parts_of}
+use Rattle.sx_outline.specs.Variables.{stem_of}
 
 -- the names of the sorts
 abbrev pub sort_names : Declared → List (List ℕ)
@@ -68,14 +71,6 @@ sorts_at role symbols = flat_map (sort_at role) symbols
 abbrev pub HasOneSubject : List FormSymbol → Type 0
 HasOneSubject symbols = length (sorts_at Sub symbols) ≤ 1
 
--- Among what the whole file declares, and after the lines before it, the row is as it should be. Names that stand twice are left to the
--- grammar and to the rule set where these refuse them.
-abbrev pub Fits : (known before : Declared) → Row → Type 0
-Fits known before (Var v) = (Contains (stems before) v.stem → ⊥) × IsKnownSort known v.sort
-Fits known before (Form f) =
-    (Contains (form_names before) f.name → ⊥) × AllByRecursion (SymbolFits known) f.symbols.items × HasOneSubject f.symbols.items
-Fits known before _ = Unit {0}
-
 -- what a part of a production is: a lexeme of a kind, or of a sort at any level
 pub data Kid : Type 0 where
   of_kind : LexKind → Kid
@@ -90,6 +85,57 @@ kid_of (Part sort least) = of_sort sort ∷ []
 -- the parts among symbols
 abbrev pub kids_of : List Symbol → List Kid
 kids_of symbols = flat_map kid_of symbols
+
+-- the sort of a part, by its name
+abbrev pub kid_sort : Kid → List ℕ
+kid_sort (of_kind kind) = lex_text kind
+kid_sort (of_sort sort) = sort
+
+-- no text stands twice
+abbrev pub AreDistinct : List (List ℕ) → Type 0
+AreDistinct [] = Unit {0}
+AreDistinct (text ∷ texts) = (Contains texts text → ⊥) × AreDistinct texts
+
+-- the first production with this label
+abbrev pub production_named : Declared → List ℕ → Option Line
+production_named d label = find (λ p. bytes_eq p.label label) d.productions
+
+-- the first stem that is this one
+abbrev pub var_named : Declared → List ℕ → Option VarLine
+var_named d stem = find (λ v. bytes_eq v.stem stem) d.vars
+
+-- the name, without the digits at its end, is a stem of this sort
+abbrev pub IsVariableOf : Declared → List ℕ → List ℕ → Type 0
+IsVariableOf d name sort = (v : VarLine) × (var_named d (stem_of name) ≡ Some v) × (v.sort ≡ sort)
+
+-- there are as many names as parts, and each is that of a variable of its part's sort
+abbrev pub NamesFit : Declared → List (List ℕ) → List Kid → Type 0
+NamesFit d [] [] = Unit {0}
+NamesFit d (name ∷ names) (kid ∷ kids) = IsVariableOf d name (kid_sort kid) × NamesFit d names kids
+NamesFit d [] (kid ∷ kids) = ⊥
+NamesFit d (name ∷ names) [] = ⊥
+
+-- the first sort with this name is plain
+abbrev pub IsPlain : Declared → List ℕ → Type 0
+IsPlain d name = (s : SortLine) × (sort_named d name ≡ Some s) × (s.typed ≡ false)
+
+-- the first production with this label is of a plain sort, and the names, none of which stands twice, are variables of its parts' sorts
+pub record ArePartNames (d : Declared) (label : List ℕ) (names : List (List ℕ)) : Type 0 where
+  pub line : Line
+  pub line_is : production_named d label ≡ Some line
+  pub plain : IsPlain d line.sort
+  pub once : AreDistinct names
+  pub fit : NamesFit d names (kids_of line.symbols)
+
+-- Among what the whole file declares, and after the lines before it, the row is as it should be. Names that stand twice are left to the
+-- grammar and to the rule set where these refuse them.
+abbrev pub Fits : (known before : Declared) → Row → Type 0
+Fits known before (Var v) = (Contains (stems before) v.stem → ⊥) × IsKnownSort known v.sort
+Fits known before (Form f) =
+    (Contains (form_names before) f.name → ⊥) × AllByRecursion (SymbolFits known) f.symbols.items × HasOneSubject f.symbols.items
+Fits known before (Use name) = Contains known.uses name → ⊥
+Fits known before (Plain p) = ArePartNames known p.label p.names.items
+Fits known before _ = Unit {0}
 
 -- the production with this label is the one with this number, and has this sort and these parts
 pub record IsConstructor (d : Declared) (label : List ℕ) (number : ℕ) (sort : List ℕ) (kids : List Kid) : Type 0 where

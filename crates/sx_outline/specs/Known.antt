@@ -1,12 +1,12 @@
--- The lines that a language file keeps, and what they declare.
-use Rattle.std.specs.Prelude.{◌≡◌, ℕ, ◌⊎◌, Bool, true, List, [], ◌∷◌, codes, is_some, if◌then◌else◌}
+-- The lines that a language file or an extension file keeps, and what they declare.
+use Rattle.std.specs.Prelude.{◌≡◌, ℕ, ◌⊎◌, Bool, true, false, List, [], ◌∷◌, codes, is_some, if◌then◌else◌}
 use Rattle.sx_lines.specs.Lines.{Lines, over, line}
 use Rattle.sx_lines.specs.Words.{after}
-use Rattle.sx_directives.specs.declared.file_kind.FileKind.TheVariants as files
+use Rattle.sx_directives.specs.declared.file_kind.FileKind.{FileKind}
 use Rattle.sx_directives.specs.Parts.{parts_of}
 use Rattle.sx_directives.specs.Rows.{IsRow}
 use Rattle.sx_directives.specs.declared.row.Row.{Row}
-use Rattle.sx_directives.specs.declared.row.Row.TheVariants.{Rule}
+use Rattle.sx_directives.specs.declared.row.Row.TheVariants.{Rule, Plain}
 use Rattle.sx_outline.specs.Declarations.{Declared, declare}
 
 -- a line without parts is dropped, and one whose first part begins with `//`
@@ -19,14 +19,17 @@ unfoldable pub kept_lines : Lines → Lines
 kept_lines (over n) = over n
 kept_lines (line n text after more) = if is_dropped (parts_of text) then kept_lines more else line n text after (kept_lines more)
 
--- a row of a rule ends the declarations, and after another row they go on
-abbrev pub GoesOn : Declared → Row → Declared → (Declared → Type 0) → Type 0
+-- A row of a rule ends the declarations. After another they go on, and after one of a plain pair the next line is a body.
+abbrev pub GoesOn : Declared → Row → Declared → (Bool → Declared → Type 0) → Type 0
 GoesOn d (Rule name) all Next = all ≡ d
-GoesOn d row all Next = Next (declare d row)
+GoesOn d (Plain p) all Next = Next true d
+GoesOn d row all Next = Next false (declare d row)
 
--- After these declarations the lines up to the first that spells a row of a rule declare the rest of all. A line that spells no row declares nothing.
-abbrev pub Declares : Declared → Lines → Declared → Type 0
-Declares d (over n) all = all ≡ d
-Declares d (line n text after more) all =
-    ((row : Row) × IsRow files.Language text row × GoesOn d row all (λ next. Declares next more all))
-    ⊎ (((row : Row) → IsRow files.Language text row → ⊥) × Declares d more all)
+-- After these declarations the lines up to the first that spells a row of a rule declare the rest of all. A line that spells no row declares
+-- nothing, nor does the body of a plain pair, which is the next line where the flag is set.
+abbrev pub Declares : FileKind → (is_body : Bool) → Declared → Lines → Declared → Type 0
+Declares kind is_body d (over n) all = all ≡ d
+Declares kind true d (line n text after more) all = Declares kind false d more all
+Declares kind false d (line n text after more) all =
+    ((row : Row) × IsRow kind text row × GoesOn d row all (λ is_body next. Declares kind is_body next more all))
+    ⊎ (((row : Row) → IsRow kind text row → ⊥) × Declares kind false d more all)

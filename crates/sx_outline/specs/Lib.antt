@@ -1,10 +1,12 @@
 pub mod Declarations
 pub mod Known
+pub mod Variables
 pub mod Fitting
 pub mod MainSorts
 pub mod Tables
 pub mod View
 pub mod Stages
+pub mod Outcomes
 pub mod Outlined
 pub mod Sized
 pub mod Reading

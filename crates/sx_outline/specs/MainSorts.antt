@@ -1,16 +1,15 @@
 -- The sorts of main forms, as they are found.
-use Rattle.std.specs.Prelude.{◌≡◌, ℕ, false, List, [], ◌∷◌, Some}
+use Rattle.std.specs.Prelude.{◌≡◌, ℕ, List, [], ◌∷◌}
 use Rattle.sx_term.specs.declared.lex_kind.LexKind.TheVariants.{Id}
 use Rattle.sx_term.specs.declared.role.Role.{Role}
 use Rattle.sx_term.specs.declared.role.Role.TheVariants.{In, Sub, Out}
-use Rattle.sx_grammar.specs.declared.sort_line.SortLine.{SortLine}
 use Rattle.sx_grammar.specs.declared.symbol.Symbol.{Symbol}
 use Rattle.sx_directives.specs.declared.spelled.SpelledSort.{SpelledSort}
 use Rattle.sx_directives.specs.declared.spelled.SpelledSort.TheVariants.{Named}
 use Rattle.sx_directives.specs.declared.spelled.FormSymbol.{FormSymbol}
 use Rattle.sx_directives.specs.declared.rows.MainLine.{MainLine}
 use Rattle.sx_outline.specs.Declarations.{Declared}
-use Rattle.sx_outline.specs.Fitting.{IsConstructor, Kid, kid_of, of_kind, of_sort, sort_named, sorts_at}
+use Rattle.sx_outline.specs.Fitting.{IsConstructor, Kid, kid_of, of_kind, of_sort, sorts_at}
 
 -- the one place with this role has the sort with this name
 abbrev pub IsOneName : List FormSymbol → Role → List ℕ → Type 0
@@ -22,10 +21,6 @@ pub record AreMainSorts (symbols : List FormSymbol) (environment signature : Lis
   pub subject_sort : SpelledSort
   pub subject : sorts_at Sub symbols ≡ subject_sort ∷ []
   pub output : IsOneName symbols Out signature
-
--- the sort that this name finds is plain
-abbrev pub IsPlain : Declared → List ℕ → Type 0
-IsPlain d name = (s : SortLine) × (sort_named d name ≡ Some s) × (s.typed ≡ false)
 
 -- the constructors that the row names are the empty one, and the one that adds a name and a signature
 pub record AreConstructors (d : Declared) (m : MainLine) (environment signature : List ℕ) (empty add : ℕ) : Type 0 where

@@ -1,9 +1,10 @@
 -- What a language file states line by line, or its first bad line.
-use Rattle.std.specs.Prelude.{◌≡◌, ℕ, ◌⊎◌, List, [], ◌∷◌, map, Result, Ok, Err}
+use Rattle.std.specs.Prelude.{◌≡◌, ℕ, false, List, [], ◌∷◌, map, Result, Ok, Err}
 use Rattle.std.specs.Str.{IsUtf8}
 use Rattle.std.specs.Str.Lossy.{utf8_valid_len}
-use Rattle.sx_lines.specs.Lines.{Lines, over, line, lines_from}
+use Rattle.sx_lines.specs.Lines.{lines_from}
 use Rattle.sx_grammar.specs.Parts.{Parts, parts}
+use Rattle.sx_directives.specs.declared.file_kind.FileKind.TheVariants as files
 use Rattle.sx_directives.specs.declared.rows.VarLine.{VarLine}
 use Rattle.sx_directives.specs.declared.rows.MainLine.{MainLine}
 use Rattle.sx_lines.specs.declared.kind.Kind.{Kind}
@@ -15,7 +16,8 @@ use Rattle.sx_outline.specs.declared.outline_error.OutlineError.TheVariants.{Mem
 use Rattle.sx_outline.specs.Declarations.{Declared, FormData, form, nothing}
 use Rattle.sx_outline.specs.Fitting.{IsMainOf}
 use Rattle.sx_outline.specs.Known.{Declares, kept_lines}
-use Rattle.sx_outline.specs.Stages.{RuleData, rule_data, Stage, at_start, at_declarations, at_rules, at_premises, at_conclusion, at_end, State, start, Steps, IsBad}
+use Rattle.sx_outline.specs.Stages.{RuleData, rule_data, at_start, State, start, IsWhole, IsInside}
+use Rattle.sx_outline.specs.Outcomes.{IsOutcome}
 
 -- an outline as plain data
 pub record OutlineData : Type 0 where
@@ -31,7 +33,7 @@ outline o = record { parts = parts o.parts; vars = o.vars.items; forms = map for
 
 -- what a file with this outline and this main line declares
 abbrev pub declared_by : OutlineData → MainLine → Declared
-declared_by o m = record { sorts = o.parts.sorts; productions = o.parts.productions; vars = o.vars; forms = o.forms; mains = m ∷ [] }
+declared_by o m = record { sorts = o.parts.sorts; productions = o.parts.productions; vars = o.vars; forms = o.forms; mains = m ∷ []; uses = [] }
 
 -- the outline has what was declared, the main form of the main line, and the rules
 pub record IsOutlineOf (s : State) (o : OutlineData) : Type 0 where
@@ -39,19 +41,6 @@ pub record IsOutlineOf (s : State) (o : OutlineData) : Type 0 where
   pub declared : s.declared ≡ declared_by o line
   pub main : IsMainOf s.declared line o.main
   pub rules : s.rules ≡ o.rules
-
--- no rule has begun that is not ended
-abbrev pub IsWhole : Stage → Type 0
-IsWhole at_declarations = Unit {0}
-IsWhole at_rules = Unit {0}
-IsWhole _ = ⊥
-
--- a rule that begins at this line is not ended
-abbrev pub IsInside : Stage → ℕ → Type 0
-IsInside (at_premises b) number = b.number ≡ number
-IsInside (at_conclusion b) number = b.number ≡ number
-IsInside (at_end r) number = r.number ≡ number
-IsInside _ number = ⊥
 
 -- what is missing where no line is left, and the number of the line: a further one would have the number `end`
 abbrev pub IsMissing : State → (end number : ℕ) → Kind → Type 0
@@ -69,19 +58,13 @@ IsEnd s end (Ok o) = IsWhole s.stage × IsOutlineOf s o
 IsEnd s end (Err (Notation number kind)) = IsMissing s end number kind
 IsEnd s end (Err _) = ⊥
 
--- what comes of a state and the lines that are left: the next line leads on, or it is the first bad one
-abbrev pub IsOutcome : (known : Declared) (name : List ℕ) → State → Lines → Result OutlineData OutlineError → Type 0
-IsOutcome known name s (over end) result = IsEnd s end result
-IsOutcome known name s (line number text after more) result =
-    ((t : State) × Steps known name s number text t × IsOutcome known name t more result)
-    ⊎ ((kind : Kind) × IsBad known name s text kind × (result ≡ Err (Notation number kind)))
-
 -- what comes of the bytes of the file of the language with this name, which are UTF-8
 pub record IsReadAs (name bytes : List ℕ) (result : Result OutlineData OutlineError) : Type 0 where
   pub utf8 : IsUtf8 bytes
   pub known : Declared
-  pub declares : Declares nothing (kept_lines (lines_from 1 bytes)) known
-  pub outcome : IsOutcome known name start (kept_lines (lines_from 1 bytes)) result
+  pub declares : Declares files.Language false nothing (kept_lines (lines_from 1 bytes)) known
+  pub outcome : IsOutcome files.Language known name start (kept_lines (lines_from 1 bytes)) (λ s end. IsEnd s end result)
+      (λ number kind. result ≡ Err (Notation number kind))
 
 -- what the bytes of the file of the language with this name state, or why they state nothing
 abbrev pub IsOutlineAnswer : (name bytes : List ℕ) → Result OutlineData OutlineError → Type 0

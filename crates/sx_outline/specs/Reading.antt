@@ -1,34 +1,48 @@
--- The reader of a language file and the state that it stands for.
-use Rattle.std.specs.Prelude.{◌≡◌, ℕ, ◌+◌, ◌≤◌, ◌<◌, ◌^◌, ◌⊎◌, List, [], ◌∷◌, ◌++◌, map, length, Option, Some, None, Result, Ok, Err, MatchResult}
+-- The reader of a language file or of an extension file, and the state that it stands for.
+use Rattle.std.specs.Prelude.{◌≡◌, ℕ, true, false, ◌+◌, ◌≤◌, ◌<◌, ◌^◌, ◌⊎◌, List, [], ◌∷◌, ◌++◌, map, length, Option, Some, None, Result, Ok, Err, MatchResult}
 use Rattle.sx_lines.specs.Lines.{Lines}
 use Rattle.sx_directives.specs.declared.file_kind.FileKind.{FileKind}
+use Rattle.sx_directives.specs.declared.file_kind.FileKind.TheVariants as files
 use Rattle.sx_directives.specs.Rows.{IsRow}
 use Rattle.sx_directives.specs.declared.rows.MainLine.{MainLine}
 use Rattle.sx_directives.specs.declared.row.Row.{Row}
-use Rattle.sx_directives.specs.declared.row.Row.TheVariants.{Sort, Prod, Var, Form, Main, To}
+use Rattle.sx_directives.specs.declared.row.Row.TheVariants.{Sort, Prod, Var, Form, Main, Plain, To}
+use Rattle.sx_lines.specs.declared.kind.Kind.{Kind}
 use Rattle.sx_lines.specs.declared.kind.Kind.TheVariants.{Head, Order, Main as NoMain}
 use Rattle.sx_outline.specs.declared.main_form.MainForm.{MainForm}
 use Rattle.sx_outline.specs.declared.outline.Outline.{Outline}
 use Rattle.sx_outline.specs.declared.outline_error.OutlineError.{OutlineError}
 use Rattle.sx_outline.specs.declared.outline_error.OutlineError.TheVariants.{Memory, NotUtf8, Notation}
+use Rattle.sx_directives.specs.declared.rows.PlainLine.{PlainLine}
 use Rattle.sx_outline.specs.declared.stage.Begun.{Begun as BegunOf}
+use Rattle.sx_outline.specs.declared.stage.BegunPlain.{BegunPlain as BegunPlainOf}
 use Rattle.sx_outline.specs.declared.stage.Stage.{Stage as StageOf}
 use Rattle.sx_outline.specs.declared.stage.Stage.TheVariants as stages
+use Rattle.sx_outline.specs.declared.plain_lines.PlainLines.{PlainLines}
+use Rattle.sx_outline.specs.declared.rule_lines.RuleLines.{RuleLines}
+use Rattle.sx_outline.specs.declared.read_lines.ReadLines.{ReadLines}
 use Rattle.sx_outline.specs.declared.reader.Reader.{Reader}
 use Rattle.sx_outline.specs.Declarations.{Declared}
 use Rattle.sx_outline.specs.Fitting.{IsMainOf}
 use Rattle.sx_outline.specs.Known.{Declares}
-use Rattle.sx_outline.specs.Stages.{Numbered, RuleData, numbered, rule_data, with_body, MayStandAt, Begun, Stage, at_start, at_declarations, at_rules, at_premises, at_conclusion, at_end, head_row, State, start, MayStand, HasMain, Steps, IsBad, IsBar, with_premise, after}
-use Rattle.sx_outline.specs.Outlined.{outline, IsEnd, IsOutcome}
+use Rattle.sx_outline.specs.Stages.{Numbered, RuleData, numbered, rule_data, plain_data, with_body, MayStandAt, Begun, BegunPlain, begun_plain, Stage, at_start, at_declarations, at_body, at_plains, at_rules, at_premises, at_conclusion, at_end, head_row, State, start, MayStand, HasMain, Steps, IsBad, IsBar, IsWhole, with_premise, after}
+use Rattle.sx_outline.specs.Outcomes.{IsOutcome}
+use Rattle.sx_outline.specs.Outlined.{outline, IsEnd}
 
 -- a rule that has begun, as plain data
 abbrev pub begun : BegunOf → Begun
 begun b = record { number = b.number; name = b.name; premises = map numbered b.premises.items }
 
+-- a plain pair that has begun, as plain data
+abbrev pub plain_begun : BegunPlainOf → BegunPlain
+plain_begun b = record { number = b.number; label = b.label; names = b.names.items }
+
 -- a stage as plain data
 abbrev pub stage : StageOf → Stage
 stage stages.Start = at_start
 stage stages.Declarations = at_declarations
+stage (stages.Body b) = at_body (plain_begun b)
+stage stages.Plains = at_plains
 stage stages.Rules = at_rules
 stage (stages.Premises b) = at_premises (begun b)
 stage (stages.Conclusion b) = at_conclusion (begun b)
@@ -46,7 +60,8 @@ pub record IsReader (known : Declared) (r : Reader) (s : State) : Type 0 where
   pub forms_are : r.forms ≡ length s.declared.forms
   pub vars_are : r.vars ≡ length s.declared.vars
   pub main_is : IsMainRead known r.main s.declared.mains
-  pub rules_are : map rule_data r.rules.items ≡ s.rules
+  pub plains_are : map plain_data r.read.plains.items ≡ s.plains
+  pub rules_are : map rule_data r.read.rules.items ≡ s.rules
 
 -- the first of what is known has been declared
 pub record IsFront (before known : Declared) : Type 0 where
@@ -54,10 +69,34 @@ pub record IsFront (before known : Declared) : Type 0 where
   pub forms : known.forms ≡ before.forms ++ more.forms
   pub vars : known.vars ≡ before.vars ++ more.vars
 
--- the numbers of forms and of stems are small
+-- one more form and one more stem can be counted
 pub record IsCounted (r : Reader) : Type 0 where
-  pub forms : r.forms < 2 ^ 32
-  pub vars : r.vars < 2 ^ 32
+  pub forms : r.forms + 1 < 2 ^ 64
+  pub vars : r.vars + 1 < 2 ^ 64
+
+-- so many more forms and stems can be counted
+pub record HasRoom (r : Reader) (bytes : ℕ) : Type 0 where
+  pub forms : r.forms + bytes + 1 < 2 ^ 64
+  pub vars : r.vars + bytes + 1 < 2 ^ 64
+
+-- a reader that has read nothing
+pub record IsNewReader (r : Reader) : Type 0 where
+  pub stage : stage r.stage ≡ at_start
+  pub forms : r.forms ≡ 0
+  pub vars : r.vars ≡ 0
+  pub main : r.main ≡ None
+  pub plains : r.read.plains.items ≡ []
+  pub rules : r.read.rules.items ≡ []
+
+-- there is one plain pair more
+pub record AddsPlain (old : ReadLines) (p : PlainLines) (new : ReadLines) : Type 0 where
+  pub plains : new.plains.items ≡ old.plains.items ++ p ∷ []
+  pub rules : new.rules.items ≡ old.rules.items
+
+-- there is one rule more
+pub record AddsRule (old : ReadLines) (r : RuleLines) (new : ReadLines) : Type 0 where
+  pub plains : new.plains.items ≡ old.plains.items
+  pub rules : new.rules.items ≡ old.rules.items ++ r ∷ []
 
 -- there is at most one form more, and one stem
 pub record GrowsByOne (old new : Reader) : Type 0 where
@@ -77,6 +116,11 @@ abbrev pub IsBodyTaken : Stage → Numbered → Option StageOf → Type 0
 IsBodyTaken old line None = (mains : List MainLine) (body : List ℕ) → MayStandAt old mains (To body) → ⊥
 IsBodyTaken old line (Some next) = (r : RuleData) × (old ≡ at_end r) × (r.body ≡ None) × (stage next ≡ at_end (with_body r line))
 
+-- a plain pair begins here with this line, or none may
+abbrev pub IsPlainBegun : Stage → ℕ → PlainLine → Option StageOf → Type 0
+IsPlainBegun old number p None = (mains : List MainLine) → MayStandAt old mains (Plain p) → ⊥
+IsPlainBegun old number p (Some next) = ((mains : List MainLine) → MayStandAt old mains (Plain p)) × (stage next ≡ at_body (begun_plain number p))
+
 -- why a row that fits is not taken
 abbrev pub IsRowRefused : Declared → State → ℕ → Row → OutlineError → Type 0
 IsRowRefused known s number row Memory = Unit {0}
@@ -92,15 +136,15 @@ IsRowTaken known r number row result = (s : State) → IsReader known r s →
     MatchResult result (λ next. MayStand s row × HasMain known row × IsReader known next (after s number row)) (λ e. IsRowRefused known s number row e)
 
 -- why a line is refused
-abbrev pub IsLineRefused : Declared → List ℕ → State → ℕ → List ℕ → OutlineError → Type 0
-IsLineRefused known name s number text Memory = Unit {0}
-IsLineRefused known name s number text (NotUtf8 place) = ⊥
-IsLineRefused known name s number text (Notation l kind) = (l ≡ number) × IsBad known name s text kind
+abbrev pub IsLineRefused : FileKind → Declared → List ℕ → State → ℕ → List ℕ → OutlineError → Type 0
+IsLineRefused kind known name s number text Memory = Unit {0}
+IsLineRefused kind known name s number text (NotUtf8 place) = ⊥
+IsLineRefused kind known name s number text (Notation l bad) = (l ≡ number) × IsBad kind known name s text bad
 
 -- what reading a line answers
-abbrev pub IsLineRead : Declared → List ℕ → Reader → ℕ → List ℕ → Result Reader OutlineError → Type 0
-IsLineRead known name r number text result = (s : State) → IsReader known r s → IsFront s.declared known →
-    MatchResult result (λ next. (t : State) × Steps known name s number text t × IsReader known next t) (λ e. IsLineRefused known name s number text e)
+abbrev pub IsLineRead : FileKind → Declared → List ℕ → Reader → ℕ → List ℕ → Result Reader OutlineError → Type 0
+IsLineRead kind known name r number text result = (s : State) → IsReader known r s → IsFront s.declared known →
+    MatchResult result (λ next. (t : State) × Steps kind known name s number text t × IsReader known next t) (λ e. IsLineRefused kind known name s number text e)
 
 -- what is bad about a first line
 abbrev pub IsHeadRefused : FileKind → List ℕ → ℕ → List ℕ → OutlineError → Type 0
@@ -115,18 +159,44 @@ AddsPremise b number text next =
     (IsBar text × (next ≡ at_conclusion b)) ⊎ ((IsBar text → ⊥) × (next ≡ at_premises (with_premise b (record { number = number; text = text }))))
 
 -- what the reader stands for has been declared before these lines, or is all that the file declares
-abbrev pub IsAhead : Stage → Declared → Lines → Declared → Type 0
-IsAhead at_start before lines known = Declares before lines known
-IsAhead at_declarations before lines known = Declares before lines known
-IsAhead _ before lines known = before ≡ known
+abbrev pub IsAhead : FileKind → Stage → Declared → Lines → Declared → Type 0
+IsAhead kind at_start before lines known = Declares kind false before lines known
+IsAhead kind at_declarations before lines known = Declares kind false before lines known
+IsAhead kind (at_body b) before lines known = Declares kind true before lines known
+IsAhead kind at_plains before lines known = Declares kind false before lines known
+IsAhead kind _ before lines known = before ≡ known
 
--- what reading lines answers, where memory may be lacking at each
-abbrev pub AreLinesRead : Declared → List ℕ → Lines → Result Outline OutlineError → Type 0
-AreLinesRead known name lines (Ok o) = IsOutcome known name start lines (Ok (outline o))
-AreLinesRead known name lines (Err Memory) = Unit {0}
-AreLinesRead known name lines (Err e) = IsOutcome known name start lines (Err e)
+-- the reader stands for the last state, in which all that the file declares was declared if nothing is left open, before a line of this number
+pub record IsReadTo (known : Declared) (r : Reader) (number : ℕ) (s : State) (end : ℕ) : Type 0 where
+  pub stands : IsReader known r s
+  pub whole : IsWhole s.stage → s.declared ≡ known
+  pub ends : end ≡ number
 
--- what the end of the lines answers where a further line would have this number
+-- where the reading ends
+abbrev pub EndsAt : Declared → Result (Reader × ℕ) OutlineError → State → ℕ → Type 0
+EndsAt known (Ok x) s end = IsReadTo known x.0 x.1 s end
+EndsAt known (Err e) s end = ⊥
+
+-- the refusal is that of this line
+abbrev pub IsBadLine : Result (Reader × ℕ) OutlineError → ℕ → Kind → Type 0
+IsBadLine result number bad = result ≡ Err (Notation number bad)
+
+-- what reading lines from this state on answers, where memory may be lacking at each
+abbrev pub AreLinesRead : FileKind → Declared → List ℕ → State → Lines → Result (Reader × ℕ) OutlineError → Type 0
+AreLinesRead kind known name s lines (Err Memory) = Unit {0}
+AreLinesRead kind known name s lines (Err (NotUtf8 place)) = ⊥
+AreLinesRead kind known name s lines result = IsOutcome kind known name s lines (EndsAt known result) (IsBadLine result)
+
+-- what reading the lines of a language file answers, where memory may be lacking at each
+abbrev pub IsOutlineRead : Declared → List ℕ → Lines → Result Outline OutlineError → Type 0
+IsOutlineRead known name lines (Ok o) =
+    IsOutcome files.Language known name start lines (λ s end. IsEnd s end (Ok (outline o))) (λ number bad. ⊥)
+IsOutlineRead known name lines (Err Memory) = Unit {0}
+IsOutlineRead known name lines (Err (NotUtf8 place)) = ⊥
+IsOutlineRead known name lines (Err (Notation number bad)) =
+    IsOutcome files.Language known name start lines (λ s end. IsEnd s end (Err (Notation number bad))) (λ l other. (l ≡ number) × (other ≡ bad))
+
+-- what the end of the lines of a language file answers where a further line would have this number
 abbrev pub IsEndRead : State → ℕ → Result Outline OutlineError → Type 0
 IsEndRead s end (Ok o) = IsEnd s end (Ok (outline o))
 IsEndRead s end (Err Memory) = Unit {0}

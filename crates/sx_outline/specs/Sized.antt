@@ -1,5 +1,5 @@
 -- What holds of each outline.
-use Rattle.std.specs.Prelude.{◌≡◌, ℕ, ◌+◌, ◌≤◌, List, [], ◌∷◌, None, length, flat_map, Contains}
+use Rattle.std.specs.Prelude.{◌≡◌, ℕ, ◌+◌, ◌≤◌, List, [], ◌∷◌, None, IfSome, length, flat_map, Contains}
 use Rattle.std.specs.List.{AllByRecursion}
 use Rattle.sx_grammar.specs.Parts.{literals}
 use Rattle.sx_grammar.specs.Tables.{HasGoodLevels}
@@ -10,7 +10,7 @@ use Rattle.sx_directives.specs.declared.spelled.FormSymbol.{FormSymbol}
 use Rattle.sx_directives.specs.declared.spelled.FormSymbol.TheVariants.{Lit, Place}
 use Rattle.sx_directives.specs.declared.rows.MainLine.{MainLine}
 use Rattle.sx_outline.specs.Declarations.{FormData}
-use Rattle.sx_outline.specs.Fitting.{IsKnownSort, SymbolFits, HasOneSubject, IsMainOf, stems, form_names}
+use Rattle.sx_outline.specs.Fitting.{AreDistinct, IsKnownSort, SymbolFits, HasOneSubject, IsMainOf, stems, form_names}
 use Rattle.sx_outline.specs.Stages.{RuleData}
 use Rattle.sx_outline.specs.Outlined.{OutlineData, declared_by}
 
@@ -21,7 +21,9 @@ HaveGoodLevels forms =
 
 -- the rule has at most so many premises, and its lines have at most so many bytes each
 abbrev pub HasShortLines : ℕ → RuleData → Type 0
-HasShortLines size r = (length r.premises ≤ size) × AllByRecursion (λ l. length l.text ≤ size) r.premises × (length r.conclusion.text ≤ size)
+HasShortLines size r =
+    (length r.premises ≤ size) × AllByRecursion (λ l. length l.text ≤ size) r.premises × (length r.conclusion.text ≤ size)
+    × IfSome r.body (λ l. length l.text ≤ size)
 
 -- the outline is no larger than a file of so many bytes can state
 pub record IsSized (size : ℕ) (o : OutlineData) : Type 0 where
@@ -30,11 +32,6 @@ pub record IsSized (size : ℕ) (o : OutlineData) : Type 0 where
   pub levels : HasGoodLevels o.parts
   pub asked : HaveGoodLevels o.forms
   pub lines : AllByRecursion (HasShortLines size) o.rules
-
--- no text stands twice
-abbrev pub AreDistinct : List (List ℕ) → Type 0
-AreDistinct [] = Unit {0}
-AreDistinct (text ∷ texts) = (Contains texts text → ⊥) × AreDistinct texts
 
 -- a sort that is spelled in the symbol has a name
 abbrev pub HasName : FormSymbol → Type 0

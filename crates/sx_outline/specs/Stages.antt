@@ -1,4 +1,4 @@
--- The stages of the reading of a language file, and its steps.
+-- The stages of the reading of a language file or of an extension file, and its steps.
 use Rattle.std.specs.Prelude.{◌≡◌, ℕ, ◌⊎◌, List, [], ◌∷◌, ◌++◌, Option, Some, None, map, option_map, codes}
 use Rattle.sx_directives.specs.declared.file_kind.FileKind.{FileKind}
 use Rattle.sx_directives.specs.declared.file_kind.FileKind.TheVariants as files
@@ -6,10 +6,12 @@ use Rattle.sx_directives.specs.Parts.{parts_of}
 use Rattle.sx_directives.specs.Rows.{IsRow, HasWord}
 use Rattle.sx_directives.specs.declared.rows.MainLine.{MainLine}
 use Rattle.sx_directives.specs.declared.row.Row.{Row}
-use Rattle.sx_directives.specs.declared.row.Row.TheVariants.{Language, Sort, Prod, Var, Form, Main, Rule, End, Extension, To}
+use Rattle.sx_directives.specs.declared.row.Row.TheVariants.{Language, Sort, Prod, Var, Form, Main, Rule, End, Extension, Plain, To}
 use Rattle.sx_lines.specs.declared.kind.Kind.{Kind}
 use Rattle.sx_lines.specs.declared.kind.Kind.TheVariants.{Head, Directive, Shape, Order, Unfinished, Main as NoMain, Variable}
 use Rattle.sx_outline.specs.declared.main_form.MainForm.{MainForm}
+use Rattle.sx_directives.specs.declared.rows.PlainLine.{PlainLine}
+use Rattle.sx_outline.specs.declared.plain_lines.PlainLines.{PlainLines}
 use Rattle.sx_outline.specs.declared.rule_lines.RuleLine.{RuleLine}
 use Rattle.sx_outline.specs.declared.rule_lines.RuleLines.{RuleLines}
 use Rattle.sx_outline.specs.Declarations.{Declared, nothing, declare}
@@ -28,6 +30,13 @@ pub record RuleData : Type 0 where
   pub conclusion : Numbered
   pub body : Option Numbered
 
+-- a plain pair: the number of its first line, the label and the names of the parts that this states, and its body
+pub record PlainData : Type 0 where
+  pub number : ℕ
+  pub label : List ℕ
+  pub names : List (List ℕ)
+  pub body : Numbered
+
 -- a line of a rule as plain data
 abbrev pub numbered : RuleLine → Numbered
 numbered l = record { number = l.number; text = l.text }
@@ -37,17 +46,29 @@ abbrev pub rule_data : RuleLines → RuleData
 rule_data r =
     record { number = r.number; name = r.name; premises = map numbered r.premises.items; conclusion = numbered r.conclusion; body = option_map numbered r.body }
 
+-- a plain pair as plain data
+abbrev pub plain_data : PlainLines → PlainData
+plain_data p = record { number = p.number; label = p.label; names = p.names.items; body = numbered p.body }
+
 -- a rule that has begun
 pub record Begun : Type 0 where
   pub number : ℕ
   pub name : List ℕ
   pub premises : List Numbered
 
--- where the reading stands: before the first line, among the declarations, between rules, among the premises of a rule, after its `---`, or
--- after its conclusion
+-- a plain pair that has begun
+pub record BegunPlain : Type 0 where
+  pub number : ℕ
+  pub label : List ℕ
+  pub names : List (List ℕ)
+
+-- where the reading stands: before the first line, among the declarations, after the first line of a plain pair, between plain pairs, between
+-- rules, among the premises of a rule, after its `---`, or after its conclusion
 pub data Stage : Type 0 where
   at_start : Stage
   at_declarations : Stage
+  at_body : BegunPlain → Stage
+  at_plains : Stage
   at_rules : Stage
   at_premises : Begun → Stage
   at_conclusion : Begun → Stage
@@ -58,19 +79,25 @@ abbrev pub head_row : FileKind → List ℕ → Row
 head_row files.Language name = Language name
 head_row files.Extension name = Extension name
 
--- what has been read: where the reading stands, what was declared, and the rules
+-- what has been read: where the reading stands, what was declared, the plain pairs, and the rules
 pub record State : Type 0 where
   pub stage : Stage
   pub declared : Declared
+  pub plains : List PlainData
   pub rules : List RuleData
 
--- before the first line nothing is declared
+-- before the first line of a language file nothing is declared
 abbrev pub start : State
-start = record { stage = at_start; declared = nothing; rules = [] }
+start = record { stage = at_start; declared = nothing; plains = []; rules = [] }
+
+-- after the first lines of an extension file so much is declared
+abbrev pub start_after : Declared → State
+start_after d = record { stage = at_declarations; declared = d; plains = []; rules = [] }
 
 -- a row is due here
 abbrev pub IsDue : Stage → Type 0
 IsDue at_declarations = Unit {0}
+IsDue at_plains = Unit {0}
 IsDue at_rules = Unit {0}
 IsDue (at_end r) = Unit {0}
 IsDue _ = ⊥
@@ -82,7 +109,10 @@ MayStandAt at_declarations mains (Prod x) = Unit {0}
 MayStandAt at_declarations mains (Var x) = Unit {0}
 MayStandAt at_declarations mains (Form x) = Unit {0}
 MayStandAt at_declarations mains (Main x) = mains ≡ []
+MayStandAt at_declarations mains (Plain x) = Unit {0}
 MayStandAt at_declarations mains (Rule x) = Unit {0}
+MayStandAt at_plains mains (Plain x) = Unit {0}
+MayStandAt at_plains mains (Rule x) = Unit {0}
 MayStandAt at_rules mains (Rule x) = Unit {0}
 MayStandAt (at_end r) mains End = Unit {0}
 MayStandAt (at_end r) mains (To body) = r.body ≡ None
@@ -98,19 +128,19 @@ HasMain known (Main m) = (main : MainForm) × IsMainOf known m main
 HasMain known _ = Unit {0}
 
 -- the line spells the row, which fits and may stand there, and is of a main form where it is a main line
-pub record IsGoodRow (known : Declared) (s : State) (text : List ℕ) (row : Row) : Type 0 where
-  pub spelled : IsRow files.Language text row
+pub record IsGoodRow (kind : FileKind) (known : Declared) (s : State) (text : List ℕ) (row : Row) : Type 0 where
+  pub spelled : IsRow kind text row
   pub fits : Fits known s.declared row
   pub stands : MayStand s row
   pub main : HasMain known row
 
 -- at another stage, all else as before
 abbrev pub at : State → Stage → State
-at s stage = record { stage = stage; declared = s.declared; rules = s.rules }
+at s stage = record { stage = stage; declared = s.declared; plains = s.plains; rules = s.rules }
 
 -- the rule is ended, if one has its conclusion
 abbrev pub ended : State → Stage → State
-ended s (at_end r) = record { stage = at_rules; declared = s.declared; rules = s.rules ++ r ∷ [] }
+ended s (at_end r) = record { stage = at_rules; declared = s.declared; plains = s.plains; rules = s.rules ++ r ∷ [] }
 ended s _ = s
 
 -- a rule with its body
@@ -122,12 +152,25 @@ abbrev pub bodied : State → Stage → Numbered → State
 bodied s (at_end r) line = at s (at_end (with_body r line))
 bodied s _ line = s
 
--- after a row: a rule has begun, has its body or is ended, or more is declared
+-- a plain pair after its first line
+abbrev pub begun_plain : ℕ → PlainLine → BegunPlain
+begun_plain number p = record { number = number; label = p.label; names = p.names.items }
+
+-- a plain pair with its body
+abbrev pub paired : BegunPlain → Numbered → PlainData
+paired b line = record { number = b.number; label = b.label; names = b.names; body = line }
+
+-- with one more plain pair
+abbrev pub with_plain : State → PlainData → State
+with_plain s p = record { stage = at_plains; declared = s.declared; plains = s.plains ++ p ∷ []; rules = s.rules }
+
+-- after a row: a plain pair or a rule has begun, a rule has its body or is ended, or more is declared
 abbrev pub after : State → ℕ → Row → State
+after s number (Plain p) = at s (at_body (begun_plain number p))
 after s number (Rule name) = at s (at_premises (record { number = number; name = name; premises = [] }))
 after s number End = ended s s.stage
 after s number (To body) = bodied s s.stage (record { number = number; text = body })
-after s number row = record { stage = s.stage; declared = declare s.declared row; rules = s.rules }
+after s number row = record { stage = s.stage; declared = declare s.declared row; plains = s.plains; rules = s.rules }
 
 -- the only part of the line is `---`
 abbrev pub IsBar : List ℕ → Type 0
@@ -142,32 +185,49 @@ abbrev pub concluded : Begun → Numbered → RuleData
 concluded b line = record { number = b.number; name = b.name; premises = b.premises; conclusion = line; body = None }
 
 -- a line where a row is due leads from one state to the other
-abbrev pub StepsByRow : Declared → State → ℕ → List ℕ → State → Type 0
-StepsByRow known s number text t = (row : Row) × IsGoodRow known s text row × (t ≡ after s number row)
+abbrev pub StepsByRow : FileKind → Declared → State → ℕ → List ℕ → State → Type 0
+StepsByRow kind known s number text t = (row : Row) × IsGoodRow kind known s text row × (t ≡ after s number row)
 
 -- at this stage the line with this number and text leads from one state to the other
-abbrev pub StepsAt : Stage → Declared → List ℕ → State → ℕ → List ℕ → State → Type 0
-StepsAt at_start known name s number text t = IsRow files.Language text (Language name) × (t ≡ at s at_declarations)
-StepsAt at_declarations known name s number text t = StepsByRow known s number text t
-StepsAt at_rules known name s number text t = StepsByRow known s number text t
-StepsAt (at_premises b) known name s number text t =
+abbrev pub StepsAt : Stage → FileKind → Declared → List ℕ → State → ℕ → List ℕ → State → Type 0
+StepsAt at_start kind known name s number text t = IsRow kind text (head_row kind name) × (t ≡ at s at_declarations)
+StepsAt at_declarations kind known name s number text t = StepsByRow kind known s number text t
+StepsAt (at_body b) kind known name s number text t = t ≡ with_plain s (paired b (record { number = number; text = text }))
+StepsAt at_plains kind known name s number text t = StepsByRow kind known s number text t
+StepsAt at_rules kind known name s number text t = StepsByRow kind known s number text t
+StepsAt (at_premises b) kind known name s number text t =
     (IsBar text × (t ≡ at s (at_conclusion b)))
     ⊎ ((IsBar text → ⊥) × (t ≡ at s (at_premises (with_premise b (record { number = number; text = text })))))
-StepsAt (at_conclusion b) known name s number text t = t ≡ at s (at_end (concluded b (record { number = number; text = text })))
-StepsAt (at_end r) known name s number text t = StepsByRow known s number text t
+StepsAt (at_conclusion b) kind known name s number text t = t ≡ at s (at_end (concluded b (record { number = number; text = text })))
+StepsAt (at_end r) kind known name s number text t = StepsByRow kind known s number text t
 
--- in a file with these declarations, which is to be of the language with this name, the line leads from one state to the other
-abbrev pub Steps : (known : Declared) (name : List ℕ) (s : State) (number : ℕ) (text : List ℕ) (t : State) → Type 0
-Steps known name s number text t = StepsAt s.stage known name s number text t
+-- in a file of this kind with these declarations and this name the line leads from one state to the other
+abbrev pub Steps : (kind : FileKind) (known : Declared) (name : List ℕ) (s : State) (number : ℕ) (text : List ℕ) (t : State) → Type 0
+Steps kind known name s number text t = StepsAt s.stage kind known name s number text t
 
 -- what is bad about a line
-abbrev pub IsBad : (known : Declared) (name : List ℕ) (s : State) (text : List ℕ) → Kind → Type 0
-IsBad known name s text Head = (s.stage ≡ at_start) × (IsRow files.Language text (Language name) → ⊥)
-IsBad known name s text Directive = IsDue s.stage × (HasWord files.Language text → ⊥)
-IsBad known name s text Shape =
-    IsDue s.stage × HasWord files.Language text × ((row : Row) → IsRow files.Language text row → Fits known s.declared row → ⊥)
-IsBad known name s text Order = IsDue s.stage × (row : Row) × IsRow files.Language text row × Fits known s.declared row × (MayStand s row → ⊥)
-IsBad known name s text NoMain =
-    IsDue s.stage × (m : MainLine) × IsRow files.Language text (Main m) × MayStand s (Main m) × ((main : MainForm) → IsMainOf known m main → ⊥)
-IsBad known name s text Unfinished = ⊥
-IsBad known name s text Variable = ⊥
+abbrev pub IsBad : (kind : FileKind) (known : Declared) (name : List ℕ) (s : State) (text : List ℕ) → Kind → Type 0
+IsBad kind known name s text Head = (s.stage ≡ at_start) × (IsRow kind text (head_row kind name) → ⊥)
+IsBad kind known name s text Directive = IsDue s.stage × (HasWord kind text → ⊥)
+IsBad kind known name s text Shape =
+    IsDue s.stage × HasWord kind text × ((row : Row) → IsRow kind text row → Fits known s.declared row → ⊥)
+IsBad kind known name s text Order = IsDue s.stage × (row : Row) × IsRow kind text row × Fits known s.declared row × (MayStand s row → ⊥)
+IsBad kind known name s text NoMain =
+    IsDue s.stage × (m : MainLine) × IsRow kind text (Main m) × MayStand s (Main m) × ((main : MainForm) → IsMainOf known m main → ⊥)
+IsBad kind known name s text Unfinished = ⊥
+IsBad kind known name s text Variable = ⊥
+
+-- no plain pair and no rule has begun that is not ended
+abbrev pub IsWhole : Stage → Type 0
+IsWhole at_declarations = Unit {0}
+IsWhole at_plains = Unit {0}
+IsWhole at_rules = Unit {0}
+IsWhole _ = ⊥
+
+-- a plain pair or a rule that begins at this line is not ended
+abbrev pub IsInside : Stage → ℕ → Type 0
+IsInside (at_body b) number = b.number ≡ number
+IsInside (at_premises b) number = b.number ≡ number
+IsInside (at_conclusion b) number = b.number ≡ number
+IsInside (at_end r) number = r.number ≡ number
+IsInside _ number = ⊥

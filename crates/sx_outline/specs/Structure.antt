@@ -1,15 +1,17 @@
--- The lines of a language file with an outline, one after the other.
-use Rattle.std.specs.Prelude.{◌≡◌, ℕ, List, [], ◌∷◌, ◌++◌, None}
+-- The lines of a language file or of an extension file with an outline, one after the other.
+use Rattle.std.specs.Prelude.{◌≡◌, ℕ, List, [], ◌∷◌, ◌++◌, Option, Some, None}
 use Rattle.std.specs.List.{AllByRecursion}
 use Rattle.sx_lines.specs.Lines.{Lines, over, line}
+use Rattle.sx_directives.specs.declared.file_kind.FileKind.{FileKind}
 use Rattle.sx_directives.specs.declared.file_kind.FileKind.TheVariants as files
 use Rattle.sx_directives.specs.Rows.{IsRow}
 use Rattle.sx_directives.specs.declared.rows.MainLine.{MainLine}
+use Rattle.sx_directives.specs.declared.rows.PlainLine.{PlainLine}
 use Rattle.sx_directives.specs.declared.row.Row.{Row}
-use Rattle.sx_directives.specs.declared.row.Row.TheVariants.{Language, Sort, Prod, Var, Form, Main, Rule, End}
+use Rattle.sx_directives.specs.declared.row.Row.TheVariants.{Language, Sort, Prod, Var, Form, Main, Plain, Rule, To, End}
 use Rattle.sx_outline.specs.Declarations.{Declared, nothing, declare}
-use Rattle.sx_outline.specs.Fitting.{Fits, IsMainOf}
-use Rattle.sx_outline.specs.Stages.{Numbered, RuleData, IsBar}
+use Rattle.sx_outline.specs.Fitting.{ArePartNames, Fits, IsMainOf}
+use Rattle.sx_outline.specs.Stages.{Numbered, PlainData, RuleData, begun_plain, paired, IsBar}
 use Rattle.sx_outline.specs.Outlined.{OutlineData, declared_by}
 
 -- the lines with their numbers
@@ -27,30 +29,51 @@ IsDeclaring (Main m) = Unit {0}
 IsDeclaring _ = ⊥
 
 -- each line spells a row that declares something and fits, and after all of them this is declared
-abbrev pub AreDeclarations : (known before : Declared) → List Numbered → Declared → Type 0
-AreDeclarations known before [] all = before ≡ all
-AreDeclarations known before (l ∷ lines) all =
-    (row : Row) × IsRow files.Language l.text row × IsDeclaring row × Fits known before row × AreDeclarations known (declare before row) lines all
+abbrev pub AreDeclarations : FileKind → (known before : Declared) → List Numbered → Declared → Type 0
+AreDeclarations kind known before [] all = before ≡ all
+AreDeclarations kind known before (l ∷ lines) all =
+    (row : Row) × IsRow kind l.text row × IsDeclaring row × Fits known before row × AreDeclarations kind known (declare before row) lines all
 
--- `rule NAME`, the premises, of which none is just `---`, then `---`, the conclusion, and `end`; there is no body
-pub record AreRuleLines (lines : List Numbered) (r : RuleData) : Type 0 where
+-- `plain LABEL VAR..`, which fits, and one line after it
+pub record IsPair (kind : FileKind) (known : Declared) (first body : Numbered) (p : PlainData) : Type 0 where
+  pub row : PlainLine
+  pub spelled : IsRow kind first.text (Plain row)
+  pub fits : ArePartNames known row.label row.names.items
+  pub is : p ≡ paired (begun_plain first.number row) body
+
+-- the lines of one plain pair after the other
+abbrev pub ArePairs : FileKind → Declared → List Numbered → List PlainData → Type 0
+ArePairs kind known [] [] = Unit {0}
+ArePairs kind known (first ∷ body ∷ lines) (p ∷ plains) = IsPair kind known first body p × ArePairs kind known lines plains
+ArePairs kind known _ _ = ⊥
+
+-- the lines of a body: none, or one `to` line
+abbrev pub AreBodies : FileKind → List Numbered → Option Numbered → Type 0
+AreBodies kind [] None = Unit {0}
+AreBodies kind (l ∷ []) (Some body) = IsRow kind l.text (To body.text) × (l.number ≡ body.number)
+AreBodies kind _ _ = ⊥
+
+-- `rule NAME`, the premises, of which none is just `---`, then `---`, the conclusion, the body, if there is one, and `end`
+pub record AreRuleLines (kind : FileKind) (lines : List Numbered) (r : RuleData) : Type 0 where
   pub first : Numbered
   pub bar : Numbered
+  pub bodies : List Numbered
   pub last : Numbered
-  pub lines_are : lines ≡ first ∷ r.premises ++ bar ∷ r.conclusion ∷ last ∷ []
+  pub lines_are : lines ≡ first ∷ r.premises ++ bar ∷ r.conclusion ∷ bodies ++ last ∷ []
   pub number : first.number ≡ r.number
-  pub begins : IsRow files.Language first.text (Rule r.name)
+  pub begins : IsRow kind first.text (Rule r.name)
   pub premises : AllByRecursion (λ l. IsBar l.text → ⊥) r.premises
   pub divides : IsBar bar.text
-  pub ends : IsRow files.Language last.text End
-  pub body : r.body ≡ None
+  pub body : AreBodies kind bodies r.body
+  pub ends : IsRow kind last.text End
 
 -- the lines of one rule after the other
-abbrev pub AreRules : List Numbered → List RuleData → Type 0
-AreRules lines [] = lines ≡ []
-AreRules lines (r ∷ rules) = (front back : List Numbered) × (lines ≡ front ++ back) × AreRuleLines front r × AreRules back rules
+abbrev pub AreRules : FileKind → List Numbered → List RuleData → Type 0
+AreRules kind lines [] = lines ≡ []
+AreRules kind lines (r ∷ rules) =
+    (front back : List Numbered) × (lines ≡ front ++ back) × AreRuleLines kind front r × AreRules kind back rules
 
--- `language NAME`, the lines of the declarations, among them one main line, and the lines of the rules
+-- `language NAME`, the lines of the declarations, among them one main line, and the lines of the rules, which have no bodies
 pub record AreOutlineLines (name : List ℕ) (lines : List Numbered) (o : OutlineData) : Type 0 where
   pub first : Numbered
   pub declarations : List Numbered
@@ -58,6 +81,6 @@ pub record AreOutlineLines (name : List ℕ) (lines : List Numbered) (o : Outlin
   pub lines_are : lines ≡ first ∷ declarations ++ rules
   pub named : IsRow files.Language first.text (Language name)
   pub main_line : MainLine
-  pub declared : AreDeclarations (declared_by o main_line) nothing declarations (declared_by o main_line)
+  pub declared : AreDeclarations files.Language (declared_by o main_line) nothing declarations (declared_by o main_line)
   pub main : IsMainOf (declared_by o main_line) main_line o.main
-  pub rules_are : AreRules rules o.rules
+  pub rules_are : AreRules files.Language rules o.rules

@@ -1,4 +1,4 @@
-//! What the lines of a language file declare.
+//! What the lines of a language file or of an extension file declare.
 
 ghost use Rattle.std.specs.Prelude.{◌≡◌, OnOk};
 ghost use Rattle.sx_outline.specs.Declarations.{nothing, declare};
@@ -7,9 +7,9 @@ ghost use Rattle.sx_outline.specs.Tables.{declared_in};
 use std::alloc::Global;
 use sx_directives::{FormLine, MainLine, Row, VarLine};
 use sx_grammar::{Production, SortLine};
-use sx_term::NoMemory;
+use sx_term::{NoMemory, Text};
 
-/// Sorts, productions, stems, forms and main lines, each in the order of their lines.
+/// Sorts, productions, stems, forms and main lines, each in the order of their lines, and the names that the first lines use.
 #[derive(Drop)]
 pub(crate) struct DeclaredRows {
     pub sorts: Vec<SortLine>,
@@ -17,6 +17,7 @@ pub(crate) struct DeclaredRows {
     pub vars: Vec<VarLine>,
     pub forms: Vec<FormLine>,
     pub mains: Vec<MainLine>,
+    pub uses: Vec<Text>,
 }
 
 impl DeclaredRows {
@@ -30,6 +31,7 @@ impl DeclaredRows {
             vars: Vec::new(alloc),
             forms: Vec::new(alloc),
             mains: Vec::new(alloc),
+            uses: Vec::new(alloc),
         }
     }
 

@@ -1,8 +1,7 @@
 //! The end of the reading of a language file.
 
-ghost use Rattle.std.specs.Prelude.{◌≡◌, map};
-ghost use Rattle.sx_outline.specs.Stages.{State, rule_data};
-ghost use Rattle.sx_outline.specs.Outlined.{IsWhole};
+ghost use Rattle.std.specs.Prelude.{◌≡◌, [], map};
+ghost use Rattle.sx_outline.specs.Stages.{State, IsWhole, rule_data};
 ghost use Rattle.sx_outline.specs.Reading.{IsReader, IsMainRead, IsEndRead};
 ghost use Rattle.sx_outline.specs.View as view;
 
@@ -10,6 +9,7 @@ use crate::known::Known;
 use crate::main_form::MainForm;
 use crate::outline::Outline;
 use crate::outline_error::{OutlineError, bad_line};
+use crate::read_lines::ReadLines;
 use crate::reader::Reader;
 use crate::rule_lines::RuleLines;
 use crate::stage::Stage;
@@ -22,6 +22,7 @@ fn finish_whole(
     rules: Vec<RuleLines>,
     number: u32,
 ) -> Result<Outline, OutlineError>
+    requires { (view.known known).uses ≡ [] }
     ensures { (s : State) → IsWhole s.stage → s.declared ≡ view.known known → IsMainRead (view.known known) main s.declared.mains
         → map rule_data rules.items ≡ s.rules → IsEndRead s number result }
 {
@@ -46,6 +47,7 @@ fn finish_whole(
 
 /// What comes of a reader where no line is left. A further line would have this number.
 pub(crate) fn finish(known: Known, reader: Reader, number: u32) -> Result<Outline, OutlineError>
+    requires { (view.known known).uses ≡ [] }
     ensures { (s : State) → IsReader (view.known known) reader s → (IsWhole s.stage → s.declared ≡ view.known known) → IsEndRead s number result }
 {
     let Reader {
@@ -53,8 +55,10 @@ pub(crate) fn finish(known: Known, reader: Reader, number: u32) -> Result<Outlin
         forms: _,
         vars: _,
         main,
-        rules,
+        read,
     } = reader;
+    let ReadLines { plains, rules } = read;
+    drop(plains);
     match stage {
         Stage::Start => {
             drop(rules);
@@ -62,7 +66,15 @@ pub(crate) fn finish(known: Known, reader: Reader, number: u32) -> Result<Outlin
             Err(bad_line(number, Kind::Head))
         }
         Stage::Declarations => finish_whole(known, main, rules, number),
+        Stage::Plains => finish_whole(known, main, rules, number),
         Stage::Rules => finish_whole(known, main, rules, number),
+        Stage::Body(begun) => {
+            let first = begun.number;
+            drop(begun);
+            drop(rules);
+            drop(known);
+            Err(bad_line(first, Kind::Unfinished))
+        }
         Stage::Premises(begun) => {
             let first = begun.number;
             drop(begun);

@@ -1,13 +1,13 @@
-//! The first reading of a language file: what its lines declare.
+//! The first reading of a file: what its lines declare.
 
-ghost use Rattle.std.specs.Prelude.{◌↔◌, IsTrue, ◌+◌, ◌<◌, ◌^◌, length, IfOk, OnOk};
-ghost use Rattle.sx_lines.specs.Lines.{lines_from};
-ghost use Rattle.sx_outline.specs.Declarations.{nothing};
+ghost use Rattle.std.specs.Prelude.{◌≡◌, false, [], ◌+◌, ◌≤◌, ◌<◌, ◌^◌, length, IfOk, OnOk};
+ghost use Rattle.sx_lines.specs.Left.{left};
 ghost use Rattle.sx_outline.specs.Known.{kept_lines, Declares};
-ghost use Rattle.sx_outline.specs.Tables.{AreFew, Grows, IsRule, TakesLine, TakesRow, declared_in};
+ghost use Rattle.sx_outline.specs.Tables.{AreFew, Grows, TakesLine, TakesRow, declared_in, due_after, lines_after};
 ghost use Rattle.sx_outline.specs.View.{known};
 
 use crate::declared_rows::DeclaredRows;
+use crate::due::Due;
 use crate::kept::next_kept_line;
 use crate::known::Known;
 use crate::spelled_row::spelled_row;
@@ -16,64 +16,94 @@ use sx_directives::{FileKind, Row};
 use sx_lines::Rest;
 use sx_term::NoMemory;
 
-/// Whether the row is that of a rule.
-fn is_rule(row: &Row) -> bool
-    ensures { IsTrue result ↔ IsRule row.now }
+/// What is due after a row.
+fn due_after(row: &Row) -> Due
+    ensures { result ≡ due_after row.now }
 {
-    matches!(row, Row::Rule(_))
+    match row {
+        Row::Rule(_) => Due::Nothing,
+        Row::Plain(_) => Due::Body,
+        _ => Due::Row,
+    }
 }
 
-/// Adds what a row declares, and tells whether it ends the declarations: whether it is that of a rule.
-fn take_row(rows: &mut DeclaredRows, row: Row) -> Result<bool, NoMemory>
-    ensures taken { IfOk result (λ ends. TakesRow (declared_in rows.old) row ends (declared_in rows.new)) }
+/// Adds what a row declares, and tells what is due after it.
+fn take_row(rows: &mut DeclaredRows, row: Row) -> Result<Due, NoMemory>
+    ensures taken { IfOk result (λ due. TakesRow (declared_in rows.old) row due (declared_in rows.new)) }
     ensures grows { OnOk result (Grows (declared_in rows.old) (declared_in rows.new)) }
 {
-    if is_rule(&row) {
-        drop(row);
-        return Ok(true);
-    }
+    let due = due_after(&row);
     rows.declare(row)?;
-    Ok(false)
+    Ok(due)
 }
 
-/// Adds what a line declares, and tells whether it ends the declarations: whether it is the first line of a rule.
-fn take_line(alloc: Global, rows: &mut DeclaredRows, text: &[u8]) -> Result<bool, NoMemory>
-    ensures taken { IfOk result (λ ends. TakesLine (declared_in rows.old) text.now ends (declared_in rows.new)) }
+/// Adds what a line declares, and tells what is due after it.
+fn take_line(
+    alloc: Global,
+    kind: FileKind,
+    rows: &mut DeclaredRows,
+    text: &[u8],
+) -> Result<Due, NoMemory>
+    ensures taken { IfOk result (λ due. TakesLine kind (declared_in rows.old) text.now due (declared_in rows.new)) }
     ensures grows { OnOk result (Grows (declared_in rows.old) (declared_in rows.new)) }
 {
-    match spelled_row(alloc, FileKind::Language, text)? {
+    match spelled_row(alloc, kind, text)? {
         Some(row) => take_row(rows, row),
-        None => Ok(false),
+        None => Ok(Due::Row),
     }
 }
 
-/// What the lines of a file declare, up to the first line of a rule.
-fn read_rows(alloc: Global, bytes: &[u8]) -> Result<DeclaredRows, NoMemory>
-    requires { length bytes.now + 1 < 2 ^ 32 }
-    ensures declared { IfOk result (λ rows. Declares nothing (kept_lines (lines_from 1 bytes.now)) (declared_in rows)) }
-    ensures few { IfOk result (λ rows. AreFew (declared_in rows)) }
+/// What is left after the next kept line, if there is one.
+fn skip_line<'a>(lines: Rest<'a>) -> Rest<'a>
+    ensures skipped { kept_lines (left result) ≡ lines_after (kept_lines (left lines.entry)) }
+    ensures shorter { length result.bytes.now ≤ length lines.entry.bytes.now }
 {
-    let mut rows = DeclaredRows::new(alloc);
-    let mut left = Rest::all(bytes);
+    match next_kept_line(lines) {
+        Ok((_line, more)) => more,
+        Err(_) => lines,
+    }
+}
+
+/// What the lines of a file declare, up to the first line of a rule, after what these rows declare.
+fn read_rows(
+    alloc: Global,
+    kind: FileKind,
+    rows: DeclaredRows,
+    lines: Rest,
+) -> Result<DeclaredRows, NoMemory>
+    requires no_forms { (declared_in rows).forms ≡ [] }
+    requires no_productions { (declared_in rows).productions ≡ [] }
+    ensures declared { IfOk result (λ all. Declares kind false (declared_in rows) (kept_lines (left lines.entry)) (declared_in all)) }
+    ensures few { IfOk result (λ all. AreFew (declared_in all)) }
+{
+    let mut found = rows;
+    let mut left = lines;
     'lines: loop {
         match next_kept_line(left) {
-            Ok((line, more)) => match take_line(alloc, &mut rows, line.text) {
-                Ok(true) => return Ok(rows),
-                Ok(false) => left = more,
+            Ok((line, more)) => match take_line(alloc, kind, &mut found, line.text) {
+                Ok(Due::Nothing) => return Ok(found),
+                Ok(Due::Body) => left = skip_line(more),
+                Ok(Due::Row) => left = more,
                 Err(e) => {
-                    drop(rows);
+                    drop(found);
                     return Err(e);
                 }
             },
-            Err(_) => return Ok(rows),
+            Err(_) => return Ok(found),
         }
     }
 }
 
-/// What is known of a file: what its lines declare, up to the first line of a rule.
-pub(crate) fn read_known(alloc: Global, bytes: &[u8]) -> Result<Known, NoMemory>
-    requires { length bytes.now + 1 < 2 ^ 32 }
-    ensures { IfOk result (λ k. Declares nothing (kept_lines (lines_from 1 bytes.now)) (known k)) }
+/// What is known of a file: what its lines declare, up to the first line of a rule, after what these rows declare.
+pub(crate) fn read_known(
+    alloc: Global,
+    kind: FileKind,
+    rows: DeclaredRows,
+    lines: Rest,
+) -> Result<Known, NoMemory>
+    requires no_forms { (declared_in rows).forms ≡ [] }
+    requires no_productions { (declared_in rows).productions ≡ [] }
+    ensures { IfOk result (λ k. Declares kind false (declared_in rows) (kept_lines (left lines.entry)) (known k)) }
 {
-    Known::make(alloc, read_rows(alloc, bytes)?)
+    Known::make(alloc, read_rows(alloc, kind, rows, lines)?)
 }

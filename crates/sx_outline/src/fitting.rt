@@ -1,16 +1,17 @@
 //! Whether rows fit what a file declares.
 
-ghost use Rattle.std.specs.Prelude.{◌≡◌, ◌↔◌, IsTrue, take, Contains, option_map};
+ghost use Rattle.std.specs.Prelude.{◌≡◌, ◌↔◌, IsTrue, IfOk, take, Contains, option_map};
 ghost use Rattle.std.specs.List.{AllByRecursion};
 ghost use Rattle.sx_term.specs.Roles as roles;
 ghost use Rattle.sx_outline.specs.Declarations.{Declared};
-ghost use Rattle.sx_outline.specs.Fitting.{Fits, HasOneSubject, IsKnownSort, PlaceFits, SymbolFits, form_names, sort_named, stems};
+ghost use Rattle.sx_outline.specs.Fitting.{Fits, HasOneSubject, IsKnownSort, IsPlain, PlaceFits, SymbolFits, form_names, sort_named, stems};
 ghost use Rattle.sx_outline.specs.View.{known};
 
 use crate::known::Known;
 use crate::role_places::count_at;
+use std::alloc::Global;
 use sx_directives::{FormLine, FormSymbol, Row, SpelledSort, VarLine, lexical_kind};
-use sx_term::{Role, Text};
+use sx_term::{NoMemory, Role, Text};
 
 /// Whether the place is for a subject.
 fn is_sub(role: Role) -> bool
@@ -31,6 +32,16 @@ impl Known {
         match self.tables.sorts.place(name) {
             Some(place) => Some(self.rows.sorts[place].typed),
             None => None,
+        }
+    }
+
+    /// Whether the first sort with this name is plain.
+    pub(crate) fn is_plain(&self, name: &Text) -> bool
+        ensures { IsTrue result ↔ IsPlain (known self.now) name.now }
+    {
+        match self.typed_of(name) {
+            Some(typed) => !typed,
+            None => false,
         }
     }
 
@@ -100,14 +111,32 @@ impl Known {
         self.symbols_fit(&form.symbols) && count_at(&form.symbols, Role::Sub) <= 1
     }
 
+    /// Whether the name is none of those that are used.
+    fn use_fits(&self, name: &Text) -> bool
+        ensures { IsTrue result ↔ (Contains (known self.now).uses name.now → ⊥) }
+    {
+        match self.tables.uses.place(name) {
+            Some(_) => false,
+            None => true,
+        }
+    }
+
     /// Whether the row fits after the first forms and stems, so many of each.
-    pub(crate) fn fits(&self, forms: usize, vars: usize, row: &Row) -> bool
+    pub(crate) fn fits(
+        &self,
+        alloc: Global,
+        forms: usize,
+        vars: usize,
+        row: &Row,
+    ) -> Result<bool, NoMemory>
         ensures { (before : Declared) → before.forms ≡ take forms (known self.now).forms → before.vars ≡ take vars (known self.now).vars
-            → IsTrue result ↔ Fits (known self.now) before row.now }
+            → IfOk result (λ fits. IsTrue fits ↔ Fits (known self.now) before row.now) }
     {
         match row {
-            Row::Var(var) => self.var_fits(vars, var),
-            Row::Form(form) => self.form_fits(forms, form),
+            Row::Var(var) => Ok(self.var_fits(vars, var)),
+            Row::Form(form) => Ok(self.form_fits(forms, form)),
+            Row::Use(name) => Ok(self.use_fits(name)),
+            Row::Plain(plain) => self.plain_fits(alloc, plain),
             Row::Language(_)
             | Row::Sort(_)
             | Row::Prod(_)
@@ -116,9 +145,7 @@ impl Known {
             | Row::Bar
             | Row::End
             | Row::Extension(_)
-            | Row::Use(_)
-            | Row::Plain(_)
-            | Row::To(_) => true,
+            | Row::To(_) => Ok(true),
         }
     }
 }

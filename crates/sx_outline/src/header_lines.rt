@@ -5,7 +5,7 @@ ghost use Rattle.sx_directives.specs.Rows.{IsRow};
 ghost use Rattle.sx_directives.specs.declared.file_kind.FileKind.TheVariants as files;
 ghost use Rattle.sx_directives.specs.declared.row.Row.TheVariants as rows;
 ghost use Rattle.sx_outline.specs.Headers.{HeaderData, IsLanguageLine, IsUseLine};
-ghost use Rattle.sx_outline.specs.HeaderReading.{AreUsesFound, IsLanguageRefused, IsUseRead, using};
+ghost use Rattle.sx_outline.specs.HeaderReading.{AreUsesFound, IsExtensionRefused, IsLanguageRefused, IsUseRead, using};
 
 use crate::header_uses::HeaderUses;
 use crate::outline_error::{OutlineError, bad_line};
@@ -32,6 +32,38 @@ fn language_name(alloc: Global, text: &[u8]) -> Result<Option<Text>, NoMemory>
     match spelled_row(alloc, FileKind::Extension, text)? {
         Some(row) => Ok(language_of(row)),
         None => Ok(None),
+    }
+}
+
+/// The name of the extension, where the row states one.
+fn extension_of(row: Row) -> Option<Text>
+    ensures { MatchOption result ((name : List ℕ) → row ≡ rows.Extension name → ⊥) (λ name. row ≡ rows.Extension name) }
+{
+    match row {
+        Row::Extension(name) => Some(name),
+        _ => None,
+    }
+}
+
+/// The name of the extension that the line states.
+fn extension_name(alloc: Global, text: &[u8]) -> Result<Option<Text>, NoMemory>
+    ensures { IfOk result (λ o. MatchOption o ((name : List ℕ) → IsRow files.Extension text.now (rows.Extension name) → ⊥)
+        (λ name. IsRow files.Extension text.now (rows.Extension name))) }
+{
+    match spelled_row(alloc, FileKind::Extension, text)? {
+        Some(row) => Ok(extension_of(row)),
+        None => Ok(None),
+    }
+}
+
+/// Reads the first line, whatever the name of the extension is.
+pub(crate) fn extension_line(alloc: Global, number: u32, text: &[u8]) -> Result<Text, OutlineError>
+    ensures { MatchResult result (λ name. IsRow files.Extension text.now (rows.Extension name)) (IsExtensionRefused number text.now) }
+{
+    match extension_name(alloc, text) {
+        Ok(Some(name)) => Ok(name),
+        Ok(None) => Err(bad_line(number, Kind::Head)),
+        Err(_) => Err(OutlineError::Memory),
     }
 }
 

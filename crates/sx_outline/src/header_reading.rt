@@ -1,15 +1,15 @@
 //! Reading the first lines of an extension file.
 
-ghost use Rattle.std.specs.Prelude.{◌+◌, ◌<◌, ◌^◌, length, Ok, Err, MatchResult};
+ghost use Rattle.std.specs.Prelude.{◌+◌, ◌<◌, ◌^◌, length};
 ghost use Rattle.sx_lines.specs.Lines.{lines_from};
 ghost use Rattle.sx_lines.specs.Left.{left};
 ghost use Rattle.sx_outline.specs.Known.{kept_lines};
-ghost use Rattle.sx_outline.specs.Headers.{IsHeaderOf, IsHeaderRead, IsLanguageNext};
-ghost use Rattle.sx_outline.specs.HeaderReading.{AreUsesRead, OrLacking};
+ghost use Rattle.sx_outline.specs.Headers.{IsHeaderRead};
+ghost use Rattle.sx_outline.specs.HeaderReading.{AreUsesRead, IsAnyHeaderRead, IsLanguageRead, IsNamedHeaderRead};
 
 use crate::extension_header::ExtensionHeader;
 use crate::head::first_line;
-use crate::header_lines::{language_line, use_line};
+use crate::header_lines::{extension_line, language_line, use_line};
 use crate::header_uses::HeaderUses;
 use crate::kept::next_kept_line;
 use crate::outline_error::{OutlineError, bad_line};
@@ -18,9 +18,9 @@ use sx_directives::FileKind;
 use sx_lines::{Kind, Rest};
 use sx_term::Text;
 
-/// The names that the next lines use, up to the first line of another word.
-fn read_uses(alloc: Global, rest: Rest) -> Result<Vec<Text>, OutlineError>
-    ensures { MatchResult result (λ names. AreUsesRead (kept_lines (left rest.entry)) (Ok names.items)) (λ e. AreUsesRead (kept_lines (left rest.entry)) (Err e)) }
+/// The names that the next lines use, and what is left from the first line of another word on.
+fn read_uses<'a>(alloc: Global, rest: Rest<'a>) -> Result<(Vec<Text>, Rest<'a>), OutlineError>
+    ensures { AreUsesRead (kept_lines (left rest.entry)) result }
 {
     let mut uses = HeaderUses::new(alloc);
     let mut left = rest;
@@ -28,30 +28,37 @@ fn read_uses(alloc: Global, rest: Rest) -> Result<Vec<Text>, OutlineError>
         match next_kept_line(left) {
             Ok((line, more)) => match use_line(alloc, &mut uses, line.number, line.text) {
                 Ok(true) => left = more,
-                Ok(false) => return Ok(uses.into_names()),
+                Ok(false) => return Ok((uses.into_names(), left)),
                 Err(e) => {
                     drop(uses);
                     return Err(e);
                 }
             },
-            Err(_) => return Ok(uses.into_names()),
+            Err(_) => return Ok((uses.into_names(), left)),
         }
     }
 }
 
-/// The header that the lines after the first state.
-fn read_language(alloc: Global, name: &Text, lines: Rest) -> Result<ExtensionHeader, OutlineError>
-    ensures { OrLacking (IsLanguageNext name.now (kept_lines (left lines.entry))) result }
+/// The header with this name whose other lines are the first of these, and what is left after it.
+fn read_language<'a>(
+    alloc: Global,
+    name: Text,
+    lines: Rest<'a>,
+) -> Result<(ExtensionHeader, Rest<'a>), OutlineError>
+    ensures { IsLanguageRead name (kept_lines (left lines.entry)) result }
 {
     match next_kept_line(lines) {
         Ok((line, more)) => {
             let language = language_line(alloc, line.number, line.text)?;
             match read_uses(alloc, more) {
-                Ok(uses) => Ok(ExtensionHeader {
-                    name: name.copy(alloc)?,
-                    language,
-                    uses,
-                }),
+                Ok((uses, left)) => Ok((
+                    ExtensionHeader {
+                        name,
+                        language,
+                        uses,
+                    },
+                    left,
+                )),
                 Err(e) => {
                     drop(language);
                     Err(e)
@@ -62,14 +69,33 @@ fn read_language(alloc: Global, name: &Text, lines: Rest) -> Result<ExtensionHea
     }
 }
 
-/// The header that the lines state.
-fn read_lines(alloc: Global, name: &Text, bytes: &[u8]) -> Result<ExtensionHeader, OutlineError>
-    requires { length bytes.now + 1 < 2 ^ 32 }
-    ensures { OrLacking (IsHeaderOf name.now (kept_lines (lines_from 1 bytes.now))) result }
+/// The header that the lines of the extension with this name state, and what is left after it.
+fn read_named<'a>(
+    alloc: Global,
+    name: &Text,
+    lines: Rest<'a>,
+) -> Result<(ExtensionHeader, Rest<'a>), OutlineError>
+    ensures { IsNamedHeaderRead name.now (kept_lines (left lines.entry)) result }
 {
-    match next_kept_line(Rest::all(bytes)) {
+    match next_kept_line(lines) {
         Ok((line, more)) => {
             first_line(alloc, FileKind::Extension, name, line.number, line.text)?;
+            read_language(alloc, name.copy(alloc)?, more)
+        }
+        Err(none) => Err(bad_line(none.number, Kind::Head)),
+    }
+}
+
+/// The header that the lines of an extension with whatever name state, and what is left after it.
+pub(crate) fn read_header<'a>(
+    alloc: Global,
+    lines: Rest<'a>,
+) -> Result<(ExtensionHeader, Rest<'a>), OutlineError>
+    ensures { IsAnyHeaderRead (kept_lines (left lines.entry)) result }
+{
+    match next_kept_line(lines) {
+        Ok((line, more)) => {
+            let name = extension_line(alloc, line.number, line.text)?;
             read_language(alloc, name, more)
         }
         Err(none) => Err(bad_line(none.number, Kind::Head)),
@@ -90,7 +116,10 @@ pub fn read_extension_header(
     ensures { IsHeaderRead name.now bytes.now result }
 {
     match std::str::from_utf8(bytes) {
-        Ok(_) => read_lines(alloc, name, bytes),
+        Ok(_) => match read_named(alloc, name, Rest::all(bytes)) {
+            Ok((header, _left)) => Ok(header),
+            Err(e) => Err(e),
+        },
         Err(e) => Err(OutlineError::NotUtf8(e.valid_up_to())),
     }
 }

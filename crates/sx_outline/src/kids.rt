@@ -2,9 +2,10 @@
 
 ghost use Rattle.std.specs.Prelude.{◌≡◌, ◌↔◌, IsTrue, List, [], ◌∷◌, MatchOption};
 ghost use Rattle.sx_term.specs.declared.lex_kind.LexKind.TheVariants as kinds;
-ghost use Rattle.sx_outline.specs.Fitting.{Kid, kid_of, kids_of, of_kind, of_sort};
+ghost use Rattle.sx_outline.specs.Fitting.{Kid, kid_of, kid_sort, kids_of, of_kind, of_sort};
 ghost use Rattle.sx_outline.specs.MainSorts.{IsKid};
 
+use sx_directives::lexical_kind;
 use sx_grammar::Symbol;
 use sx_term::{LexKind, Text};
 
@@ -19,7 +20,7 @@ fn is_literal(symbol: &Symbol) -> bool
 }
 
 /// The first part, and the symbols after it.
-fn next_kid(symbols: &[Symbol]) -> Option<(&Symbol, &[Symbol])>
+pub(crate) fn next_kid(symbols: &[Symbol]) -> Option<(&Symbol, &[Symbol])>
     ensures { MatchOption result (kids_of symbols.now ≡ []) (λ x. (kid : Kid) × IsKid x.0.now kid × (kids_of symbols.now ≡ kid ∷ kids_of x.1.now)) }
 {
     for i in 0..symbols.len() {
@@ -44,6 +45,20 @@ fn is_of_sort(symbol: &Symbol, sort: &Text) -> bool
 {
     match symbol {
         Symbol::Lit(_) | Symbol::Lex(_) => false,
+        Symbol::Part {
+            sort: named,
+            least: _,
+        } => named.same(sort),
+    }
+}
+
+/// Whether the symbol is a part whose sort has this name.
+pub(crate) fn is_sort_of(symbol: &Symbol, sort: &Text) -> bool
+    ensures { (kid : Kid) → IsKid symbol.now kid → IsTrue result ↔ (sort.now ≡ kid_sort kid) }
+{
+    match symbol {
+        Symbol::Lit(_) => false,
+        Symbol::Lex(kind) => lexical_kind(sort.bytes()) == Some(*kind),
         Symbol::Part {
             sort: named,
             least: _,

@@ -1,4 +1,4 @@
-//! What is known of a language file before its lines are judged.
+//! What is known of a file before its lines are judged.
 
 ghost use Rattle.std.specs.Prelude.{◌≡◌, map, IfOk};
 ghost use Rattle.sx_grammar.specs.Parts.{parts};
@@ -50,8 +50,10 @@ impl Known {
             vars,
             forms,
             mains,
+            uses,
         } = rows;
         drop(mains);
+        drop(uses);
         (GrammarParts { sorts, productions }, vars, forms)
     }
 }

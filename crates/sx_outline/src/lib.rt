@@ -2,6 +2,7 @@
 #![tactic(auto)]
 
 mod declared_rows;
+mod due;
 mod extension_header;
 mod finish;
 mod first_pass;
@@ -19,14 +20,19 @@ mod main_form;
 mod next_line;
 mod outline;
 mod outline_error;
+mod part_names;
 mod places;
+mod plain_lines;
 mod read;
+mod read_lines;
 mod reader;
+mod reading;
 mod role_places;
 mod row_taking;
 mod rule_lines;
 mod spelled_row;
 mod stage;
+mod stems;
 mod tables;
 
 pub use extension_header::ExtensionHeader;
@@ -37,5 +43,6 @@ pub use laws::{
 pub use main_form::MainForm;
 pub use outline::Outline;
 pub use outline_error::OutlineError;
+pub use plain_lines::PlainLines;
 pub use read::read_outline;
 pub use rule_lines::{RuleLine, RuleLines};

@@ -4,7 +4,7 @@ ghost use Rattle.std.specs.Prelude.{◌↔◌, IsTrue, ℕ, List, [], ◌∷◌,
 ghost use Rattle.sx_term.specs.declared.lex_kind.LexKind.TheVariants as kinds;
 ghost use Rattle.sx_outline.specs.declared.main_form.MainForm.{MainForm as MainFormOf};
 ghost use Rattle.sx_outline.specs.Fitting.{IsConstructor, IsMainOf, Kid, of_kind, of_sort};
-ghost use Rattle.sx_outline.specs.MainSorts.{AreConstructors, AreMainSorts, IsOneName, IsPlain};
+ghost use Rattle.sx_outline.specs.MainSorts.{AreConstructors, AreMainSorts, IsOneName};
 ghost use Rattle.sx_outline.specs.View.{known};
 
 use crate::kids::{are_add_kids, has_no_kid};
@@ -41,16 +41,6 @@ fn main_sorts(symbols: &[FormSymbol]) -> Option<(&Text, &Text)>
 }
 
 impl Known {
-    /// Whether the sort with this name is plain.
-    fn is_plain(&self, name: &Text) -> bool
-        ensures { IsTrue result ↔ IsPlain (known self.now) name.now }
-    {
-        match self.typed_of(name) {
-            Some(typed) => !typed,
-            None => false,
-        }
-    }
-
     /// The number of the production with this label, where it has this sort.
     fn constructor(&self, label: &Text, sort: &Text) -> Option<usize>
         ensures { MatchOption result ((number : ℕ) (kids : List Kid) → IsConstructor (known self.now) label.now number sort.now kids → ⊥)

@@ -1,23 +1,24 @@
-//! Reading the next line of a language file.
+//! Reading the next line of a language file or of an extension file.
 
 ghost use Rattle.std.specs.Prelude.{◌≡◌, ◌↔◌, List, ℕ, IsTrue, IfOk};
 ghost use Rattle.std.specs.Str.{IsUtf8};
 ghost use Rattle.sx_directives.specs.declared.row.Row.TheVariants as rows;
 ghost use Rattle.sx_outline.specs.Declarations.{Declared};
-ghost use Rattle.sx_outline.specs.Stages.{IsDue, IsBar, at_end, at_premises, concluded, numbered, with_premise};
-ghost use Rattle.sx_outline.specs.Reading.{IsCounted, GrowsByOne, IsLineRead, AddsPremise, begun as begun_of, stage as stage_of};
+ghost use Rattle.sx_outline.specs.Stages.{IsDue, IsBar, at_end, at_premises, concluded, numbered, paired, plain_data, with_premise};
+ghost use Rattle.sx_outline.specs.Reading.{IsCounted, GrowsByOne, IsLineRead, AddsPremise, begun as begun_of, plain_begun, stage as stage_of};
 ghost use Rattle.sx_outline.specs.View as view;
 
 use crate::head::first_line;
 use crate::known::Known;
 use crate::outline_error::{OutlineError, bad_line};
+use crate::plain_lines::PlainLines;
 use crate::reader::Reader;
 use crate::rule_lines::{RuleLine, RuleLines};
 use crate::spelled_row::spelled_row;
-use crate::stage::{Begun, Stage};
+use crate::stage::{Begun, BegunPlain, Stage};
 use std::alloc::Global;
 use sx_directives::{FileKind, Row, RowError, read_row};
-use sx_lines::Kind;
+use sx_lines::{Kind, Line};
 use sx_term::{NoMemory, Text, TextError};
 
 /// Whether a row is due.
@@ -27,6 +28,8 @@ fn is_due(stage: &Stage) -> bool
     match stage {
         Stage::Start => false,
         Stage::Declarations => true,
+        Stage::Body(_) => false,
+        Stage::Plains => true,
         Stage::Rules => true,
         Stage::Premises(_) => false,
         Stage::Conclusion(_) => false,
@@ -133,35 +136,71 @@ fn conclusion_line(alloc: Global, begun: Begun, number: u32, text: &[u8]) -> Res
     }
 }
 
+/// Reads the body of a plain pair.
+fn body_line(
+    alloc: Global,
+    begun: BegunPlain,
+    number: u32,
+    text: &[u8],
+) -> Result<PlainLines, NoMemory>
+    requires { IsUtf8 text.now }
+    ensures { IfOk result (λ p. plain_data p ≡ paired (plain_begun begun) (record { number = number; text = text.now })) }
+{
+    match rule_line(alloc, number, text) {
+        Ok(body) => {
+            let BegunPlain {
+                number: first,
+                label,
+                names,
+            } = begun;
+            Ok(PlainLines {
+                number: first,
+                label,
+                names,
+                body,
+            })
+        }
+        Err(e) => {
+            drop(begun);
+            Err(e)
+        }
+    }
+}
+
 /// Reads a line where a row is due.
 fn row_line(
     alloc: Global,
+    kind: FileKind,
     known: &Known,
     reader: Reader,
-    number: u32,
-    text: &[u8],
+    line: Line,
 ) -> Result<Reader, OutlineError>
     requires due { IsDue (stage_of reader.stage) }
     requires counted { IsCounted reader }
-    ensures read { (name : List ℕ) → IsLineRead (view.known known.now) name reader number text.now result }
+    ensures read { (name : List ℕ) → IsLineRead kind (view.known known.now) name reader line.entry.number line.entry.text.now result }
     ensures grows { IfOk result (GrowsByOne reader) }
 {
-    match read_row(alloc, FileKind::Language, text) {
-        Ok(Some(row)) => {
-            if !known.fits(reader.forms, reader.vars, &row) {
+    match read_row(alloc, kind, line.text) {
+        Ok(Some(row)) => match known.fits(alloc, reader.forms, reader.vars, &row) {
+            Ok(true) => reader.take_row(alloc, known, line.number, row),
+            Ok(false) => {
                 drop(row);
                 drop(reader);
-                return Err(bad_line(number, Kind::Shape));
+                Err(bad_line(line.number, Kind::Shape))
             }
-            reader.take_row(alloc, known, number, row)
-        }
+            Err(_) => {
+                drop(row);
+                drop(reader);
+                Err(OutlineError::Memory)
+            }
+        },
         Ok(None) => {
             drop(reader);
-            Err(bad_line(number, Kind::Directive))
+            Err(bad_line(line.number, Kind::Directive))
         }
         Err(RowError::Shape) => {
             drop(reader);
-            Err(bad_line(number, Kind::Shape))
+            Err(bad_line(line.number, Kind::Shape))
         }
         Err(RowError::Memory) => {
             drop(reader);
@@ -173,14 +212,14 @@ fn row_line(
 /// Reads a line where no row is due.
 fn other_line(
     alloc: Global,
+    kind: FileKind,
     name: &Text,
     reader: Reader,
-    number: u32,
-    text: &[u8],
+    line: Line,
 ) -> Result<Reader, OutlineError>
     requires other { IsDue (stage_of reader.stage) → ⊥ }
-    requires utf8 { IsUtf8 text.now }
-    ensures read { (known : Declared) → IsLineRead known name.now reader number text.now result }
+    requires utf8 { IsUtf8 line.text.now }
+    ensures read { (known : Declared) → IsLineRead kind known name.now reader line.entry.number line.entry.text.now result }
     ensures grows { IfOk result (GrowsByOne reader) }
 {
     let Reader {
@@ -188,27 +227,40 @@ fn other_line(
         forms,
         vars,
         main,
-        rules,
+        mut read,
     } = reader;
     let stage = match stage {
-        Stage::Start => match first_line(alloc, FileKind::Language, name, number, text) {
+        Stage::Start => match first_line(alloc, kind, name, line.number, line.text) {
             Ok(()) => Stage::Declarations,
             Err(e) => {
-                drop(rules);
+                drop(read);
                 return Err(e);
             }
         },
-        Stage::Premises(begun) => match premise_line(alloc, begun, number, text) {
-            Ok(next) => next,
+        Stage::Body(begun) => match body_line(alloc, begun, line.number, line.text) {
+            Ok(plain) => match read.add_plain(plain) {
+                Ok(()) => Stage::Plains,
+                Err(_) => {
+                    drop(read);
+                    return Err(OutlineError::Memory);
+                }
+            },
             Err(_) => {
-                drop(rules);
+                drop(read);
                 return Err(OutlineError::Memory);
             }
         },
-        Stage::Conclusion(begun) => match conclusion_line(alloc, begun, number, text) {
+        Stage::Premises(begun) => match premise_line(alloc, begun, line.number, line.text) {
             Ok(next) => next,
             Err(_) => {
-                drop(rules);
+                drop(read);
+                return Err(OutlineError::Memory);
+            }
+        },
+        Stage::Conclusion(begun) => match conclusion_line(alloc, begun, line.number, line.text) {
+            Ok(next) => next,
+            Err(_) => {
+                drop(read);
                 return Err(OutlineError::Memory);
             }
         },
@@ -219,26 +271,26 @@ fn other_line(
         forms,
         vars,
         main,
-        rules,
+        read,
     })
 }
 
-/// Reads the next line, which has this number and this text.
+/// Reads the next line.
 pub(crate) fn read_next(
     alloc: Global,
+    kind: FileKind,
     known: &Known,
     name: &Text,
     reader: Reader,
-    number: u32,
-    text: &[u8],
+    line: Line,
 ) -> Result<Reader, OutlineError>
     requires counted { IsCounted reader }
-    requires utf8 { IsUtf8 text.now }
-    ensures read { IsLineRead (view.known known.now) name.now reader number text.now result }
+    requires utf8 { IsUtf8 line.text.now }
+    ensures read { IsLineRead kind (view.known known.now) name.now reader line.entry.number line.entry.text.now result }
     ensures grows { IfOk result (GrowsByOne reader) }
 {
     if is_due(&reader.stage) {
-        return row_line(alloc, known, reader, number, text);
+        return row_line(alloc, kind, known, reader, line);
     }
-    other_line(alloc, name, reader, number, text)
+    other_line(alloc, kind, name, reader, line)
 }

@@ -24,11 +24,18 @@ impl Places {
         }
     }
 
+    /// The first place of the name with these characters.
+    pub(crate) fn place_of(&self, name: &str) -> Option<usize>
+        ensures { result ≡ get_by_text self.now.entries name.now }
+    {
+        self.entries.get(name).copied()
+    }
+
     /// The first place of the name.
     pub(crate) fn place(&self, name: &Text) -> Option<usize>
         ensures { result ≡ get_by_text self.now.entries name.now }
     {
-        self.entries.get(name.as_str()).copied()
+        self.place_of(name.as_str())
     }
 
     /// Whether the name stands among the first of the names, so many.

@@ -1,63 +1,54 @@
 //! Reading the outline of a language file.
 
-ghost use Rattle.std.specs.Prelude.{◌+◌, ◌<◌, ◌^◌, length, IfOk};
+ghost use Rattle.std.specs.Prelude.{false, ◌+◌, ◌<◌, ◌^◌, length, IfOk};
 ghost use Rattle.std.specs.Str.{IsUtf8};
 ghost use Rattle.sx_lines.specs.Lines.{lines_from};
+ghost use Rattle.sx_directives.specs.declared.file_kind.FileKind.TheVariants as files;
 ghost use Rattle.sx_outline.specs.Declarations.{nothing};
 ghost use Rattle.sx_outline.specs.Known.{kept_lines, Declares};
 ghost use Rattle.sx_outline.specs.Outlined.{outline as outline_of, IsOutlined};
-ghost use Rattle.sx_outline.specs.Reading.{AreLinesRead};
+ghost use Rattle.sx_outline.specs.Reading.{IsOutlineRead};
 ghost use Rattle.sx_outline.specs.Sized.{IsSized, IsFit};
 ghost use Rattle.sx_outline.specs.View as view;
 
+use crate::declared_rows::DeclaredRows;
 use crate::finish::finish;
 use crate::first_pass::read_known;
-use crate::kept::next_kept_line;
 use crate::known::Known;
-use crate::next_line::read_next;
 use crate::outline::Outline;
 use crate::outline_error::OutlineError;
 use crate::reader::Reader;
-use crate::stage::Stage;
+use crate::reading::read_lines;
 use std::alloc::Global;
+use sx_directives::FileKind;
 use sx_lines::Rest;
 use sx_term::Text;
 
-/// What the lines of a file state of which so much is known.
-fn read_lines(
+/// What the lines of a language file state of which so much is known.
+fn read_language(
     alloc: Global,
     known: Known,
     name: &Text,
     bytes: &[u8],
 ) -> Result<Outline, OutlineError>
-    requires declares { Declares nothing (kept_lines (lines_from 1 bytes.now)) (view.known known) }
+    requires declares { Declares files.Language false nothing (kept_lines (lines_from 1 bytes.now)) (view.known known) }
     requires utf8 { IsUtf8 bytes.now }
     requires small { length bytes.now + 1 < 2 ^ 32 }
-    ensures { AreLinesRead (view.known known) name.now (kept_lines (lines_from 1 bytes.now)) result }
+    ensures { IsOutlineRead (view.known known) name.now (kept_lines (lines_from 1 bytes.now)) result }
 {
-    let mut reader = Reader {
-        stage: Stage::Start,
-        forms: 0,
-        vars: 0,
-        main: None,
-        rules: Vec::new(alloc),
-    };
-    let mut left = Rest::all(bytes);
-    'lines: loop {
-        match next_kept_line(left) {
-            Ok((line, more)) => {
-                match read_next(alloc, &known, name, reader, line.number, line.text) {
-                    Ok(next) => {
-                        reader = next;
-                        left = more;
-                    }
-                    Err(e) => {
-                        drop(known);
-                        return Err(e);
-                    }
-                }
-            }
-            Err(none) => return finish(known, reader, none.number),
+    let reader = Reader::new(alloc);
+    match read_lines(
+        alloc,
+        FileKind::Language,
+        &known,
+        name,
+        reader,
+        Rest::all(bytes),
+    ) {
+        Ok((reader, number)) => finish(known, reader, number),
+        Err(e) => {
+            drop(known);
+            Err(e)
         }
     }
 }
@@ -73,8 +64,9 @@ pub fn read_outline(alloc: Global, name: &Text, bytes: &[u8]) -> Result<Outline,
 {
     match std::str::from_utf8(bytes) {
         Ok(_) => {
-            let known = read_known(alloc, bytes)?;
-            read_lines(alloc, known, name, bytes)
+            let rows = DeclaredRows::new(alloc);
+            let known = read_known(alloc, FileKind::Language, rows, Rest::all(bytes))?;
+            read_language(alloc, known, name, bytes)
         }
         Err(e) => Err(OutlineError::NotUtf8(e.valid_up_to())),
     }

@@ -1,4 +1,4 @@
-//! Taking the rows of a language file.
+//! Taking the rows of a language file or of an extension file.
 
 ghost use Rattle.std.specs.Prelude.{◌≡◌, ◌≤◌, IfOk};
 ghost use Rattle.sx_directives.specs.declared.row.Row.{Row as RowOf};
@@ -6,16 +6,16 @@ ghost use Rattle.sx_directives.specs.declared.row.Row.TheVariants as rows;
 ghost use Rattle.sx_lines.specs.declared.kind.Kind.TheVariants as kinds;
 ghost use Rattle.sx_outline.specs.declared.outline_error.OutlineError.TheVariants as errors;
 ghost use Rattle.sx_outline.specs.Declarations.{Declared};
-ghost use Rattle.sx_outline.specs.Reading.{IsBodyTaken, IsCounted, GrowsByOne, IsDeclaration, IsRowTaken, stage as stage_of};
+ghost use Rattle.sx_outline.specs.Reading.{IsBodyTaken, IsPlainBegun, IsCounted, GrowsByOne, IsDeclaration, IsRowTaken, stage as stage_of};
 ghost use Rattle.sx_outline.specs.View as view;
 
 use crate::known::Known;
 use crate::outline_error::{OutlineError, bad_line};
 use crate::reader::Reader;
 use crate::rule_lines::{RuleLine, RuleLines};
-use crate::stage::{Begun, Stage};
+use crate::stage::{Begun, BegunPlain, Stage};
 use std::alloc::Global;
-use sx_directives::{MainLine, Row};
+use sx_directives::{MainLine, PlainLine, Row};
 use sx_lines::Kind;
 use sx_term::Text;
 
@@ -54,6 +54,27 @@ fn with_body(stage: Stage, number: u32, body: Text) -> Option<Stage>
     }
 }
 
+/// The stage after the first line of a plain pair, where one may begin.
+fn with_plain(stage: Stage, number: u32, plain: PlainLine) -> Option<Stage>
+    ensures { IsPlainBegun (stage_of stage) number plain result }
+{
+    let PlainLine { label, names } = plain;
+    let begun = BegunPlain {
+        number,
+        label,
+        names,
+    };
+    match stage {
+        Stage::Declarations => Some(Stage::Body(begun)),
+        Stage::Plains => Some(Stage::Body(begun)),
+        _ => {
+            drop(begun);
+            drop(stage);
+            None
+        }
+    }
+}
+
 impl Reader {
     /// Takes a row that declares so many forms and stems.
     fn take_declaration(
@@ -72,7 +93,7 @@ impl Reader {
             forms,
             vars,
             main,
-            rules,
+            read,
         } = self;
         match stage {
             Stage::Declarations => Ok(Reader {
@@ -80,10 +101,10 @@ impl Reader {
                 forms: forms + more_forms,
                 vars: vars + more_vars,
                 main,
-                rules,
+                read,
             }),
             _ => {
-                drop(rules);
+                drop(read);
                 drop(stage);
                 Err(out_of_order(number))
             }
@@ -100,14 +121,14 @@ impl Reader {
             forms,
             vars,
             main,
-            rules,
+            read,
         } = self;
         let found = known.main_of(&line);
         drop(line);
         match stage {
             Stage::Declarations => match main {
                 Some(_) => {
-                    drop(rules);
+                    drop(read);
                     Err(out_of_order(number))
                 }
                 None => match found {
@@ -116,16 +137,16 @@ impl Reader {
                         forms,
                         vars,
                         main: Some(main),
-                        rules,
+                        read,
                     }),
                     None => {
-                        drop(rules);
+                        drop(read);
                         Err(bad_line(number, Kind::Main))
                     }
                 },
             },
             _ => {
-                drop(rules);
+                drop(read);
                 drop(stage);
                 Err(out_of_order(number))
             }
@@ -142,7 +163,7 @@ impl Reader {
             forms,
             vars,
             main,
-            rules,
+            read,
         } = self;
         let begun = Begun {
             number,
@@ -155,19 +176,53 @@ impl Reader {
                 forms,
                 vars,
                 main,
-                rules,
+                read,
+            }),
+            Stage::Plains => Ok(Reader {
+                stage: Stage::Premises(begun),
+                forms,
+                vars,
+                main,
+                read,
             }),
             Stage::Rules => Ok(Reader {
                 stage: Stage::Premises(begun),
                 forms,
                 vars,
                 main,
-                rules,
+                read,
             }),
             _ => {
                 drop(begun);
-                drop(rules);
+                drop(read);
                 drop(stage);
+                Err(out_of_order(number))
+            }
+        }
+    }
+
+    /// Takes the first line of a plain pair.
+    fn take_plain(self, number: u32, plain: PlainLine) -> Result<Reader, OutlineError>
+        ensures taken { (known : Declared) → IsRowTaken known self number (rows.Plain plain) result }
+        ensures grows { IfOk result (GrowsByOne self) }
+    {
+        let Reader {
+            stage,
+            forms,
+            vars,
+            main,
+            read,
+        } = self;
+        match with_plain(stage, number, plain) {
+            Some(stage) => Ok(Reader {
+                stage,
+                forms,
+                vars,
+                main,
+                read,
+            }),
+            None => {
+                drop(read);
                 Err(out_of_order(number))
             }
         }
@@ -183,24 +238,24 @@ impl Reader {
             forms,
             vars,
             main,
-            mut rules,
+            mut read,
         } = self;
         match stage {
-            Stage::End(rule) => match rules.push(rule) {
+            Stage::End(rule) => match read.add_rule(rule) {
                 Ok(()) => Ok(Reader {
                     stage: Stage::Rules,
                     forms,
                     vars,
                     main,
-                    rules,
+                    read,
                 }),
                 Err(_) => {
-                    drop(rules);
+                    drop(read);
                     Err(OutlineError::Memory)
                 }
             },
             _ => {
-                drop(rules);
+                drop(read);
                 drop(stage);
                 Err(out_of_order(number))
             }
@@ -217,7 +272,7 @@ impl Reader {
             forms,
             vars,
             main,
-            rules,
+            read,
         } = self;
         match with_body(stage, number, body) {
             Some(stage) => Ok(Reader {
@@ -225,10 +280,10 @@ impl Reader {
                 forms,
                 vars,
                 main,
-                rules,
+                read,
             }),
             None => {
-                drop(rules);
+                drop(read);
                 Err(out_of_order(number))
             }
         }
@@ -285,11 +340,7 @@ impl Reader {
                 drop(self);
                 Err(out_of_order(number))
             }
-            Row::Plain(plain) => {
-                drop(plain);
-                drop(self);
-                Err(out_of_order(number))
-            }
+            Row::Plain(plain) => self.take_plain(number, plain),
             Row::To(body) => self.take_body(number, body),
         }
     }

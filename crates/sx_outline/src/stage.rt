@@ -1,4 +1,4 @@
-//! Where the reading of a language file stands.
+//! Where the reading of a language file or of an extension file stands.
 
 use crate::rule_lines::{RuleLine, RuleLines};
 use sx_term::Text;
@@ -12,6 +12,15 @@ pub(crate) struct Begun {
     pub premises: Vec<RuleLine>,
 }
 
+/// A plain pair that has begun.
+#[derive(Drop)]
+pub(crate) struct BegunPlain {
+    /// The number of its first line.
+    pub number: u32,
+    pub label: Text,
+    pub names: Vec<Text>,
+}
+
 /// Where the reading stands.
 #[derive(Drop)]
 pub(crate) enum Stage {
@@ -19,6 +28,10 @@ pub(crate) enum Stage {
     Start,
     /// among the declarations
     Declarations,
+    /// after the first line of a plain pair
+    Body(BegunPlain),
+    /// between plain pairs
+    Plains,
     /// between rules
     Rules,
     /// among the premises of a rule

@@ -1,4 +1,4 @@
-//! The tables of the names that a file declares.
+//! The tables of the names that a file declares and uses.
 
 ghost use Rattle.std.specs.Prelude.{map, IfOk};
 ghost use Rattle.sx_grammar.specs.Parts.{line};
@@ -10,15 +10,16 @@ use crate::places::Places;
 use std::alloc::Global;
 use sx_directives::{FormLine, VarLine};
 use sx_grammar::{Production, SortLine};
-use sx_term::NoMemory;
+use sx_term::{NoMemory, Text};
 
-/// The first places of the names of sorts, of labels, of stems and of the names of forms.
+/// The first places of the names of sorts, of labels, of stems, of the names of forms and of the names that are used.
 #[derive(Drop)]
 pub(crate) struct Tables {
     pub sorts: Places,
     pub labels: Places,
     pub stems: Places,
     pub forms: Places,
+    pub uses: Places,
 }
 
 /// The places of the names of sorts.
@@ -69,6 +70,18 @@ fn form_places(alloc: Global, forms: &[FormLine]) -> Result<Places, NoMemory>
     Ok(places)
 }
 
+/// The places of the names that are used.
+fn use_places(alloc: Global, uses: &[Text]) -> Result<Places, NoMemory>
+    ensures { IfOk result (ArePlaces uses.now) }
+{
+    let mut places = Places::new(alloc);
+    for i in 0..uses.len() {
+        let name = &uses[i];
+        places.push(alloc, name, i)?;
+    }
+    Ok(places)
+}
+
 impl Tables {
     /// The tables of what the rows declare.
     pub(crate) fn make(alloc: Global, rows: &DeclaredRows) -> Result<Tables, NoMemory>
@@ -79,6 +92,7 @@ impl Tables {
             labels: label_places(alloc, &rows.productions)?,
             stems: stem_places(alloc, &rows.vars)?,
             forms: form_places(alloc, &rows.forms)?,
+            uses: use_places(alloc, &rows.uses)?,
         })
     }
 }

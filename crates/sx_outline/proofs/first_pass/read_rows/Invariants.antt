@@ -1,13 +1,13 @@
 use Rattle.std.proofs.Common.{length}
 use Rattle.sx_lines.specs.Left.{left}
-use Rattle.sx_lines.specs.Lines.{lines_from}
 use Rattle.sx_outline.specs.Known.{kept_lines}
 use Rattle.sx_outline.specs.Tables.{declared_in}
 use Rattle.sx_outline.proofs.PassLaws.{Standing}
 use Rattle.sx_outline.proofs.first_pass.read_rows.Given as goal
 
 abbrev pub invariant-lines : goal.invariant-lines
-invariant-lines l = Standing (kept_lines (lines_from 1 l.bytes)) (length l.bytes) (declared_in l.rows) (kept_lines (left l.left)) (length l.left.bytes.now)
+invariant-lines l =
+    Standing l.kind (declared_in l.fn.rows) (kept_lines (left l.fn.lines)) (length l.fn.lines.bytes.now) (declared_in l.found) (kept_lines (left l.left)) (length l.left.bytes.now)
 
 abbrev pub decreases-lines : goal.decreases-lines
 decreases-lines l = length l.left.bytes.now

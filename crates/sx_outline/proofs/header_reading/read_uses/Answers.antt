@@ -1,10 +1,10 @@
-use Rattle.std.proofs.Common.{List, ℕ, sym, subst}
-use Rattle.std.specs.Prelude.{Ok}
 use Rattle.sx_lines.specs.Left.{left}
 use Rattle.sx_outline.specs.Known.{kept_lines}
-use Rattle.sx_outline.specs.HeaderReading.{AreUsesRead}
-use Rattle.sx_outline.proofs.HeaderLaws.{using_more, using_ends, using_refused}
+use Rattle.sx_outline.proofs.HeaderLaws.{using_begin, using_over, using_more, using_ends, using_refused}
 use Rattle.sx_outline.proofs.header_reading.read_uses.Goals as goal
+
+pub lines-init : goal.lines-init
+lines-init c = (c.new-uses.ensures.found, using_begin (kept_lines (left c.args.rest)) c.new-uses.result.names.items c.new-uses.ensures.none)
 
 pub lines-preserved : goal.lines-preserved
 lines-preserved c = (
@@ -15,11 +15,14 @@ lines-preserved c = (
 
 pub returns-in-Ok-false : goal.returns-in-Ok-false
 returns-in-Ok-false c =
-    subst (λ (x : List (List ℕ)). AreUsesRead (kept_lines (left c.args.rest)) (Ok x)) (sym c.into_names.ensures)
-    (using_ends (kept_lines (left c.args.rest)) (kept_lines (left c.lines.left)) (kept_lines (left c.in-Ok.more)) c.lines.uses.names.items c.use_line.new.uses.names.items
-    c.in-Ok.line.number c.in-Ok.line.text.now c.in-Ok.more.bytes.now c.in-Ok-false.field-0 c.lines.invariant.1 c.in-Ok.ensures.first c.in-Ok-false.ensures.read c.in-Ok-false.field-0-test)
+    using_ends (kept_lines (left c.args.rest)) (kept_lines (left c.lines.left)) (kept_lines (left c.in-Ok.more)) c.lines.uses.names.items c.use_line.new.uses.names.items c.into_names.result.items
+    c.in-Ok.line.number c.in-Ok.line.text.now c.in-Ok.more.bytes.now c.in-Ok-false.field-0 c.lines.invariant.1 c.in-Ok.ensures.first c.in-Ok-false.ensures.read c.in-Ok-false.field-0-test c.into_names.ensures
 
 pub returns-in-Err-use_line : goal.returns-in-Err-use_line
 returns-in-Err-use_line c =
     using_refused (kept_lines (left c.args.rest)) (kept_lines (left c.lines.left)) (kept_lines (left c.in-Ok.more)) c.lines.uses.names.items
     c.in-Ok.line.number c.in-Ok.line.text.now c.in-Ok.more.bytes.now c.in-Err-use_line.e c.lines.invariant.1 c.in-Ok.ensures.first c.in-Err-use_line.ensures.read
+
+pub returns-in-Err : goal.returns-in-Err
+returns-in-Err c =
+    using_over (kept_lines (left c.args.rest)) c.lines.uses.names.items c.into_names-in-Err.result.items (kept_lines (left c.lines.left)) c.in-Err.field-0.number c.lines.invariant.1 c.in-Err.ensures.first c.into_names-in-Err.ensures

@@ -1,4 +1,4 @@
-use Rattle.sx_outline.proofs.LinesLaws.{outline_lines}
+use Rattle.sx_outline.proofs.LanguageLines.{outline_lines}
 use Rattle.sx_outline.proofs.laws.outlines_have_lines.Goals as goal
 
 pub returns : goal.returns
