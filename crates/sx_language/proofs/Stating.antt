@@ -43,7 +43,7 @@ use Rattle.sx_notation.specs.Language.{FormFits, RuleHasLexemes, IsMain, IsLangu
 use Rattle.sx_notation.proofs.Numbers.{number_is}
 use Rattle.sx_language.specs.declared.preparing.Prepared.{Prepared}
 use Rattle.sx_language.specs.RuleLine.{Reader, judgements, subject_sort, IsBadLine}
-use Rattle.sx_language.specs.RuleTexts.{IsShortRule, AreBareRules, IsBadPremise, IsBadConclusion, IsBadBody, IsBadEnd, IsBadRule, IsFirstBad, OrMemory}
+use Rattle.sx_language.specs.RuleTexts.{AreBareRules, IsBadPremise, IsBadConclusion, IsBadBody, IsBadEnd, IsBadRule, IsFirstBad, OrMemory}
 use Rattle.sx_language.specs.States.{IsNameOfSort, IsSortNamed, AreStems, States, IsNoRules, HasBadRule, HasNoRuleSet, IsRefused, forms_of, name_unbound}
 use Rattle.sx_language.specs.Prepared.{whole, reader_in, IsPrepared, IsUsable, IsReason, IsRuleRefusal, IsGrammarRefusal, IsNoGrammars}
 use Rattle.sx_language.proofs.Judgements.{can_read}
@@ -119,14 +119,13 @@ short_line : (size : ℕ) (l : List Numbered) → size ≤ 262144 → AllByRecur
 short_line size [] low h = tt
 short_line size (x ∷ xs) low h = (omega (arith, low, h.0), short_line size xs low h.1)
 
-no_body : (o : Option Numbered) → o ≡ None → IfSome o (λ l. length l.text ≤ 262144)
-no_body o e = subst (λ (x : Option Numbered). IfSome x (λ l. length l.text ≤ 262144)) (sym e) tt
+short_body : (size : ℕ) (body : Option Numbered) → size ≤ 262144 → IfSome body (λ l. length l.text ≤ size) → IfSome body (λ l. length l.text ≤ 262144)
+short_body size None low h = tt
+short_body size (Some l) low h = omega (arith, low, h)
 
-short_rules : (size : ℕ) (ls : List RuleLines) → size ≤ 262144 → AllByRecursion (HasShortLines size) (map rule_data ls) → AllByRecursion (λ l. l.body ≡ None) (map rule_data ls) →
-    AllByRecursion (λ l. IsShortRule 262144 (rule_data l)) ls
-short_rules size [] low h bare = tt
-short_rules size (l ∷ ls) low h bare =
-    ((omega (arith, low, h.0.0), short_line size (rule_data l).premises low h.0.1, omega (arith, low, h.0.2), no_body (rule_data l).body bare.0), short_rules size ls low h.1 bare.1)
+short_rules : (size : ℕ) (ls : List RuleLines) → size ≤ 262144 → AllByRecursion (HasShortLines size) (map rule_data ls) → AllByRecursion (λ l. HasShortLines 262144 (rule_data l)) ls
+short_rules size [] low h = tt
+short_rules size (l ∷ ls) low h = ((omega (arith, low, h.0.0), short_line size (rule_data l).premises low h.0.1, omega (arith, low, h.0.2), short_body size (rule_data l).body low h.0.3), short_rules size ls low h.1)
 
 pub usable : (name bytes : Text) (o : Outline) → length bytes ≤ 262144 → IsOutlined name bytes (Ok o) → IsSized (length bytes) (outline o) → IsFit (outline o) → IsUsable name bytes o
 usable name bytes o low outlined sized fit = record {
@@ -134,7 +133,7 @@ usable name bytes o low outlined sized fit = record {
   fit = fit;
   limits = within_limits (parts o.parts) o.forms.items (length bytes) low few sized.levels sized.asked;
   rule_limits = rule_limits (parts o.parts) o.forms.items (length bytes) low few sized.levels sized.asked;
-  short = short_rules (length bytes) o.rules.items low sized.lines fit.bodies;
+  short = short_rules (length bytes) o.rules.items low sized.lines;
 }
   where
     few : length (parts o.parts).sorts + length (parts o.parts).productions + length o.forms.items + (length (literals (parts o.parts)) + length (flat_map (λ f. f.symbols) (map form o.forms.items))) ≤ length bytes
@@ -336,7 +335,7 @@ prepared name bytes o x b h base is rule same stems known main lines =
       forms = stated;
       main = main;
       rules = lines;
-      short = subst (λ l. AllByRecursion (λ y. IsShortRule 262144 (rule_data y)) l) (sym lines) h.short;
+      short = subst (λ l. AllByRecursion (λ y. HasShortLines 262144 (rule_data y)) l) (sym lines) h.short;
       bare = subst (λ l. AllByRecursion (λ y. y.body ≡ None) (map rule_data l)) (sym lines) h.fit.bodies;
       can = can_read p o.forms.items is o.vars.items (reader_in x) are read_by many
           (subjects_read p o.forms.items (forms x.forms.items) stated have (subst (AllByRecursion FormFits) (sym stated) fitted));

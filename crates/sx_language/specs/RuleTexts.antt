@@ -15,12 +15,6 @@ use Rattle.sx_notation.specs.declared.notation_error.NotationError.TheVariants.{
 use Rattle.sx_notation.specs.ReadText.{IsRead, IsRefused}
 use Rattle.sx_language.specs.RuleLine.{Reader, subject_sort, IsLine, IsBadLine}
 
--- the rule has at most so many premises, and each of its lines at most so many bytes
-abbrev pub IsShortRule : ℕ → RuleData → Type 0
-IsShortRule size r =
-    (length r.premises ≤ size) × AllByRecursion (λ l. length l.text ≤ size) r.premises ×
-    (length r.conclusion.text ≤ size) × IfSome r.body (λ l. length l.text ≤ size)
-
 -- the lines state the premises in order, and each adds the names that it is the first to have
 abbrev pub ArePremises : Reader → List Numbered → (old new : List Text) → List Premise → Type 0
 ArePremises r [] old new [] = new ≡ old

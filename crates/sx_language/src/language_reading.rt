@@ -9,7 +9,8 @@ ghost use Rattle.sx_rules.specs.Views as view;
 ghost use Rattle.sx_outline.specs.Stages.{rule_data};
 ghost use Rattle.sx_notation.specs.Language.{IsLanguage};
 ghost use Rattle.sx_language.specs.RuleLine.{CanRead};
-ghost use Rattle.sx_language.specs.RuleTexts.{IsShortRule, AreBareRules, IsFirstBad, OrMemory};
+ghost use Rattle.sx_outline.specs.Sized.{HasShortLines};
+ghost use Rattle.sx_language.specs.RuleTexts.{AreBareRules, IsFirstBad, OrMemory};
 ghost use Rattle.sx_language.specs.States.{States, IsRefused};
 ghost use Rattle.sx_language.specs.Prepared.{reader_in};
 
@@ -26,7 +27,7 @@ use sx_term::Text;
 /// The rules of the language.
 fn read_prepared(alloc: Global, prepared: &Prepared) -> Result<ReadRules, NotationError>
     requires can { CanRead (reader_in prepared.now) }
-    requires short { AllByRecursion (λ l. IsShortRule 262144 (rule_data l))
+    requires short { AllByRecursion (λ l. HasShortLines 262144 (rule_data l))
         prepared.now.rules.items }
     requires bare { AllByRecursion (λ l. l.body ≡ None) (map rule_data prepared.now.rules.items) }
     ensures read { IfOk result (λ x. AreBareRules (reader_in prepared.now)

@@ -8,7 +8,8 @@ ghost use Rattle.sx_rules.specs.Rules.{holds};
 ghost use Rattle.sx_rules.specs.Views as view;
 ghost use Rattle.sx_outline.specs.Stages.{numbered, rule_data};
 ghost use Rattle.sx_language.specs.RuleLine.{CanRead, IsLine};
-ghost use Rattle.sx_language.specs.RuleTexts.{IsShortRule, ArePremises, AreStated, IsRule};
+ghost use Rattle.sx_outline.specs.Sized.{HasShortLines};
+ghost use Rattle.sx_language.specs.RuleTexts.{ArePremises, AreStated, IsRule};
 ghost use Rattle.sx_language.specs.RuleTexts.{IsBadPremise, IsBadConclusion, IsBadRule, OrMemory};
 ghost use Rattle.sx_language.specs.Readers.{reader, AreTables};
 
@@ -110,7 +111,7 @@ fn read_stated(
 ) -> Result<Stated, NotationError>
     requires can { CanRead (reader by.now) }
     requires tables { AreTables (reader by.now) tables.now }
-    requires short { IsShortRule 262144 (rule_data lines.now) }
+    requires short { HasShortLines 262144 (rule_data lines.now) }
     requires none { vars.now ≡ [] }
     ensures read { IfOk result (λ x. AreStated (reader by.now) (rule_data lines.now) vars.new
         (map view.premise x.premises.items) (view.judgement x.conclusion)
@@ -149,7 +150,7 @@ pub(crate) fn read_rule(
 ) -> Result<ReadRule, NotationError>
     requires can { CanRead (reader by.now) }
     requires tables { AreTables (reader by.now) tables.now }
-    requires short { IsShortRule 262144 (rule_data lines.now) }
+    requires short { HasShortLines 262144 (rule_data lines.now) }
     ensures read { IfOk result (λ x. IsRule (reader by.now) (rule_data lines.now) x.names
         (view.named x.rule) (option_map tree x.body)) }
     ensures refused { IfErr result (OrMemory (IsBadRule (reader by.now) (rule_data lines.now))) }

@@ -6,7 +6,8 @@ ghost use Rattle.sx_term.specs.Term.{tree};
 ghost use Rattle.sx_rules.specs.Views as view;
 ghost use Rattle.sx_outline.specs.Stages.{rule_data};
 ghost use Rattle.sx_language.specs.RuleLine.{CanRead};
-ghost use Rattle.sx_language.specs.RuleTexts.{IsShortRule, AreRules, IsFirstBad, OrMemory};
+ghost use Rattle.sx_outline.specs.Sized.{HasShortLines};
+ghost use Rattle.sx_language.specs.RuleTexts.{AreRules, IsFirstBad, OrMemory};
 ghost use Rattle.sx_language.specs.Readers.{reader, AreTables};
 
 use crate::rule_reader::RuleReader;
@@ -34,7 +35,7 @@ fn read_each(
 ) -> Result<ReadRules, NotationError>
     requires can { CanRead (reader by.now) }
     requires tables { AreTables (reader by.now) tables.now }
-    requires short { AllByRecursion (λ l. IsShortRule 262144 (rule_data l)) lines.now }
+    requires short { AllByRecursion (λ l. HasShortLines 262144 (rule_data l)) lines.now }
     ensures read { IfOk result (λ x. AreRules (reader by.now) (map rule_data lines.now)
         x.names.items (map view.named x.rules.items) (map (option_map tree) x.bodies.items)) }
     ensures refused { IfErr result
@@ -81,7 +82,7 @@ pub fn read_rules(
     lines: &[RuleLines],
 ) -> Result<ReadRules, NotationError>
     requires can { CanRead (reader by.now) }
-    requires short { AllByRecursion (λ l. IsShortRule 262144 (rule_data l)) lines.now }
+    requires short { AllByRecursion (λ l. HasShortLines 262144 (rule_data l)) lines.now }
     ensures read { IfOk result (λ x. AreRules (reader by.now) (map rule_data lines.now)
         x.names.items (map view.named x.rules.items) (map (option_map tree) x.bodies.items)) }
     ensures refused { IfErr result

@@ -8,7 +8,8 @@ use Rattle.sx_outline.specs.declared.rule_lines.RuleLines.{RuleLines}
 use Rattle.sx_outline.specs.Stages.{rule_data}
 use Rattle.sx_language.specs.declared.preparing.Prepared.{Prepared}
 use Rattle.sx_language.specs.RuleLine.{Reader, CanRead}
-use Rattle.sx_language.specs.RuleTexts.{IsShortRule, AreRules, IsFirstBad, OrMemory}
+use Rattle.sx_outline.specs.Sized.{HasShortLines}
+use Rattle.sx_language.specs.RuleTexts.{AreRules, IsFirstBad, OrMemory}
 use Rattle.sx_language.proofs.UsableRules.{none_bodied}
 use Rattle.sx_language.proofs.language_reading.read_prepared.Goals as goal
 
@@ -24,7 +25,7 @@ pub read_rules-requires-clause-can : goal.read_rules-requires-clause-can
 read_rules-requires-clause-can c = subst (λ (fs : List Form). CanRead (with_forms c.args.prepared.now fs)) (sym c.deref.ensures.value) c.requires.can
 
 pub read_rules-requires-clause-short : goal.read_rules-requires-clause-short
-read_rules-requires-clause-short c = subst (AllByRecursion (λ l. IsShortRule 262144 (rule_data l))) (sym c.deref-2.ensures.value) c.requires.short
+read_rules-requires-clause-short c = subst (AllByRecursion (λ l. HasShortLines 262144 (rule_data l))) (sym c.deref-2.ensures.value) c.requires.short
 
 pub returns-clause-read : goal.returns-clause-read
 returns-clause-read c =
