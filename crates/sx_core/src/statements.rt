@@ -15,7 +15,7 @@ use crate::resolved::subject_count;
 use crate::terms_row::{RowError, read_terms};
 use crate::words::read_name;
 use std::alloc::Global;
-use sx_rules::{Form, Goal, Judgement, Place};
+use sx_rules::{Goal, Judgement, Place, places_of};
 use sx_term::{NoMemory, Role, Shapes, Sort, Term};
 
 /// The form that is named after one blank, and what is left.
@@ -34,17 +34,6 @@ fn read_form<'a>(
         },
         Err(e) => Err(e),
     }
-}
-
-/// The places of the form with this number.
-fn places_of<'a>(all: &'a [Form], form: u32) -> &'a [Place]
-    ensures { result.now ≡ places_at (forms all.entry.now) form }
-{
-    let i = form as usize;
-    if i < all.len() {
-        return &all[i].places;
-    }
-    &[]
 }
 
 /// The places of the form with this number in the table.
