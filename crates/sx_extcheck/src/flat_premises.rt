@@ -49,12 +49,13 @@ fn add_premise(
         Premise::Holds(it) => {
             let judgement = plain_judgement(alloc, plain, it)?;
             given.holds.push(judgement)?;
+            Ok(())
         }
         Premise::Apart(left, right) => {
             let left = plain_term(alloc, plain, left)?;
             let right = plain_term(alloc, plain, right)?;
             given.apart.push((left, right))?;
+            Ok(())
         }
     }
-    Ok(())
 }
