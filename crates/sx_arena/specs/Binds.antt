@@ -1,5 +1,6 @@
 -- Chains of bindings as assignments.
-use Rattle.std.specs.Prelude.{◌≡◌, ℕ, zero, suc, ◌<◌, ◌≤◌, List, [], length, get_or, Option, Some, None}
+use Rattle.std.specs.Prelude.{◌≡◌, ℕ, zero, suc, ◌<◌, ◌≤◌, List, [], length, get_or, Option, Some}
+use Rattle.std.specs.Prelude.{None}
 use Rattle.sx_term.specs.Tree.{Tree}
 use Rattle.sx_arena.specs.Matching.{Assignment, unbound, bind}
 use Rattle.sx_arena.specs.declared.binds.Bind.{Bind}

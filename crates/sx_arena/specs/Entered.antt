@@ -11,7 +11,8 @@ use Rattle.sx_arena.specs.Facts.{IsFact, AreFacts}
 use Rattle.sx_arena.specs.Pairs.{pair_of, pairs_of, ArePairs}
 
 -- the arena goes on from the other, and has the judgements by their numbers
-pub record AreFactsIn (modes : Modes) (old new : Arena) (js : List Judgement) (facts : List Fact) : Type 0 where
+pub record AreFactsIn (modes : Modes) (old new : Arena) (js : List Judgement)
+    (facts : List Fact) : Type 0 where
   pub arena : IsArena new
   pub extends : Extends (trees old) (trees new)
   pub are : AreFacts modes (trees new) js facts

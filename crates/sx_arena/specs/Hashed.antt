@@ -34,7 +34,9 @@ fed_alike (Node label kids) (Node other others) same =
     let g = (bytes_eq-Decides kids.items others.items).0 (second_so (nat_eq label other) e same) in
     λ i. fed.u64 (mixed (f i) (g i))
 fed_alike (Lex kind text) (Lex other_kind other) same =
-    ap fed.str ((bytes_eq-Decides (string_bytes text) (string_bytes other)).0 (second_so (kind_eq.it kind other_kind) (pointwise nat_eq (string_bytes text) (string_bytes other)) same))
+    ap fed.str ((bytes_eq-Decides (string_bytes text) (string_bytes other)).0
+    (second_so (kind_eq.it kind other_kind)
+    (pointwise nat_eq (string_bytes text) (string_bytes other)) same))
 fed_alike (Var variable) (Var other) same = ap fed.u32 ((Decides-eqb variable other).0 same)
 fed_alike (Node label kids) (Lex other_kind other) same = cc
 fed_alike (Node label kids) (Var other) same = cc

@@ -3,7 +3,8 @@ use Rattle.std.specs.Prelude.{◌≡◌, ◌↔◌, Some, None}
 use Rattle.sx_term.specs.Tree.{Tree}
 use Rattle.sx_arena.specs.Matching.{Assignment, match, IsMatch}
 
--- a match is the extension of the bindings by just the pattern's variables that makes the term the pattern's instance; none is found just where there is none
+-- a match is the extension of the bindings by just the pattern's variables that makes the term the
+-- pattern's instance; none is found just where there is none
 abbrev pub MatchIsExact : Type 0
 MatchIsExact =
     (pattern term : Tree) (env : Assignment) →

@@ -1,5 +1,6 @@
 -- The limits of terms, and terms that are apart.
-use Rattle.std.specs.Prelude.{ℕ, zero, suc, ◌&&◌, ◌||◌, Bool, true, false, List, [], ◌∷◌, Option, Some, None, nat_lt}
+use Rattle.std.specs.Prelude.{ℕ, zero, suc, ◌&&◌, ◌||◌, Bool, true, false, List, [], ◌∷◌, Option}
+use Rattle.std.specs.Prelude.{Some, None, nat_lt}
 use Rattle.sx_term.specs.Tree.{Tree, lexeme, depth_of, size_of}
 use Rattle.sx_rules.specs.Rules.{Hypotheses}
 use Rattle.sx_arena.specs.Matching.{same}
@@ -23,10 +24,12 @@ first_cause None d = d
 -- the first limit that the terms pass
 unfoldable pub limit_passed : List Tree → Option Cause
 limit_passed [] = None
-limit_passed (t ∷ ts) = first_cause (term_limit (nat_lt 1000 (depth_of t)) (nat_lt 1000000 (size_of t)) t) (limit_passed ts)
+limit_passed (t ∷ ts) = first_cause (term_limit (nat_lt 1000 (depth_of t))
+    (nat_lt 1000000 (size_of t)) t) (limit_passed ts)
 
 abbrev pub different_lexemes : Tree → Tree → Bool
-different_lexemes (lexeme k x) (lexeme m y) = elim (same (lexeme k x) (lexeme m y)) [ true ↦ false | false ↦ true ]
+different_lexemes (lexeme k x) (lexeme m y) =
+    elim (same (lexeme k x) (lexeme m y)) [ true ↦ false | false ↦ true ]
 different_lexemes _ _ = false
 
 abbrev pub is_pair : List (Tree × Tree) → Tree → Tree → Bool

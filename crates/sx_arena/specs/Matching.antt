@@ -1,5 +1,7 @@
--- Equality of terms by numbers, assignments of variables, and matching as a function of the assignment so far.
-use Rattle.std.specs.Prelude.{◌≡◌, ℕ, ◌&&◌, Bool, true, false, List, [], ◌∷◌, ◌⊎◌, Option, Some, None, nat_eq}
+-- Equality of terms by numbers, assignments of variables, and matching as a function of the
+-- assignment so far.
+use Rattle.std.specs.Prelude.{◌≡◌, ℕ, ◌&&◌, Bool, true, false, List, [], ◌∷◌, ◌⊎◌, Option, Some}
+use Rattle.std.specs.Prelude.{None, nat_eq}
 use Rattle.std.specs.Cmp.Lexicographic.{pointwise}
 use Rattle.sx_term.specs.declared.lex_kind.LexKind.{LexKind}
 use Rattle.sx_term.specs.declared.lex_kind.LexKind.TheVariants.{Id, Num, Str}
@@ -93,7 +95,8 @@ Extends env more = (v : ℕ) (u : Tree) → env v ≡ Some u → more v ≡ Some
 abbrev pub Agrees : Assignment → (ℕ → Tree) → Type 0
 Agrees env s = (v : ℕ) (u : Tree) → env v ≡ Some u → s v ≡ u
 
--- the one assignment extends the other by just the pattern's variables, and under it the pattern's instance is the term
+-- the one assignment extends the other by just the pattern's variables, and under it the pattern's
+-- instance is the term
 pub record IsMatch (pattern term : Tree) (env more : Assignment) : Type 0 where
   pub extends : Extends env more
   pub only : (v : ℕ) → IsBound more v → IsBound env v ⊎ Stands v pattern

@@ -1,5 +1,6 @@
 -- The places of a judgement that are inputs, or those that are outputs.
-use Rattle.std.specs.Prelude.{◌≡◌, ℕ, ◌-◌, ◌^◌, Bool, true, false, List, map, length, min, Option, Some, None}
+use Rattle.std.specs.Prelude.{◌≡◌, ℕ, ◌-◌, ◌^◌, Bool, true, false, List, map, length, min, Option}
+use Rattle.std.specs.Prelude.{Some, None}
 use Rattle.sx_term.specs.Tree.{Tree, Trees, node}
 use Rattle.sx_rules.specs.Modes.{inputs, outputs}
 use Rattle.sx_arena.specs.Matching.{Assignment, match, match_all}
@@ -24,7 +25,8 @@ pub record AreHeld (old new : Arena) (is : List ℕ) (ts : List Tree) : Type 0 w
 -- the limit that is passed, with the depth or the size, or the greatest number where it is more
 abbrev pub IsLimit : Option Cause → Option Limit → Type 0
 IsLimit c None = c ≡ None
-IsLimit c (Some (TooDeep n)) = (depth : ℕ) × (c ≡ Some (too_deep depth)) × (n ≡ min depth (2 ^ 64 - 1))
+IsLimit c (Some (TooDeep n)) = (depth : ℕ) × (c ≡ Some (too_deep depth)) ×
+    (n ≡ min depth (2 ^ 64 - 1))
 IsLimit c (Some (TooBig n)) = (size : ℕ) × (c ≡ Some (too_big size)) × (n ≡ min size (2 ^ 64 - 1))
 
 -- no node with that label matches the term

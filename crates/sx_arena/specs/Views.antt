@@ -5,7 +5,8 @@ use Rattle.sx_rules.specs.declared.rule_set.RuleSet.{RuleSet}
 use Rattle.sx_rules.specs.Rules.{Rule}
 use Rattle.sx_rules.specs.Modes.{Modes}
 use Rattle.sx_rules.specs.Views.{is_out, forms, modes_of as modes_by}
-pub use Rattle.sx_rules.specs.Views.{judgement as judgement_of, premise as premise_of, rule as rule_of}
+pub use Rattle.sx_rules.specs.Views.{judgement as judgement_of, premise as premise_of}
+pub use Rattle.sx_rules.specs.Views.{rule as rule_of}
 
 abbrev pub rules_of : RuleSet → List Rule
 rules_of set = map rule_of set.rules.items

@@ -1,16 +1,18 @@
 //! Terms of a search: equal terms are stored once, and named by a number.
 
-ghost use Rattle.std.specs.Prelude.{◌≡◌, ℕ, ◌+◌, ◌-◌, ◌^◌, ◌<◌, ◌≤◌, [], IfOk, length, map, min, take};
+ghost use Rattle.std.specs.Prelude.{◌≡◌, ℕ, ◌+◌, ◌-◌, ◌^◌, ◌<◌, ◌≤◌, [], IfOk, length, map, min};
+ghost use Rattle.std.specs.Prelude.{take};
 ghost use Rattle.sx_term.specs.Tree.{node, lexeme, hole, forest, greatest_depth, total_size};
-ghost use Rattle.sx_arena.specs.Arena.{trees, tree_at, cell_tree, IsArena, IsCell, AreBelow, IsRead, IsHeld};
+ghost use Rattle.sx_arena.specs.Arena.{trees, tree_at, cell_tree, IsArena, IsCell, AreBelow};
+ghost use Rattle.sx_arena.specs.Arena.{IsRead, IsHeld};
 
 use crate::shape::Shape;
 use indexmap::IndexSet;
 use std::alloc::Global;
 use sx_term::{LexKind, NoMemory, Text};
 
-/// A term's shape, by which it is hashed, with its depth and its size, or the greatest number where it
-/// is more.
+/// A term's shape, by which it is hashed, with its depth and its size, or the greatest number where
+/// it is more.
 #[derive(PartialEq, Eq, Drop)]
 #[derive_where(Hash)]
 pub struct Cell {
@@ -79,7 +81,8 @@ impl Arena {
     fn depth_over(&self, kids: &[usize]) -> u64
         requires arena { IsArena self.now }
         requires kids { AreBelow (length (trees self.now)) kids.now }
-        ensures { result ≡ min (greatest_depth (forest (map (tree_at (trees self.now)) kids.now))) (2 ^ 64 - 1) }
+        ensures { result ≡ min (greatest_depth (forest (map (tree_at (trees self.now)) kids.now)))
+            (2 ^ 64 - 1) }
     {
         let mut most: u64 = 0;
         for kid in kids {
@@ -92,7 +95,8 @@ impl Arena {
     pub(crate) fn size_over(&self, kids: &[usize]) -> u64
         requires arena { IsArena self.now }
         requires kids { AreBelow (length (trees self.now)) kids.now }
-        ensures { result ≡ min (total_size (forest (map (tree_at (trees self.now)) kids.now))) (2 ^ 64 - 1) }
+        ensures { result ≡ min (total_size (forest (map (tree_at (trees self.now)) kids.now)))
+            (2 ^ 64 - 1) }
     {
         let mut total: u64 = 0;
         for kid in kids {
@@ -105,7 +109,8 @@ impl Arena {
     pub fn node(&mut self, label: u32, kids: Vec<usize>) -> Result<usize, NoMemory>
         requires arena { IsArena self.old }
         requires kids { AreBelow (length (trees self.old)) kids.items }
-        ensures { IfOk result (λ i. IsHeld self.old self.new i (node label (forest (map (tree_at (trees self.old)) kids.items)))) }
+        ensures { IfOk result (λ i. IsHeld self.old self.new i
+            (node label (forest (map (tree_at (trees self.old)) kids.items)))) }
     {
         let depth = self.depth_over(&kids).saturating_add(1);
         let size = self.size_over(&kids).saturating_add(1);

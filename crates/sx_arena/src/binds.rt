@@ -1,6 +1,7 @@
 //! Bindings of variables to terms of an arena, as chains that share what they have in common.
 
-ghost use Rattle.std.specs.Prelude.{◌≡◌, ℕ, ◌+◌, ◌≤◌, ◌<◌, List, [], ◌∷◌, ◌++◌, IfOk, OnOk, length, take};
+ghost use Rattle.std.specs.Prelude.{◌≡◌, ℕ, ◌+◌, ◌≤◌, ◌<◌, List, [], ◌∷◌, ◌++◌, IfOk, OnOk, length};
+ghost use Rattle.std.specs.Prelude.{take};
 ghost use Rattle.sx_term.specs.Tree.{Tree};
 ghost use Rattle.sx_arena.specs.Grown.{Extends};
 ghost use Rattle.sx_arena.specs.Binds.{envs, env_at, bind_step, IsBinds, IsFound, BindsGrow};
@@ -34,7 +35,8 @@ impl Binds {
 
     /// The chain with one more binding.
     pub fn push(&mut self, before: usize, variable: u32, term: usize) -> Result<usize, NoMemory>
-        ensures items { OnOk result (self.new.cells.items ≡ self.old.cells.items ++ record { variable = variable; term = term; before = before } ∷ []) }
+        ensures items { OnOk result (self.new.cells.items ≡ self.old.cells.items
+            ++ record { variable = variable; term = term; before = before } ∷ []) }
         ensures chain { IfOk result (λ e. e ≡ length self.old.cells.items + 1) }
     {
         self.cells.push(Bind {
@@ -48,7 +50,8 @@ impl Binds {
     /// Drops the bindings past the first so many.
     pub fn cut(&mut self, length: usize)
         ensures items { self.new.cells.items ≡ take length self.old.cells.items }
-        ensures binds { (ts : List Tree) → IsBinds ts self.old → IsBinds ts self.new × Extends (envs ts self.new) (envs ts self.old) }
+        ensures binds { (ts : List Tree) → IsBinds ts self.old →
+            IsBinds ts self.new × Extends (envs ts self.new) (envs ts self.old) }
     {
         self.cells.truncate(length);
     }
@@ -57,7 +60,8 @@ impl Binds {
     pub fn find(&self, env: usize, variable: usize) -> Option<usize>
         requires binds { (ts : List Tree) × IsBinds ts self.now }
         requires env { env ≤ length self.now.cells.items }
-        ensures { (ts : List Tree) → IsBinds ts self.now → IsFound ts (env_at (envs ts self.now) env variable) result }
+        ensures { (ts : List Tree) → IsBinds ts self.now →
+            IsFound ts (env_at (envs ts self.now) env variable) result }
     {
         let mut here = env;
         while here > 0 {

@@ -7,7 +7,8 @@ ghost use Rattle.sx_rules.specs.Deep.{AreShallow};
 ghost use Rattle.sx_rules.specs.Derivations.{ShallowJudgements};
 ghost use Rattle.sx_rules.specs.Views.{pair};
 ghost use Rattle.sx_arena.specs.Arena.{trees, IsArena, IsHeld};
-ghost use Rattle.sx_arena.specs.Entered.{IsFactIn, AreFactsIn, ArePairsShallow, IsPairIn, ArePairsIn};
+ghost use Rattle.sx_arena.specs.Entered.{IsFactIn, AreFactsIn, ArePairsShallow, IsPairIn};
+ghost use Rattle.sx_arena.specs.Entered.{ArePairsIn};
 ghost use Rattle.sx_arena.specs.Places.{selected, AreHeld};
 ghost use Rattle.sx_arena.specs.Views.{mask_of, modes_of, judgement_of};
 
@@ -49,7 +50,8 @@ pub fn enter_places(
 ) -> Result<Vec<usize>, NoMemory>
     requires shallow { AreShallow (map tree places.now) }
     requires arena { IsArena arena.old }
-    ensures { IfOk result (λ r. AreHeld arena.old arena.new r.items (selected outputs (mask_of roles.now) (map tree places.now))) }
+    ensures { IfOk result (λ r. AreHeld arena.old arena.new r.items
+        (selected outputs (mask_of roles.now) (map tree places.now))) }
 {
     let mut parts = Vec::new(alloc);
     for i in 0..places.len() {
@@ -70,7 +72,8 @@ fn enter_fact(
 ) -> Result<Fact, NoMemory>
     requires shallow { AreShallow (map tree it.now.places.items) }
     requires arena { IsArena arena.old }
-    ensures { IfOk result (λ f. IsFactIn (modes_of rules.now) arena.old arena.new (judgement_of it.now) f) }
+    ensures { IfOk result (λ f. IsFactIn (modes_of rules.now) arena.old arena.new
+        (judgement_of it.now) f) }
 {
     let inputs = enter_places(alloc, arena, roles(rules, it.form), false, &it.places)?;
     let outputs = enter_places(alloc, arena, roles(rules, it.form), true, &it.places)?;
@@ -90,7 +93,8 @@ pub fn enter_facts(
 ) -> Result<Vec<Fact>, NoMemory>
     requires shallow { ShallowJudgements (map judgement_of holds.now) }
     requires arena { IsArena arena.old }
-    ensures { IfOk result (λ r. AreFactsIn (modes_of rules.now) arena.old arena.new (map judgement_of holds.now) r.items) }
+    ensures { IfOk result (λ r. AreFactsIn (modes_of rules.now) arena.old arena.new
+        (map judgement_of holds.now) r.items) }
 {
     let mut facts = Vec::with_capacity(alloc, holds.len())?;
     for i in 0..holds.len() {

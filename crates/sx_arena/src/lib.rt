@@ -1,7 +1,9 @@
-//! Terms that share what they have in common: each is named by a number, and equal terms have one number.
+//! Terms that share what they have in common: each is named by a number, and equal terms have one
+//! number.
 //!
 //! - `Arena` holds the terms, `Binds` holds bindings of variables to them.
-//! - `made` and `fit` are instances and matching, `make_places` and `fit_places` the same for the places of a judgement.
+//! - `made` and `fit` are instances and matching, `make_places` and `fit_places` the same for the
+//!   places of a judgement.
 //! - `apart` tells whether two terms are apart by the pairs of the hypotheses.
 //! - `enter` puts terms in, `export` takes them out.
 #![tactic(auto)]

@@ -60,7 +60,8 @@ pub fn export_all(alloc: Global, arena: &Arena, indices: &[usize]) -> Result<Vec
     Ok(terms)
 }
 
-/// The term that a chain of bindings gives a variable; what is not bound has the node 0 without kids.
+/// The term that a chain of bindings gives a variable; what is not bound has the node 0 without
+/// kids.
 fn value(
     alloc: Global,
     arena: &Arena,
@@ -71,7 +72,8 @@ fn value(
     requires arena { IsArena arena.now }
     requires binds { IsBinds (trees arena.now) binds.now }
     requires env { env ≤ length binds.now.cells.items }
-    ensures { IfOk result (λ t. tree t ≡ filled (env_at (envs (trees arena.now) binds.now) env) variable) }
+    ensures { IfOk result (λ t. tree t ≡ filled
+        (env_at (envs (trees arena.now) binds.now) env) variable) }
 {
     match binds.find(env, variable) {
         Some(index) => export(alloc, arena, index),
@@ -93,7 +95,8 @@ pub fn export_binds(
     requires arena { IsArena arena.now }
     requires binds { IsBinds (trees arena.now) binds.now }
     requires env { env ≤ length binds.now.cells.items }
-    ensures { IfOk result (λ r. map tree r.items ≡ first_values variables (filled (env_at (envs (trees arena.now) binds.now) env))) }
+    ensures { IfOk result (λ r. map tree r.items
+        ≡ first_values variables (filled (env_at (envs (trees arena.now) binds.now) env))) }
 {
     let mut terms = Vec::with_capacity(alloc, variables)?;
     for variable in 0..variables {

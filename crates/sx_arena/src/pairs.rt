@@ -37,7 +37,9 @@ pub fn apart(arena: &Arena, pairs: &[Pair], first: usize, second: usize) -> bool
     requires pairs { ArePairs (length (trees arena.now)) pairs.now }
     requires first { first < length (trees arena.now) }
     requires second { second < length (trees arena.now) }
-    ensures { result ≡ are_apart (record { judgements = []; pairs = pairs_of (trees arena.now) pairs.now }) (tree_at (trees arena.now) first) (tree_at (trees arena.now) second) }
+    ensures { result ≡ are_apart
+        (record { judgements = []; pairs = pairs_of (trees arena.now) pairs.now })
+        (tree_at (trees arena.now) first) (tree_at (trees arena.now) second) }
 {
     for pair in pairs {
         if pairs_up(pair, first, second) {
@@ -75,8 +77,11 @@ pub fn instances_apart(
     requires binds { IsBinds (trees arena.old) binds.now }
     requires env { env ≤ length binds.now.cells.items }
     requires pairs { ArePairs (length (trees arena.old)) pairs.now }
-    ensures { IfOk result (λ b. IsTold arena.old arena.new b (are_apart (record { judgements = []; pairs = pairs_of (trees arena.old) pairs.now })
-        (instance (filled (env_at (envs (trees arena.old) binds.now) env)) (tree first.now)) (instance (filled (env_at (envs (trees arena.old) binds.now) env)) (tree second.now)))) }
+    ensures { IfOk result (λ b. IsTold arena.old arena.new b
+        (are_apart (record { judgements = []; pairs = pairs_of (trees arena.old) pairs.now })
+        (instance (filled (env_at (envs (trees arena.old) binds.now) env)) (tree first.now))
+        (instance (filled (env_at (envs (trees arena.old) binds.now) env))
+        (tree second.now)))) }
 {
     let left = made(alloc, arena, binds, env, first)?;
     let right = made(alloc, arena, binds, env, second)?;

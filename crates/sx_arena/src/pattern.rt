@@ -26,7 +26,8 @@ pub fn made(
     requires arena { IsArena arena.old }
     requires binds { IsBinds (trees arena.old) binds.now }
     requires env { env ≤ length binds.now.cells.items }
-    ensures { IfOk result (λ i. IsHeld arena.old arena.new i (instance (filled (env_at (envs (trees arena.old) binds.now) env)) (tree pattern.now))) }
+    ensures { IfOk result (λ i. IsHeld arena.old arena.new i
+        (instance (filled (env_at (envs (trees arena.old) binds.now) env)) (tree pattern.now))) }
 {
     match pattern {
         Term::Node { label, kids } => {
@@ -58,7 +59,9 @@ pub fn fit(
     requires env { env ≤ length binds.old.cells.items }
     requires within { term < length (trees arena.now) }
     ensures grows { OnOk result (BindsGrow (trees arena.now) binds.old binds.new) }
-    ensures fit { IfOk result (λ r. IsFit (trees arena.now) binds.new (matched (tree pattern.now) (tree_at (trees arena.now) term) (env_at (envs (trees arena.now) binds.old) env)) r) }
+    ensures fit { IfOk result (λ r. IsFit (trees arena.now) binds.new
+        (matched (tree pattern.now) (tree_at (trees arena.now) term)
+        (env_at (envs (trees arena.now) binds.old) env)) r) }
 {
     match pattern {
         Term::Node { label, kids } => match &arena.cell(term).shape {

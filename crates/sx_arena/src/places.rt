@@ -1,4 +1,5 @@
-//! The places of a judgement: matching and making its inputs or its outputs, and the limits of terms.
+//! The places of a judgement: matching and making its inputs or its outputs, and the limits of
+//! terms.
 
 ghost use Rattle.std.specs.Prelude.{◌≡◌, ℕ, ◌≤◌, ◌<◌, false, IfOk, OnOk, length, map, get_or};
 ghost use Rattle.sx_term.specs.Term.{tree};
@@ -51,11 +52,13 @@ fn has_label(arena: &Arena, term: usize, label: u32) -> bool
     }
 }
 
-/// Whether the first pattern that is a node has the label of its term: where not, the patterns match under no bindings.
+/// Whether the first pattern that is a node has the label of its term: where not, the patterns
+/// match under no bindings.
 fn may_fit(arena: &Arena, roles: &[Place], outputs: bool, places: &[Term], terms: &[usize]) -> bool
     requires arena { IsArena arena.now }
     requires terms { AreBelow (length (trees arena.now)) terms.now }
-    ensures { result ≡ false → NeverFit (selected outputs (mask_of roles.now) (map tree places.now)) (map (tree_at (trees arena.now)) terms.now) }
+    ensures { result ≡ false → NeverFit (selected outputs (mask_of roles.now) (map tree places.now))
+        (map (tree_at (trees arena.now)) terms.now) }
 {
     let mut taken = 0;
     for i in 0..places.len() {
@@ -73,7 +76,8 @@ fn may_fit(arena: &Arena, roles: &[Place], outputs: bool, places: &[Term], terms
     true
 }
 
-/// The chain under which the instances of the outputs, or else of the inputs, are the terms, or None where there is none.
+/// The chain under which the instances of the outputs, or else of the inputs, are the terms, or
+/// None where there is none.
 pub fn fit_places(
     arena: &Arena,
     binds: &mut Binds,
@@ -89,7 +93,10 @@ pub fn fit_places(
     requires env { env ≤ length binds.old.cells.items }
     requires terms { AreBelow (length (trees arena.now)) terms.now }
     ensures grows { OnOk result (BindsGrow (trees arena.now) binds.old binds.new) }
-    ensures fit { IfOk result (λ r. IsFit (trees arena.now) binds.new (match_all (selected outputs (mask_of roles.now) (map tree places.now)) (map (tree_at (trees arena.now)) terms.now) (env_at (envs (trees arena.now) binds.old) env)) r) }
+    ensures fit { IfOk result (λ r. IsFit (trees arena.now) binds.new
+        (match_all (selected outputs (mask_of roles.now) (map tree places.now))
+        (map (tree_at (trees arena.now)) terms.now)
+        (env_at (envs (trees arena.now) binds.old) env)) r) }
 {
     if !may_fit(arena, roles, outputs, places, terms) {
         return Ok(None);
@@ -129,7 +136,10 @@ pub fn make_places(
     requires arena { IsArena arena.old }
     requires binds { IsBinds (trees arena.old) binds.now }
     requires env { env ≤ length binds.now.cells.items }
-    ensures { IfOk result (λ r. AreHeld arena.old arena.new r.items (selected outputs (mask_of roles.now) (map (instance (filled (env_at (envs (trees arena.old) binds.now) env))) (map tree places.now)))) }
+    ensures { IfOk result (λ r. AreHeld arena.old arena.new r.items
+        (selected outputs (mask_of roles.now)
+        (map (instance (filled (env_at (envs (trees arena.old) binds.now) env)))
+        (map tree places.now)))) }
 {
     let mut parts = Vec::new(alloc);
     for i in 0..places.len() {

@@ -16,12 +16,15 @@ use Rattle.sx_core.specs.Fitting.{Context, IsFitting, IsDeepLine, Declare, AllFi
 use Rattle.sx_core.specs.Order.{IsFront}
 use Rattle.sx_core.specs.declared.keyword.Keyword.TheVariants.{Rule, End, Goal}
 use Rattle.sx_lines.specs.declared.kind.Kind.{Kind}
-use Rattle.sx_lines.specs.declared.kind.Kind.TheVariants.{Head as BadHead, Directive, Shape, Order, Unfinished, Main, Variable}
+use Rattle.sx_lines.specs.declared.kind.Kind.TheVariants.{Head as BadHead, Directive, Shape, Order}
+use Rattle.sx_lines.specs.declared.kind.Kind.TheVariants.{Unfinished, Main, Variable}
 use Rattle.sx_core.specs.declared.problem.CoreProblem.{CoreProblem}
 use Rattle.sx_core.specs.declared.error.CoreFileError.{CoreFileError}
-use Rattle.sx_core.specs.declared.error.CoreFileError.TheVariants.{Memory, NotUtf8, Notation, TooDeep, Rules}
+use Rattle.sx_core.specs.declared.error.CoreFileError.TheVariants.{Memory, NotUtf8, Notation}
+use Rattle.sx_core.specs.declared.error.CoreFileError.TheVariants.{TooDeep, Rules}
 
--- The first lines are those of these rows, which are as stated and in order, and declare this. The others come next.
+-- The first lines are those of these rows, which are as stated and in order, and declare this. The
+-- others come next.
 pub record ReadTo (lines : Lines) (rows : List Row) (c : Context) (next : Lines) : Type 0 where
   pub sorts : AreSorts [] lines c.sorts
   pub takes : Takes (map row_text rows) lines next
@@ -38,16 +41,19 @@ abbrev pub IsBadLine : Context → List Row → List ℕ → Kind → Type 0
 IsBadLine c rows text BadHead = (rows ≡ []) × (text ≡ codes "sxcore 1" → ⊥)
 IsBadLine c rows text Directive = IsUsual rows × NoKeyword text
 IsBadLine c rows text Shape =
-    IsUsual rows × (NoKeyword text → ⊥) × ((row : Row) → IsFitting c text row → ⊥) × ((depth : ℕ) → IsDeepLine c text depth → ⊥)
+    IsUsual rows × (NoKeyword text → ⊥) × ((row : Row) → IsFitting c text row → ⊥) ×
+    ((depth : ℕ) → IsDeepLine c text depth → ⊥)
 IsBadLine c rows text Order =
-    Has Goal rows ⊎ (IsUsual rows × (row : Row) × IsFitting c text row × (IsFront (rows ++ row ∷ []) → ⊥))
+    Has Goal rows ⊎ (IsUsual rows × (row : Row) × IsFitting c text row ×
+    (IsFront (rows ++ row ∷ []) → ⊥))
 IsBadLine c rows text Unfinished = ⊥
 IsBadLine c rows text Main = ⊥
 IsBadLine c rows text Variable = ⊥
 
 -- a core text of this depth stands in the line, and the line is that of no row that is as stated
 abbrev pub IsTooDeep : Context → List Row → List ℕ → ℕ → Type 0
-IsTooDeep c rows text depth = IsUsual rows × ((row : Row) → IsFitting c text row → ⊥) × IsDeepLine c text depth
+IsTooDeep c rows text depth = IsUsual rows × ((row : Row) → IsFitting c text row → ⊥) ×
+    IsDeepLine c text depth
 
 -- the rule that begins after these rows is not ended
 pub record IsOpen (rows front : List Row) : Type 0 where
@@ -61,8 +67,10 @@ pub record IsOpen (rows front : List Row) : Type 0 where
 abbrev pub IsMissing : Lines → List Row → ℕ → ℕ → Kind → Type 0
 IsMissing lines rows end number BadHead = (rows ≡ []) × (number ≡ end)
 IsMissing lines rows end number Unfinished =
-    (front : List Row) × (next : Lines) × IsOpen rows front × Takes (map row_text front) lines next × (number ≡ number_of next)
-IsMissing lines rows end number Main = IsUsual rows × ((front : List Row) → IsOpen rows front → ⊥) × (number ≡ end)
+    (front : List Row) × (next : Lines) × IsOpen rows front ×
+    Takes (map row_text front) lines next × (number ≡ number_of next)
+IsMissing lines rows end number Main = IsUsual rows × ((front : List Row) → IsOpen rows front → ⊥) ×
+    (number ≡ end)
 IsMissing lines rows end number Directive = ⊥
 IsMissing lines rows end number Shape = ⊥
 IsMissing lines rows end number Order = ⊥
@@ -71,7 +79,8 @@ IsMissing lines rows end number Variable = ⊥
 -- the next line is the first bad one, or one is missing
 abbrev pub IsBadAt : Lines → List Row → Context → Lines → ℕ → Kind → Type 0
 IsBadAt lines rows c (over n) number kind = IsMissing lines rows n number kind
-IsBadAt lines rows c (line n text after more) number kind = (number ≡ n) × IsBadLine c rows text kind
+IsBadAt lines rows c (line n text after more) number kind =
+    (number ≡ n) × IsBadLine c rows text kind
 
 -- the next line is the first bad one, and has a core text that is too deep
 abbrev pub IsDeepAt : List Row → Context → Lines → ℕ → ℕ → Type 0
@@ -93,16 +102,20 @@ AreLinesAnswered lines (Ok p) = (file : CoreFile) × AreLinesOf lines file × St
 AreLinesAnswered lines (Err Memory) = Unit {0}
 AreLinesAnswered lines (Err (NotUtf8 place)) = ⊥
 AreLinesAnswered lines (Err (Notation number kind)) =
-    (rows : List Row) × (c : Context) × (next : Lines) × ReadTo lines rows c next × IsBadAt lines rows c next number kind
+    (rows : List Row) × (c : Context) × (next : Lines) × ReadTo lines rows c next ×
+    IsBadAt lines rows c next number kind
 AreLinesAnswered lines (Err (TooDeep number depth)) =
-    (rows : List Row) × (c : Context) × (next : Lines) × ReadTo lines rows c next × IsDeepAt rows c next number depth
-AreLinesAnswered lines (Err (Rules e)) = (file : CoreFile) × AreLinesOf lines file × AreRulesRefused file e
+    (rows : List Row) × (c : Context) × (next : Lines) × ReadTo lines rows c next ×
+    IsDeepAt rows c next number depth
+AreLinesAnswered lines (Err (Rules e)) = (file : CoreFile) × AreLinesOf lines file ×
+    AreRulesRefused file e
 
 abbrev pub AreLinesRead : Lines → Result CoreProblem CoreFileError → Type 0
 AreLinesRead lines (Ok p) = AreLinesAnswered lines (Ok (problem p))
 AreLinesRead lines (Err e) = AreLinesAnswered lines (Err e)
 
--- what the bytes of a core file state, or why they state nothing: lines that are blank or begin with `//` are not kept
+-- what the bytes of a core file state, or why they state nothing: lines that are blank or begin
+-- with `//` are not kept
 abbrev pub IsCoreAnswer : List ℕ → Result Problem CoreFileError → Type 0
 IsCoreAnswer bytes (Ok p) = IsUtf8 bytes × AreLinesAnswered (kept (lines_from 1 bytes)) (Ok p)
 IsCoreAnswer bytes (Err Memory) = Unit {0}

@@ -8,16 +8,19 @@ use Rattle.sx_rules.specs.Rules.{Judgement}
 use Rattle.sx_rules.specs.Views.{FormData}
 use Rattle.sx_lines.specs.Lines.{Lines, over, line}
 use Rattle.sx_core.specs.File.{SortRow, ConRow, FormRow, JudgementRow}
-use Rattle.sx_core.specs.Stated.{IsName, AreNames, AreCons, AreForms, NameSorts, AreReadable, IsJudgement, IsGoal}
+use Rattle.sx_core.specs.Stated.{IsName, AreNames, AreCons, AreForms, NameSorts, AreReadable}
+use Rattle.sx_core.specs.Stated.{IsJudgement, IsGoal}
 use Rattle.sx_core.specs.Rows.{AreNamed}
 use Rattle.sx_core.specs.Resolving.{sort_names, IsConOf, IsFormOf}
 use Rattle.sx_core.specs.Statements.{names_in, IsDeepJudgement, IsDeepGoal}
 use Rattle.sx_core.specs.TermsText.{IsDeepRow}
 use Rattle.sx_core.specs.Table.{Parts, Row, row_text, IsKeyword}
 use Rattle.sx_core.specs.declared.keyword.Keyword.{Keyword}
-use Rattle.sx_core.specs.declared.keyword.Keyword.TheVariants.{Head, Sort, Con, Form, Rule, If, Not, Then, End, Goal}
+use Rattle.sx_core.specs.declared.keyword.Keyword.TheVariants.{Head, Sort, Con, Form, Rule, If, Not}
+use Rattle.sx_core.specs.declared.keyword.Keyword.TheVariants.{Then, End, Goal}
 
--- what a row is read with: the sorts of the file, the names of sorts that are taken, and the constructors and forms so far
+-- what a row is read with: the sorts of the file, the names of sorts that are taken, and the
+-- constructors and forms so far
 pub record Context : Type 0 where
   pub sorts : List SortRow
   pub taken : List (List ℕ)
@@ -33,16 +36,20 @@ IsFull forms row j = IsName row.form × IsJudgement forms row j
 abbrev pub Fits : Context → (k : Keyword) → Parts k → Type 0
 Fits c Head parts = Unit {0}
 Fits c Sort row = IsName row.name × (Contains c.taken row.name → ⊥)
-Fits c Con row = AreNames (row.name ∷ row.sort ∷ row.kids) × (Contains c.cons row.name → ⊥) × (shape : Shape) × IsConOf c.sorts row shape
-Fits c Form row = IsName row.name × AreNamed row.places × (Contains (names_in c.forms) row.name → ⊥) × (form : FormData) × IsFormOf c.sorts row form
-Fits c Rule row = AreNames (row.name ∷ row.sorts) × (sorts : List SortOf) × NameSorts c.sorts row.sorts sorts
+Fits c Con row = AreNames (row.name ∷ row.sort ∷ row.kids) × (Contains c.cons row.name → ⊥) ×
+    (shape : Shape) × IsConOf c.sorts row shape
+Fits c Form row = IsName row.name × AreNamed row.places ×
+    (Contains (names_in c.forms) row.name → ⊥) × (form : FormData) × IsFormOf c.sorts row form
+Fits c Rule row = AreNames (row.name ∷ row.sorts) × (sorts : List SortOf) ×
+    NameSorts c.sorts row.sorts sorts
 Fits c If row = (j : Judgement) × IsFull c.forms row j
 Fits c Not row = AreReadable (row.left ∷ row.right ∷ [])
 Fits c Then row = (j : Judgement) × IsFull c.forms row j
 Fits c End parts = Unit {0}
 Fits c Goal row = IsName row.form × (goal : GoalOf) × IsGoal c.shapes c.forms row goal
 
--- after this word the text has parts as stated, and then a core text of this depth, which is over 1,000
+-- after this word the text has parts as stated, and then a core text of this depth, which is over
+-- 1,000
 abbrev pub IsDeep : Context → Keyword → List ℕ → ℕ → Type 0
 IsDeep c Head rest depth = ⊥
 IsDeep c Sort rest depth = ⊥
@@ -61,7 +68,8 @@ IsFitting c text row = (text ≡ row_text row) × Fits c row.keyword row.parts
 
 -- a core text in the line is too deep
 abbrev pub IsDeepLine : Context → List ℕ → ℕ → Type 0
-IsDeepLine c text depth = (k : Keyword) × (rest : List ℕ) × IsKeyword text k rest × IsDeep c k rest depth
+IsDeepLine c text depth = (k : Keyword) × (rest : List ℕ) × IsKeyword text k rest ×
+    IsDeep c k rest depth
 
 -- the sort, constructor and form lines among rows
 abbrev pub sorts_at : (k : Keyword) → Parts k → List SortRow
@@ -96,14 +104,16 @@ pub record Declare (all : List SortRow) (rows : List Row) (c : Context) : Type 0
 abbrev pub AllFit : List SortRow → List Row → List Row → Type 0
 AllFit all before [] = Unit {0}
 AllFit all before (row ∷ rows) =
-    ((c : Context) × Declare all before c × Fits c row.keyword row.parts) × AllFit all (before ++ row ∷ []) rows
+    ((c : Context) × Declare all before c × Fits c row.keyword row.parts) ×
+    AllFit all (before ++ row ∷ []) rows
 
 -- the line is that of a sort whose name is not taken
 abbrev pub IsNewSort : List SortRow → List ℕ → SortRow → Type 0
-IsNewSort before text row = (text ≡ row_text (record { keyword = Sort; parts = row })) × IsName row.name × (Contains (sort_names before) row.name → ⊥)
+IsNewSort before text row = (text ≡ row_text (record { keyword = Sort; parts = row })) ×
+    IsName row.name × (Contains (sort_names before) row.name → ⊥)
 
--- The sorts of a file: those that were found, and one for each of the lines that is that of a sort whose name is not taken,
--- wherever it stands.
+-- The sorts of a file: those that were found, and one for each of the lines that is that of a sort
+-- whose name is not taken, wherever it stands.
 abbrev pub AreSorts : List SortRow → Lines → List SortRow → Type 0
 AreSorts found (over n) all = found ≡ all
 AreSorts found (line n text after more) all =

@@ -10,8 +10,10 @@ use Rattle.sx_core.specs.declared.error.CoreFileError.TheVariants.{Memory}
 
 -- lines state one problem at most
 abbrev pub OneProblemIsStated : Type 0
-OneProblemIsStated = (lines : Lines) (f g : CoreFile) (p q : Problem) → AreLinesOf lines f → AreLinesOf lines g → States f p → States g q → p ≡ q
+OneProblemIsStated = (lines : Lines) (f g : CoreFile) (p q : Problem) → AreLinesOf lines f →
+    AreLinesOf lines g → States f p → States g q → p ≡ q
 
 -- two answers for the bytes of a core file agree, out of memory aside
 abbrev pub OneCoreAnswer : Type 0
-OneCoreAnswer = (bytes : List ℕ) (a b : Result Problem CoreFileError) → IsCoreAnswer bytes a → IsCoreAnswer bytes b → (a ≢ Err Memory) → (b ≢ Err Memory) → a ≡ b
+OneCoreAnswer = (bytes : List ℕ) (a b : Result Problem CoreFileError) → IsCoreAnswer bytes a →
+    IsCoreAnswer bytes b → (a ≢ Err Memory) → (b ≢ Err Memory) → a ≡ b

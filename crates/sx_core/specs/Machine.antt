@@ -1,5 +1,6 @@
 -- The steps of the reading of core files.
-use Rattle.std.specs.Prelude.{◌≡◌, ℕ, List, [], ◌∷◌, ◌++◌, ◌⊎◌, None, map, codes, Contains, Result, Ok, Err}
+use Rattle.std.specs.Prelude.{◌≡◌, ℕ, List, [], ◌∷◌, ◌++◌, ◌⊎◌, None, map, codes, Contains, Result}
+use Rattle.std.specs.Prelude.{Ok, Err}
 use Rattle.sx_term.specs.Shapes.{shape, shapes}
 use Rattle.sx_term.specs.Term.{tree}
 use Rattle.sx_term.specs.Sorts.{Shape}
@@ -28,19 +29,32 @@ use Rattle.sx_core.specs.declared.sort_table.SortTable.{SortTable}
 use Rattle.sx_core.specs.File.{SortRow}
 use Rattle.sx_core.specs.declared.reader.Reader.{Reader}
 use Rattle.sx_core.specs.declared.step_error.StepError.{StepError}
-use Rattle.sx_core.specs.declared.step_error.StepError.TheVariants.{Memory as NoRoom, Order as OutOfOrder}
+use Rattle.sx_core.specs.declared.step_error.StepError.TheVariants.{Memory as NoRoom}
+use Rattle.sx_core.specs.declared.step_error.StepError.TheVariants.{Order as OutOfOrder}
 use Rattle.sx_core.specs.declared.stage.Open.{Open}
 use Rattle.sx_core.specs.declared.stage.Stage.{Stage}
-use Rattle.sx_core.specs.declared.stage.Stage.TheVariants.{Start, Declaring, Between, Premising, Concluded, Over}
+use Rattle.sx_core.specs.declared.stage.Stage.TheVariants.{Start, Declaring, Between, Premising}
+use Rattle.sx_core.specs.declared.stage.Stage.TheVariants.{Concluded, Over}
 use Rattle.sx_core.specs.declared.line_read.LineRead.{LineRead}
-use Rattle.sx_core.specs.declared.line_read.LineRead.TheVariants.{Head as HeadRead, Sort as SortRead, Con as ConRead, Form as FormRead, Rule as RuleRead, If as IfRead, Not as NotRead, Then as ThenRead, End as EndRead, Goal as GoalRead}
+use Rattle.sx_core.specs.declared.line_read.LineRead.TheVariants.{Head as HeadRead}
+use Rattle.sx_core.specs.declared.line_read.LineRead.TheVariants.{Sort as SortRead, Con as ConRead}
+use Rattle.sx_core.specs.declared.line_read.LineRead.TheVariants.{Form as FormRead}
+use Rattle.sx_core.specs.declared.line_read.LineRead.TheVariants.{Rule as RuleRead, If as IfRead}
+use Rattle.sx_core.specs.declared.line_read.LineRead.TheVariants.{Not as NotRead, Then as ThenRead}
+use Rattle.sx_core.specs.declared.line_read.LineRead.TheVariants.{End as EndRead, Goal as GoalRead}
 use Rattle.sx_core.specs.declared.keyword.Keyword.{Keyword}
-use Rattle.sx_core.specs.declared.keyword.Keyword.TheVariants.{Head, Sort, Con, Form, Rule, If, Not, Then, End, Goal}
+use Rattle.sx_core.specs.declared.keyword.Keyword.TheVariants.{Head, Sort, Con, Form, Rule, If, Not}
+use Rattle.sx_core.specs.declared.keyword.Keyword.TheVariants.{Then, End, Goal}
 use Rattle.sx_lines.specs.declared.kind.Kind.{Kind}
-use Rattle.sx_lines.specs.declared.kind.Kind.TheVariants.{Head as BadHead, Directive, Shape as BadShape, Order as BadOrder, Unfinished, Main, Variable}
+use Rattle.sx_lines.specs.declared.kind.Kind.TheVariants.{Head as BadHead, Directive}
+use Rattle.sx_lines.specs.declared.kind.Kind.TheVariants.{Shape as BadShape, Order as BadOrder}
+use Rattle.sx_lines.specs.declared.kind.Kind.TheVariants.{Unfinished, Main, Variable}
 use Rattle.sx_core.specs.declared.error.CoreFileError.{CoreFileError}
-use Rattle.sx_core.specs.declared.error.CoreFileError.TheVariants.{Memory, NotUtf8, Notation, TooDeep, Rules}
-use Rattle.sx_core.specs.declared.terms_row.RowError.TheVariants.{Memory as NoRoomForRow, Shape as NoRow, TooDeep as DeepRow}
+use Rattle.sx_core.specs.declared.error.CoreFileError.TheVariants.{Memory, NotUtf8, Notation}
+use Rattle.sx_core.specs.declared.error.CoreFileError.TheVariants.{TooDeep, Rules}
+use Rattle.sx_core.specs.declared.terms_row.RowError.TheVariants.{Memory as NoRoomForRow}
+use Rattle.sx_core.specs.declared.terms_row.RowError.TheVariants.{Shape as NoRow}
+use Rattle.sx_core.specs.declared.terms_row.RowError.TheVariants.{TooDeep as DeepRow}
 
 -- the word of a line that was read
 abbrev pub keyword_of : LineRead → Keyword
@@ -103,7 +117,15 @@ pub record Begins (o : Open) (number : ℕ) (name : List ℕ) (sorts : List Sort
 
 -- the rule that a conclusion makes whole
 abbrev pub whole_rule : Open → JudgementOf → NamedRule
-whole_rule o j = record { name = o.name; rule = record { sorts = o.sorts.items; premises = map premise o.premises.items; conclusion = judgement j } }
+whole_rule o j = record {
+  name = o.name;
+  rule =
+      record {
+        sorts = o.sorts.items;
+        premises = map premise o.premises.items;
+        conclusion = judgement j;
+      };
+}
 
 -- a declaration, a rule or the goal may follow
 abbrev pub MayBegin : Stage → Type 0
@@ -112,15 +134,24 @@ MayBegin stage = (stage ≡ Declaring) ⊎ (stage ≡ Between)
 -- the reading of this line of this number leads from one reader to the other
 abbrev pub Steps : Reader → ℕ → LineRead → Reader → Type 0
 Steps old number HeadRead new = (old.stage ≡ Start) × (new.stage ≡ Declaring) × IsKept old new
-Steps old number (SortRead r) new = (old.stage ≡ Declaring) × (new.stage ≡ Declaring) × (new.rules ≡ old.rules) × AddsSort old.found new.found r.name
-Steps old number (ConRead r con) new = (old.stage ≡ Declaring) × (new.stage ≡ Declaring) × (new.rules ≡ old.rules) × AddsCon old.found new.found r.name (shape con)
-Steps old number (FormRead f) new = (old.stage ≡ Declaring) × (new.stage ≡ Declaring) × (new.rules ≡ old.rules) × AddsForm old.found new.found (form f)
-Steps old number (RuleRead name sorts) new = MayBegin old.stage × (o : Open) × (new.stage ≡ Premising o) × Begins o number name sorts.items × IsKept old new
-Steps old number (IfRead j) new = (o p : Open) × (old.stage ≡ Premising o) × (new.stage ≡ Premising p) × AddsPremise o p (holds (judgement j)) × IsKept old new
-Steps old number (NotRead left right) new = (o p : Open) × (old.stage ≡ Premising o) × (new.stage ≡ Premising p) × AddsPremise o p (apart (tree left) (tree right)) × IsKept old new
-Steps old number (ThenRead j) new = (o : Open) × (old.stage ≡ Premising o) × (new.stage ≡ Concluded o j) × IsKept old new
+Steps old number (SortRead r) new = (old.stage ≡ Declaring) × (new.stage ≡ Declaring) ×
+    (new.rules ≡ old.rules) × AddsSort old.found new.found r.name
+Steps old number (ConRead r con) new = (old.stage ≡ Declaring) × (new.stage ≡ Declaring) ×
+    (new.rules ≡ old.rules) × AddsCon old.found new.found r.name (shape con)
+Steps old number (FormRead f) new = (old.stage ≡ Declaring) × (new.stage ≡ Declaring) ×
+    (new.rules ≡ old.rules) × AddsForm old.found new.found (form f)
+Steps old number (RuleRead name sorts) new =
+    MayBegin old.stage × (o : Open) × (new.stage ≡ Premising o) × Begins o number name sorts.items ×
+    IsKept old new
+Steps old number (IfRead j) new = (o p : Open) × (old.stage ≡ Premising o) ×
+    (new.stage ≡ Premising p) × AddsPremise o p (holds (judgement j)) × IsKept old new
+Steps old number (NotRead left right) new = (o p : Open) × (old.stage ≡ Premising o) ×
+    (new.stage ≡ Premising p) × AddsPremise o p (apart (tree left) (tree right)) × IsKept old new
+Steps old number (ThenRead j) new = (o : Open) × (old.stage ≡ Premising o) ×
+    (new.stage ≡ Concluded o j) × IsKept old new
 Steps old number EndRead new =
-    (o : Open) × (j : JudgementOf) × (old.stage ≡ Concluded o j) × (new.stage ≡ Between) × (new.found ≡ old.found)
+    (o : Open) × (j : JudgementOf) × (old.stage ≡ Concluded o j) × (new.stage ≡ Between) ×
+    (new.found ≡ old.found)
     × (map named new.rules.items ≡ map named old.rules.items ++ whole_rule o j ∷ [])
 Steps old number (GoalRead g) new = MayBegin old.stage × (new.stage ≡ Over g) × IsKept old new
 
@@ -138,17 +169,20 @@ abbrev pub IsBadNext : Reader → List ℕ → Kind → Type 0
 IsBadNext old text BadHead = (phase_of old.stage ≡ at_start) × (text ≡ codes "sxcore 1" → ⊥)
 IsBadNext old text Directive = IsUsual old × NoKeyword text
 IsBadNext old text BadShape =
-    IsUsual old × (k : Keyword) × (rest : List ℕ) × IsKeyword text k rest × RefusedAs (IsFitting (context old.found) text) (IsDeepLine (context old.found) text) NoRow
+    IsUsual old × (k : Keyword) × (rest : List ℕ) × IsKeyword text k rest ×
+    RefusedAs (IsFitting (context old.found) text) (IsDeepLine (context old.found) text) NoRow
 IsBadNext old text BadOrder =
     (phase_of old.stage ≡ at_end)
-    ⊎ (IsUsual old × (x : LineRead) × IsRead (context old.found) text x × (step (phase_of old.stage) (keyword_of x) ≡ None))
+    ⊎ (IsUsual old × (x : LineRead) × IsRead (context old.found) text x ×
+    (step (phase_of old.stage) (keyword_of x) ≡ None))
 IsBadNext old text Unfinished = ⊥
 IsBadNext old text Main = ⊥
 IsBadNext old text Variable = ⊥
 
 -- the line with this number and text is read
 abbrev pub NextRead : Reader → ℕ → List ℕ → Reader → Type 0
-NextRead old number text new = (x : LineRead) × IsRead (context old.found) text x × Steps old number x new
+NextRead old number text new = (x : LineRead) × IsRead (context old.found) text x ×
+    Steps old number x new
 
 -- the line with this number and text is refused
 abbrev pub NextRefused : Reader → ℕ → List ℕ → CoreFileError → Type 0
@@ -156,7 +190,8 @@ NextRefused old number text Memory = Unit {0}
 NextRefused old number text (NotUtf8 place) = ⊥
 NextRefused old number text (Notation l kind) = (l ≡ number) × IsBadNext old text kind
 NextRefused old number text (TooDeep l depth) =
-    (l ≡ number) × IsUsual old × RefusedAs (IsFitting (context old.found) text) (IsDeepLine (context old.found) text) (DeepRow depth)
+    (l ≡ number) × IsUsual old × RefusedAs (IsFitting (context old.found) text)
+    (IsDeepLine (context old.found) text) (DeepRow depth)
 NextRefused old number text (Rules e) = ⊥
 
 -- the name of what was read is that of nothing before it
@@ -189,7 +224,8 @@ rule_error NoRules = Memory
 rule_error e = Rules e
 
 -- the problem has what was found, these rules, which are a rule set, and this goal
-pub record IsProblem (found : Found) (rules : List NamedRule) (g : GoalData) (p : Problem) : Type 0 where
+pub record IsProblem (found : Found) (rules : List NamedRule) (g : GoalData)
+    (p : Problem) : Type 0 where
   pub sorts : p.sorts ≡ map (λ row. row.name) (rows_in found.sorts)
   pub cons : p.cons ≡ found.cons.items
   pub shapes_are : p.shapes ≡ shapes found.shapes
@@ -205,24 +241,28 @@ IsMadeOf found rules g (Err Memory) = Unit {0}
 IsMadeOf found rules g (Err (NotUtf8 place)) = ⊥
 IsMadeOf found rules g (Err (Notation l kind)) = ⊥
 IsMadeOf found rules g (Err (TooDeep l depth)) = ⊥
-IsMadeOf found rules g (Err (Rules e)) = (e ≡ NoRules → ⊥) × IsRefused (shapes found.shapes) (known_in found.forms) rules e
+IsMadeOf found rules g (Err (Rules e)) = (e ≡ NoRules → ⊥) ×
+    IsRefused (shapes found.shapes) (known_in found.forms) rules e
 
 -- what comes of a reader when no line is left: this is the number that a further line would have
 abbrev pub IsEnded : Reader → Stage → ℕ → Result CoreProblem CoreFileError → Type 0
-IsEnded r stage number (Ok p) = (g : GoalOf) × (stage ≡ Over g) × IsProblem r.found (map named r.rules.items) (goal g) (problem p)
+IsEnded r stage number (Ok p) = (g : GoalOf) × (stage ≡ Over g) ×
+    IsProblem r.found (map named r.rules.items) (goal g) (problem p)
 IsEnded r stage number (Err Memory) = Unit {0}
 IsEnded r stage number (Err (NotUtf8 place)) = ⊥
 IsEnded r stage number (Err (Notation l BadHead)) = (stage ≡ Start) × (l ≡ number)
 IsEnded r stage number (Err (Notation l Main)) = MayBegin stage × (l ≡ number)
 IsEnded r stage number (Err (Notation l Unfinished)) =
-    (o : Open) × ((stage ≡ Premising o) ⊎ ((j : JudgementOf) × (stage ≡ Concluded o j))) × (l ≡ o.line)
+    (o : Open) × ((stage ≡ Premising o) ⊎ ((j : JudgementOf) × (stage ≡ Concluded o j))) ×
+    (l ≡ o.line)
 IsEnded r stage number (Err (Notation l Directive)) = ⊥
 IsEnded r stage number (Err (Notation l BadShape)) = ⊥
 IsEnded r stage number (Err (Notation l BadOrder)) = ⊥
 IsEnded r stage number (Err (Notation l Variable)) = ⊥
 IsEnded r stage number (Err (TooDeep l depth)) = ⊥
 IsEnded r stage number (Err (Rules e)) =
-    (g : GoalOf) × (stage ≡ Over g) × (e ≡ NoRules → ⊥) × IsRefused (shapes r.found.shapes) (known_in r.found.forms) (map named r.rules.items) e
+    (g : GoalOf) × (stage ≡ Over g) × (e ≡ NoRules → ⊥) ×
+    IsRefused (shapes r.found.shapes) (known_in r.found.forms) (map named r.rules.items) e
 
 -- a reader before the first line of a file with these sorts
 pub record IsBegun (sorts : SortTable) (r : Reader) : Type 0 where
@@ -243,5 +283,6 @@ IsSortLine text r = (text ≡ row_text (row Sort r)) × IsName r.name
 -- the sort of the line is added, where it is that of a sort whose name is not taken
 abbrev pub FindsSort : SortTable → SortTable → List ℕ → Type 0
 FindsSort old new text =
-    ((row : SortRow) × IsNewSort (rows_in old) text row × (rows_in new ≡ rows_in old ++ row ∷ []) × (new.names ≡ old.names ++ row.name ∷ []))
+    ((row : SortRow) × IsNewSort (rows_in old) text row × (rows_in new ≡ rows_in old ++ row ∷ []) ×
+    (new.names ≡ old.names ++ row.name ∷ []))
     ⊎ (((row : SortRow) → IsNewSort (rows_in old) text row → ⊥) × (new ≡ old))

@@ -3,9 +3,11 @@ use Rattle.std.specs.Prelude.{◌≡◌, List, ◌++◌, Option, Some, None}
 use Rattle.sx_core.specs.File.{CoreFile}
 use Rattle.sx_core.specs.Table.{Row, rows_of}
 use Rattle.sx_core.specs.declared.stage.Stage.{Stage}
-use Rattle.sx_core.specs.declared.stage.Stage.TheVariants.{Start, Declaring, Between, Premising, Concluded, Over}
+use Rattle.sx_core.specs.declared.stage.Stage.TheVariants.{Start, Declaring, Between, Premising}
+use Rattle.sx_core.specs.declared.stage.Stage.TheVariants.{Concluded, Over}
 use Rattle.sx_core.specs.declared.keyword.Keyword.{Keyword}
-use Rattle.sx_core.specs.declared.keyword.Keyword.TheVariants.{Head, Sort, Con, Form, Rule, If, Not, Then, End, Goal}
+use Rattle.sx_core.specs.declared.keyword.Keyword.TheVariants.{Head, Sort, Con, Form, Rule, If, Not}
+use Rattle.sx_core.specs.declared.keyword.Keyword.TheVariants.{Then, End, Goal}
 
 -- the rows stand in order: they are the front of the rows of some file
 abbrev pub IsFront : List Row → Type 0

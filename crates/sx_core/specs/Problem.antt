@@ -6,7 +6,8 @@ use Rattle.sx_rules.specs.Views.{FormData, NamedRule, goal}
 use Rattle.sx_rules.specs.Sets.{shapes_in, forms_in, rules_in}
 use Rattle.sx_core.specs.declared.problem.CoreProblem.{CoreProblem}
 
--- a core problem: the names of its sorts and constructors, the shapes of its constructors, its forms, its rules and its goal
+-- a core problem: the names of its sorts and constructors, the shapes of its constructors, its
+-- forms, its rules and its goal
 pub record Problem : Type 0 where
   pub sorts : List (List ℕ)
   pub cons : List (List ℕ)

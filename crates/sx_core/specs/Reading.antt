@@ -12,8 +12,14 @@ use Rattle.sx_core.specs.Table.{row, RuleRow}
 use Rattle.sx_core.specs.Fitting.{Context, IsFull, IsFitting}
 use Rattle.sx_core.specs.declared.found.Found.{Found}
 use Rattle.sx_core.specs.declared.line_read.LineRead.{LineRead}
-use Rattle.sx_core.specs.declared.line_read.LineRead.TheVariants.{Head as HeadRead, Sort as SortRead, Con as ConRead, Form as FormRead, Rule as RuleRead, If as IfRead, Not as NotRead, Then as ThenRead, End as EndRead, Goal as GoalRead}
-use Rattle.sx_core.specs.declared.keyword.Keyword.TheVariants.{Head, Sort, Con, Form, Rule, If, Not, Then, End, Goal}
+use Rattle.sx_core.specs.declared.line_read.LineRead.TheVariants.{Head as HeadRead}
+use Rattle.sx_core.specs.declared.line_read.LineRead.TheVariants.{Sort as SortRead, Con as ConRead}
+use Rattle.sx_core.specs.declared.line_read.LineRead.TheVariants.{Form as FormRead}
+use Rattle.sx_core.specs.declared.line_read.LineRead.TheVariants.{Rule as RuleRead, If as IfRead}
+use Rattle.sx_core.specs.declared.line_read.LineRead.TheVariants.{Not as NotRead, Then as ThenRead}
+use Rattle.sx_core.specs.declared.line_read.LineRead.TheVariants.{End as EndRead, Goal as GoalRead}
+use Rattle.sx_core.specs.declared.keyword.Keyword.TheVariants.{Head, Sort, Con, Form, Rule, If, Not}
+use Rattle.sx_core.specs.declared.keyword.Keyword.TheVariants.{Then, End, Goal}
 
 -- what was found as plain data
 abbrev pub context : Found → Context
@@ -35,11 +41,18 @@ pub record IsFound (found : Found) : Type 0 where
 abbrev pub IsRead : Context → List ℕ → LineRead → Type 0
 IsRead c text HeadRead = IsFitting c text (row Head tt)
 IsRead c text (SortRead r) = IsFitting c text (row Sort (sort_row r))
-IsRead c text (ConRead r con) = IsFitting c text (row Con (con_row r)) × IsConOf c.sorts (con_row r) (shape con)
-IsRead c text (FormRead f) = (r : FormRow) × IsFitting c text (row Form r) × IsFormOf c.sorts r (form f)
-IsRead c text (RuleRead name sorts) = (r : RuleRow) × IsFitting c text (row Rule r) × (r.name ≡ name) × NameSorts c.sorts r.sorts sorts.items
-IsRead c text (IfRead j) = (r : JudgementRow) × IsFitting c text (row If r) × IsFull c.forms r (judgement j)
-IsRead c text (NotRead left right) = IsFitting c text (row Not (record { left = tree left; right = tree right }))
-IsRead c text (ThenRead j) = (r : JudgementRow) × IsFitting c text (row Then r) × IsFull c.forms r (judgement j)
+IsRead c text (ConRead r con) = IsFitting c text (row Con (con_row r)) ×
+    IsConOf c.sorts (con_row r) (shape con)
+IsRead c text (FormRead f) = (r : FormRow) × IsFitting c text (row Form r) ×
+    IsFormOf c.sorts r (form f)
+IsRead c text (RuleRead name sorts) = (r : RuleRow) × IsFitting c text (row Rule r) ×
+    (r.name ≡ name) × NameSorts c.sorts r.sorts sorts.items
+IsRead c text (IfRead j) = (r : JudgementRow) × IsFitting c text (row If r) ×
+    IsFull c.forms r (judgement j)
+IsRead c text (NotRead left right) = IsFitting c text
+    (row Not (record { left = tree left; right = tree right }))
+IsRead c text (ThenRead j) = (r : JudgementRow) × IsFitting c text (row Then r) ×
+    IsFull c.forms r (judgement j)
 IsRead c text EndRead = IsFitting c text (row End tt)
-IsRead c text (GoalRead g) = (r : JudgementRow) × IsFitting c text (row Goal r) × IsGoal c.shapes c.forms r (goal g)
+IsRead c text (GoalRead g) = (r : JudgementRow) × IsFitting c text (row Goal r) ×
+    IsGoal c.shapes c.forms r (goal g)

@@ -4,7 +4,8 @@ use Rattle.sx_term.specs.Sorts.{Shape}
 use Rattle.sx_rules.specs.declared.rule.Place.{Place}
 use Rattle.sx_rules.specs.Views.{FormData}
 use Rattle.sx_core.specs.File.{SortRow, ConRow, PlaceRow, FormRow}
-use Rattle.sx_core.specs.Stated.{NamesSort, NameSorts, MayHave, MayStandAt, ArePlaces, AreDistinct, subject_count}
+use Rattle.sx_core.specs.Stated.{NamesSort, NameSorts, MayHave, MayStandAt, ArePlaces, AreDistinct}
+use Rattle.sx_core.specs.Stated.{subject_count}
 use Rattle.sx_core.specs.Rows.{sort_row}
 use Rattle.sx_core.specs.declared.sort_table.SortTable.{SortTable}
 use Rattle.sx_core.specs.declared.terms_row.RowError.{RowError}

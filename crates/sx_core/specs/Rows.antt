@@ -2,7 +2,9 @@
 use Rattle.std.specs.Prelude.{◌≡◌, ℕ, Bool, List, [], ◌∷◌, ◌++◌, map}
 use Rattle.sx_lines.specs.Bytes.{space}
 use Rattle.sx_term.specs.declared.role.Role.{Role}
-use Rattle.sx_core.specs.File.{SortRow, ConRow, PlaceRow, FormRow, Declaration, sort_line, con_line, form_line, role_text, place_text, kind_text, words_text, declaration_text}
+use Rattle.sx_core.specs.File.{SortRow, ConRow, PlaceRow, FormRow, Declaration, sort_line, con_line}
+use Rattle.sx_core.specs.File.{form_line, role_text, place_text, kind_text, words_text}
+use Rattle.sx_core.specs.File.{declaration_text}
 use Rattle.sx_core.specs.Stated.{IsName, AreNames}
 use Rattle.sx_core.specs.Words.{Stops}
 use Rattle.sx_core.specs.declared.rows.SortRow.{SortRow as SortRowOf}

@@ -1,5 +1,6 @@
 -- What a core file states.
-use Rattle.std.specs.Prelude.{◌≡◌, ℕ, ◌+◌, ◌≤◌, Bool, true, false, IsTrue, List, [], ◌∷◌, map, length, Some, slice_get, Contains, codes}
+use Rattle.std.specs.Prelude.{◌≡◌, ℕ, ◌+◌, ◌≤◌, Bool, true, false, IsTrue, List, [], ◌∷◌, map}
+use Rattle.std.specs.Prelude.{length, Some, slice_get, Contains, codes}
 use Rattle.sx_term.specs.declared.lex_kind.LexKind.TheVariants.{Id, Num, Str}
 use Rattle.sx_term.specs.declared.sort.Sort.{Sort}
 use Rattle.sx_term.specs.declared.sort.Sort.TheVariants.{Lex, Plain, Typed}
@@ -15,7 +16,9 @@ use Rattle.sx_rules.specs.Modes.{Goal, inputs}
 use Rattle.sx_rules.specs.Views.{FormData, NamedRule, is_sub, modes_of, sorts_of, places_at}
 use Rattle.sx_rules.specs.Good.{IsRuleSet}
 use Rattle.sx_core.specs.Problem.{Problem}
-use Rattle.sx_core.specs.File.{SortRow, ConRow, PlaceRow, FormRow, Declaration, sort_line, con_line, form_line, JudgementRow, PremiseRow, if_line, not_line, RuleRows, CoreFile}
+use Rattle.sx_core.specs.File.{SortRow, ConRow, PlaceRow, FormRow, Declaration, sort_line, con_line}
+use Rattle.sx_core.specs.File.{form_line, JudgementRow, PremiseRow, if_line, not_line, RuleRows}
+use Rattle.sx_core.specs.File.{CoreFile}
 
 -- the sort lines among the declarations
 abbrev pub sort_rows : List Declaration → List SortRow
@@ -87,11 +90,13 @@ MayHave (Typed n) kids = Unit {0}
 abbrev pub AreCons : List SortRow → List ConRow → List (List ℕ) → List Shape → Type 0
 AreCons rows [] [] [] = Unit {0}
 AreCons rows (con ∷ cons) (name ∷ names) (shape ∷ shapes) =
-    (con.name ≡ name) × NamesSort rows con.sort shape.sort × NameSorts rows con.kids shape.kids × MayHave shape.sort shape.kids
+    (con.name ≡ name) × NamesSort rows con.sort shape.sort × NameSorts rows con.kids shape.kids ×
+    MayHave shape.sort shape.kids
     × AreCons rows cons names shapes
 AreCons rows _ _ _ = ⊥
 
--- a place of this role may have the sort: a subject a typed one, another place one that is not typed
+-- a place of this role may have the sort: a subject a typed one, another place one that is not
+-- typed
 abbrev pub MayStandAt : Role → Sort → Type 0
 MayStandAt In sort = IsUntyped sort
 MayStandAt Sub sort = (n : ℕ) × (sort ≡ Typed n)
@@ -101,7 +106,8 @@ MayStandAt Out sort = IsUntyped sort
 abbrev pub ArePlaces : List SortRow → List PlaceRow → List Place → Type 0
 ArePlaces rows [] [] = Unit {0}
 ArePlaces rows (row ∷ more) (place ∷ places) =
-    (row.role ≡ place.role) × NamesSort rows row.sort place.sort × MayStandAt place.role place.sort × ArePlaces rows more places
+    (row.role ≡ place.role) × NamesSort rows row.sort place.sort ×
+    MayStandAt place.role place.sort × ArePlaces rows more places
 ArePlaces rows _ _ = ⊥
 
 -- how many of the places are subjects
@@ -117,7 +123,8 @@ subject_count (place ∷ places) = one_when (is_sub place.role) + subject_count 
 abbrev pub AreForms : List SortRow → List FormRow → List FormData → Type 0
 AreForms rows [] [] = Unit {0}
 AreForms rows (row ∷ more) (form ∷ forms) =
-    (row.name ≡ form.name) × ArePlaces rows row.places form.places × (subject_count form.places ≤ 1) × AreForms rows more forms
+    (row.name ≡ form.name) × ArePlaces rows row.places form.places ×
+    (subject_count form.places ≤ 1) × AreForms rows more forms
 AreForms rows _ _ = ⊥
 
 -- each term has a core text and a depth of at most 1,000
@@ -139,13 +146,15 @@ pub record IsJudgement (forms : List FormData) (row : JudgementRow) (j : Judgeme
 -- the lines state these premises
 abbrev pub ArePremises : List FormData → List PremiseRow → List Premise → Type 0
 ArePremises forms [] [] = Unit {0}
-ArePremises forms (if_line row ∷ rows) (holds j ∷ ps) = IsJudgement forms row j × ArePremises forms rows ps
+ArePremises forms (if_line row ∷ rows) (holds j ∷ ps) =
+    IsJudgement forms row j × ArePremises forms rows ps
 ArePremises forms (not_line left right ∷ rows) (apart t u ∷ ps) =
     (left ≡ t) × (right ≡ u) × AreReadable (left ∷ right ∷ []) × ArePremises forms rows ps
 ArePremises forms _ _ = ⊥
 
 -- the lines state this rule
-pub record IsRule (rows : List SortRow) (forms : List FormData) (lines : RuleRows) (r : NamedRule) : Type 0 where
+pub record IsRule (rows : List SortRow) (forms : List FormData) (lines : RuleRows)
+    (r : NamedRule) : Type 0 where
   pub name : lines.name ≡ r.name
   pub is_name : IsName r.name
   pub sorts : NameSorts rows lines.sorts r.rule.sorts
@@ -155,16 +164,20 @@ pub record IsRule (rows : List SortRow) (forms : List FormData) (lines : RuleRow
 -- the lines state these rules
 abbrev pub AreRules : List SortRow → List FormData → List RuleRows → List NamedRule → Type 0
 AreRules rows forms [] [] = Unit {0}
-AreRules rows forms (lines ∷ more) (r ∷ rs) = IsRule rows forms lines r × AreRules rows forms more rs
+AreRules rows forms (lines ∷ more) (r ∷ rs) =
+    IsRule rows forms lines r × AreRules rows forms more rs
 AreRules rows forms _ _ = ⊥
 
--- the line states this goal: its form has a subject, and its terms have no variables and the sorts of the inputs
-pub record IsGoal (shapes : List Shape) (forms : List FormData) (row : JudgementRow) (goal : Goal) : Type 0 where
+-- the line states this goal: its form has a subject, and its terms have no variables and the sorts
+-- of the inputs
+pub record IsGoal (shapes : List Shape) (forms : List FormData) (row : JudgementRow)
+    (goal : Goal) : Type 0 where
   pub form : NamesForm forms row.form goal.form
   pub terms : goal.terms ≡ row.terms
   pub readable : AreReadable row.terms
   pub subject : subject_count (places_at forms goal.form) ≡ 1
-  pub sorted : HaveSorts shapes [] goal.terms (inputs (modes_of forms goal.form) (sorts_of forms goal.form))
+  pub sorted : HaveSorts shapes [] goal.terms
+      (inputs (modes_of forms goal.form) (sorts_of forms goal.form))
 
 -- the file says this, where its rules may be no rule set
 pub record Says (file : CoreFile) (p : Problem) : Type 0 where

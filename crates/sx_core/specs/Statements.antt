@@ -29,7 +29,8 @@ pub record IsFormTable (t : FormTable) : Type 0 where
   pub few : length (known_in t) < 2 ^ 32
 
 -- a blank, the name of this form, and the rest
-pub record IsFormRead (known : List FormData) (text : List ℕ) (form : ℕ) (rest : List ℕ) : Type 0 where
+pub record IsFormRead (known : List FormData) (text : List ℕ) (form : ℕ)
+    (rest : List ℕ) : Type 0 where
   pub word : List ℕ
   pub parts : text ≡ space ∷ (word ++ rest)
   pub named : IsName word
@@ -57,18 +58,22 @@ pub record IsDeepJudgement (known : List FormData) (text : List ℕ) (depth : �
   pub deep : IsDeepRow rest (length (places_at known form)) depth
 
 -- the text is that of these terms, which have these sorts
-pub record IsInputsRead (shapes : List Shape) (sorts : List Sort) (text : List ℕ) (terms : List Tree) : Type 0 where
+pub record IsInputsRead (shapes : List Shape) (sorts : List Sort) (text : List ℕ)
+    (terms : List Tree) : Type 0 where
   pub row : RowRead text (length sorts) terms
   pub sorted : HaveSorts shapes [] terms sorts
 
 -- the text is that of this goal
-pub record IsGoalRead (shapes : List Shape) (known : List FormData) (text : List ℕ) (goal : Goal) : Type 0 where
+pub record IsGoalRead (shapes : List Shape) (known : List FormData) (text : List ℕ)
+    (goal : Goal) : Type 0 where
   pub rest : List ℕ
   pub form : IsFormRead known text goal.form rest
   pub subject : subject_count (places_at known goal.form) ≡ 1
-  pub terms : IsInputsRead shapes (inputs (modes_of known goal.form) (sorts_of known goal.form)) rest goal.terms
+  pub terms : IsInputsRead shapes (inputs (modes_of known goal.form)
+      (sorts_of known goal.form)) rest goal.terms
 
--- after its form, which has a subject, the text has good terms, and then a core text of this depth at one of the inputs
+-- after its form, which has a subject, the text has good terms, and then a core text of this depth
+-- at one of the inputs
 pub record IsDeepGoal (known : List FormData) (text : List ℕ) (depth : ℕ) : Type 0 where
   pub form : ℕ
   pub rest : List ℕ

@@ -2,7 +2,8 @@
 use Rattle.std.specs.Prelude.{◌≡◌, ℕ, ◌<◌, ◌≤◌, List, [], ◌∷◌, ◌++◌, length}
 use Rattle.sx_term.specs.Tree.{Tree, depth_of}
 use Rattle.sx_term.specs.declared.core_error.CoreError.{CoreError}
-use Rattle.sx_term.specs.declared.core_error.CoreError.TheVariants.{BadCore, TooDeep as CoreDeep, Memory as NoRoom}
+use Rattle.sx_term.specs.declared.core_error.CoreError.TheVariants.{BadCore, TooDeep as CoreDeep}
+use Rattle.sx_term.specs.declared.core_error.CoreError.TheVariants.{Memory as NoRoom}
 use Rattle.sx_term.specs.Core.{core, HasCore, NoDigit}
 use Rattle.sx_lines.specs.Bytes.{space}
 use Rattle.sx_core.specs.declared.terms_row.RowError.{RowError}
@@ -22,7 +23,8 @@ HaveCores (t ∷ ts) = HasCore t × HaveCores ts
 abbrev pub OneRead : List ℕ → Tree → List ℕ → Type 0
 OneRead s t after =
     HasCore t × (depth_of t ≤ 1000) × (s ≡ space ∷ (core t ++ after))
-    × ((u : Tree) (more : List ℕ) → HasCore u → NoDigit more → s ≡ space ∷ (core u ++ more) → (u ≡ t) × (more ≡ after))
+    × ((u : Tree) (more : List ℕ) → HasCore u → NoDigit more → s ≡ space ∷ (core u ++ more) →
+    (u ≡ t) × (more ≡ after))
     × ((u : Tree) (rest : List ℕ) (end : ℕ) → s ≡ space ∷ rest → StandsAt rest 0 end u → u ≡ t)
 
 -- a blank and a core text that is too deep
@@ -34,7 +36,8 @@ pub record IsDeepOne (s : List ℕ) (depth : ℕ) : Type 0 where
   pub stands : StandsAt rest 0 end deep
   pub is : depth ≡ depth_of deep
   pub over : 1000 < depth
-  pub only : (u : Tree) (more : List ℕ) → HasCore u → NoDigit more → s ≡ space ∷ (core u ++ more) → u ≡ deep
+  pub only : (u : Tree) (more : List ℕ) → HasCore u → NoDigit more → s ≡ space ∷ (core u ++ more) →
+      u ≡ deep
 
 -- no blank and core text stand there, or a core text that is too deep
 abbrev pub OneRefused : List ℕ → RowError → Type 0
@@ -60,7 +63,8 @@ pub record IsDeepRow (s : List ℕ) (count depth : ℕ) : Type 0 where
   pub is : depth ≡ depth_of deep
   pub over : 1000 < depth
 
--- Why nothing is as it should be: memory is lacking, or a core text of this depth stands there, or else.
+-- Why nothing is as it should be: memory is lacking, or a core text of this depth stands there, or
+-- else.
 abbrev pub RefusedAs : {A : Type 0} → (A → Type 0) → (ℕ → Type 0) → RowError → Type 0
 RefusedAs {A} Is IsDeep Memory = Unit {0}
 RefusedAs {A} Is IsDeep Shape = ((x : A) → Is x → ⊥) × ((depth : ℕ) → IsDeep depth → ⊥)

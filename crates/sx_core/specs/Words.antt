@@ -39,7 +39,8 @@ pub record IsNameRead (text name rest : List ℕ) : Type 0 where
 -- no name stands there
 abbrev pub NameRefused : List ℕ → RowError → Type 0
 NameRefused text Memory = Unit {0}
-NameRefused text Shape = (name rest : List ℕ) → IsName name → Stops rest → text ≡ space ∷ (name ++ rest) → ⊥
+NameRefused text Shape = (name rest : List ℕ) → IsName name → Stops rest →
+    text ≡ space ∷ (name ++ rest) → ⊥
 NameRefused text (TooDeep depth) = ⊥
 
 -- the whole is no name

@@ -16,10 +16,12 @@ pub enum CoreFileError {
     /// The bytes are not UTF-8: how many bytes stand before the first bad sequence.
     #[error("not UTF-8")]
     NotUtf8(usize),
-    /// The first bad line, or 1 more than the number of lines where one is missing, and what is bad about it.
+    /// The first bad line, or 1 more than the number of lines where one is missing, and what is bad
+    /// about it.
     #[error("a bad line")]
     Notation { line: u32, kind: Kind },
-    /// The first bad line where it has a core text that is too deep, and the depth of that text, which is over 1,000.
+    /// The first bad line where it has a core text that is too deep, and the depth of that text,
+    /// which is over 1,000.
     #[error("a core text is too deep")]
     TooDeep { line: u32, depth: u64 },
     /// The rules of the file are no rule set.

@@ -13,7 +13,8 @@ use std::alloc::Global;
 use sx_rules::Form;
 use sx_term::{Con, NoMemory, Shapes, Text};
 
-/// The sorts of the whole file, the names of sorts that are taken so far, and the constructors and the forms so far.
+/// The sorts of the whole file, the names of sorts that are taken so far, and the constructors and
+/// the forms so far.
 #[derive(Drop)]
 pub(crate) struct Found {
     pub sorts: SortTable,

@@ -23,7 +23,8 @@ pub(crate) enum Keyword {
 
 /// The word that begins a line, where it is one.
 fn keyword_of(word: &[u8]) -> Option<Keyword>
-    ensures { MatchOption result ((k : KeywordOf) → word.now ≡ keyword_text k → ⊥) (λ k. word.now ≡ keyword_text k) }
+    ensures { MatchOption result ((k : KeywordOf) → word.now ≡ keyword_text k → ⊥)
+        (λ k. word.now ≡ keyword_text k) }
 {
     if word == b"sxcore".as_slice() {
         return Some(Keyword::Head);
@@ -60,7 +61,8 @@ fn keyword_of(word: &[u8]) -> Option<Keyword>
 
 /// The word at the front of a line, where it is one that begins a line, and what follows it.
 pub(crate) fn split_keyword<'a>(text: &'a [u8]) -> Option<(Keyword, &'a [u8])>
-    ensures { MatchOption result (NoKeyword text.entry.now) (λ x. IsKeyword text.entry.now x.0 x.1.now) }
+    ensures { MatchOption result (NoKeyword text.entry.now)
+        (λ x. IsKeyword text.entry.now x.0 x.1.now) }
 {
     let (word, rest) = text.split_at(word_len(text));
     match keyword_of(word) {

@@ -20,7 +20,9 @@ use std::alloc::Global;
 /// The first line, after its first word.
 fn head_line(found: &Found, text: &[u8], rest: &[u8]) -> Result<LineRead, RowError>
     requires { IsKeyword text.now keyword.Head rest.now }
-    ensures { MatchResult result (λ x. IsRead (context found.now) text.now x) (λ e. RefusedAs (IsFitting (context found.now) text.now) (IsDeepLine (context found.now) text.now) e) }
+    ensures { MatchResult result (λ x. IsRead (context found.now) text.now x)
+        (λ e. RefusedAs (IsFitting (context found.now) text.now)
+        (IsDeepLine (context found.now) text.now) e) }
 {
     if rest == b" 1".as_slice() {
         return Ok(LineRead::Head);
@@ -32,7 +34,9 @@ fn head_line(found: &Found, text: &[u8], rest: &[u8]) -> Result<LineRead, RowErr
 fn sort_line(alloc: Global, found: &Found, text: &[u8], rest: &[u8]) -> Result<LineRead, RowError>
     requires found { IsFound found.now }
     requires line { IsKeyword text.now keyword.Sort rest.now }
-    ensures { MatchResult result (λ x. IsRead (context found.now) text.now x) (λ e. RefusedAs (IsFitting (context found.now) text.now) (IsDeepLine (context found.now) text.now) e) }
+    ensures { MatchResult result (λ x. IsRead (context found.now) text.now x)
+        (λ e. RefusedAs (IsFitting (context found.now) text.now)
+        (IsDeepLine (context found.now) text.now) e) }
 {
     match read_sort(alloc, rest) {
         Ok(row) => {
@@ -49,7 +53,9 @@ fn sort_line(alloc: Global, found: &Found, text: &[u8], rest: &[u8]) -> Result<L
 fn con_line(alloc: Global, found: &Found, text: &[u8], rest: &[u8]) -> Result<LineRead, RowError>
     requires found { IsFound found.now }
     requires line { IsKeyword text.now keyword.Con rest.now }
-    ensures { MatchResult result (λ x. IsRead (context found.now) text.now x) (λ e. RefusedAs (IsFitting (context found.now) text.now) (IsDeepLine (context found.now) text.now) e) }
+    ensures { MatchResult result (λ x. IsRead (context found.now) text.now x)
+        (λ e. RefusedAs (IsFitting (context found.now) text.now)
+        (IsDeepLine (context found.now) text.now) e) }
 {
     match read_con(alloc, rest) {
         Ok(row) => {
@@ -73,7 +79,9 @@ fn con_line(alloc: Global, found: &Found, text: &[u8], rest: &[u8]) -> Result<Li
 fn form_line(alloc: Global, found: &Found, text: &[u8], rest: &[u8]) -> Result<LineRead, RowError>
     requires found { IsFound found.now }
     requires line { IsKeyword text.now keyword.Form rest.now }
-    ensures { MatchResult result (λ x. IsRead (context found.now) text.now x) (λ e. RefusedAs (IsFitting (context found.now) text.now) (IsDeepLine (context found.now) text.now) e) }
+    ensures { MatchResult result (λ x. IsRead (context found.now) text.now x)
+        (λ e. RefusedAs (IsFitting (context found.now) text.now)
+        (IsDeepLine (context found.now) text.now) e) }
 {
     match read_form(alloc, rest) {
         Ok(row) => {
@@ -96,7 +104,9 @@ fn form_line(alloc: Global, found: &Found, text: &[u8], rest: &[u8]) -> Result<L
 fn rule_line(alloc: Global, found: &Found, text: &[u8], rest: &[u8]) -> Result<LineRead, RowError>
     requires found { IsFound found.now }
     requires line { IsKeyword text.now keyword.Rule rest.now }
-    ensures { MatchResult result (λ x. IsRead (context found.now) text.now x) (λ e. RefusedAs (IsFitting (context found.now) text.now) (IsDeepLine (context found.now) text.now) e) }
+    ensures { MatchResult result (λ x. IsRead (context found.now) text.now x)
+        (λ e. RefusedAs (IsFitting (context found.now) text.now)
+        (IsDeepLine (context found.now) text.now) e) }
 {
     match read_name(alloc, rest) {
         Ok((name, more)) => match read_names(alloc, more) {
@@ -114,7 +124,9 @@ fn rule_line(alloc: Global, found: &Found, text: &[u8], rest: &[u8]) -> Result<L
 fn if_line(alloc: Global, found: &Found, text: &[u8], rest: &[u8]) -> Result<LineRead, RowError>
     requires found { IsFound found.now }
     requires line { IsKeyword text.now keyword.If rest.now }
-    ensures { MatchResult result (λ x. IsRead (context found.now) text.now x) (λ e. RefusedAs (IsFitting (context found.now) text.now) (IsDeepLine (context found.now) text.now) e) }
+    ensures { MatchResult result (λ x. IsRead (context found.now) text.now x)
+        (λ e. RefusedAs (IsFitting (context found.now) text.now)
+        (IsDeepLine (context found.now) text.now) e) }
 {
     match read_judgement(alloc, &found.forms, rest) {
         Ok(judgement) => Ok(LineRead::If(judgement)),
@@ -126,7 +138,9 @@ fn if_line(alloc: Global, found: &Found, text: &[u8], rest: &[u8]) -> Result<Lin
 fn not_line(alloc: Global, found: &Found, text: &[u8], rest: &[u8]) -> Result<LineRead, RowError>
     requires found { IsFound found.now }
     requires line { IsKeyword text.now keyword.Not rest.now }
-    ensures { MatchResult result (λ x. IsRead (context found.now) text.now x) (λ e. RefusedAs (IsFitting (context found.now) text.now) (IsDeepLine (context found.now) text.now) e) }
+    ensures { MatchResult result (λ x. IsRead (context found.now) text.now x)
+        (λ e. RefusedAs (IsFitting (context found.now) text.now)
+        (IsDeepLine (context found.now) text.now) e) }
 {
     match read_pair(alloc, rest) {
         Ok((left, right)) => Ok(LineRead::Not(left, right)),
@@ -138,7 +152,9 @@ fn not_line(alloc: Global, found: &Found, text: &[u8], rest: &[u8]) -> Result<Li
 fn then_line(alloc: Global, found: &Found, text: &[u8], rest: &[u8]) -> Result<LineRead, RowError>
     requires found { IsFound found.now }
     requires line { IsKeyword text.now keyword.Then rest.now }
-    ensures { MatchResult result (λ x. IsRead (context found.now) text.now x) (λ e. RefusedAs (IsFitting (context found.now) text.now) (IsDeepLine (context found.now) text.now) e) }
+    ensures { MatchResult result (λ x. IsRead (context found.now) text.now x)
+        (λ e. RefusedAs (IsFitting (context found.now) text.now)
+        (IsDeepLine (context found.now) text.now) e) }
 {
     match read_judgement(alloc, &found.forms, rest) {
         Ok(judgement) => Ok(LineRead::Then(judgement)),
@@ -149,7 +165,9 @@ fn then_line(alloc: Global, found: &Found, text: &[u8], rest: &[u8]) -> Result<L
 /// The line that ends a rule, after its first word.
 fn end_line(found: &Found, text: &[u8], rest: &[u8]) -> Result<LineRead, RowError>
     requires { IsKeyword text.now keyword.End rest.now }
-    ensures { MatchResult result (λ x. IsRead (context found.now) text.now x) (λ e. RefusedAs (IsFitting (context found.now) text.now) (IsDeepLine (context found.now) text.now) e) }
+    ensures { MatchResult result (λ x. IsRead (context found.now) text.now x)
+        (λ e. RefusedAs (IsFitting (context found.now) text.now)
+        (IsDeepLine (context found.now) text.now) e) }
 {
     if rest.is_empty() {
         return Ok(LineRead::End);
@@ -161,7 +179,9 @@ fn end_line(found: &Found, text: &[u8], rest: &[u8]) -> Result<LineRead, RowErro
 fn goal_line(alloc: Global, found: &Found, text: &[u8], rest: &[u8]) -> Result<LineRead, RowError>
     requires found { IsFound found.now }
     requires line { IsKeyword text.now keyword.Goal rest.now }
-    ensures { MatchResult result (λ x. IsRead (context found.now) text.now x) (λ e. RefusedAs (IsFitting (context found.now) text.now) (IsDeepLine (context found.now) text.now) e) }
+    ensures { MatchResult result (λ x. IsRead (context found.now) text.now x)
+        (λ e. RefusedAs (IsFitting (context found.now) text.now)
+        (IsDeepLine (context found.now) text.now) e) }
 {
     match read_goal(alloc, &found.forms, &found.shapes, rest) {
         Ok(goal) => Ok(LineRead::Goal(goal)),
@@ -179,7 +199,9 @@ pub(crate) fn read_line(
 ) -> Result<LineRead, RowError>
     requires found { IsFound found.now }
     requires line { IsKeyword text.now keyword rest.now }
-    ensures { MatchResult result (λ x. IsRead (context found.now) text.now x) (λ e. RefusedAs (IsFitting (context found.now) text.now) (IsDeepLine (context found.now) text.now) e) }
+    ensures { MatchResult result (λ x. IsRead (context found.now) text.now x)
+        (λ e. RefusedAs (IsFitting (context found.now) text.now)
+        (IsDeepLine (context found.now) text.now) e) }
 {
     match keyword {
         Keyword::Head => head_line(found, text, rest),

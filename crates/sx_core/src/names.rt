@@ -1,6 +1,7 @@
 //! Names, found by their hash.
 
-ghost use Rattle.std.specs.Prelude.{◌≡◌, ◌++◌, [], ◌∷◌, slice_get, Contains, MatchOption, Some, IfOk, IsTrue, ◌↔◌};
+ghost use Rattle.std.specs.Prelude.{◌≡◌, ◌++◌, [], ◌∷◌, slice_get, Contains, MatchOption, Some};
+ghost use Rattle.std.specs.Prelude.{IfOk, IsTrue, ◌↔◌};
 
 use indexmap::IndexSet;
 use std::alloc::Global;
@@ -33,7 +34,8 @@ impl Names {
 
     /// The number of the name, or None where it is none of the names.
     pub(crate) fn number(&self, name: &[u8]) -> Option<usize>
-        ensures { MatchOption result (Contains self.now name.now → ⊥) (λ n. slice_get self.now n ≡ Some name.now) }
+        ensures { MatchOption result (Contains self.now name.now → ⊥)
+            (λ n. slice_get self.now n ≡ Some name.now) }
     {
         self.texts.get_index_of(name)
     }

@@ -79,7 +79,8 @@ fn step_error(number: u32, e: StepError) -> CoreFileError
 /// Takes the first line.
 fn first_line(reader: Reader, number: u32, text: &[u8]) -> Result<Reader, CoreFileError>
     requires { reader.stage ≡ stages.Start }
-    ensures { MatchResult result (λ r. NextRead reader number text.now r) (λ e. NextRefused reader number text.now e) }
+    ensures { MatchResult result (λ r. NextRead reader number text.now r)
+        (λ e. NextRefused reader number text.now e) }
 {
     if !is_head(text) {
         drop(reader);
@@ -112,7 +113,8 @@ fn take_line(
     requires found { IsFound reader.found }
     requires usual { IsUsual reader }
     requires read { IsRead (context reader.found) text.now read }
-    ensures { MatchResult result (λ r. NextRead reader number text.now r) (λ e. NextRefused reader number text.now e) }
+    ensures { MatchResult result (λ r. NextRead reader number text.now r)
+        (λ e. NextRefused reader number text.now e) }
 {
     match reader.take(alloc, number, read) {
         Ok(next) => Ok(next),
@@ -129,7 +131,8 @@ fn later_line(
 ) -> Result<Reader, CoreFileError>
     requires found { IsFound reader.found }
     requires usual { IsUsual reader }
-    ensures { MatchResult result (λ r. NextRead reader number text.now r) (λ e. NextRefused reader number text.now e) }
+    ensures { MatchResult result (λ r. NextRead reader number text.now r)
+        (λ e. NextRefused reader number text.now e) }
 {
     match split_keyword(text) {
         Some((keyword, rest)) => match read_line(alloc, &reader.found, keyword, text, rest) {
@@ -157,7 +160,8 @@ pub(crate) fn read_next(
     text: &[u8],
 ) -> Result<Reader, CoreFileError>
     requires { IsFound reader.found }
-    ensures { MatchResult result (λ r. NextRead reader number text.now r) (λ e. NextRefused reader number text.now e) }
+    ensures { MatchResult result (λ r. NextRead reader number text.now r)
+        (λ e. NextRefused reader number text.now e) }
 {
     if is_over(&reader.stage) {
         drop(reader);

@@ -3,7 +3,8 @@
 use sx_rules::{Goal, RuleSet};
 use sx_term::Text;
 
-/// What a core file states: the names of its sorts and of its constructors, its rules, and its goal.
+/// What a core file states: the names of its sorts and of its constructors, its rules, and its
+/// goal.
 #[derive(Drop)]
 pub struct CoreProblem {
     pub sorts: Vec<Text>,

@@ -10,7 +10,8 @@ use crate::sort_reading::find_sorts;
 use std::alloc::Global;
 use sx_lines::Rest;
 
-/// What a core file states. The file has fewer than 2^32 - 1 bytes, so that the number of a line fits.
+/// What a core file states. The file has fewer than 2^32 - 1 bytes, so that the number of a line
+/// fits.
 pub fn read_core_file(alloc: Global, bytes: &[u8]) -> Result<CoreProblem, CoreFileError>
     requires { length bytes.now + 1 < 2 ^ 32 }
     ensures { IsCoreRead bytes.now result }

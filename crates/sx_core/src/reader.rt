@@ -15,7 +15,8 @@ use std::alloc::Global;
 use sx_rules::{Form, Goal, Judgement, Premise, Rule};
 use sx_term::{Con, Sort, Term, Text};
 
-/// What has been read of a core file: what was found, the rules that are ended, and where the reading stands.
+/// What has been read of a core file: what was found, the rules that are ended, and where the
+/// reading stands.
 #[derive(Drop)]
 pub(crate) struct Reader {
     pub found: Found,
@@ -36,7 +37,8 @@ fn out_of_order(found: Found, rules: Vec<Rule>, stage: Stage) -> StepError
 impl Reader {
     /// Takes the first line.
     pub(crate) fn take_head(self) -> Result<Reader, StepError>
-        ensures { (n : ℕ) → MatchResult result (λ r. Steps self n line.Head r) (λ e. StepRefused self keyword.Head e) }
+        ensures { (n : ℕ) → MatchResult result (λ r. Steps self n line.Head r)
+            (λ e. StepRefused self keyword.Head e) }
     {
         let Reader {
             found,
@@ -56,7 +58,8 @@ impl Reader {
     /// Takes the line of a sort.
     fn take_sort(self, alloc: Global, row: SortRow) -> Result<Reader, StepError>
         requires { Contains self.found.taken row.name → ⊥ }
-        ensures { (n : ℕ) → MatchResult result (λ r. Steps self n (line.Sort row) r) (λ e. StepRefused self keyword.Sort e) }
+        ensures { (n : ℕ) → MatchResult result (λ r. Steps self n (line.Sort row) r)
+            (λ e. StepRefused self keyword.Sort e) }
     {
         let Reader {
             mut found,
@@ -90,7 +93,8 @@ impl Reader {
     /// Takes the line of a constructor.
     fn take_con(self, alloc: Global, row: ConRow, con: Con) -> Result<Reader, StepError>
         requires { Contains self.found.con_names row.name → ⊥ }
-        ensures { (n : ℕ) → MatchResult result (λ r. Steps self n (line.Con row con) r) (λ e. StepRefused self keyword.Con e) }
+        ensures { (n : ℕ) → MatchResult result (λ r. Steps self n (line.Con row con) r)
+            (λ e. StepRefused self keyword.Con e) }
     {
         let Reader {
             mut found,
@@ -125,7 +129,8 @@ impl Reader {
     /// Takes the line of a form.
     fn take_form(self, alloc: Global, one: Form) -> Result<Reader, StepError>
         requires { Contains self.found.forms.names one.name → ⊥ }
-        ensures { (n : ℕ) → MatchResult result (λ r. Steps self n (line.Form one) r) (λ e. StepRefused self keyword.Form e) }
+        ensures { (n : ℕ) → MatchResult result (λ r. Steps self n (line.Form one) r)
+            (λ e. StepRefused self keyword.Form e) }
     {
         let Reader {
             mut found,
@@ -162,7 +167,8 @@ impl Reader {
         name: Text,
         sorts: Vec<Sort>,
     ) -> Result<Reader, StepError>
-        ensures { MatchResult result (λ r. Steps self number (line.Rule name sorts) r) (λ e. StepRefused self keyword.Rule e) }
+        ensures { MatchResult result (λ r. Steps self number (line.Rule name sorts) r)
+            (λ e. StepRefused self keyword.Rule e) }
     {
         let Reader {
             found,
@@ -195,7 +201,8 @@ impl Reader {
 
     /// Takes the line of a judgement premise.
     fn take_if(self, one: Judgement) -> Result<Reader, StepError>
-        ensures { (n : ℕ) → MatchResult result (λ r. Steps self n (line.If one) r) (λ e. StepRefused self keyword.If e) }
+        ensures { (n : ℕ) → MatchResult result (λ r. Steps self n (line.If one) r)
+            (λ e. StepRefused self keyword.If e) }
     {
         let Reader {
             found,
@@ -228,7 +235,8 @@ impl Reader {
 
     /// Takes the line of two terms that are to be apart.
     fn take_not(self, left: Term, right: Term) -> Result<Reader, StepError>
-        ensures { (n : ℕ) → MatchResult result (λ r. Steps self n (line.Not left right) r) (λ e. StepRefused self keyword.Not e) }
+        ensures { (n : ℕ) → MatchResult result (λ r. Steps self n (line.Not left right) r)
+            (λ e. StepRefused self keyword.Not e) }
     {
         let Reader {
             found,
@@ -262,7 +270,8 @@ impl Reader {
 
     /// Takes the line of a conclusion.
     fn take_then(self, one: Judgement) -> Result<Reader, StepError>
-        ensures { (n : ℕ) → MatchResult result (λ r. Steps self n (line.Then one) r) (λ e. StepRefused self keyword.Then e) }
+        ensures { (n : ℕ) → MatchResult result (λ r. Steps self n (line.Then one) r)
+            (λ e. StepRefused self keyword.Then e) }
     {
         let Reader {
             found,
@@ -284,7 +293,8 @@ impl Reader {
 
     /// Takes the line that ends a rule.
     fn take_end(self) -> Result<Reader, StepError>
-        ensures { (n : ℕ) → MatchResult result (λ r. Steps self n line.End r) (λ e. StepRefused self keyword.End e) }
+        ensures { (n : ℕ) → MatchResult result (λ r. Steps self n line.End r)
+            (λ e. StepRefused self keyword.End e) }
     {
         let Reader {
             found,
@@ -325,7 +335,8 @@ impl Reader {
 
     /// Takes the line of the goal.
     fn take_goal(self, goal: Goal) -> Result<Reader, StepError>
-        ensures { (n : ℕ) → MatchResult result (λ r. Steps self n (line.Goal goal) r) (λ e. StepRefused self keyword.Goal e) }
+        ensures { (n : ℕ) → MatchResult result (λ r. Steps self n (line.Goal goal) r)
+            (λ e. StepRefused self keyword.Goal e) }
     {
         let Reader {
             found,
@@ -358,7 +369,8 @@ impl Reader {
         read: LineRead,
     ) -> Result<Reader, StepError>
         requires { IsFresh self.found read }
-        ensures { MatchResult result (λ r. Steps self number read r) (λ e. StepRefused self (keyword_of read) e) }
+        ensures { MatchResult result (λ r. Steps self number read r)
+            (λ e. StepRefused self (keyword_of read) e) }
     {
         match read {
             LineRead::Head => self.take_head(),

@@ -1,13 +1,15 @@
 //! What the rows before the rules state.
 
-ghost use Rattle.std.specs.Prelude.{◌≡◌, ℕ, ◌+◌, ◌<◌, ◌≤◌, ◌^◌, ◌↔◌, IsTrue, List, length, MatchOption, MatchResult, map};
+ghost use Rattle.std.specs.Prelude.{◌≡◌, ℕ, ◌+◌, ◌<◌, ◌≤◌, ◌^◌, ◌↔◌, IsTrue, List, length};
+ghost use Rattle.std.specs.Prelude.{MatchOption, MatchResult, map};
 ghost use Rattle.sx_term.specs.Shapes.{shape};
 ghost use Rattle.sx_rules.specs.declared.rule.Place.{Place as PlaceOf};
 ghost use Rattle.sx_rules.specs.Views.{FormData, form, is_sub};
 ghost use Rattle.sx_core.specs.Stated as spec;
 ghost use Rattle.sx_core.specs.Stated.{IsUntyped, AreUntyped, MayHave, MayStandAt, ArePlaces};
 ghost use Rattle.sx_core.specs.Rows.{con_row, place_row, form_row};
-ghost use Rattle.sx_core.specs.Resolving.{rows_in, IsSortTable, NoneIs, IsConOf, IsPlaceOf, IsFormOf};
+ghost use Rattle.sx_core.specs.Resolving.{rows_in, IsSortTable, NoneIs, IsConOf, IsPlaceOf};
+ghost use Rattle.sx_core.specs.Resolving.{IsFormOf};
 
 use crate::rows::{ConRow, FormRow, PlaceRow};
 use crate::sort_table::SortTable;
@@ -64,7 +66,8 @@ fn may_stand(role: Role, sort: Sort) -> bool
 /// The constructor that a row states.
 pub(crate) fn make_con(alloc: Global, table: &SortTable, row: &ConRow) -> Result<Con, RowError>
     requires { IsSortTable table.now }
-    ensures { MatchResult result (λ c. IsConOf (rows_in table.now) (con_row row.now) (shape c)) (λ e. NoneIs (IsConOf (rows_in table.now) (con_row row.now)) e) }
+    ensures { MatchResult result (λ c. IsConOf (rows_in table.now) (con_row row.now) (shape c))
+        (λ e. NoneIs (IsConOf (rows_in table.now) (con_row row.now)) e) }
 {
     match table.sort(&row.sort) {
         Some(sort) => match table.sorts(alloc, &row.kids) {
@@ -83,7 +86,9 @@ pub(crate) fn make_con(alloc: Global, table: &SortTable, row: &ConRow) -> Result
 /// The place that a row states.
 fn make_place(table: &SortTable, row: &PlaceRow) -> Option<Place>
     requires { IsSortTable table.now }
-    ensures { MatchOption result ((place : PlaceOf) → IsPlaceOf (rows_in table.now) (place_row row.now) place → ⊥) (λ place. IsPlaceOf (rows_in table.now) (place_row row.now) place) }
+    ensures { MatchOption result ((place : PlaceOf) →
+        IsPlaceOf (rows_in table.now) (place_row row.now) place → ⊥)
+        (λ place. IsPlaceOf (rows_in table.now) (place_row row.now) place) }
 {
     match table.sort(&row.sort) {
         Some(sort) => {
@@ -102,7 +107,9 @@ fn make_place(table: &SortTable, row: &PlaceRow) -> Option<Place>
 /// The places that the rows state.
 fn make_places(alloc: Global, table: &SortTable, rows: &[PlaceRow]) -> Result<Vec<Place>, RowError>
     requires { IsSortTable table.now }
-    ensures { MatchResult result (λ places. ArePlaces (rows_in table.now) (map place_row rows.now) places.items) (λ e. NoneIs (ArePlaces (rows_in table.now) (map place_row rows.now)) e) }
+    ensures { MatchResult result (λ places. ArePlaces (rows_in table.now)
+        (map place_row rows.now) places.items)
+        (λ e. NoneIs (ArePlaces (rows_in table.now) (map place_row rows.now)) e) }
 {
     let mut places = Vec::new(alloc);
     for i in 0..rows.len() {
@@ -139,7 +146,8 @@ pub(crate) fn subject_count(places: &[Place]) -> usize
 /// The form that a row states.
 pub(crate) fn make_form(alloc: Global, table: &SortTable, row: &FormRow) -> Result<Form, RowError>
     requires { IsSortTable table.now }
-    ensures { MatchResult result (λ f. IsFormOf (rows_in table.now) (form_row row.now) (form f)) (λ e. NoneIs (IsFormOf (rows_in table.now) (form_row row.now)) e) }
+    ensures { MatchResult result (λ f. IsFormOf (rows_in table.now) (form_row row.now) (form f))
+        (λ e. NoneIs (IsFormOf (rows_in table.now) (form_row row.now)) e) }
 {
     match make_places(alloc, table, &row.places) {
         Ok(places) => {

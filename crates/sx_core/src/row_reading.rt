@@ -2,7 +2,9 @@
 
 ghost use Rattle.std.specs.Prelude.{◌≡◌, ℕ, List, ◌++◌, codes, map, MatchOption, MatchResult};
 ghost use Rattle.sx_core.specs.File.{sort_line, con_line, form_line};
-ghost use Rattle.sx_core.specs.Rows.{sort_row, con_row, place_row, form_row, IsLineOf, NoRow, IsRoleRead, NoRole, IsPlaceWord, NoPlaceWord, IsKind, NoKind, IsPlaceRead, PlaceRefused, ArePlacesRead, PlacesRefused};
+ghost use Rattle.sx_core.specs.Rows.{sort_row, con_row, place_row, form_row, IsLineOf, NoRow};
+ghost use Rattle.sx_core.specs.Rows.{IsRoleRead, NoRole, IsPlaceWord, NoPlaceWord, IsKind, NoKind};
+ghost use Rattle.sx_core.specs.Rows.{IsPlaceRead, PlaceRefused, ArePlacesRead, PlacesRefused};
 
 use crate::rows::{ConRow, FormRow, PlaceRow, SortRow};
 use crate::terms_row::RowError;
@@ -12,7 +14,8 @@ use sx_term::Role;
 
 /// The role at the front of a place's text, and what follows it.
 fn split_role<'a>(word: &'a [u8]) -> Option<(Role, &'a [u8])>
-    ensures { MatchOption result (NoRole word.entry.now) (λ x. IsRoleRead word.entry.now x.0 x.1.now) }
+    ensures { MatchOption result (NoRole word.entry.now)
+        (λ x. IsRoleRead word.entry.now x.0 x.1.now) }
 {
     if let Some(sort) = after_front(word, b"in:") {
         return Some((Role::In, sort));
@@ -28,7 +31,8 @@ fn split_role<'a>(word: &'a [u8]) -> Option<(Role, &'a [u8])>
 
 /// The place that a word is.
 fn place_of(alloc: Global, word: &[u8]) -> Result<PlaceRow, RowError>
-    ensures { MatchResult result (λ row. IsPlaceWord word.now (place_row row)) (λ e. NoPlaceWord word.now e) }
+    ensures { MatchResult result (λ row. IsPlaceWord word.now (place_row row))
+        (λ e. NoPlaceWord word.now e) }
 {
     match split_role(word) {
         Some((role, rest)) => match name_of(alloc, rest) {
@@ -41,7 +45,8 @@ fn place_of(alloc: Global, word: &[u8]) -> Result<PlaceRow, RowError>
 
 /// The place after one blank, and what is left.
 fn read_place<'a>(alloc: Global, text: &'a [u8]) -> Result<(PlaceRow, &'a [u8]), RowError>
-    ensures { MatchResult result (λ x. IsPlaceRead text.entry.now (place_row x.0) x.1.now) (λ e. PlaceRefused text.entry.now e) }
+    ensures { MatchResult result (λ x. IsPlaceRead text.entry.now (place_row x.0) x.1.now)
+        (λ e. PlaceRefused text.entry.now e) }
 {
     match next_word(text) {
         Some((word, rest)) => match place_of(alloc, word) {
@@ -54,7 +59,8 @@ fn read_place<'a>(alloc: Global, text: &'a [u8]) -> Result<(PlaceRow, &'a [u8]),
 
 /// The places that the rest of a line consists of, each after one blank.
 fn read_places(alloc: Global, text: &[u8]) -> Result<Vec<PlaceRow>, RowError>
-    ensures { MatchResult result (λ rows. ArePlacesRead text.now (map place_row rows.items)) (λ e. PlacesRefused text.now e) }
+    ensures { MatchResult result (λ rows. ArePlacesRead text.now (map place_row rows.items))
+        (λ e. PlacesRefused text.now e) }
 {
     let mut places = Vec::new(alloc);
     let mut left = text;
@@ -85,7 +91,8 @@ fn kind_of(text: &[u8]) -> Option<bool>
 
 /// The row of a sort, after its first word.
 pub(crate) fn read_sort(alloc: Global, text: &[u8]) -> Result<SortRow, RowError>
-    ensures { MatchResult result (λ row. IsLineOf (codes "sort" ++ text.now) (sort_line (sort_row row))) (λ e. NoRow sort_line (codes "sort") text.now e) }
+    ensures { MatchResult result (λ row. IsLineOf (codes "sort" ++ text.now)
+        (sort_line (sort_row row))) (λ e. NoRow sort_line (codes "sort") text.now e) }
 {
     match read_name(alloc, text) {
         Ok((name, rest)) => match kind_of(rest) {
@@ -98,7 +105,8 @@ pub(crate) fn read_sort(alloc: Global, text: &[u8]) -> Result<SortRow, RowError>
 
 /// The row of a constructor, after its first word.
 pub(crate) fn read_con(alloc: Global, text: &[u8]) -> Result<ConRow, RowError>
-    ensures { MatchResult result (λ row. IsLineOf (codes "con" ++ text.now) (con_line (con_row row))) (λ e. NoRow con_line (codes "con") text.now e) }
+    ensures { MatchResult result (λ row. IsLineOf (codes "con" ++ text.now)
+        (con_line (con_row row))) (λ e. NoRow con_line (codes "con") text.now e) }
 {
     match read_name(alloc, text) {
         Ok((name, rest)) => match read_name(alloc, rest) {
@@ -121,7 +129,8 @@ pub(crate) fn read_con(alloc: Global, text: &[u8]) -> Result<ConRow, RowError>
 
 /// The row of a form, after its first word.
 pub(crate) fn read_form(alloc: Global, text: &[u8]) -> Result<FormRow, RowError>
-    ensures { MatchResult result (λ row. IsLineOf (codes "form" ++ text.now) (form_line (form_row row))) (λ e. NoRow form_line (codes "form") text.now e) }
+    ensures { MatchResult result (λ row. IsLineOf (codes "form" ++ text.now)
+        (form_line (form_row row))) (λ e. NoRow form_line (codes "form") text.now e) }
 {
     match read_name(alloc, text) {
         Ok((name, rest)) => match read_places(alloc, rest) {

@@ -1,6 +1,7 @@
 //! Finding the sorts of a core file.
 
-ghost use Rattle.std.specs.Prelude.{◌≡◌, ℕ, ◌+◌, ◌<◌, ◌^◌, length, [], map, IfOk, OnOk, MatchOption};
+ghost use Rattle.std.specs.Prelude.{◌≡◌, ℕ, ◌+◌, ◌<◌, ◌^◌, length, [], map, IfOk, OnOk};
+ghost use Rattle.std.specs.Prelude.{MatchOption};
 ghost use Rattle.sx_lines.specs.Left.{left as left_of};
 ghost use Rattle.sx_lines.specs.Reading.{kept};
 ghost use Rattle.sx_core.specs.File.{SortRow as SortOf};
@@ -46,7 +47,8 @@ pub(crate) fn lexical_names(alloc: Global) -> Result<Names, NoMemory>
 
 /// The sort of the line, where it is that of a sort.
 fn line_sort(alloc: Global, text: &[u8]) -> Result<Option<SortRow>, NoMemory>
-    ensures { IfOk result (λ found. MatchOption found ((r : SortOf) → IsSortLine text.now r → ⊥) (λ r. IsSortLine text.now (sort_row r))) }
+    ensures { IfOk result (λ found. MatchOption found ((r : SortOf) → IsSortLine text.now r → ⊥)
+        (λ r. IsSortLine text.now (sort_row r))) }
 {
     match split_keyword(text) {
         Some((Keyword::Sort, rest)) => match read_sort(alloc, rest) {
@@ -79,10 +81,12 @@ fn find_sort(alloc: Global, table: &mut SortTable, text: &[u8]) -> Result<(), No
     }
 }
 
-/// The sorts of the file: one for each line that is that of a sort whose name is not taken, wherever it stands.
+/// The sorts of the file: one for each line that is that of a sort whose name is not taken,
+/// wherever it stands.
 pub(crate) fn find_sorts(alloc: Global, rest: Rest) -> Result<SortTable, NoMemory>
     requires { length rest.bytes.now + 1 < 2 ^ 32 }
-    ensures { IfOk result (λ t. IsSortTable t × AreNames (map (λ row. row.name) (rows_in t)) × AreSorts [] (kept (left_of rest.entry)) (rows_in t)) }
+    ensures { IfOk result (λ t. IsSortTable t × AreNames (map (λ row. row.name) (rows_in t)) ×
+        AreSorts [] (kept (left_of rest.entry)) (rows_in t)) }
 {
     let mut table = SortTable {
         names: lexical_names(alloc)?,

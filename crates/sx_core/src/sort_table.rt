@@ -1,6 +1,7 @@
 //! Sorts, found by their names.
 
-ghost use Rattle.std.specs.Prelude.{◌≡◌, ℕ, ◌+◌, ◌<◌, ◌^◌, List, length, Some, None, slice_get, MatchOption, MatchResult, map};
+ghost use Rattle.std.specs.Prelude.{◌≡◌, ℕ, ◌+◌, ◌<◌, ◌^◌, List, length, Some, None, slice_get};
+ghost use Rattle.std.specs.Prelude.{MatchOption, MatchResult, map};
 ghost use Rattle.sx_term.specs.declared.sort.Sort.{Sort as SortOf};
 ghost use Rattle.sx_core.specs.Rows.{sort_row};
 ghost use Rattle.sx_core.specs.Stated.{NamesSort, NameSorts};
@@ -12,7 +13,8 @@ use crate::terms_row::RowError;
 use std::alloc::Global;
 use sx_term::{LexKind, Sort, Text};
 
-/// The sorts of a core file with the number of each name: first the lexical ones, then those of the rows.
+/// The sorts of a core file with the number of each name: first the lexical ones, then those of the
+/// rows.
 #[derive(Drop)]
 pub(crate) struct SortTable {
     pub names: Names,
@@ -22,7 +24,8 @@ pub(crate) struct SortTable {
 /// The sort of the row with this number.
 fn row_sort(rows: &[SortRow], i: u32) -> Option<Sort>
     ensures { MatchOption result (slice_get (map sort_row rows.now) i ≡ None)
-        (λ s. (name : List ℕ) → slice_get (map (λ row. row.name) (map sort_row rows.now)) i ≡ Some name → NamesSort (map sort_row rows.now) name s) }
+        (λ s. (name : List ℕ) → slice_get (map (λ row. row.name) (map sort_row rows.now)) i
+        ≡ Some name → NamesSort (map sort_row rows.now) name s) }
 {
     let at = i as usize;
     if at < rows.len() {
@@ -38,7 +41,8 @@ fn row_sort(rows: &[SortRow], i: u32) -> Option<Sort>
 /// The sort with this number among all.
 fn sort_at(rows: &[SortRow], number: u32) -> Option<Sort>
     ensures { MatchOption result (slice_get (sort_names (map sort_row rows.now)) number ≡ None)
-        (λ s. (name : List ℕ) → slice_get (sort_names (map sort_row rows.now)) number ≡ Some name → NamesSort (map sort_row rows.now) name s) }
+        (λ s. (name : List ℕ) → slice_get (sort_names (map sort_row rows.now)) number ≡ Some name →
+        NamesSort (map sort_row rows.now) name s) }
 {
     if number == 0 {
         return Some(Sort::Lex(LexKind::Id));
@@ -56,7 +60,8 @@ impl SortTable {
     /// The sort that the name stands for.
     pub(crate) fn sort(&self, name: &Text) -> Option<Sort>
         requires { IsSortTable self.now }
-        ensures { MatchOption result ((s : SortOf) → NamesSort (rows_in self.now) name.now s → ⊥) (λ s. NamesSort (rows_in self.now) name.now s) }
+        ensures { MatchOption result ((s : SortOf) → NamesSort (rows_in self.now) name.now s → ⊥)
+            (λ s. NamesSort (rows_in self.now) name.now s) }
     {
         match self.names.number(name.bytes()) {
             Some(number) => sort_at(&self.rows, number as u32),
@@ -67,7 +72,8 @@ impl SortTable {
     /// The sorts that the names stand for.
     pub(crate) fn sorts(&self, alloc: Global, names: &[Text]) -> Result<Vec<Sort>, RowError>
         requires { IsSortTable self.now }
-        ensures { MatchResult result (λ sorts. NameSorts (rows_in self.now) names.now sorts.items) (λ e. NoneIs (NameSorts (rows_in self.now) names.now) e) }
+        ensures { MatchResult result (λ sorts. NameSorts (rows_in self.now) names.now sorts.items)
+            (λ e. NoneIs (NameSorts (rows_in self.now) names.now) e) }
     {
         let mut sorts = Vec::new(alloc);
         for i in 0..names.len() {

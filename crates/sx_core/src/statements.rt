@@ -1,6 +1,8 @@
 //! Reading the judgements and the goal of a core file.
 
-ghost use Rattle.std.specs.Prelude.{◌≡◌, ℕ, ◌<◌, ◌≤◌, ◌^◌, ◌↔◌, IsTrue, List, [], ◌∷◌, ◌++◌, length, drop, slice_get, Some, None, MatchOption, MatchResult, IfOk, OnOk, map};
+ghost use Rattle.std.specs.Prelude.{◌≡◌, ℕ, ◌<◌, ◌≤◌, ◌^◌, ◌↔◌, IsTrue, List, [], ◌∷◌, ◌++◌};
+ghost use Rattle.std.specs.Prelude.{length, drop, slice_get, Some, None, MatchOption, MatchResult};
+ghost use Rattle.std.specs.Prelude.{IfOk, OnOk, map};
 ghost use Rattle.sx_term.specs.Term.{tree};
 ghost use Rattle.sx_term.specs.Sorts.{HaveSorts};
 ghost use Rattle.sx_term.specs.Shapes.{shapes};
@@ -8,7 +10,9 @@ ghost use Rattle.sx_rules.specs.Deep.{AreShallow};
 ghost use Rattle.sx_rules.specs.Modes.{inputs};
 ghost use Rattle.sx_rules.specs.Views.{is_out, judgement, goal, forms, places_at};
 ghost use Rattle.sx_core.specs.TermsText.{IsDeepRow, RefusedAs};
-ghost use Rattle.sx_core.specs.Statements.{known_in, IsFormTable, IsFormRead, FormRefused, IsJudgementRead, IsDeepJudgement, IsInputsRead, IsGoalRead, IsDeepGoal};
+ghost use Rattle.sx_core.specs.Statements.{known_in, IsFormTable, IsFormRead, FormRefused};
+ghost use Rattle.sx_core.specs.Statements.{IsJudgementRead, IsDeepJudgement, IsInputsRead};
+ghost use Rattle.sx_core.specs.Statements.{IsGoalRead, IsDeepGoal};
 
 use crate::form_table::FormTable;
 use crate::resolved::subject_count;
@@ -25,7 +29,8 @@ fn read_form<'a>(
     text: &'a [u8],
 ) -> Result<(u32, &'a [u8]), RowError>
     requires { IsFormTable table.now }
-    ensures { MatchResult result (λ x. IsFormRead (known_in table.now) text.entry.now x.0 x.1.now) (λ e. FormRefused (known_in table.now) text.entry.now e) }
+    ensures { MatchResult result (λ x. IsFormRead (known_in table.now) text.entry.now x.0 x.1.now)
+        (λ e. FormRefused (known_in table.now) text.entry.now e) }
 {
     match read_name(alloc, text) {
         Ok((name, rest)) => match table.names.number(name.bytes()) {
@@ -50,7 +55,9 @@ pub(crate) fn read_judgement(
     text: &[u8],
 ) -> Result<Judgement, RowError>
     requires { IsFormTable table.now }
-    ensures { MatchResult result (λ j. IsJudgementRead (known_in table.now) text.now (judgement j)) (λ e. RefusedAs (IsJudgementRead (known_in table.now) text.now) (IsDeepJudgement (known_in table.now) text.now) e) }
+    ensures { MatchResult result (λ j. IsJudgementRead (known_in table.now) text.now (judgement j))
+        (λ e. RefusedAs (IsJudgementRead (known_in table.now) text.now)
+        (IsDeepJudgement (known_in table.now) text.now) e) }
 {
     match read_form(alloc, table, text) {
         Ok((form, rest)) => match read_terms(alloc, rest, places_in(table, form).len()) {
@@ -63,7 +70,8 @@ pub(crate) fn read_judgement(
 
 /// Puts the sort of a place to those before it, where the place is an input.
 fn push_input(sorts: &mut Vec<Sort>, place: Place) -> Result<(), NoMemory>
-    ensures { OnOk result (sorts.new.items ≡ sorts.old.items ++ inputs (is_out place.role ∷ []) (place.sort ∷ [])) }
+    ensures { OnOk result (sorts.new.items ≡ sorts.old.items
+        ++ inputs (is_out place.role ∷ []) (place.sort ∷ [])) }
 {
     match place.role {
         Role::Out => {}
@@ -75,7 +83,8 @@ fn push_input(sorts: &mut Vec<Sort>, place: Place) -> Result<(), NoMemory>
 
 /// The sorts of the places that are inputs.
 fn sorts_of_inputs(alloc: Global, places: &[Place]) -> Result<Vec<Sort>, NoMemory>
-    ensures { IfOk result (λ sorts. sorts.items ≡ inputs (map (λ p. is_out p.role) places.now) (map (λ p. p.sort) places.now)) }
+    ensures { IfOk result (λ sorts. sorts.items
+        ≡ inputs (map (λ p. is_out p.role) places.now) (map (λ p. p.sort) places.now)) }
 {
     let mut sorts = Vec::new(alloc);
     for i in 0..places.len() {
@@ -107,7 +116,9 @@ fn read_inputs(
     sorts: &[Sort],
     text: &[u8],
 ) -> Result<Vec<Term>, RowError>
-    ensures { MatchResult result (λ terms. IsInputsRead (shapes all.now) sorts.now text.now (map tree terms.items)) (λ e. RefusedAs (IsInputsRead (shapes all.now) sorts.now text.now) (IsDeepRow text.now (length sorts.now)) e) }
+    ensures { MatchResult result (λ terms. IsInputsRead (shapes all.now) sorts.now text.now
+        (map tree terms.items)) (λ e. RefusedAs (IsInputsRead (shapes all.now) sorts.now text.now)
+        (IsDeepRow text.now (length sorts.now)) e) }
 {
     match read_terms(alloc, text, sorts.len()) {
         Ok(terms) => {
@@ -129,7 +140,9 @@ pub(crate) fn read_goal(
     text: &[u8],
 ) -> Result<Goal, RowError>
     requires { IsFormTable table.now }
-    ensures { MatchResult result (λ g. IsGoalRead (shapes all.now) (known_in table.now) text.now (goal g)) (λ e. RefusedAs (IsGoalRead (shapes all.now) (known_in table.now) text.now) (IsDeepGoal (known_in table.now) text.now) e) }
+    ensures { MatchResult result (λ g. IsGoalRead (shapes all.now) (known_in table.now) text.now
+        (goal g)) (λ e. RefusedAs (IsGoalRead (shapes all.now) (known_in table.now) text.now)
+        (IsDeepGoal (known_in table.now) text.now) e) }
 {
     match read_form(alloc, table, text) {
         Ok((form, rest)) => {

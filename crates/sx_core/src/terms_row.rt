@@ -50,7 +50,8 @@ fn row_error(e: CoreError) -> RowError
 
 /// The term after one blank, and what is left.
 fn read_one<'a>(alloc: Global, rest: &'a [u8]) -> Result<(Term, &'a [u8]), RowError>
-    ensures { MatchResult result (λ x. OneRead rest.entry.now (tree x.0) x.1.now) (λ e. OneRefused rest.entry.now e) }
+    ensures { MatchResult result (λ x. OneRead rest.entry.now (tree x.0) x.1.now)
+        (λ e. OneRefused rest.entry.now e) }
 {
     match rest {
         [] => Err(RowError::Shape),
@@ -71,7 +72,8 @@ fn read_one<'a>(alloc: Global, rest: &'a [u8]) -> Result<(Term, &'a [u8]), RowEr
 
 /// The terms that the rest of a line consists of, each after one blank.
 pub fn read_terms(alloc: Global, rest: &[u8], count: usize) -> Result<Vec<Term>, RowError>
-    ensures { MatchResult result (λ x. RowRead rest.now count (map tree x.items)) (λ e. RefusedAs (RowRead rest.now count) (IsDeepRow rest.now count) e) }
+    ensures { MatchResult result (λ x. RowRead rest.now count (map tree x.items))
+        (λ e. RefusedAs (RowRead rest.now count) (IsDeepRow rest.now count) e) }
 {
     let mut found = Vec::new(alloc);
     let mut left = rest;
@@ -96,7 +98,8 @@ pub fn read_terms(alloc: Global, rest: &[u8], count: usize) -> Result<Vec<Term>,
 
 /// The two terms that the rest of a line consists of, each after one blank.
 pub(crate) fn read_pair(alloc: Global, rest: &[u8]) -> Result<(Term, Term), RowError>
-    ensures { MatchResult result (λ x. RowRead rest.now 2 (tree x.0 ∷ tree x.1 ∷ [])) (λ e. RefusedAs (RowRead rest.now 2) (IsDeepRow rest.now 2) e) }
+    ensures { MatchResult result (λ x. RowRead rest.now 2 (tree x.0 ∷ tree x.1 ∷ []))
+        (λ e. RefusedAs (RowRead rest.now 2) (IsDeepRow rest.now 2) e) }
 {
     match read_terms(alloc, rest, 2) {
         Ok(mut terms) => match terms.pop() {

@@ -2,7 +2,8 @@
 
 ghost use Rattle.std.specs.Prelude.{◌≡◌, ℕ, List, ◌++◌, MatchOption, MatchResult};
 ghost use Rattle.sx_core.specs.Words as spec;
-ghost use Rattle.sx_core.specs.Words.{IsWordEnd, IsWordRead, NoWord, IsNameRead, NameRefused, NoName, AreNamesRead, NamesRefused};
+ghost use Rattle.sx_core.specs.Words.{IsWordEnd, IsWordRead, NoWord, IsNameRead, NameRefused};
+ghost use Rattle.sx_core.specs.Words.{NoName, AreNamesRead, NamesRefused};
 ghost use Rattle.sx_core.specs.Stated.{IsName};
 
 use crate::terms_row::RowError;
@@ -12,7 +13,8 @@ use sx_term::{Text, TextError};
 
 /// What follows the front in a text that begins with it.
 pub(crate) fn after_front<'a>(text: &'a [u8], front: &[u8]) -> Option<&'a [u8]>
-    ensures { MatchOption result ((rest : List ℕ) → text.entry.now ≡ front.now ++ rest → ⊥) (λ rest. text.entry.now ≡ front.now ++ rest.now) }
+    ensures { MatchOption result ((rest : List ℕ) → text.entry.now ≡ front.now ++ rest → ⊥)
+        (λ rest. text.entry.now ≡ front.now ++ rest.now) }
 {
     after(text, front)
 }
@@ -31,7 +33,8 @@ pub(crate) fn word_len(text: &[u8]) -> usize
 
 /// The word after one blank, and what is left.
 pub(crate) fn next_word<'a>(text: &'a [u8]) -> Option<(&'a [u8], &'a [u8])>
-    ensures { MatchOption result (NoWord text.entry.now) (λ x. IsWordRead text.entry.now x.0.now x.1.now) }
+    ensures { MatchOption result (NoWord text.entry.now)
+        (λ x. IsWordRead text.entry.now x.0.now x.1.now) }
 {
     match text {
         [] => None,
@@ -55,7 +58,8 @@ fn text_error(e: TextError) -> RowError
 
 /// The name that a word is.
 pub(crate) fn name_of(alloc: Global, word: &[u8]) -> Result<Text, RowError>
-    ensures { MatchResult result (λ name. (name ≡ word.now) × IsName word.now) (λ e. NoName word.now e) }
+    ensures { MatchResult result (λ name. (name ≡ word.now) × IsName word.now)
+        (λ e. NoName word.now e) }
 {
     if !is_name(true, word) {
         return Err(RowError::Shape);
@@ -68,7 +72,8 @@ pub(crate) fn name_of(alloc: Global, word: &[u8]) -> Result<Text, RowError>
 
 /// The name after one blank, and what is left.
 pub(crate) fn read_name<'a>(alloc: Global, text: &'a [u8]) -> Result<(Text, &'a [u8]), RowError>
-    ensures { MatchResult result (λ x. IsNameRead text.entry.now x.0 x.1.now) (λ e. NameRefused text.entry.now e) }
+    ensures { MatchResult result (λ x. IsNameRead text.entry.now x.0 x.1.now)
+        (λ e. NameRefused text.entry.now e) }
 {
     match next_word(text) {
         Some((word, rest)) => match name_of(alloc, word) {
@@ -81,7 +86,8 @@ pub(crate) fn read_name<'a>(alloc: Global, text: &'a [u8]) -> Result<(Text, &'a 
 
 /// The names that the rest of a line consists of, each after one blank.
 pub(crate) fn read_names(alloc: Global, text: &[u8]) -> Result<Vec<Text>, RowError>
-    ensures { MatchResult result (λ names. AreNamesRead text.now names.items) (λ e. NamesRefused text.now e) }
+    ensures { MatchResult result (λ names. AreNamesRead text.now names.items)
+        (λ e. NamesRefused text.now e) }
 {
     let mut names = Vec::new(alloc);
     let mut left = text;

@@ -1,5 +1,6 @@
 -- The parts of a line.
-use Rattle.std.specs.Prelude.{◌≡◌, ℕ, ◌≤◌, false, true, List, [], ◌∷◌, length, take, drop, map, if◌then◌else◌}
+use Rattle.std.specs.Prelude.{◌≡◌, ℕ, ◌≤◌, false, true, List, [], ◌∷◌, length, take, drop, map}
+use Rattle.std.specs.Prelude.{if◌then◌else◌}
 use Rattle.std.specs.List.{AllByRecursion}
 use Rattle.std.specs.Borrow.{Bor}
 use Rattle.sx_lines.specs.Bytes.{is_blank}
@@ -9,8 +10,8 @@ abbrev pub with_byte : ℕ → List (List ℕ) → List (List ℕ)
 with_byte b [] = (b ∷ []) ∷ []
 with_byte b (part ∷ parts) = (b ∷ part) ∷ parts
 
--- A part that begins with this byte, before a text with these parts: it is one with the first of them, where the text goes on
--- with no blank.
+-- A part that begins with this byte, before a text with these parts: it is one with the first of
+-- them, where the text goes on with no blank.
 abbrev pub begun : ℕ → List ℕ → List (List ℕ) → List (List ℕ)
 begun b [] parts = (b ∷ []) ∷ parts
 begun b (c ∷ text) parts = if is_blank c then (b ∷ []) ∷ parts else with_byte b parts

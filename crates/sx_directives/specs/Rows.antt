@@ -1,5 +1,7 @@
--- The lines of language and extension files as a table: the word that begins a line, and the parts that follow it.
-use Rattle.std.specs.Prelude.{◌≡◌, ℕ, ◌+◌, Bool, true, false, IsTrue, List, [], ◌∷◌, ◌++◌, length, Option, Some, None, Result, Ok, Err, codes}
+-- The lines of language and extension files as a table: the word that begins a line, and the parts
+-- that follow it.
+use Rattle.std.specs.Prelude.{◌≡◌, ℕ, ◌+◌, Bool, true, false, IsTrue, List, [], ◌∷◌, ◌++◌, length}
+use Rattle.std.specs.Prelude.{Option, Some, None, Result, Ok, Err, codes}
 use Rattle.std.specs.List.{repeat}
 use Rattle.std.specs.Str.{IsUtf8}
 use Rattle.sx_lines.specs.Bytes.{is_blank}
@@ -7,21 +9,32 @@ use Rattle.sx_lines.specs.Words.{number_within}
 use Rattle.sx_grammar.specs.Parts.{Line, line}
 use Rattle.sx_grammar.specs.declared.sort_line.SortLine.{SortLine}
 use Rattle.sx_directives.specs.Parts.{AllBlank, parts_of}
-use Rattle.sx_directives.specs.Spelling.{IsModuleName, IsName, IsStem, IsVariable, NotLexical, IsQuoted, Spells, SpellsForm, EachSpelled}
+use Rattle.sx_directives.specs.Spelling.{IsModuleName, IsName, IsStem, IsVariable, NotLexical}
+use Rattle.sx_directives.specs.Spelling.{IsQuoted, Spells, SpellsForm, EachSpelled}
 use Rattle.sx_directives.specs.declared.file_kind.FileKind.{FileKind}
 use Rattle.sx_directives.specs.declared.file_kind.FileKind.TheVariants as files
 use Rattle.sx_directives.specs.declared.keyword.Keyword.{Keyword}
-use Rattle.sx_directives.specs.declared.keyword.Keyword.TheVariants.{Language, Sort, Prod, Var, Form, Main, Rule, Bar, End, Extension, Use, Plain, To}
+use Rattle.sx_directives.specs.declared.keyword.Keyword.TheVariants.{Language, Sort, Prod, Var}
+use Rattle.sx_directives.specs.declared.keyword.Keyword.TheVariants.{Form, Main, Rule, Bar, End}
+use Rattle.sx_directives.specs.declared.keyword.Keyword.TheVariants.{Extension, Use, Plain, To}
 use Rattle.sx_directives.specs.declared.row_error.RowError.{RowError}
 use Rattle.sx_directives.specs.declared.row_error.RowError.TheVariants.{Memory, Shape}
 use Rattle.sx_directives.specs.declared.row.Row.{Row}
-use Rattle.sx_directives.specs.declared.row.Row.TheVariants.{Language as LanguageRow, Sort as SortRow, Prod as ProdRow, Var as VarRow, Form as FormRow, Main as MainRow, Rule as RuleRow, Bar as BarRow, End as EndRow, Extension as ExtensionRow, Use as UseRow, Plain as PlainRow, To as ToRow}
+use Rattle.sx_directives.specs.declared.row.Row.TheVariants.{Language as LanguageRow}
+use Rattle.sx_directives.specs.declared.row.Row.TheVariants.{Sort as SortRow, Prod as ProdRow}
+use Rattle.sx_directives.specs.declared.row.Row.TheVariants.{Var as VarRow, Form as FormRow}
+use Rattle.sx_directives.specs.declared.row.Row.TheVariants.{Main as MainRow, Rule as RuleRow}
+use Rattle.sx_directives.specs.declared.row.Row.TheVariants.{Bar as BarRow, End as EndRow}
+use Rattle.sx_directives.specs.declared.row.Row.TheVariants.{Extension as ExtensionRow}
+use Rattle.sx_directives.specs.declared.row.Row.TheVariants.{Use as UseRow, Plain as PlainRow}
+use Rattle.sx_directives.specs.declared.row.Row.TheVariants.{To as ToRow}
 use Rattle.sx_directives.specs.declared.rows.VarLine.{VarLine}
 use Rattle.sx_directives.specs.declared.rows.FormLine.{FormLine}
 use Rattle.sx_directives.specs.declared.rows.MainLine.{MainLine}
 use Rattle.sx_directives.specs.declared.rows.PlainLine.{PlainLine}
 use Rattle.sx_directives.specs.declared.directive.Directive.{Directive}
-use Rattle.sx_directives.specs.declared.directive.Directive.TheVariants.{Prod as ProdRead, Var as VarRead}
+use Rattle.sx_directives.specs.declared.directive.Directive.TheVariants.{Prod as ProdRead}
+use Rattle.sx_directives.specs.declared.directive.Directive.TheVariants.{Var as VarRead}
 
 -- the words
 abbrev pub keyword_text : Keyword → List ℕ
@@ -39,8 +52,8 @@ keyword_text Use = codes "use"
 keyword_text Plain = codes "plain"
 keyword_text To = codes "to"
 
--- The word begins lines of files of this kind: `extension`, `use`, `plain` and `to` are none of language files, and `sort`,
--- `form` and `main` are none of extension files.
+-- The word begins lines of files of this kind: `extension`, `use`, `plain` and `to` are none of
+-- language files, and `sort`, `form` and `main` are none of extension files.
 abbrev pub is_word_of : FileKind → Keyword → Bool
 is_word_of files.Language Extension = false
 is_word_of files.Language Use = false
@@ -122,7 +135,8 @@ abbrev pub BeginsBlank : List ℕ → Type 0
 BeginsBlank [] = ⊥
 BeginsBlank (b ∷ text) = is_blank b ≡ true
 
--- after blanks, `to` and one more blank at least, the rest of the line begins at this place, with that blank
+-- after blanks, `to` and one more blank at least, the rest of the line begins at this place, with
+-- that blank
 pub record IsCut (text : List ℕ) (at : ℕ) (rest : List ℕ) : Type 0 where
   pub blanks : List ℕ
   pub text_is : text ≡ blanks ++ (codes "to" ++ rest)
@@ -132,7 +146,8 @@ pub record IsCut (text : List ℕ) (at : ℕ) (rest : List ℕ) : Type 0 where
 
 -- the body of a `to` line at its place in the line, with spaces in place of what stands before it
 abbrev pub IsBody : List ℕ → List ℕ → Type 0
-IsBody text body = (at : ℕ) × (rest : List ℕ) × IsCut text at rest × (body ≡ repeat at (codes " ") ++ rest)
+IsBody text body = (at : ℕ) × (rest : List ℕ) × IsCut text at rest ×
+    (body ≡ repeat at (codes " ") ++ rest)
 
 -- the body, as a text
 abbrev pub IsBodyText : List ℕ → List ℕ → Type 0
@@ -140,8 +155,10 @@ IsBodyText text body = IsBody text body × IsUtf8 body
 
 -- the parts are those of this `prod` or `var` line
 abbrev pub IsDirectiveOf : List (List ℕ) → Directive → Type 0
-IsDirectiveOf parts (ProdRead p) = (rest : List (List ℕ)) × (parts ≡ keyword_text Prod ∷ rest) × IsProdRow rest (line p)
-IsDirectiveOf parts (VarRead stem sort) = (rest : List (List ℕ)) × (parts ≡ keyword_text Var ∷ rest) × IsVarRow rest (record { stem = stem; sort = sort })
+IsDirectiveOf parts (ProdRead p) = (rest : List (List ℕ)) × (parts ≡ keyword_text Prod ∷ rest) ×
+    IsProdRow rest (line p)
+IsDirectiveOf parts (VarRead stem sort) = (rest : List (List ℕ)) ×
+    (parts ≡ keyword_text Var ∷ rest) × IsVarRow rest (record { stem = stem; sort = sort })
 
 -- the line is that of this directive
 abbrev pub IsDirective : List ℕ → Directive → Type 0
@@ -202,9 +219,11 @@ pub record IsRow (kind : FileKind) (text : List ℕ) (r : Row) : Type 0 where
 
 -- in a file of this kind the line begins with a word of the table
 abbrev pub HasWord : FileKind → List ℕ → Type 0
-HasWord kind text = (k : Keyword) × (rest : List (List ℕ)) × (parts_of text ≡ keyword_text k ∷ rest) × IsLineOf kind k text
+HasWord kind text = (k : Keyword) × (rest : List (List ℕ)) ×
+    (parts_of text ≡ keyword_text k ∷ rest) × IsLineOf kind k text
 
--- what reading a line answers: its row, none where it begins with no word of the table, or that its parts are not as stated
+-- what reading a line answers: its row, none where it begins with no word of the table, or that its
+-- parts are not as stated
 abbrev pub IsRowRead : FileKind → List ℕ → Result (Option Row) RowError → Type 0
 IsRowRead kind text (Ok None) = HasWord kind text → ⊥
 IsRowRead kind text (Ok (Some r)) = IsRow kind text r

@@ -1,5 +1,6 @@
 -- How names, literals, sorts and symbols are spelled in a part of a line.
-use Rattle.std.specs.Prelude.{◌≡◌, ◌≢◌, ℕ, ◌==◌, Bool, true, false, IsTrue, ◌⊎◌, List, [], ◌∷◌, ◌++◌, Some, codes, if◌then◌else◌}
+use Rattle.std.specs.Prelude.{◌≡◌, ◌≢◌, ℕ, ◌==◌, Bool, true, false, IsTrue, ◌⊎◌, List, [], ◌∷◌}
+use Rattle.std.specs.Prelude.{◌++◌, Some, codes, if◌then◌else◌}
 use Rattle.std.specs.List.{list_all, AllByRecursion}
 use Rattle.std.specs.Char.{is_ascii_alphabetic, is_ascii_digit}
 use Rattle.std.specs.Str.{IsUtf8}
@@ -109,12 +110,14 @@ pub record IsAtLevel (part sort : List ℕ) (least : ℕ) : Type 0 where
 -- the part spells this sort
 abbrev pub SpellsSort : List ℕ → SpelledSort → Type 0
 SpellsSort part (Lexical kind) = part ≡ lex_text kind
-SpellsSort part (Named sort least) = IsName sort × (IsAlone part sort least ⊎ IsAtLevel part sort least)
+SpellsSort part (Named sort least) = IsName sort ×
+    (IsAlone part sort least ⊎ IsAtLevel part sort least)
 
 -- the name and the digits are those of this sort
 abbrev pub IsLevelled : List ℕ → List ℕ → SpelledSort → Type 0
 IsLevelled name digits (Lexical kind) = ⊥
-IsLevelled name digits (Named sort least) = IsNamed name sort × (number_within 99 digits ≡ Some least)
+IsLevelled name digits (Named sort least) = IsNamed name sort ×
+    (number_within 99 digits ≡ Some least)
 
 -- ---- symbols
 
@@ -144,7 +147,8 @@ SpellsForm part (Place role sort) = SpellsPlace part role sort
 -- each part spells the symbol at its place
 abbrev pub EachSpelled : {S : Type 0} → (List ℕ → S → Type 0) → List (List ℕ) → List S → Type 0
 EachSpelled Spell [] [] = Unit {0}
-EachSpelled Spell (part ∷ parts) (symbol ∷ symbols) = Spell part symbol × EachSpelled Spell parts symbols
+EachSpelled Spell (part ∷ parts) (symbol ∷ symbols) =
+    Spell part symbol × EachSpelled Spell parts symbols
 EachSpelled Spell [] (symbol ∷ symbols) = ⊥
 EachSpelled Spell (part ∷ parts) [] = ⊥
 

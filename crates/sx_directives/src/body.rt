@@ -1,6 +1,7 @@
 //! Bodies behind `to`, which are read by no parts.
 
-ghost use Rattle.std.specs.Prelude.{◌≡◌, ◌↔◌, IsTrue, List, ℕ, ◌++◌, codes, IfOk, MatchOption, MatchResult};
+ghost use Rattle.std.specs.Prelude.{◌≡◌, ◌↔◌, IsTrue, List, ℕ, ◌++◌, codes, IfOk, MatchOption};
+ghost use Rattle.std.specs.Prelude.{MatchResult};
 ghost use Rattle.std.specs.List.{repeat};
 ghost use Rattle.sx_directives.specs.Rows.{BeginsBlank, IsBody, IsBodyText, IsCut};
 ghost use Rattle.sx_directives.specs.Spelling.{NoneIs};
@@ -22,10 +23,11 @@ fn begins_blank(text: &[u8]) -> bool
     }
 }
 
-/// How many bytes stand before the body of a `to` line, and the body. `None` comes exactly where the line is none: where `to`
-/// is not its first part, or no byte follows it.
+/// How many bytes stand before the body of a `to` line, and the body. `None` comes exactly where
+/// the line is none: where `to` is not its first part, or no byte follows it.
 fn split_body<'a>(line: &'a [u8]) -> Option<(usize, &'a [u8])>
-    ensures { MatchOption result ((body : List ℕ) → IsBody line.entry.now body → ⊥) (λ x. IsCut line.entry.now x.0 x.1.now) }
+    ensures { MatchOption result ((body : List ℕ) → IsBody line.entry.now body → ⊥)
+        (λ x. IsCut line.entry.now x.0 x.1.now) }
 {
     let blanks = blanks_len(line);
     let (_blanks, word) = line.split_at(blanks);

@@ -40,7 +40,8 @@ pub(crate) fn is_word_of(kind: FileKind, keyword: Keyword) -> bool
 
 /// The word that a part is, where it is one that begins a line.
 pub(crate) fn keyword_of(part: &[u8]) -> Option<Keyword>
-    ensures { MatchOption result ((k : KeywordOf) → part.now ≡ keyword_text k → ⊥) (λ k. part.now ≡ keyword_text k) }
+    ensures { MatchOption result ((k : KeywordOf) → part.now ≡ keyword_text k → ⊥)
+        (λ k. part.now ≡ keyword_text k) }
 {
     if part == b"language".as_slice() {
         return Some(Keyword::Language);

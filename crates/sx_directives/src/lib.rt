@@ -1,9 +1,10 @@
 //! The lines of language and extension files, read without a grammar.
 //!
-//! A line's parts are its maximal runs of bytes that are no blank. `read_row` reads a line of a language file or of an extension
-//! file, `read_directive` one that declares a production or metavariables. Each contract is a relation between the line and what
-//! it states (`specs/Rows.antt`): what is read stands in it, and a line is refused exactly where nothing does. Want of memory may
-//! come at any call.
+//! A line's parts are its maximal runs of bytes that are no blank. `read_row` reads a line of a
+//! language file or of an extension file, `read_directive` one that declares a production or
+//! metavariables. Each contract is a relation between the line and what it states
+//! (`specs/Rows.antt`): what is read stands in it, and a line is refused exactly where nothing
+//! does. Want of memory may come at any call.
 #![tactic(auto)]
 
 mod body;

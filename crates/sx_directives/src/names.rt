@@ -4,7 +4,8 @@ ghost use Rattle.std.specs.Prelude.{◌≡◌, MatchResult};
 ghost use Rattle.std.specs.List.{list_all};
 ghost use Rattle.std.specs.Char as char;
 ghost use Rattle.sx_directives.specs.Spelling as spec;
-ghost use Rattle.sx_directives.specs.Spelling.{IsModuleNamed, IsNamed, IsStemOf, IsQuoted, IsTextOf, IsVariable, NoneIs};
+ghost use Rattle.sx_directives.specs.Spelling.{IsModuleNamed, IsNamed, IsStemOf, IsQuoted};
+ghost use Rattle.sx_directives.specs.Spelling.{IsTextOf, IsVariable, NoneIs};
 
 use crate::row_error::RowError;
 use std::alloc::Global;

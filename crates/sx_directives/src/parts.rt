@@ -7,7 +7,8 @@ ghost use Rattle.sx_directives.specs.Parts.{parts_of, texts, IsBlankFront, IsPar
 use std::alloc::Global;
 use sx_term::NoMemory;
 
-/// Whether the byte is a blank, which stands between the parts of a line: a space, a tab or a carriage return.
+/// Whether the byte is a blank, which stands between the parts of a line: a space, a tab or a
+/// carriage return.
 pub fn is_blank(c: u8) -> bool
     ensures { result ≡ spec.is_blank c }
 {
@@ -40,7 +41,8 @@ fn part_len(text: &[u8]) -> usize
 
 /// The first part of a text, and what is left after it.
 pub fn next_part(text: &[u8]) -> Option<(&[u8], &[u8])>
-    ensures parts { MatchOption result (parts_of text.now ≡ []) (λ x. parts_of text.now ≡ x.0.now ∷ parts_of x.1.now) }
+    ensures parts { MatchOption result (parts_of text.now ≡ [])
+        (λ x. parts_of text.now ≡ x.0.now ∷ parts_of x.1.now) }
     ensures shorter { IfSome result (λ x. length x.1.now < length text.now) }
 {
     let (_blanks, rest) = text.split_at(blanks_len(text));

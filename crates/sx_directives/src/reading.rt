@@ -3,7 +3,8 @@
 ghost use Rattle.std.specs.Prelude.{◌≡◌, ◌↔◌, IsTrue, List, ℕ, [], ◌∷◌, MatchOption, MatchResult};
 ghost use Rattle.sx_directives.specs.Parts.{texts};
 ghost use Rattle.sx_directives.specs.Spelling.{NoneIs};
-ghost use Rattle.sx_directives.specs.Rows.{keyword_text, IsDirective, IsDirectiveOf, IsLineOf, IsRowOf, IsRowRead};
+ghost use Rattle.sx_directives.specs.Rows.{keyword_text, IsDirective, IsDirectiveOf, IsLineOf};
+ghost use Rattle.sx_directives.specs.Rows.{IsRowOf, IsRowRead};
 ghost use Rattle.sx_directives.specs.declared.keyword.Keyword.{Keyword as KeywordOf};
 
 use crate::body::{body_of, has_body};
@@ -20,7 +21,8 @@ use std::alloc::Global;
 
 /// The word that begins the line with these parts, and the parts after it.
 pub(crate) fn split_keyword<'a, 'b>(parts: &'b [&'a [u8]]) -> Option<(Keyword, &'b [&'a [u8]])>
-    ensures { MatchOption result ((k : KeywordOf) (rest : List (List ℕ)) → texts parts.entry.now ≡ keyword_text k ∷ rest → ⊥)
+    ensures { MatchOption result ((k : KeywordOf) (rest : List (List ℕ)) →
+        texts parts.entry.now ≡ keyword_text k ∷ rest → ⊥)
         (λ x. texts parts.entry.now ≡ keyword_text x.0 ∷ texts x.1.now) }
 {
     match parts {
@@ -34,7 +36,8 @@ pub(crate) fn split_keyword<'a, 'b>(parts: &'b [&'a [u8]]) -> Option<(Keyword, &
 
 /// What the parts after the word of a `prod` or a `var` line state.
 fn directive_of(alloc: Global, keyword: Keyword, parts: &[&[u8]]) -> Result<Directive, RowError>
-    ensures { MatchResult result (IsDirectiveOf (keyword_text keyword ∷ texts parts.now)) (NoneIs (IsDirectiveOf (keyword_text keyword ∷ texts parts.now))) }
+    ensures { MatchResult result (IsDirectiveOf (keyword_text keyword ∷ texts parts.now))
+        (NoneIs (IsDirectiveOf (keyword_text keyword ∷ texts parts.now))) }
 {
     match keyword {
         Keyword::Prod => match read_prod(alloc, parts) {
@@ -52,8 +55,8 @@ fn directive_of(alloc: Global, keyword: Keyword, parts: &[&[u8]]) -> Result<Dire
     }
 }
 
-/// What a `prod` or a `var` line states. `Shape` comes exactly where the line is neither: where its first part is another word,
-/// or the parts after it are not as stated.
+/// What a `prod` or a `var` line states. `Shape` comes exactly where the line is neither: where its
+/// first part is another word, or the parts after it are not as stated.
 pub fn read_directive(alloc: Global, line: &[u8]) -> Result<Directive, RowError>
     ensures { MatchResult result (IsDirective line.now) (NoneIs (IsDirective line.now)) }
 {
@@ -66,7 +69,8 @@ pub fn read_directive(alloc: Global, line: &[u8]) -> Result<Directive, RowError>
 
 /// The row of a word alone, where no part follows it.
 fn alone(parts: &[&[u8]], row: Row) -> Result<Row, RowError>
-    ensures { MatchResult result (λ r. (r ≡ row) × (texts parts.now ≡ [])) (λ _. texts parts.now ≡ [] → ⊥) }
+    ensures { MatchResult result (λ r. (r ≡ row) × (texts parts.now ≡ []))
+        (λ _. texts parts.now ≡ [] → ⊥) }
 {
     if parts.is_empty() {
         return Ok(row);
@@ -77,7 +81,8 @@ fn alone(parts: &[&[u8]], row: Row) -> Result<Row, RowError>
 
 /// The row of a word with the parts after it, in this line.
 fn row_of(alloc: Global, keyword: Keyword, parts: &[&[u8]], line: &[u8]) -> Result<Row, RowError>
-    ensures { MatchResult result (IsRowOf keyword line.now (texts parts.now)) (NoneIs (IsRowOf keyword line.now (texts parts.now))) }
+    ensures { MatchResult result (IsRowOf keyword line.now (texts parts.now))
+        (NoneIs (IsRowOf keyword line.now (texts parts.now))) }
 {
     match keyword {
         Keyword::Language => match read_name(alloc, parts) {
@@ -139,8 +144,9 @@ fn is_line_of(kind: FileKind, keyword: Keyword, line: &[u8]) -> bool
     }
 }
 
-/// What a line of a file of this kind states: `None` exactly where its first part is no word that begins such a line, or it is
-/// `to` and no body follows it, and `Shape` exactly where it is such a line and the parts after its word are not as stated.
+/// What a line of a file of this kind states: `None` exactly where its first part is no word that
+/// begins such a line, or it is `to` and no body follows it, and `Shape` exactly where it is such a
+/// line and the parts after its word are not as stated.
 pub fn read_row(alloc: Global, kind: FileKind, line: &[u8]) -> Result<Option<Row>, RowError>
     ensures { IsRowRead kind line.now result }
 {

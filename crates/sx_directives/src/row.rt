@@ -31,6 +31,7 @@ pub enum Row {
     Use(Text),
     /// `plain LABEL VAR..`
     Plain(PlainLine),
-    /// `to` and a body: the body at its place in the line, with spaces in place of what stands before it
+    /// `to` and a body: the body at its place in the line, with spaces in place of what stands
+    /// before it
     To(Text),
 }

@@ -5,7 +5,9 @@ ghost use Rattle.sx_lines.specs.Words.{number_within};
 ghost use Rattle.sx_grammar.specs.Parts.{line};
 ghost use Rattle.sx_directives.specs.Parts.{texts};
 ghost use Rattle.sx_directives.specs.Spelling.{NoneIs};
-ghost use Rattle.sx_directives.specs.Rows.{kind_text, AreBrackets, IsSortRow, IsProdRow, IsVarRow, IsFormRow, IsMainRow, IsModuleRow, IsNameRow, IsPlainRow};
+ghost use Rattle.sx_directives.specs.Rows.{kind_text, AreBrackets, IsSortRow, IsProdRow, IsVarRow};
+ghost use Rattle.sx_directives.specs.Rows.{IsFormRow, IsMainRow, IsModuleRow, IsNameRow};
+ghost use Rattle.sx_directives.specs.Rows.{IsPlainRow};
 
 use crate::names::{literal_of, module_name_of, name_of, stem_of};
 use crate::row_error::RowError;
@@ -27,7 +29,8 @@ fn is_colon(part: &[u8]) -> bool
 
 /// Reads `STEM : SORT`.
 pub(crate) fn read_var(alloc: Global, parts: &[&[u8]]) -> Result<VarLine, RowError>
-    ensures { MatchResult result (IsVarRow (texts parts.now)) (NoneIs (IsVarRow (texts parts.now))) }
+    ensures { MatchResult result (IsVarRow (texts parts.now))
+        (NoneIs (IsVarRow (texts parts.now))) }
 {
     match parts {
         [stem, colon, sort] => {
@@ -45,7 +48,8 @@ pub(crate) fn read_var(alloc: Global, parts: &[&[u8]]) -> Result<VarLine, RowErr
 
 /// Reads `NAME`.
 pub(crate) fn read_name(alloc: Global, parts: &[&[u8]]) -> Result<Text, RowError>
-    ensures { MatchResult result (IsNameRow (texts parts.now)) (NoneIs (IsNameRow (texts parts.now))) }
+    ensures { MatchResult result (IsNameRow (texts parts.now))
+        (NoneIs (IsNameRow (texts parts.now))) }
 {
     match parts {
         [name] => name_of(alloc, *name),
@@ -55,7 +59,8 @@ pub(crate) fn read_name(alloc: Global, parts: &[&[u8]]) -> Result<Text, RowError
 
 /// Reads `NAME`, the name of a module.
 pub(crate) fn read_module_name(alloc: Global, parts: &[&[u8]]) -> Result<Text, RowError>
-    ensures { MatchResult result (IsModuleRow (texts parts.now)) (NoneIs (IsModuleRow (texts parts.now))) }
+    ensures { MatchResult result (IsModuleRow (texts parts.now))
+        (NoneIs (IsModuleRow (texts parts.now))) }
 {
     match parts {
         [name] => module_name_of(alloc, *name),
@@ -65,7 +70,8 @@ pub(crate) fn read_module_name(alloc: Global, parts: &[&[u8]]) -> Result<Text, R
 
 /// Reads `LABEL VAR..`.
 pub(crate) fn read_plain(alloc: Global, parts: &[&[u8]]) -> Result<PlainLine, RowError>
-    ensures { MatchResult result (IsPlainRow (texts parts.now)) (NoneIs (IsPlainRow (texts parts.now))) }
+    ensures { MatchResult result (IsPlainRow (texts parts.now))
+        (NoneIs (IsPlainRow (texts parts.now))) }
 {
     match parts {
         [label, names @ ..] => {
@@ -81,7 +87,8 @@ pub(crate) fn read_plain(alloc: Global, parts: &[&[u8]]) -> Result<PlainLine, Ro
 
 /// Reads `FORM LABEL LABEL`.
 pub(crate) fn read_main(alloc: Global, parts: &[&[u8]]) -> Result<MainLine, RowError>
-    ensures { MatchResult result (IsMainRow (texts parts.now)) (NoneIs (IsMainRow (texts parts.now))) }
+    ensures { MatchResult result (IsMainRow (texts parts.now))
+        (NoneIs (IsMainRow (texts parts.now))) }
 {
     match parts {
         [form, empty, add] => Ok(MainLine {
@@ -95,7 +102,8 @@ pub(crate) fn read_main(alloc: Global, parts: &[&[u8]]) -> Result<MainLine, RowE
 
 /// Reads `NAME : SYMBOL..` of a form.
 pub(crate) fn read_form(alloc: Global, parts: &[&[u8]]) -> Result<FormLine, RowError>
-    ensures { MatchResult result (IsFormRow (texts parts.now)) (NoneIs (IsFormRow (texts parts.now))) }
+    ensures { MatchResult result (IsFormRow (texts parts.now))
+        (NoneIs (IsFormRow (texts parts.now))) }
 {
     match parts {
         [name, colon, symbols @ ..] => {
@@ -114,7 +122,8 @@ pub(crate) fn read_form(alloc: Global, parts: &[&[u8]]) -> Result<FormLine, RowE
 
 /// The level that digits spell.
 fn level_of(digits: &[u8]) -> Result<u8, RowError>
-    ensures { MatchResult result (λ level. number_within 99 digits.now ≡ Some level) (NoneIs (λ level. number_within 99 digits.now ≡ Some level)) }
+    ensures { MatchResult result (λ level. number_within 99 digits.now ≡ Some level)
+        (NoneIs (λ level. number_within 99 digits.now ≡ Some level)) }
 {
     match number_within(99, digits) {
         Some(level) => Ok(level as u8),
@@ -124,7 +133,8 @@ fn level_of(digits: &[u8]) -> Result<u8, RowError>
 
 /// Reads `LABEL SORT LEVEL : SYMBOL..`.
 pub(crate) fn read_prod(alloc: Global, parts: &[&[u8]]) -> Result<Production, RowError>
-    ensures { MatchResult result (λ p. IsProdRow (texts parts.now) (line p)) (NoneIs (IsProdRow (texts parts.now))) }
+    ensures { MatchResult result (λ p. IsProdRow (texts parts.now) (line p))
+        (NoneIs (IsProdRow (texts parts.now))) }
 {
     match parts {
         [label, sort, level, colon, symbols @ ..] => {
@@ -150,7 +160,8 @@ pub(crate) fn read_prod(alloc: Global, parts: &[&[u8]]) -> Result<Production, Ro
 
 /// Whether a sort is typed.
 fn kind_of(part: &[u8]) -> Option<bool>
-    ensures { MatchOption result ((typed : Bool) → part.now ≡ kind_text typed → ⊥) (λ typed. part.now ≡ kind_text typed) }
+    ensures { MatchOption result ((typed : Bool) → part.now ≡ kind_text typed → ⊥)
+        (λ typed. part.now ≡ kind_text typed) }
 {
     if part == b"typed".as_slice() {
         return Some(true);
@@ -163,7 +174,8 @@ fn kind_of(part: &[u8]) -> Option<bool>
 
 /// The bracket pair that parts spell, or none where there are no parts.
 fn brackets_of(alloc: Global, parts: &[&[u8]]) -> Result<Option<(Text, Text)>, RowError>
-    ensures { MatchResult result (AreBrackets (texts parts.now)) (NoneIs (AreBrackets (texts parts.now))) }
+    ensures { MatchResult result (AreBrackets (texts parts.now))
+        (NoneIs (AreBrackets (texts parts.now))) }
 {
     match parts {
         [] => Ok(None),
@@ -172,9 +184,11 @@ fn brackets_of(alloc: Global, parts: &[&[u8]]) -> Result<Option<(Text, Text)>, R
     }
 }
 
-/// Reads `NAME plain` or `NAME typed`, where the name is that of no lexical sort, with or without two literals in quotes.
+/// Reads `NAME plain` or `NAME typed`, where the name is that of no lexical sort, with or without
+/// two literals in quotes.
 pub(crate) fn read_sort(alloc: Global, parts: &[&[u8]]) -> Result<SortLine, RowError>
-    ensures { MatchResult result (IsSortRow (texts parts.now)) (NoneIs (IsSortRow (texts parts.now))) }
+    ensures { MatchResult result (IsSortRow (texts parts.now))
+        (NoneIs (IsSortRow (texts parts.now))) }
 {
     match parts {
         [name, kind, brackets @ ..] => match kind_of(*kind) {

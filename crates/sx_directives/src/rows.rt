@@ -17,7 +17,8 @@ pub struct FormLine {
     pub symbols: Vec<FormSymbol>,
 }
 
-/// The name of the main form, and the labels of the constructors of an empty environment and of one with one more entry.
+/// The name of the main form, and the labels of the constructors of an empty environment and of one
+/// with one more entry.
 #[derive(Drop)]
 pub struct MainLine {
     pub form: Text,
@@ -25,7 +26,8 @@ pub struct MainLine {
     pub add: Text,
 }
 
-/// The label of a production with a plain body, and the names of the variables that stand for its parts, without `~`.
+/// The label of a production with a plain body, and the names of the variables that stand for its
+/// parts, without `~`.
 #[derive(Drop)]
 pub struct PlainLine {
     pub label: Text,

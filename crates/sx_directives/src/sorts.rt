@@ -1,7 +1,8 @@
 //! Reading sorts as they are spelled in symbols.
 
 ghost use Rattle.std.specs.Prelude.{◌≡◌, List, ℕ, ◌++◌, ◌∷◌, MatchOption, MatchResult};
-ghost use Rattle.sx_directives.specs.Spelling.{lex_text, NotLexical, NoAt, IsLevelled, IsSortName, SpellsSort, NoneIs};
+ghost use Rattle.sx_directives.specs.Spelling.{lex_text, NotLexical, NoAt, IsLevelled, IsSortName};
+ghost use Rattle.sx_directives.specs.Spelling.{SpellsSort, NoneIs};
 
 use crate::names::name_of;
 use crate::row_error::RowError;
@@ -10,7 +11,8 @@ use std::alloc::Global;
 use sx_lines::number_within;
 use sx_term::{LexKind, Text};
 
-/// The lexical kind that a part names: `id`, `num` or `str`. `None` comes exactly where it is none of these.
+/// The lexical kind that a part names: `id`, `num` or `str`. `None` comes exactly where it is none
+/// of these.
 pub fn lexical_kind(part: &[u8]) -> Option<LexKind>
     ensures { MatchOption result (NotLexical part.now) (λ kind. part.now ≡ lex_text kind) }
 {
@@ -38,7 +40,8 @@ pub(crate) fn sort_name_of(alloc: Global, part: &[u8]) -> Result<Text, RowError>
 
 /// What stands before the first `@`, and what stands after it.
 fn split_level(part: &[u8]) -> Option<(&[u8], &[u8])>
-    ensures { MatchOption result (NoAt part.now) (λ x. (part.now ≡ x.0.now ++ 64 ∷ x.1.now) × NoAt x.0.now) }
+    ensures { MatchOption result (NoAt part.now)
+        (λ x. (part.now ≡ x.0.now ++ 64 ∷ x.1.now) × NoAt x.0.now) }
 {
     for (at, b) in part.iter().enumerate() {
         if *b == b'@' {
@@ -52,7 +55,8 @@ fn split_level(part: &[u8]) -> Option<(&[u8], &[u8])>
 
 /// The sort with a least level that a name and digits spell.
 fn levelled(alloc: Global, name: &[u8], digits: &[u8]) -> Result<SpelledSort, RowError>
-    ensures { MatchResult result (IsLevelled name.now digits.now) (NoneIs (IsLevelled name.now digits.now)) }
+    ensures { MatchResult result (IsLevelled name.now digits.now)
+        (NoneIs (IsLevelled name.now digits.now)) }
 {
     match number_within(99, digits) {
         Some(least) => match name_of(alloc, name) {

@@ -31,7 +31,8 @@ fn symbol_of(alloc: Global, part: &[u8]) -> Result<Symbol, RowError>
 
 /// The symbols of a production that the parts spell.
 pub(crate) fn symbols_of(alloc: Global, parts: &[&[u8]]) -> Result<Vec<Symbol>, RowError>
-    ensures { MatchResult result (λ symbols. EachSpelled Spells (texts parts.now) symbols.items) (NoneIs (EachSpelled Spells (texts parts.now))) }
+    ensures { MatchResult result (λ symbols. EachSpelled Spells (texts parts.now) symbols.items)
+        (NoneIs (EachSpelled Spells (texts parts.now))) }
 {
     let mut symbols = Vec::new(alloc);
     for part in parts {
@@ -45,14 +46,17 @@ pub(crate) fn symbols_of(alloc: Global, parts: &[&[u8]]) -> Result<Vec<Symbol>, 
 
 /// What follows the front in a part that begins with it.
 pub(crate) fn after_front<'a>(part: &'a [u8], front: &[u8]) -> Option<&'a [u8]>
-    ensures { MatchOption result ((rest : List ℕ) → part.entry.now ≡ front.now ++ rest → ⊥) (λ rest. part.entry.now ≡ front.now ++ rest.now) }
+    ensures { MatchOption result ((rest : List ℕ) → part.entry.now ≡ front.now ++ rest → ⊥)
+        (λ rest. part.entry.now ≡ front.now ++ rest.now) }
 {
     after(part, front)
 }
 
 /// What a place is for, and what follows that in its text.
 fn split_role<'a>(part: &'a [u8]) -> Option<(Role, &'a [u8])>
-    ensures { MatchOption result ((role : RoleOf) (rest : List ℕ) → part.entry.now ≡ role_text role ++ rest → ⊥) (λ x. part.entry.now ≡ role_text x.0 ++ x.1.now) }
+    ensures { MatchOption result ((role : RoleOf) (rest : List ℕ) →
+        part.entry.now ≡ role_text role ++ rest → ⊥)
+        (λ x. part.entry.now ≡ role_text x.0 ++ x.1.now) }
 {
     if let Some(sort) = after_front(part, b"in:") {
         return Some((Role::In, sort));
@@ -84,7 +88,8 @@ fn form_symbol_of(alloc: Global, part: &[u8]) -> Result<FormSymbol, RowError>
 
 /// The symbols of a form that the parts spell.
 pub(crate) fn form_symbols_of(alloc: Global, parts: &[&[u8]]) -> Result<Vec<FormSymbol>, RowError>
-    ensures { MatchResult result (λ symbols. EachSpelled SpellsForm (texts parts.now) symbols.items) (NoneIs (EachSpelled SpellsForm (texts parts.now))) }
+    ensures { MatchResult result (λ symbols. EachSpelled SpellsForm (texts parts.now) symbols.items)
+        (NoneIs (EachSpelled SpellsForm (texts parts.now))) }
 {
     let mut symbols = Vec::new(alloc);
     for part in parts {

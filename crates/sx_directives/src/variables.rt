@@ -11,7 +11,8 @@ use sx_term::Text;
 
 /// The variables that the parts spell.
 pub(crate) fn variables_of(alloc: Global, parts: &[&[u8]]) -> Result<Vec<Text>, RowError>
-    ensures { MatchResult result (λ names. EachSpelled IsVariable (texts parts.now) names.items) (NoneIs (EachSpelled IsVariable (texts parts.now))) }
+    ensures { MatchResult result (λ names. EachSpelled IsVariable (texts parts.now) names.items)
+        (NoneIs (EachSpelled IsVariable (texts parts.now))) }
 {
     let mut names = Vec::new(alloc);
     for part in parts {

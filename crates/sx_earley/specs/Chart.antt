@@ -3,7 +3,8 @@ use Rattle.std.specs.Prelude.{◌≡◌, ◌≤◌, ℕ, ◌+◌, List, [], ◌�
 use Rattle.std.specs.List.{slice_get}
 use Rattle.sx_grammar.specs.declared.head.Head.{Head}
 use Rattle.sx_grammar.specs.declared.item.Item.{Item}
-use Rattle.sx_grammar.specs.Grammar.{Symbol, literal, lexical, part, Production, Grammar, Token, production_of}
+use Rattle.sx_grammar.specs.Grammar.{Symbol, literal, lexical, part, Production, Grammar, Token}
+use Rattle.sx_grammar.specs.Grammar.{production_of}
 use Rattle.sx_grammar.specs.Items.{ReadsToken}
 use Rattle.sx_grammar.specs.ReadOne.{Holds}
 use Rattle.sx_earley.specs.declared.ask.Ask.{Ask}
@@ -50,7 +51,8 @@ sort_made (Some p) = Some p.sort
 -- the item begins a production of the sort from the level on at the place
 abbrev pub IsPredicted : Grammar → ℕ → ℕ → ℕ → Item → Type 0
 IsPredicted g sort least place i =
-    IsOfSort (production_of g i.head) sort least × (i.dot ≡ 0) × (i.origin ≡ place) × (i.end ≡ place)
+    IsOfSort (production_of g i.head) sort least × (i.dot ≡ 0) × (i.origin ≡ place) ×
+    (i.end ≡ place)
 
 -- the item that begins a head's production at the place
 abbrev pub beginning : Head → ℕ → Item
@@ -67,12 +69,18 @@ pub record Joins (g : Grammar) (before filling : Item) : Type 0 where
 
 -- the item with its dot one greater, up to this end
 abbrev pub moved : Item → ℕ → Item
-moved before end = record { head = before.head; dot = before.dot + 1; origin = before.origin; end = end }
+moved before end = record {
+  head = before.head;
+  dot = before.dot + 1;
+  origin = before.origin;
+  end = end;
+}
 
 -- the item is one of the first, moved over one of the second that it waits for
 abbrev pub IsJoined : Grammar → List Item → List Item → Item → Type 0
 IsJoined g befores fillings i =
-    (before : Item) × (filling : Item) × Contains befores before × Contains fillings filling × Joins g before filling × (i ≡ moved before filling.end)
+    (before : Item) × (filling : Item) × Contains befores before × Contains fillings filling ×
+    Joins g before filling × (i ≡ moved before filling.end)
 
 -- the item waits for a part, and the other begins a production for it
 pub record Foresees (g : Grammar) (item other : Item) : Type 0 where
@@ -81,27 +89,41 @@ pub record Foresees (g : Grammar) (item other : Item) : Type 0 where
   pub waits : as_part (next_symbol g item.head item.dot) ≡ Some (sort, least)
   pub fits : IsPredicted g sort least item.end other
 
--- the item follows from this one, from those that may wait for it, and from those for which it may wait
-pub data Follows (g : Grammar) (tokens : List Token) (befores fillings : List Item) (item : Item) : Item → Type 0 where
+-- the item follows from this one, from those that may wait for it, and from those for which it may
+-- wait
+pub data Follows (g : Grammar) (tokens : List Token) (befores fillings : List Item)
+    (item : Item) : Item → Type 0 where
   by_prediction : {i : Item} → Foresees g item i → Follows g tokens befores fillings item i
-  by_scanning : {i : Item} → ReadsNext tokens (next_symbol g item.head item.dot) item.end → i ≡ moved item (item.end + 1) → Follows g tokens befores fillings item i
-  by_filling : {i : Item} → IsJoined g befores (item ∷ []) i → Follows g tokens befores fillings item i
-  by_waiting : {i : Item} → IsJoined g (item ∷ []) fillings i → Follows g tokens befores fillings item i
+  by_scanning : {i : Item} → ReadsNext tokens (next_symbol g item.head item.dot) item.end →
+      i ≡ moved item (item.end + 1) → Follows g tokens befores fillings item i
+  by_filling : {i : Item} → IsJoined g befores (item ∷ []) i →
+      Follows g tokens befores fillings item i
+  by_waiting : {i : Item} → IsJoined g (item ∷ []) fillings i →
+      Follows g tokens befores fillings item i
 
 -- all that follows so is there
-pub record AllFollow (g : Grammar) (tokens : List Token) (befores fillings : List Item) (item : Item) (keys : List Item) : Type 0 where
-  pub predictions : (sort least : ℕ) (head : Head) → as_part (next_symbol g item.head item.dot) ≡ Some (sort, least) →
+pub record AllFollow (g : Grammar) (tokens : List Token) (befores fillings : List Item)
+    (item : Item) (keys : List Item) : Type 0 where
+  pub predictions : (sort least : ℕ) (head : Head) →
+      as_part (next_symbol g item.head item.dot) ≡ Some (sort, least) →
       IsOfSort (production_of g head) sort least → Contains keys (beginning head item.end)
-  pub scanned : ReadsNext tokens (next_symbol g item.head item.dot) item.end → Contains keys (moved item (item.end + 1))
-  pub filled : (before : Item) → Contains befores before → Joins g before item → Contains keys (moved before item.end)
-  pub filling : (other : Item) → Contains fillings other → Joins g item other → Contains keys (moved item other.end)
+  pub scanned : ReadsNext tokens (next_symbol g item.head item.dot) item.end →
+      Contains keys (moved item (item.end + 1))
+  pub filled : (before : Item) → Contains befores before → Joins g before item →
+      Contains keys (moved before item.end)
+  pub filling : (other : Item) → Contains fillings other → Joins g item other →
+      Contains keys (moved item other.end)
 
 -- what follows from these items is there
 pub record Treated (g : Grammar) (tokens : List Token) (done keys : List Item) : Type 0 where
-  pub predictions : (item : Item) → Contains done item → (sort least : ℕ) (head : Head) → as_part (next_symbol g item.head item.dot) ≡ Some (sort, least) →
+  pub predictions : (item : Item) → Contains done item → (sort least : ℕ) (head : Head) →
+      as_part (next_symbol g item.head item.dot) ≡ Some (sort, least) →
       IsOfSort (production_of g head) sort least → Contains keys (beginning head item.end)
-  pub scanned : (item : Item) → Contains done item → ReadsNext tokens (next_symbol g item.head item.dot) item.end → Contains keys (moved item (item.end + 1))
-  pub joined : (before filling : Item) → Contains done before → Contains done filling → Joins g before filling → Contains keys (moved before filling.end)
+  pub scanned : (item : Item) → Contains done item →
+      ReadsNext tokens (next_symbol g item.head item.dot) item.end →
+      Contains keys (moved item (item.end + 1))
+  pub joined : (before filling : Item) → Contains done before → Contains done filling →
+      Joins g before filling → Contains keys (moved before filling.end)
 
 -- each item of the list holds
 abbrev pub AllHold : Grammar → List Token → ℕ → List Item → Type 0
@@ -109,7 +131,8 @@ AllHold g tokens start keys = (i : Item) → Contains keys i → Holds g tokens 
 
 -- the items begin each production of the sort
 abbrev pub HasOpenings : Grammar → ℕ → List Item → Type 0
-HasOpenings g sort row = (head : Head) (least : ℕ) → IsOfSort (production_of g head) sort least → Contains row (beginning head 0)
+HasOpenings g sort row = (head : Head) (least : ℕ) → IsOfSort (production_of g head) sort least →
+    Contains row (beginning head 0)
 
 -- the rows of place 0 have the items that begin each production
 abbrev pub HasAllOpenings : Grammar → Table → Type 0
@@ -117,15 +140,19 @@ HasAllOpenings g t = (sort : ℕ) → HasOpenings g sort (row_at t (record { pla
 
 -- what has been asked for begins where it was asked for
 abbrev pub AllAsked : Grammar → List Ask → List Item → Type 0
-AllAsked g asked keys = (ask : Ask) → Contains asked ask → (head : Head) → IsOfSort (production_of g head) ask.sort ask.least → Contains keys (beginning head ask.place)
+AllAsked g asked keys = (ask : Ask) → Contains asked ask → (head : Head) →
+    IsOfSort (production_of g head) ask.sort ask.least → Contains keys (beginning head ask.place)
 
 -- where the item waits for a part, it is in the row of its end and the part's sort
 abbrev pub IsFiledWaiting : Grammar → Table → Item → Type 0
-IsFiledWaiting g t x = (sort least : ℕ) → as_part (next_symbol g x.head x.dot) ≡ Some (sort, least) → Contains (row_at t (record { place = x.end; sort = sort })) x
+IsFiledWaiting g t x = (sort least : ℕ) → as_part (next_symbol g x.head x.dot)
+    ≡ Some (sort, least) → Contains (row_at t (record { place = x.end; sort = sort })) x
 
 -- where the item is complete, it is in the row of its origin and its sort
 abbrev pub IsFiledComplete : Grammar → Table → Item → Type 0
-IsFiledComplete g t x = (sort : ℕ) → EndsAt (production_of g x.head) x.dot → sort_made (production_of g x.head) ≡ Some sort → Contains (row_at t (record { place = x.origin; sort = sort })) x
+IsFiledComplete g t x = (sort : ℕ) → EndsAt (production_of g x.head) x.dot →
+    sort_made (production_of g x.head) ≡ Some sort →
+    Contains (row_at t (record { place = x.origin; sort = sort })) x
 
 -- the rows have only items of the list
 abbrev pub HasOnly : Table → List Item → Type 0

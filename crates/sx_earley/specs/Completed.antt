@@ -1,5 +1,6 @@
 -- What a chart tells.
-use Rattle.std.specs.Prelude.{◌≡◌, ◌<◌, ◌≤◌, ◌↔◌, ◌⊎◌, ℕ, true, false, List, [], ◌∷◌, ◌++◌, Contains, length, slice_get}
+use Rattle.std.specs.Prelude.{◌≡◌, ◌<◌, ◌≤◌, ◌↔◌, ◌⊎◌, ℕ, true, false, List, [], ◌∷◌, ◌++◌}
+use Rattle.std.specs.Prelude.{Contains, length, slice_get}
 use Rattle.sx_term.specs.declared.sort.Sort.{Sort}
 use Rattle.sx_term.specs.declared.sort.Sort.TheVariants.{Lex, Plain, Typed}
 use Rattle.sx_grammar.specs.Parts.{Parts}
@@ -43,7 +44,8 @@ of_head (Bracketed sort) = Bracket sort
 
 -- the spans are exactly those that the items complete
 abbrev pub IsChart : Grammar → List Token → ℕ → List Span → Type 0
-IsChart g tokens start spans = (s : Span) → Contains spans s ↔ items.Span g tokens start (head_of s.of) s.from s.to
+IsChart g tokens start spans = (s : Span) → Contains spans s
+    ↔ items.Span g tokens start (head_of s.of) s.from s.to
 
 -- the span of an item
 abbrev pub span_of : Item → Span
@@ -51,14 +53,19 @@ span_of i = record { of = of_head i.head; from = i.origin; to = i.end }
 
 -- the spans are those of the complete items of the list, each once
 pub record AreSpans (g : Grammar) (keys : List Item) (spans : List Span) : Type 0 where
-  pub only : (s : Span) → Contains spans s → (i : Item) × Contains keys i × EndsAt (production_of g i.head) i.dot × (s ≡ span_of i)
-  pub every : (i : Item) → Contains keys i → EndsAt (production_of g i.head) i.dot → Contains spans (span_of i)
+  pub only : (s : Span) → Contains spans s →
+      (i : Item) × Contains keys i × EndsAt (production_of g i.head) i.dot × (s ≡ span_of i)
+  pub every : (i : Item) → Contains keys i → EndsAt (production_of g i.head) i.dot →
+      Contains spans (span_of i)
   pub once : EachOnce spans
 
 -- the span of the item is added, if the item is complete
 abbrev pub Adds : Grammar → Item → List Span → List Span → Type 0
-Adds g item old new = (EndsAt (production_of g item.head) item.dot × (new ≡ old ++ span_of item ∷ [])) ⊎ ((EndsAt (production_of g item.head) item.dot → ⊥) × (new ≡ old))
+Adds g item old new = (EndsAt (production_of g item.head) item.dot ×
+    (new ≡ old ++ span_of item ∷ [])) ⊎ ((EndsAt (production_of g item.head) item.dot → ⊥) ×
+    (new ≡ old))
 
 -- no item of the list ends later
 abbrev pub IsReach : List Item → ℕ → Type 0
-IsReach keys end = ((i : Item) → Contains keys i → i.end ≤ end) × (((i : Item) × Contains keys i × (i.end ≡ end)) ⊎ (end ≡ 0))
+IsReach keys end = ((i : Item) → Contains keys i → i.end ≤ end) ×
+    (((i : Item) × Contains keys i × (i.end ≡ end)) ⊎ (end ≡ 0))

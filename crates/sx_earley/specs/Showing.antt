@@ -15,7 +15,8 @@ use Rattle.sx_earley.specs.Tokens.{Stems, sort_of, stem_of}
 
 -- the look-up finds the sort of each stem
 abbrev pub IsStems : Stems → StemTable → Type 0
-IsStems stems table = (text : Text) → get_by (λ k. bytes_eq text k.now) table.sorts ≡ sort_of stems text
+IsStems stems table = (text : Text) → get_by (λ k. bytes_eq text k.now) table.sorts
+    ≡ sort_of stems text
 
 -- what a metavariable shows whose stem has this sort
 abbrev pub shown_stem : Option Sort → Shown

@@ -1,6 +1,8 @@
 -- What tokens show to a grammar, and which symbols read them.
-use Rattle.std.specs.Prelude.{◌≡◌, ℕ, ◌<◌, List, [], ◌∷◌, Option, Some, None, map, slice_get, slice_index_or}
-use Rattle.sx_grammar.specs.Grammar.{Text, Grammar, Token, is_literal, is_lexeme, is_variable, of_kind, of_sort}
+use Rattle.std.specs.Prelude.{◌≡◌, ℕ, ◌<◌, List, [], ◌∷◌, Option, Some, None, map, slice_get}
+use Rattle.std.specs.Prelude.{slice_index_or}
+use Rattle.sx_grammar.specs.Grammar.{Text, Grammar, Token, is_literal, is_lexeme, is_variable}
+use Rattle.sx_grammar.specs.Grammar.{of_kind, of_sort}
 use Rattle.sx_grammar.specs.Parts.{numbered}
 use Rattle.sx_grammar.specs.Tables.{GrammarData, literals_of}
 use Rattle.sx_grammar.specs.declared.numbered.NumberedSymbol.{NumberedSymbol}
@@ -52,4 +54,5 @@ AreBelow bound shown = (k n : ℕ) → slice_get shown k ≡ Some (Lit n) → n 
 -- the symbol of a bracket pair, with the numbers of its literals, at a place
 abbrev pub pair_symbol : Option (ℕ × ℕ) → ℕ → ℕ → Option NumberedSymbol
 pair_symbol None sort dot = None
-pair_symbol (Some pair) sort dot = slice_get (symbols.Lit pair.0 ∷ symbols.Part sort 0 ∷ symbols.Lit pair.1 ∷ []) dot
+pair_symbol (Some pair) sort dot = slice_get (symbols.Lit pair.0 ∷ symbols.Part sort 0 ∷
+    symbols.Lit pair.1 ∷ []) dot

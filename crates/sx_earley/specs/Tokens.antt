@@ -1,5 +1,6 @@
 -- The tokens of a text with metavariables, as a grammar reads them.
-use Rattle.std.specs.Prelude.{◌≡◌, ℕ, true, if◌then◌else◌, List, [], ◌∷◌, Option, Some, None, map, drop, slice_get, is_some}
+use Rattle.std.specs.Prelude.{◌≡◌, ℕ, true, if◌then◌else◌, List, [], ◌∷◌, Option, Some, None, map}
+use Rattle.std.specs.Prelude.{drop, slice_get, is_some}
 use Rattle.std.specs.Char.{is_ascii_digit}
 use Rattle.std.specs.Str.{bytes_eq}
 use Rattle.std.specs.List.{AllByRecursion}
@@ -10,7 +11,8 @@ use Rattle.sx_term.specs.declared.mark.Mark.{Mark}
 use Rattle.sx_term.specs.declared.mark.Mark.TheVariants.{Lit, Lex, Meta}
 use Rattle.sx_token.specs.declared.token.Token.{Token}
 use Rattle.sx_grammar.specs.Grammar as plain
-use Rattle.sx_grammar.specs.Grammar.{Text, Stem, of_kind, of_sort, is_literal, is_lexeme, is_variable}
+use Rattle.sx_grammar.specs.Grammar.{Text, Stem, of_kind, of_sort, is_literal, is_lexeme}
+use Rattle.sx_grammar.specs.Grammar.{is_variable}
 
 -- the first byte stays, unless it is a digit and nothing comes after it
 abbrev pub kept : ℕ → Text → Text
@@ -50,7 +52,10 @@ found_stem (Some sort) = as_stem sort
 abbrev pub shown : Stems → Mark → Text → plain.Token
 shown stems (Lit n) text = record { mark = is_literal; text = text }
 shown stems (Lex kind) text = record { mark = is_lexeme kind; text = text }
-shown stems Meta text = record { mark = is_variable (found_stem (sort_of stems (stem_of text))); text = text }
+shown stems Meta text = record {
+  mark = is_variable (found_stem (sort_of stems (stem_of text)));
+  text = text;
+}
 
 -- the tokens, as a grammar reads them
 abbrev pub plain_tokens : Stems → List Token → List plain.Token

@@ -16,4 +16,5 @@ HasStem stems t = t.mark ≡ Meta → is_some (sort_of stems (stem_of t.text)) �
 -- the token at the place is the first that is unknown, or none is
 abbrev pub IsFirstUnknown : Stems → List Token → Option ℕ → Type 0
 IsFirstUnknown stems ts None = AllByRecursion (HasStem stems) ts
-IsFirstUnknown stems ts (Some n) = AllByRecursion (HasStem stems) (take n ts) × ((t : Token) × (slice_get ts n ≡ Some t) × IsUnknown stems t)
+IsFirstUnknown stems ts (Some n) = AllByRecursion (HasStem stems) (take n ts) ×
+    ((t : Token) × (slice_get ts n ≡ Some t) × IsUnknown stems t)

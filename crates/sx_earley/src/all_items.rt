@@ -1,6 +1,7 @@
 //! All items that hold.
 
-ghost use Rattle.std.specs.Prelude.{◌≡◌, ◌≤◌, ◌↔◌, [], OnOk, IfOk, Contains, Err, length, slice_get};
+ghost use Rattle.std.specs.Prelude.{◌≡◌, ◌≤◌, ◌↔◌, [], OnOk, IfOk, Contains, Err, length};
+ghost use Rattle.std.specs.Prelude.{slice_get};
 ghost use Rattle.sx_grammar.specs.ReadOne.{Holds, MoreHold};
 ghost use Rattle.sx_grammar.specs.declared.item.Item.{Item};
 ghost use Rattle.sx_earley.specs.Shown.{plain, texts, tokens_of, AreBelow};
@@ -41,9 +42,12 @@ fn collect(
     requires waiting { (s : Slot) → row_at notes.old.waiting s ≡ [] }
     requires complete { (s : Slot) → row_at notes.old.complete s ≡ [] }
     requires none { found.old.keys ≡ [] }
-    ensures all { OnOk result ((i : Item) → Contains found.new.keys i ↔ Holds (plain grammar.now) (tokens_of grammar.now shown.now) start i) }
-    ensures few { OnOk result (MoreHold (plain grammar.now) (tokens_of grammar.now shown.now) start 2000000 → ⊥) }
-    ensures hard { result ≡ Err ChartError.TooHard → MoreHold (plain grammar.now) (tokens_of grammar.now shown.now) start 2000000 }
+    ensures all { OnOk result ((i : Item) → Contains found.new.keys i
+        ↔ Holds (plain grammar.now) (tokens_of grammar.now shown.now) start i) }
+    ensures few { OnOk result (MoreHold (plain grammar.now)
+        (tokens_of grammar.now shown.now) start 2000000 → ⊥) }
+    ensures hard { result ≡ Err ChartError.TooHard →
+        MoreHold (plain grammar.now) (tokens_of grammar.now shown.now) start 2000000 }
 {
     let first = Ask {
         sort: start,
@@ -88,9 +92,12 @@ pub(crate) fn all_items(
 ) -> Result<IndexSet<Item>, ChartError>
     requires short { length shown.now ≤ 10000 }
     requires below { AreBelow (length (texts grammar.now)) shown.now }
-    ensures all { IfOk result (λ s. (i : Item) → Contains s.keys i ↔ Holds (plain grammar.now) (tokens_of grammar.now shown.now) start i) }
-    ensures few { IfOk result (λ s. MoreHold (plain grammar.now) (tokens_of grammar.now shown.now) start 2000000 → ⊥) }
-    ensures hard { result ≡ Err ChartError.TooHard → MoreHold (plain grammar.now) (tokens_of grammar.now shown.now) start 2000000 }
+    ensures all { IfOk result (λ s. (i : Item) →
+        Contains s.keys i ↔ Holds (plain grammar.now) (tokens_of grammar.now shown.now) start i) }
+    ensures few { IfOk result (λ s. MoreHold (plain grammar.now)
+        (tokens_of grammar.now shown.now) start 2000000 → ⊥) }
+    ensures hard { result ≡ Err ChartError.TooHard →
+        MoreHold (plain grammar.now) (tokens_of grammar.now shown.now) start 2000000 }
 {
     let mut notes = Notes::new(alloc, grammar, shown.len() + 1)?;
     let mut found = IndexSet::new(alloc);

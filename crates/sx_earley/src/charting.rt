@@ -39,11 +39,15 @@ pub fn chart_of(
 ) -> Result<Chart, ChartError>
     requires short { length shown.now ≤ 10000 }
     requires below { AreBelow (length (texts grammar.now)) shown.now }
-    ensures spans { IfOk result (λ c. IsChart (plain grammar.now) (tokens_of grammar.now shown.now) start c.spans) }
+    ensures spans { IfOk result (λ c. IsChart (plain grammar.now)
+        (tokens_of grammar.now shown.now) start c.spans) }
     ensures once { IfOk result (λ c. EachOnce c.spans) }
-    ensures reach { IfOk result (λ c. IsGreatestEnd (plain grammar.now) (tokens_of grammar.now shown.now) start c.reach) }
-    ensures few { IfOk result (λ _. MoreHold (plain grammar.now) (tokens_of grammar.now shown.now) start 2000000 → ⊥) }
-    ensures hard { result ≡ Err ChartError.TooHard → MoreHold (plain grammar.now) (tokens_of grammar.now shown.now) start 2000000 }
+    ensures reach { IfOk result (λ c. IsGreatestEnd (plain grammar.now)
+        (tokens_of grammar.now shown.now) start c.reach) }
+    ensures few { IfOk result (λ _. MoreHold (plain grammar.now)
+        (tokens_of grammar.now shown.now) start 2000000 → ⊥) }
+    ensures hard { result ≡ Err ChartError.TooHard →
+        MoreHold (plain grammar.now) (tokens_of grammar.now shown.now) start 2000000 }
 {
     let found = all_items(alloc, grammar, start, shown)?;
     let reach = reach(&found);
@@ -51,8 +55,8 @@ pub fn chart_of(
     Ok(Chart { spans, reach })
 }
 
-/// The chart of the tokens for the start sort: the spans that the items complete, and the greatest end of any item.
-/// TooHard comes exactly where more than 2,000,000 items hold.
+/// The chart of the tokens for the start sort: the spans that the items complete, and the greatest
+/// end of any item. TooHard comes exactly where more than 2,000,000 items hold.
 pub fn chart(
     alloc: Global,
     grammar: &Grammar,
@@ -63,13 +67,18 @@ pub fn chart(
     requires short { length tokens.now ≤ 10000 }
     requires start { IsSort grammar.now.parts start }
 
-    // A literal's number is its place among the grammar's literals, and each metavariable has a stem.
+    // A literal's number is its place among the grammar's literals. Each metavariable has a stem.
     requires known { AreKnown (texts grammar.now) metas.now.stems.items tokens.now }
-    ensures spans { IfOk result (λ c. IsChart (plain grammar.now) (plain_tokens metas.now.stems.items tokens.now) (number_of start) c.spans) }
+    ensures spans { IfOk result (λ c. IsChart (plain grammar.now)
+        (plain_tokens metas.now.stems.items tokens.now) (number_of start) c.spans) }
     ensures once { IfOk result (λ c. EachOnce c.spans) }
-    ensures reach { IfOk result (λ c. IsGreatestEnd (plain grammar.now) (plain_tokens metas.now.stems.items tokens.now) (number_of start) c.reach) }
-    ensures few { IfOk result (λ _. MoreHold (plain grammar.now) (plain_tokens metas.now.stems.items tokens.now) (number_of start) 2000000 → ⊥) }
-    ensures hard { result ≡ Err ChartError.TooHard → MoreHold (plain grammar.now) (plain_tokens metas.now.stems.items tokens.now) (number_of start) 2000000 }
+    ensures reach { IfOk result (λ c. IsGreatestEnd (plain grammar.now)
+        (plain_tokens metas.now.stems.items tokens.now) (number_of start) c.reach) }
+    ensures few { IfOk result (λ _. MoreHold (plain grammar.now)
+        (plain_tokens metas.now.stems.items tokens.now) (number_of start) 2000000 → ⊥) }
+    ensures hard { result ≡ Err ChartError.TooHard →
+        MoreHold (plain grammar.now) (plain_tokens metas.now.stems.items tokens.now)
+        (number_of start) 2000000 }
 {
     let shown = show_all(alloc, metas, tokens)?;
     chart_of(alloc, grammar, number_of(start), &shown)

@@ -22,8 +22,10 @@ pub(crate) fn file_waiting(
     item: Item,
 ) -> Result<(), NoMemory>
     ensures filed { OnOk result (IsFiledWaiting (plain grammar.now) waiting.new item) }
-    ensures kept { OnOk result ((s : Slot) (x : Item) → Contains (row_at waiting.old s) x → Contains (row_at waiting.new s) x) }
-    ensures only { OnOk result ((s : Slot) (x : Item) → Contains (row_at waiting.new s) x → Contains (row_at waiting.old s) x ⊎ (x ≡ item)) }
+    ensures kept { OnOk result ((s : Slot) (x : Item) → Contains (row_at waiting.old s) x →
+        Contains (row_at waiting.new s) x) }
+    ensures only { OnOk result ((s : Slot) (x : Item) → Contains (row_at waiting.new s) x →
+        Contains (row_at waiting.old s) x ⊎ (x ≡ item)) }
 {
     match next_part(grammar, item.head, item.dot) {
         None => Ok(()),
@@ -45,8 +47,10 @@ pub(crate) fn file_complete(
     item: Item,
 ) -> Result<(), NoMemory>
     ensures filed { OnOk result (IsFiledComplete (plain grammar.now) complete.new item) }
-    ensures kept { OnOk result ((s : Slot) (x : Item) → Contains (row_at complete.old s) x → Contains (row_at complete.new s) x) }
-    ensures only { OnOk result ((s : Slot) (x : Item) → Contains (row_at complete.new s) x → Contains (row_at complete.old s) x ⊎ (x ≡ item)) }
+    ensures kept { OnOk result ((s : Slot) (x : Item) → Contains (row_at complete.old s) x →
+        Contains (row_at complete.new s) x) }
+    ensures only { OnOk result ((s : Slot) (x : Item) → Contains (row_at complete.new s) x →
+        Contains (row_at complete.old s) x ⊎ (x ≡ item)) }
 {
     if !ends_at(grammar, item.head, item.dot) {
         return Ok(());
@@ -65,8 +69,10 @@ pub(crate) fn file_complete(
 
 /// The items that may wait for the item: of the filed ones each that does.
 pub(crate) fn befores<'a>(grammar: &Grammar, waiting: &'a Table, item: Item) -> &'a [Item]
-    ensures only { (x : Item) → Contains result.now x → (s : Slot) × Contains (row_at waiting.entry.now s) x }
-    ensures every { (x : Item) → Joins (plain grammar.now) x item → IsFiledWaiting (plain grammar.now) waiting.entry.now x → Contains result.now x }
+    ensures only { (x : Item) → Contains result.now x →
+        (s : Slot) × Contains (row_at waiting.entry.now s) x }
+    ensures every { (x : Item) → Joins (plain grammar.now) x item →
+        IsFiledWaiting (plain grammar.now) waiting.entry.now x → Contains result.now x }
 {
     if !ends_at(grammar, item.head, item.dot) {
         return &[];
@@ -82,8 +88,10 @@ pub(crate) fn befores<'a>(grammar: &Grammar, waiting: &'a Table, item: Item) -> 
 
 /// The items for which the item may wait: of the filed ones each for which it does.
 pub(crate) fn fillings<'a>(grammar: &Grammar, complete: &'a Table, item: Item) -> &'a [Item]
-    ensures only { (x : Item) → Contains result.now x → (s : Slot) × Contains (row_at complete.entry.now s) x }
-    ensures every { (x : Item) → Joins (plain grammar.now) item x → IsFiledComplete (plain grammar.now) complete.entry.now x → Contains result.now x }
+    ensures only { (x : Item) → Contains result.now x →
+        (s : Slot) × Contains (row_at complete.entry.now s) x }
+    ensures every { (x : Item) → Joins (plain grammar.now) item x →
+        IsFiledComplete (plain grammar.now) complete.entry.now x → Contains result.now x }
 {
     match next_part(grammar, item.head, item.dot) {
         None => &[],

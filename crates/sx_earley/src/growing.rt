@@ -1,11 +1,14 @@
 //! What follows from one item.
 
-ghost use Rattle.std.specs.Prelude.{◌≡◌, ◌+◌, ◌≤◌, ◌<◌, ℕ, OnOk, Contains, [], ◌∷◌, Some, Err, length};
+ghost use Rattle.std.specs.Prelude.{◌≡◌, ◌+◌, ◌≤◌, ◌<◌, ℕ, OnOk, Contains, [], ◌∷◌, Some, Err};
+ghost use Rattle.std.specs.Prelude.{length};
 ghost use Rattle.sx_grammar.specs.Grammar.{production_of};
 ghost use Rattle.sx_earley.specs.Growth.{Extends, Only};
 ghost use Rattle.sx_earley.specs.Shown.{plain, texts, tokens_of, AreBelow};
 ghost use Rattle.sx_earley.specs.Table.{row_at};
-ghost use Rattle.sx_earley.specs.Chart.{HasOpenings, HasAllOpenings, AllAsked, Foresees, Follows, AllFollow, Joins, IsJoined, moved, IsPredicted, beginning, next_symbol, as_part, ReadsNext, IsOfSort};
+ghost use Rattle.sx_earley.specs.Chart.{HasOpenings, HasAllOpenings, AllAsked, Foresees, Follows};
+ghost use Rattle.sx_earley.specs.Chart.{AllFollow, Joins, IsJoined, moved, IsPredicted, beginning};
+ghost use Rattle.sx_earley.specs.Chart.{next_symbol, as_part, ReadsNext, IsOfSort};
 
 use crate::ask::Ask;
 use crate::chart_error::ChartError;
@@ -69,8 +72,11 @@ fn predict_head(
 ) -> Result<(), ChartError>
     requires { length found.old.keys ≤ 2000000 }
     ensures extends { Extends found.old.keys found.new.keys }
-    ensures only { Only found.old.keys found.new.keys (IsPredicted (plain grammar.now) ask.sort ask.least ask.place) }
-    ensures every { OnOk result (IsOfSort (production_of (plain grammar.now) head) ask.sort ask.least → Contains found.new.keys (beginning head ask.place)) }
+    ensures only { Only found.old.keys found.new.keys
+        (IsPredicted (plain grammar.now) ask.sort ask.least ask.place) }
+    ensures every { OnOk result
+        (IsOfSort (production_of (plain grammar.now) head) ask.sort ask.least →
+        Contains found.new.keys (beginning head ask.place)) }
     ensures few { OnOk result (length found.new.keys ≤ 2000000) }
     ensures hard { result ≡ Err ChartError.TooHard → 2000000 < length found.new.keys }
 {
@@ -99,8 +105,11 @@ fn predict(
     requires few { length found.old.keys ≤ 2000000 }
     requires openings { HasOpenings (plain grammar.now) ask.sort openings.now }
     ensures extends { Extends found.old.keys found.new.keys }
-    ensures only { Only found.old.keys found.new.keys (IsPredicted (plain grammar.now) ask.sort ask.least ask.place) }
-    ensures every { OnOk result ((head : Head) → IsOfSort (production_of (plain grammar.now) head) ask.sort ask.least → Contains found.new.keys (beginning head ask.place)) }
+    ensures only { Only found.old.keys found.new.keys
+        (IsPredicted (plain grammar.now) ask.sort ask.least ask.place) }
+    ensures every { OnOk result ((head : Head) →
+        IsOfSort (production_of (plain grammar.now) head) ask.sort ask.least →
+        Contains found.new.keys (beginning head ask.place)) }
     ensures few { OnOk result (length found.new.keys ≤ 2000000) }
     ensures hard { result ≡ Err ChartError.TooHard → 2000000 < length found.new.keys }
 {
@@ -122,8 +131,11 @@ pub(crate) fn predict_once(
     requires openings { HasAllOpenings (plain grammar.now) openings.now }
     requires asked { AllAsked (plain grammar.now) asked.old.keys found.old.keys }
     ensures extends { Extends found.old.keys found.new.keys }
-    ensures only { Only found.old.keys found.new.keys (IsPredicted (plain grammar.now) ask.sort ask.least ask.place) }
-    ensures every { OnOk result ((head : Head) → IsOfSort (production_of (plain grammar.now) head) ask.sort ask.least → Contains found.new.keys (beginning head ask.place)) }
+    ensures only { Only found.old.keys found.new.keys
+        (IsPredicted (plain grammar.now) ask.sort ask.least ask.place) }
+    ensures every { OnOk result ((head : Head) →
+        IsOfSort (production_of (plain grammar.now) head) ask.sort ask.least →
+        Contains found.new.keys (beginning head ask.place)) }
     ensures few { OnOk result (length found.new.keys ≤ 2000000) }
     ensures hard { result ≡ Err ChartError.TooHard → 2000000 < length found.new.keys }
     ensures asked { OnOk result (AllAsked (plain grammar.now) asked.new.keys found.new.keys) }
@@ -153,7 +165,10 @@ fn predict_next(
     requires asked { AllAsked (plain grammar.now) asked.old.keys found.old.keys }
     ensures extends { Extends found.old.keys found.new.keys }
     ensures only { Only found.old.keys found.new.keys (Foresees (plain grammar.now) item) }
-    ensures every { OnOk result ((sort least : ℕ) (head : Head) → as_part (next_symbol (plain grammar.now) item.head item.dot) ≡ Some (sort, least) → IsOfSort (production_of (plain grammar.now) head) sort least → Contains found.new.keys (beginning head item.end)) }
+    ensures every { OnOk result ((sort least : ℕ) (head : Head) →
+        as_part (next_symbol (plain grammar.now) item.head item.dot) ≡ Some (sort, least) →
+        IsOfSort (production_of (plain grammar.now) head) sort least →
+        Contains found.new.keys (beginning head item.end)) }
     ensures few { OnOk result (length found.new.keys ≤ 2000000) }
     ensures hard { result ≡ Err ChartError.TooHard → 2000000 < length found.new.keys }
     ensures asked { OnOk result (AllAsked (plain grammar.now) asked.new.keys found.new.keys) }
@@ -184,8 +199,10 @@ fn join(
 ) -> Result<(), ChartError>
     requires { length found.old.keys ≤ 2000000 }
     ensures extends { Extends found.old.keys found.new.keys }
-    ensures only { Only found.old.keys found.new.keys (λ i. Joins (plain grammar.now) before filling × (i ≡ moved before filling.end)) }
-    ensures every { OnOk result (Joins (plain grammar.now) before filling → Contains found.new.keys (moved before filling.end)) }
+    ensures only { Only found.old.keys found.new.keys
+        (λ i. Joins (plain grammar.now) before filling × (i ≡ moved before filling.end)) }
+    ensures every { OnOk result (Joins (plain grammar.now) before filling →
+        Contains found.new.keys (moved before filling.end)) }
     ensures few { OnOk result (length found.new.keys ≤ 2000000) }
     ensures hard { result ≡ Err ChartError.TooHard → 2000000 < length found.new.keys }
 {
@@ -223,8 +240,11 @@ fn join_each(
 ) -> Result<(), ChartError>
     requires { length found.old.keys ≤ 2000000 }
     ensures extends { Extends found.old.keys found.new.keys }
-    ensures only { Only found.old.keys found.new.keys (IsJoined (plain grammar.now) befores.now (filling ∷ [])) }
-    ensures every { OnOk result ((before : Item) → Contains befores.now before → Joins (plain grammar.now) before filling → Contains found.new.keys (moved before filling.end)) }
+    ensures only { Only found.old.keys found.new.keys
+        (IsJoined (plain grammar.now) befores.now (filling ∷ [])) }
+    ensures every { OnOk result ((before : Item) → Contains befores.now before →
+        Joins (plain grammar.now) before filling →
+        Contains found.new.keys (moved before filling.end)) }
     ensures few { OnOk result (length found.new.keys ≤ 2000000) }
     ensures hard { result ≡ Err ChartError.TooHard → 2000000 < length found.new.keys }
 {
@@ -244,8 +264,11 @@ fn join_over(
 ) -> Result<(), ChartError>
     requires { length found.old.keys ≤ 2000000 }
     ensures extends { Extends found.old.keys found.new.keys }
-    ensures only { Only found.old.keys found.new.keys (IsJoined (plain grammar.now) (before ∷ []) fillings.now) }
-    ensures every { OnOk result ((filling : Item) → Contains fillings.now filling → Joins (plain grammar.now) before filling → Contains found.new.keys (moved before filling.end)) }
+    ensures only { Only found.old.keys found.new.keys
+        (IsJoined (plain grammar.now) (before ∷ []) fillings.now) }
+    ensures every { OnOk result ((filling : Item) → Contains fillings.now filling →
+        Joins (plain grammar.now) before filling →
+        Contains found.new.keys (moved before filling.end)) }
     ensures few { OnOk result (length found.new.keys ≤ 2000000) }
     ensures hard { result ≡ Err ChartError.TooHard → 2000000 < length found.new.keys }
 {
@@ -266,8 +289,13 @@ fn scan(
     requires short { length shown.now ≤ 10000 }
     requires below { AreBelow (length (texts grammar.now)) shown.now }
     ensures extends { Extends found.old.keys found.new.keys }
-    ensures only { Only found.old.keys found.new.keys (λ i. ReadsNext (tokens_of grammar.now shown.now) (next_symbol (plain grammar.now) item.head item.dot) item.end × (i ≡ moved item (item.end + 1))) }
-    ensures every { OnOk result (ReadsNext (tokens_of grammar.now shown.now) (next_symbol (plain grammar.now) item.head item.dot) item.end → Contains found.new.keys (moved item (item.end + 1))) }
+    ensures only { Only found.old.keys found.new.keys
+        (λ i. ReadsNext (tokens_of grammar.now shown.now)
+        (next_symbol (plain grammar.now) item.head item.dot) item.end ×
+        (i ≡ moved item (item.end + 1))) }
+    ensures every { OnOk result (ReadsNext (tokens_of grammar.now shown.now)
+        (next_symbol (plain grammar.now) item.head item.dot) item.end →
+        Contains found.new.keys (moved item (item.end + 1))) }
     ensures few { OnOk result (length found.new.keys ≤ 2000000) }
     ensures hard { result ≡ Err ChartError.TooHard → 2000000 < length found.new.keys }
 {
@@ -286,7 +314,8 @@ fn scan(
     }
 }
 
-/// Adds all that follows from the item, where the first items may wait for it and it may wait for the second.
+/// Adds all that follows from the item, where the first items may wait for it and it may wait for
+/// the second.
 pub(crate) fn treat(
     grammar: &Grammar,
     openings: &Table,
@@ -304,8 +333,11 @@ pub(crate) fn treat(
     requires openings { HasAllOpenings (plain grammar.now) openings.now }
     requires asked { AllAsked (plain grammar.now) asked.old.keys found.old.keys }
     ensures extends { Extends found.old.keys found.new.keys }
-    ensures only { Only found.old.keys found.new.keys (Follows (plain grammar.now) (tokens_of grammar.now shown.now) befores.now fillings.now item) }
-    ensures every { OnOk result (AllFollow (plain grammar.now) (tokens_of grammar.now shown.now) befores.now fillings.now item found.new.keys) }
+    ensures only { Only found.old.keys found.new.keys
+        (Follows (plain grammar.now)
+        (tokens_of grammar.now shown.now) befores.now fillings.now item) }
+    ensures every { OnOk result (AllFollow (plain grammar.now)
+        (tokens_of grammar.now shown.now) befores.now fillings.now item found.new.keys) }
     ensures few { OnOk result (length found.new.keys ≤ 2000000) }
     ensures hard { result ≡ Err ChartError.TooHard → 2000000 < length found.new.keys }
     ensures asked { OnOk result (AllAsked (plain grammar.now) asked.new.keys found.new.keys) }

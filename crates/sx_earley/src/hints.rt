@@ -7,7 +7,8 @@ use indexmap::IndexSet;
 use std::alloc::{AllocError, Global};
 use sx_grammar::{Head, Item};
 
-/// The places of some items among those that are found. A right one spares a search, and a wrong one costs nothing but the look.
+/// The places of some items among those that are found. A right one spares a search, and a wrong
+/// one costs nothing but the look.
 #[derive(Drop)]
 pub(crate) struct Hints {
     places: Vec<usize>,

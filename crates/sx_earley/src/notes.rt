@@ -15,7 +15,8 @@ use std::alloc::Global;
 use sx_grammar::Grammar;
 use sx_term::NoMemory;
 
-/// The items that begin productions, where items were found, what was asked for, and the items by what they wait for and complete.
+/// The items that begin productions, where items were found, what was asked for, and the items by
+/// what they wait for and complete.
 #[derive(Drop)]
 pub(crate) struct Notes {
     pub(crate) openings: Table,
@@ -26,7 +27,8 @@ pub(crate) struct Notes {
 }
 
 impl Notes {
-    /// The items that begin productions, and nothing noted of items that begin at the first places, so many.
+    /// The items that begin productions, and nothing noted of items that begin at the first places,
+    /// so many.
     pub(crate) fn new(alloc: Global, grammar: &Grammar, origins: usize) -> Result<Notes, NoMemory>
         requires { origins ≤ 10001 }
         ensures openings { IfOk result (λ n. HasAllOpenings (plain grammar.now) n.openings) }

@@ -16,15 +16,19 @@ use std::alloc::Global;
 use sx_grammar::{Grammar, Head, Item};
 use sx_term::NoMemory;
 
-/// Files the item that begins the head's production at place 0 under its sort, if the head makes one.
+/// Files the item that begins the head's production at place 0 under its sort, if the head makes
+/// one.
 fn file_opening(
     alloc: Global,
     grammar: &Grammar,
     table: &mut Table,
     head: Head,
 ) -> Result<(), NoMemory>
-    ensures there { OnOk result ((sort least : ℕ) → IsOfSort (production_of (plain grammar.now) head) sort least → Contains (row_at table.new (record { place = 0; sort = sort })) (beginning head 0)) }
-    ensures kept { OnOk result ((s : Slot) (x : Item) → Contains (row_at table.old s) x → Contains (row_at table.new s) x) }
+    ensures there { OnOk result ((sort least : ℕ) →
+        IsOfSort (production_of (plain grammar.now) head) sort least →
+        Contains (row_at table.new (record { place = 0; sort = sort })) (beginning head 0)) }
+    ensures kept { OnOk result ((s : Slot) (x : Item) → Contains (row_at table.old s) x →
+        Contains (row_at table.new s) x) }
 {
     let Some(sort) = sort_of(grammar, head) else {
         return Ok(());
@@ -40,7 +44,10 @@ fn file_opening(
 
 /// Files the openings of the labelled productions.
 fn file_labelled(alloc: Global, grammar: &Grammar, table: &mut Table) -> Result<(), NoMemory>
-    ensures { OnOk result ((label sort least : ℕ) → IsOfSort (production_of (plain grammar.now) (Labelled label)) sort least → Contains (row_at table.new (record { place = 0; sort = sort })) (beginning (Labelled label) 0)) }
+    ensures { OnOk result ((label sort least : ℕ) →
+        IsOfSort (production_of (plain grammar.now) (Labelled label)) sort least →
+        Contains (row_at table.new (record { place = 0; sort = sort }))
+        (beginning (Labelled label) 0)) }
 {
     grammar.facts();
     let productions = grammar.productions();
@@ -52,8 +59,12 @@ fn file_labelled(alloc: Global, grammar: &Grammar, table: &mut Table) -> Result<
 
 /// Files the openings of the bracket pairs.
 fn file_bracketed(alloc: Global, grammar: &Grammar, table: &mut Table) -> Result<(), NoMemory>
-    ensures there { OnOk result ((own sort least : ℕ) → IsOfSort (production_of (plain grammar.now) (Bracketed own)) sort least → Contains (row_at table.new (record { place = 0; sort = sort })) (beginning (Bracketed own) 0)) }
-    ensures kept { OnOk result ((s : Slot) (x : Item) → Contains (row_at table.old s) x → Contains (row_at table.new s) x) }
+    ensures there { OnOk result ((own sort least : ℕ) →
+        IsOfSort (production_of (plain grammar.now) (Bracketed own)) sort least →
+        Contains (row_at table.new (record { place = 0; sort = sort }))
+        (beginning (Bracketed own) 0)) }
+    ensures kept { OnOk result ((s : Slot) (x : Item) → Contains (row_at table.old s) x →
+        Contains (row_at table.new s) x) }
 {
     grammar.facts();
     for sort in 0..grammar.parts().sorts.len() {

@@ -8,8 +8,8 @@ ghost use Rattle.sx_earley.specs.Shown.{Takes, IsBelow, AreBelow, texts, tokens_
 use sx_grammar::{Grammar, NumberedSymbol};
 use sx_term::LexKind;
 
-/// What a token shows: a literal by its number, a lexeme of a kind, or a metavariable for a lexeme of a kind or for a term
-/// of the sort with this number.
+/// What a token shows: a literal by its number, a lexeme of a kind, or a metavariable for a lexeme
+/// of a kind or for a term of the sort with this number.
 #[derive(Clone, Copy)]
 pub enum Shown {
     Lit(u32),
@@ -35,7 +35,8 @@ fn takes(expected: NumberedSymbol, shown: Shown) -> bool
 pub fn reads(grammar: &Grammar, expected: NumberedSymbol, shown: &[Shown], place: u32) -> bool
     requires expected { IsBelow (length (texts grammar.now)) expected }
     requires shown { AreBelow (length (texts grammar.now)) shown.now }
-    ensures { IsTrue result ↔ ReadsToken (tokens_of grammar.now shown.now) (symbol (texts grammar.now) expected) place }
+    ensures { IsTrue result ↔ ReadsToken (tokens_of grammar.now shown.now)
+        (symbol (texts grammar.now) expected) place }
 {
     grammar.facts();
     match shown.get(place as usize) {

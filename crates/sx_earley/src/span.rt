@@ -1,6 +1,7 @@
 //! Completed spans.
 
-/// What a span is of: the production with this label, or the bracket pair of the sort with this number.
+/// What a span is of: the production with this label, or the bracket pair of the sort with this
+/// number.
 #[derive(Clone, Copy, PartialEq, Eq, Hash, Debug)]
 pub enum SpanOf {
     Node(u32),

@@ -77,22 +77,26 @@ fn shown_stem(sort: Option<Sort>) -> Shown
 impl<'a> StemTable<'a> {
     /// The sort of the stem.
     fn sort_of(&self, stem: &[u8]) -> Option<Sort>
-        ensures { (stems : List (List ℕ × Sort)) → IsStems stems self.now → result ≡ sort_of stems stem.now }
+        ensures { (stems : List (List ℕ × Sort)) → IsStems stems self.now →
+            result ≡ sort_of stems stem.now }
     {
         self.sorts.get(stem).copied()
     }
 
     /// The sort of the word's stem.
     pub(crate) fn sort_of_word(&self, word: &[u8]) -> Option<Sort>
-        ensures { (stems : List (List ℕ × Sort)) → IsStems stems self.now → result ≡ sort_of stems (without_digits word.now) }
+        ensures { (stems : List (List ℕ × Sort)) → IsStems stems self.now →
+            result ≡ sort_of stems (without_digits word.now) }
     {
         self.sort_of(without_digits(word))
     }
 
     /// Whether the token is no metavariable, or its stem has a sort.
     pub(crate) fn knows(&self, token: &Token) -> bool
-        ensures yes { (stems : List (List ℕ × Sort)) → IsStems stems self.now → IsTrue result → HasStem stems token.now }
-        ensures not { (stems : List (List ℕ × Sort)) → IsStems stems self.now → result ≡ false → IsUnknown stems token.now }
+        ensures yes { (stems : List (List ℕ × Sort)) → IsStems stems self.now → IsTrue result →
+            HasStem stems token.now }
+        ensures not { (stems : List (List ℕ × Sort)) → IsStems stems self.now → result ≡ false →
+            IsUnknown stems token.now }
     {
         match token.mark {
             Mark::Meta => self.sort_of(stem_of(token.text.bytes())).is_some(),
@@ -102,7 +106,8 @@ impl<'a> StemTable<'a> {
 
     /// What the token shows.
     pub(crate) fn show(&self, token: &Token) -> Shown
-        ensures { (stems : List (List ℕ × Sort)) → IsStems stems self.now → result ≡ show stems token.now.mark token.now.text }
+        ensures { (stems : List (List ℕ × Sort)) → IsStems stems self.now →
+            result ≡ show stems token.now.mark token.now.text }
     {
         match token.mark {
             Mark::Lit(number) => Shown::Lit(number),

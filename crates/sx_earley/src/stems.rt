@@ -14,7 +14,8 @@ use std::marker::Model;
 use sx_term::Sort;
 use sx_token::Token;
 
-/// Stems of metavariables with their sorts, in a table that shows the tokens of any number of texts.
+/// Stems of metavariables with their sorts, in a table that shows the tokens of any number of
+/// texts.
 #[derive(Drop)]
 pub struct Stems<'a> {
     table: StemTable<'a>,
@@ -34,7 +35,8 @@ impl<'a> Model for Stems<'a> {
 
 /// The place of the first unknown token.
 fn first_unknown_of(table: &StemTable, tokens: &[Token]) -> Option<usize>
-    ensures { (stems : List (List ℕ × Sort)) → IsStems stems table.now → IsFirstUnknown stems tokens.now result }
+    ensures { (stems : List (List ℕ × Sort)) → IsStems stems table.now →
+        IsFirstUnknown stems tokens.now result }
 {
     for i in 0..tokens.len() {
         let token = &tokens[i];
@@ -47,7 +49,8 @@ fn first_unknown_of(table: &StemTable, tokens: &[Token]) -> Option<usize>
 
 /// What each of the tokens shows.
 fn show_each(alloc: Global, table: &StemTable, tokens: &[Token]) -> Result<Vec<Shown>, AllocError>
-    ensures { IfOk result (λ v. (stems : List (List ℕ × Sort)) → IsStems stems table.now → v.items ≡ map (λ t. show stems t.mark t.text) tokens.now) }
+    ensures { IfOk result (λ v. (stems : List (List ℕ × Sort)) → IsStems stems table.now →
+        v.items ≡ map (λ t. show stems t.mark t.text) tokens.now) }
 {
     let mut shown = Vec::with_capacity(alloc, tokens.len())?;
     for i in 0..tokens.len() {
@@ -75,7 +78,8 @@ impl<'a> Stems<'a> {
         table.sort_of_word(word)
     }
 
-    /// The place of the first metavariable whose stem is none of the stems, or None where each has one.
+    /// The place of the first metavariable whose stem is none of the stems, or None where each has
+    /// one.
     pub fn first_unknown(&self, tokens: &[Token]) -> Option<usize>
         ensures { IsFirstUnknown self.now tokens.now result }
     {
@@ -94,7 +98,8 @@ impl<'a> Stems<'a> {
 
 /// What the tokens show.
 pub fn show_all(alloc: Global, metas: &Metas, tokens: &[Token]) -> Result<Vec<Shown>, AllocError>
-    ensures { IfOk result (λ v. v.items ≡ map (λ t. show metas.now.stems.items t.mark t.text) tokens.now) }
+    ensures { IfOk result (λ v. v.items ≡ map
+        (λ t. show metas.now.stems.items t.mark t.text) tokens.now) }
 {
     let stems = Stems::new(alloc, metas)?;
     stems.show_all(alloc, tokens)

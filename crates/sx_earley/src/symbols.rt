@@ -1,17 +1,21 @@
 //! The symbols of heads.
 
-ghost use Rattle.std.specs.Prelude.{◌≡◌, ◌↔◌, ◌<◌, ◌≤◌, ◌^◌, IsTrue, IfSome, length, slice_get, option_map, is_some};
+ghost use Rattle.std.specs.Prelude.{◌≡◌, ◌↔◌, ◌<◌, ◌≤◌, ◌^◌, IsTrue, IfSome, length, slice_get};
+ghost use Rattle.std.specs.Prelude.{option_map, is_some};
 ghost use Rattle.sx_grammar.specs.Numbered.{symbol, production};
 ghost use Rattle.sx_grammar.specs.Grammar.{production_of};
-ghost use Rattle.sx_earley.specs.Shown.{plain, texts, tokens_of, pair_symbol, IsBelow, AllBelow, AreBelow};
-ghost use Rattle.sx_earley.specs.Chart.{symbol_after, next_symbol, as_part, ReadsNext, EndsAt, IsOfSort, sort_made};
+ghost use Rattle.sx_earley.specs.Shown.{plain, texts, tokens_of, pair_symbol, IsBelow, AllBelow};
+ghost use Rattle.sx_earley.specs.Shown.{AreBelow};
+ghost use Rattle.sx_earley.specs.Chart.{symbol_after, next_symbol, as_part, ReadsNext, EndsAt};
+ghost use Rattle.sx_earley.specs.Chart.{IsOfSort, sort_made};
 
 use crate::shown::{Shown, reads};
 use sx_grammar::{Grammar, Head, NumberedProduction, NumberedSymbol};
 
 /// The production with this label.
 pub fn production_at(grammar: &Grammar, label: u32) -> Option<&NumberedProduction>
-    ensures is { option_map (λ p. production (texts grammar.now) p.now) result ≡ slice_get (plain grammar.now).productions label }
+    ensures is { option_map (λ p. production (texts grammar.now) p.now) result
+        ≡ slice_get (plain grammar.now).productions label }
     ensures below { IfSome result (λ p. AllBelow (length (texts grammar.now)) p.now.symbols.items) }
 {
     grammar.productions().get(label as usize)
@@ -19,7 +23,8 @@ pub fn production_at(grammar: &Grammar, label: u32) -> Option<&NumberedProductio
 
 /// The symbol at this place of the production with this label.
 fn symbol_at(grammar: &Grammar, label: u32, dot: usize) -> Option<NumberedSymbol>
-    ensures is { option_map (symbol (texts grammar.now)) result ≡ symbol_after (slice_get (plain grammar.now).productions label) dot }
+    ensures is { option_map (symbol (texts grammar.now)) result
+        ≡ symbol_after (slice_get (plain grammar.now).productions label) dot }
     ensures below { IfSome result (IsBelow (length (texts grammar.now))) }
     ensures small { IfSome result (λ _. dot < 2 ^ 63) }
 {
@@ -43,7 +48,8 @@ fn bracket_symbol(pair: Option<(u32, u32)>, sort: u32, dot: usize) -> Option<Num
 
 /// The symbol after the dot, or None at the end and where the head makes nothing.
 pub fn symbol_of(grammar: &Grammar, head: Head, dot: usize) -> Option<NumberedSymbol>
-    ensures is { option_map (symbol (texts grammar.now)) result ≡ next_symbol (plain grammar.now) head dot }
+    ensures is { option_map (symbol (texts grammar.now)) result
+        ≡ next_symbol (plain grammar.now) head dot }
     ensures below { IfSome result (IsBelow (length (texts grammar.now))) }
     ensures small { IfSome result (λ _. dot < 2 ^ 63) }
 {
@@ -73,7 +79,8 @@ pub(crate) fn reads_next(
     place: u32,
 ) -> bool
     requires { AreBelow (length (texts grammar.now)) shown.now }
-    ensures is { IsTrue result ↔ ReadsNext (tokens_of grammar.now shown.now) (next_symbol (plain grammar.now) head dot) place }
+    ensures is { IsTrue result ↔ ReadsNext (tokens_of grammar.now shown.now)
+        (next_symbol (plain grammar.now) head dot) place }
     ensures below { IsTrue result → dot < 2 ^ 63 }
 {
     match symbol_of(grammar, head, dot) {

@@ -30,8 +30,10 @@ impl Table {
     /// Adds the item to the row of the slot.
     pub(crate) fn file(&mut self, alloc: Global, slot: Slot, item: Item) -> Result<(), NoMemory>
         ensures there { OnOk result (Contains (row_at self.new slot) item) }
-        ensures kept { OnOk result ((s : Slot) (x : Item) → Contains (row_at self.old s) x → Contains (row_at self.new s) x) }
-        ensures only { OnOk result ((s : Slot) (x : Item) → Contains (row_at self.new s) x → Contains (row_at self.old s) x ⊎ (x ≡ item)) }
+        ensures kept { OnOk result ((s : Slot) (x : Item) → Contains (row_at self.old s) x →
+            Contains (row_at self.new s) x) }
+        ensures only { OnOk result ((s : Slot) (x : Item) → Contains (row_at self.new s) x →
+            Contains (row_at self.old s) x ⊎ (x ≡ item)) }
     {
         if let Some(row) = self.rows.get_mut(&slot) {
             row.push(item)?;

@@ -13,19 +13,23 @@ use Rattle.sx_forest.specs.Names.{IsMarked, names_in}
 
 -- each metavariable among the tokens is `~` and a name
 abbrev pub HaveNames : List Token → Type 0
-HaveNames tokens = AllByRecursion (λ t. t.mark ≡ Meta → (name : Text) × (t.text ≡ 126 ∷ name)) tokens
+HaveNames tokens = AllByRecursion (λ t. t.mark ≡ Meta →
+    (name : Text) × (t.text ≡ 126 ∷ name)) tokens
 
 -- the labels and tokens of what reads the tokens by a grammar are the grammar's and theirs
 abbrev pub ReadingsAreWithin : Type 0
 ReadingsAreWithin = (p : Parts) (tokens : List plain.Token) (sort least from to : ℕ) (r : Reading) →
-    Reads (numbered p) tokens sort least from to r → IsWithin (length p.productions) (length tokens) r
+    Reads (numbered p) tokens sort least from to r →
+    IsWithin (length p.productions) (length tokens) r
 
 -- its lexemes and metavariables are those of the tokens
 abbrev pub ReadingsAreMarked : Type 0
-ReadingsAreMarked = (g : plain.Grammar) (stems : Stems) (tokens : List Token) (sort least from to : ℕ) (r : Reading) →
+ReadingsAreMarked = (g : plain.Grammar) (stems : Stems) (tokens : List Token)
+    (sort least from to : ℕ) (r : Reading) →
     HaveNames tokens → Reads g (plain_tokens stems tokens) sort least from to r → IsMarked tokens r
 
 -- it has no more names than it reads tokens
 abbrev pub ReadingsHaveFewNames : Type 0
-ReadingsHaveFewNames = (g : plain.Grammar) (tokens : List plain.Token) (all : List Token) (sort least from to : ℕ) (r : Reading) →
+ReadingsHaveFewNames = (g : plain.Grammar) (tokens : List plain.Token) (all : List Token)
+    (sort least from to : ℕ) (r : Reading) →
     Reads g tokens sort least from to r → from + length (names_in all r) ≤ to

@@ -1,10 +1,13 @@
 -- Readings that are built from the table.
-use Rattle.std.specs.Prelude.{suc, ◌≡◌, ◌≢◌, ◌≤◌, ◌<◌, ℕ, ◌-◌, List, [], Option, None, Some, length, slice_get, take}
+use Rattle.std.specs.Prelude.{suc, ◌≡◌, ◌≢◌, ◌≤◌, ◌<◌, ℕ, ◌-◌, List, [], Option, None, Some, length}
+use Rattle.std.specs.Prelude.{slice_get, take}
 use Rattle.std.specs.Global.{Vec}
 use Rattle.sx_grammar.specs.declared.head.Head.{Head}
 use Rattle.sx_grammar.specs.declared.head.Head.TheVariants.{Labelled, Bracketed}
-use Rattle.sx_grammar.specs.Grammar.{Symbol, literal, lexical, part, Grammar, Token, Production, production_of, HasLevels}
-use Rattle.sx_grammar.specs.Reading.{Reading, Readings, branch, bracket, done, ◌▸◌, IsLiteral, ReadsAll, ReadsBy}
+use Rattle.sx_grammar.specs.Grammar.{Symbol, literal, lexical, part, Grammar, Token, Production}
+use Rattle.sx_grammar.specs.Grammar.{production_of, HasLevels}
+use Rattle.sx_grammar.specs.Reading.{Reading, Readings, branch, bracket, done, ◌▸◌, IsLiteral}
+use Rattle.sx_grammar.specs.Reading.{ReadsAll, ReadsBy}
 use Rattle.sx_grammar.specs.Items.{ReadsToken, Makes, Item}
 use Rattle.sx_grammar.specs.Order.{IsRanking}
 use Rattle.sx_grammar.specs.Tally.{Tally, no_way, one_way, more_ways, times, IsVariableAt}
@@ -47,7 +50,8 @@ IsMore (more_ways d) = Unit {0}
 -- the reading is by the maker, between these places
 abbrev pub IsBy : Grammar → List Token → Maker → (from to : ℕ) → Reading → Type 0
 IsBy g tokens (Variable sort) from to r = IsVariableAt tokens sort from to r
-IsBy g tokens (By head) from to r = (sort : ℕ) → Makes g head sort 0 → ReadsBy g tokens head sort from to r
+IsBy g tokens (By head) from to r = (sort : ℕ) → Makes g head sort 0 →
+    ReadsBy g tokens head sort from to r
 
 -- the grammar, the tokens and the entries of a forest, as plain data
 abbrev pub grammar_in : Forest → Grammar
@@ -73,7 +77,8 @@ pub record IsShallow (g : Grammar) (tokens : List Token) (start from : ℕ) (e :
   pub low : depth_in (tally_of e.ways) ≤ 1000
 
 -- so it is of the span, and the rows are those of its symbols
-pub record IsOpened (g : Grammar) (tokens : List Token) (start : ℕ) (lists : List (Vec Entry)) (o : Opened) : Type 0 where
+pub record IsOpened (g : Grammar) (tokens : List Token) (start : ℕ) (lists : List (Vec Entry))
+    (o : Opened) : Type 0 where
   pub sound : IsSoundBy g tokens start (By o.head) o.from o.to (tally_of o.ways)
   pub low : depth_in (tally_of o.ways) ≤ 1000
   pub rows : AreSpanRows g tokens lists o.head o.from o.to o.rows.items
@@ -82,13 +87,16 @@ pub record IsOpened (g : Grammar) (tokens : List Token) (start : ℕ) (lists : L
 abbrev pub row_from : Grammar → Opened → ℕ → List Ways
 row_from g o dot = row_at o.rows.items (length (symbols_of g o.head) - dot)
 
--- an item has the symbols before the dot read up to the place, and those from it on can be read up to the end of the span
-pub record IsAt (g : Grammar) (tokens : List Token) (start : ℕ) (o : Opened) (dot place : ℕ) : Type 0 where
+-- an item has the symbols before the dot read up to the place, and those from it on can be read up
+-- to the end of the span
+pub record IsAt (g : Grammar) (tokens : List Token) (start : ℕ) (o : Opened)
+    (dot place : ℕ) : Type 0 where
   pub item : Item g tokens start o.head dot o.from place
   pub some : ways_at (row_from g o dot) (place - o.from) ≢ no_way
 
 -- and the readings are those of the symbols before the dot
-pub record IsReadTo (g : Grammar) (tokens : List Token) (start : ℕ) (o : Opened) (dot place : ℕ) (kids : Readings) : Type 0 where
+pub record IsReadTo (g : Grammar) (tokens : List Token) (start : ℕ) (o : Opened) (dot place : ℕ)
+    (kids : Readings) : Type 0 where
   pub at : IsAt g tokens start o dot place
   pub read : ReadsAll g tokens (take dot (symbols_of g o.head)) o.from place kids
 
@@ -99,14 +107,19 @@ followed (kid ▸ kids) others = kid ▸ followed kids others
 
 -- the entry reads the part, and the row the rest
 abbrev pub IsUsable : Grammar → (sort least : ℕ) → List Ways → (from : ℕ) → Entry → Type 0
-IsUsable g sort least next from e = FitsPart g e.maker sort least × (times (tally_of e.ways) (ways_at next (e.to - from)) ≢ no_way)
+IsUsable g sort least next from e = FitsPart g e.maker sort least ×
+    (times (tally_of e.ways) (ways_at next (e.to - from)) ≢ no_way)
 
 -- the first usable entry from an index on, with its index
-abbrev pub IsFirstUsable : Grammar → (sort least : ℕ) → List Ways → (from : ℕ) → List Entry → (first : ℕ) → Option (ℕ × Entry) → Type 0
-IsFirstUsable g sort least next from entries first None = (i : ℕ) (e : Entry) → first ≤ i → slice_get entries i ≡ Some e → ¬ (IsUsable g sort least next from e)
+abbrev pub IsFirstUsable : Grammar → (sort least : ℕ) → List Ways → (from : ℕ) → List Entry →
+    (first : ℕ) → Option (ℕ × Entry) → Type 0
+IsFirstUsable g sort least next from entries first None = (i : ℕ) (e : Entry) → first ≤ i →
+    slice_get entries i ≡ Some e → ¬ (IsUsable g sort least next from e)
 IsFirstUsable g sort least next from entries first (Some found) =
-    (first ≤ found.0) × (slice_get entries found.0 ≡ Some found.1) × IsUsable g sort least next from found.1 ×
-    ((i : ℕ) (e : Entry) → first ≤ i → i < found.0 → slice_get entries i ≡ Some e → ¬ (IsUsable g sort least next from e))
+    (first ≤ found.0) × (slice_get entries found.0 ≡ Some found.1) ×
+    IsUsable g sort least next from found.1 ×
+    ((i : ℕ) (e : Entry) → first ≤ i → i < found.0 → slice_get entries i ≡ Some e →
+    ¬ (IsUsable g sort least next from e))
 
 -- the place after the step
 abbrev pub end_of : Step → ℕ → ℕ
@@ -115,26 +128,36 @@ end_of steps.Token place = suc place
 end_of (steps.Part index e) place = e.to
 
 -- the step goes over the symbol at the place; over a part it goes by the first usable entry
-abbrev pub IsOver : Grammar → List Token → List (Vec Entry) → (from : ℕ) → List Ways → (place : ℕ) → Symbol → Step → Type 0
-IsOver g tokens lists from next place (literal text) step = (step ≡ steps.Literal) × IsLiteral tokens place text
-IsOver g tokens lists from next place (lexical kind) step = (step ≡ steps.Token) × ReadsToken tokens (lexical kind) place
+abbrev pub IsOver : Grammar → List Token → List (Vec Entry) → (from : ℕ) → List Ways → (place : ℕ) →
+    Symbol → Step → Type 0
+IsOver g tokens lists from next place (literal text) step =
+    (step ≡ steps.Literal) × IsLiteral tokens place text
+IsOver g tokens lists from next place (lexical kind) step =
+    (step ≡ steps.Token) × ReadsToken tokens (lexical kind) place
 IsOver g tokens lists from next place (part sort least) step =
-    (index : ℕ) × (e : Entry) × (step ≡ steps.Part index e) × IsFirstUsable g sort least next from (list_at lists place) 0 (Some (index, e))
+    (index : ℕ) × (e : Entry) × (step ≡ steps.Part index e) ×
+    IsFirstUsable g sort least next from (list_at lists place) 0 (Some (index, e))
 
 -- the step goes over the symbol after the dot, and leaves the rest to be read
-pub record IsStep (g : Grammar) (tokens : List Token) (start : ℕ) (lists : List (Vec Entry)) (o : Opened) (dot place : ℕ) (step : Step) : Type 0 where
+pub record IsStep (g : Grammar) (tokens : List Token) (start : ℕ) (lists : List (Vec Entry))
+    (o : Opened) (dot place : ℕ) (step : Step) : Type 0 where
   pub symbol : Symbol
   pub is : slice_get (symbols_of g o.head) dot ≡ Some symbol
   pub over : IsOver g tokens lists o.from (row_from g o (suc dot)) place symbol step
   pub after : IsAt g tokens start o (suc dot) (end_of step place)
 
--- how two readings part at a part, where this entry is the first usable one and has this index, or that they do not
-abbrev pub IsForkOf : Grammar → (sort least : ℕ) → List Ways → (from : ℕ) → List Entry → (index : ℕ) → Entry → Option Fork → Type 0
+-- how two readings part at a part, where this entry is the first usable one and has this index, or
+-- that they do not
+abbrev pub IsForkOf : Grammar → (sort least : ℕ) → List Ways → (from : ℕ) → List Entry →
+    (index : ℕ) → Entry → Option Fork → Type 0
 IsForkOf g sort least next from entries index e (Some (Apart one other)) =
-    (one ≡ e) × ((i : ℕ) × (index < i) × (slice_get entries i ≡ Some other) × IsUsable g sort least next from other)
-IsForkOf g sort least next from entries index e (Some (Inside entry)) = (entry ≡ e) × IsMore (tally_of e.ways)
+    (one ≡ e) × ((i : ℕ) × (index < i) × (slice_get entries i ≡ Some other) ×
+    IsUsable g sort least next from other)
+IsForkOf g sort least next from entries index e (Some (Inside entry)) =
+    (entry ≡ e) × IsMore (tally_of e.ways)
 IsForkOf g sort least next from entries index e None =
-    ¬ (IsMore (tally_of e.ways)) × ((i : ℕ) (x : Entry) → index < i → slice_get entries i ≡ Some x → ¬ (IsUsable g sort least next from x))
+    ¬ (IsMore (tally_of e.ways)) × ((i : ℕ) (x : Entry) → index < i → slice_get entries i ≡ Some x →
+    ¬ (IsUsable g sort least next from x))
 
 -- the entries by which the two readings go
 abbrev pub one_of : Fork → Entry
@@ -151,7 +174,8 @@ IsApart (Apart one other) = one.maker ≡ other.maker → one.to ≡ other.to �
 IsApart (Inside entry) = IsMore (tally_of entry.ways)
 
 -- both entries fit the part, and what reads by them differs
-pub record IsParting (g : Grammar) (tokens : List Token) (start place : ℕ) (fork : Fork) : Type 0 where
+pub record IsParting (g : Grammar) (tokens : List Token) (start place : ℕ)
+    (fork : Fork) : Type 0 where
   pub sort : ℕ
   pub least : ℕ
   pub one : IsShallow g tokens start place (one_of fork)
@@ -160,14 +184,17 @@ pub record IsParting (g : Grammar) (tokens : List Token) (start place : ℕ) (fo
   pub other_fits : FitsPart g (other_of fork).maker sort least
   pub apart : IsApart fork
 
--- the entry is one of those from the place, and goes over the part at the dot and leaves the rest to be read
-pub record IsThere (g : Grammar) (lists : List (Vec Entry)) (o : Opened) (dot place sort least : ℕ) (e : Entry) : Type 0 where
+-- the entry is one of those from the place, and goes over the part at the dot and leaves the rest
+-- to be read
+pub record IsThere (g : Grammar) (lists : List (Vec Entry)) (o : Opened) (dot place sort least : ℕ)
+    (e : Entry) : Type 0 where
   pub index : ℕ
   pub at : slice_get (list_at lists place) index ≡ Some e
   pub used : IsUsable g sort least (row_from g o (suc dot)) o.from e
 
 -- the readings part at the part at the dot
-pub record IsForkAt (g : Grammar) (lists : List (Vec Entry)) (o : Opened) (dot place : ℕ) (fork : Fork) : Type 0 where
+pub record IsForkAt (g : Grammar) (lists : List (Vec Entry)) (o : Opened) (dot place : ℕ)
+    (fork : Fork) : Type 0 where
   pub sort : ℕ
   pub least : ℕ
   pub symbol : slice_get (symbols_of g o.head) dot ≡ Some (part sort least)
@@ -175,14 +202,16 @@ pub record IsForkAt (g : Grammar) (lists : List (Vec Entry)) (o : Opened) (dot p
   pub other : IsThere g lists o dot place sort least (other_of fork)
   pub apart : IsApart fork
 
--- the symbols from the dot on can be read in more ways than one, from the place up to the end of the span
+-- the symbols from the dot on can be read in more ways than one, from the place up to the end of
+-- the span
 abbrev pub IsMoreAt : Grammar → Opened → (dot place : ℕ) → Type 0
 IsMoreAt g o dot place = IsMore (ways_at (row_from g o dot) (place - o.from))
 
 -- the reading is by the head, with these kids
 abbrev pub IsMadeOf : Head → Readings → (from to : ℕ) → Reading → Type 0
 IsMadeOf (Labelled label) kids from to r = r ≡ branch label kids from to
-IsMadeOf (Bracketed sort) kids from to r = (inner : Reading) × (kids ≡ inner ▸ done) × (r ≡ bracket inner from to)
+IsMadeOf (Bracketed sort) kids from to r = (inner : Reading) × (kids ≡ inner ▸ done) ×
+    (r ≡ bracket inner from to)
 
 -- a bracket pair has one kid
 abbrev pub HasKids : Head → Readings → Type 0
@@ -190,7 +219,8 @@ HasKids (Labelled label) kids = Unit {0}
 HasKids (Bracketed sort) kids = (inner : Reading) × (kids ≡ inner ▸ done)
 
 -- the readings of both rows are those of all symbols of the span, and the rows differ
-pub record AreKidsApart (g : Grammar) (tokens : List Token) (o : Opened) (one other : Readings) : Type 0 where
+pub record AreKidsApart (g : Grammar) (tokens : List Token) (o : Opened)
+    (one other : Readings) : Type 0 where
   pub one_read : ReadsAll g tokens (symbols_of g o.head) o.from o.to one
   pub other_read : ReadsAll g tokens (symbols_of g o.head) o.from o.to other
   pub apart : one ≢ other

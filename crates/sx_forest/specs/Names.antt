@@ -1,5 +1,6 @@
 -- The names of the metavariables in a reading.
-use Rattle.std.specs.Prelude.{◌≡◌, ℕ, List, [], ◌∷◌, ◌++◌, Option, Some, None, slice_get, slice_index_or, drop}
+use Rattle.std.specs.Prelude.{◌≡◌, ℕ, List, [], ◌∷◌, ◌++◌, Option, Some, None, slice_get}
+use Rattle.std.specs.Prelude.{slice_index_or, drop}
 use Rattle.sx_term.specs.declared.lex_kind.LexKind.{LexKind}
 use Rattle.sx_term.specs.declared.mark.Mark.TheVariants.{Lex, Meta}
 use Rattle.sx_term.specs.Vars.{IsAdded}
@@ -46,8 +47,10 @@ abbrev mutual
 -- the new list is the old one and those of the names that are not in it, each added once, in order
 abbrev pub AddsEach : (old names new : List Text) → Type 0
 AddsEach old [] new = new ≡ old
-AddsEach old (name ∷ names) new = (middle : List Text) × (number : ℕ) × IsAdded old middle name number × AddsEach middle names new
+AddsEach old (name ∷ names) new = (middle : List Text) × (number : ℕ) ×
+    IsAdded old middle name number × AddsEach middle names new
 
 -- some of the names, the first ones, were added
 abbrev pub AddsFront : (old names new : List Text) → Type 0
-AddsFront old names new = (front : List Text) × (back : List Text) × (names ≡ front ++ back) × AddsEach old front new
+AddsFront old names new = (front : List Text) × (back : List Text) × (names ≡ front ++ back) ×
+    AddsEach old front new

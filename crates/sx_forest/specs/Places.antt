@@ -1,5 +1,6 @@
 -- Where the parts of a reading stand.
-use Rattle.std.specs.Prelude.{◌≡◌, ◌↔◌, ℕ, List, [], ◌∷◌, Option, Some, None, slice_get, option_and_then}
+use Rattle.std.specs.Prelude.{◌≡◌, ◌↔◌, ℕ, List, [], ◌∷◌, Option, Some, None, slice_get}
+use Rattle.std.specs.Prelude.{option_and_then}
 use Rattle.sx_term.specs.Tree.{part_at}
 use Rattle.sx_grammar.specs.Grammar.{Text, Token}
 use Rattle.sx_grammar.specs.Print.{term_of}
@@ -31,11 +32,13 @@ kids_of (bracket inner from to) = []
 kids_of (leaf token) = []
 kids_of (variable token) = []
 
--- where the part begins to which the steps lead, each the number of a kid from 0; brackets are no step, and those round the part are none of it
+-- where the part begins to which the steps lead, each the number of a kid from 0; brackets are no
+-- step, and those round the part are none of it
 abbrev pub place_at : Reading → List ℕ → Option ℕ
 place_at r [] = Some (start_of (bare r))
 place_at r (i ∷ path) = option_and_then (λ kid. place_at kid path) (slice_get (kids_of (bare r)) i)
 
 -- there is no place exactly where the path leaves the term of the reading
 abbrev pub LeavesTogether : Type 0
-LeavesTogether = (tokens : List Token) (names : List Text) (r : Reading) (path : List ℕ) → (place_at r path ≡ None) ↔ (part_at (term_of tokens names r) path ≡ None)
+LeavesTogether = (tokens : List Token) (names : List Text) (r : Reading) (path : List ℕ) →
+    (place_at r path ≡ None) ↔ (part_at (term_of tokens names r) path ≡ None)

@@ -1,6 +1,7 @@
 -- The view of a reading as plain data.
 use Rattle.std.specs.Prelude.{List, [], ◌∷◌, map}
-use Rattle.sx_forest.specs.declared.reading.Reading.{Reading, Row_of-Reading, end_of-Reading, more_of-Reading, Node', Bracket', Lex, Var}
+use Rattle.sx_forest.specs.declared.reading.Reading.{Reading, Row_of-Reading, end_of-Reading}
+use Rattle.sx_forest.specs.declared.reading.Reading.{more_of-Reading, Node', Bracket', Lex, Var}
 use Rattle.sx_grammar.specs.Reading as plain
 use Rattle.sx_grammar.specs.Reading.{branch, bracket, leaf, variable, done, ◌▸◌}
 

@@ -1,8 +1,11 @@
--- Rows of ways: how many ways there are to read some symbols from each place of a span up to its end.
-use Rattle.std.specs.Prelude.{suc, ◌≡◌, ◌⊎◌, ◌≤◌, ◌<◌, ℕ, ◌+◌, ◌-◌, List, [], Option, None, Some, length, slice_get}
+-- Rows of ways: how many ways there are to read some symbols from each place of a span up to its
+-- end.
+use Rattle.std.specs.Prelude.{suc, ◌≡◌, ◌⊎◌, ◌≤◌, ◌<◌, ℕ, ◌+◌, ◌-◌, List, [], Option, None, Some}
+use Rattle.std.specs.Prelude.{length, slice_get}
 use Rattle.std.specs.Global.{Vec}
 use Rattle.sx_grammar.specs.declared.head.Head.{Head}
-use Rattle.sx_grammar.specs.Grammar.{Symbol, literal, lexical, part, Grammar, Token, Production, production_of}
+use Rattle.sx_grammar.specs.Grammar.{Symbol, literal, lexical, part, Grammar, Token, Production}
+use Rattle.sx_grammar.specs.Grammar.{production_of}
 use Rattle.sx_grammar.specs.Reading.{IsLiteral}
 use Rattle.sx_grammar.specs.Items.{ReadsToken}
 use Rattle.sx_grammar.specs.Tally.{Tally, no_way, one_way, plus, times, deeper}
@@ -25,25 +28,37 @@ abbrev pub IsWhere : Type 0 → Tally → Tally → Type 0
 IsWhere P u t = (P × (t ≡ u)) ⊎ ((P → ⊥) × (t ≡ no_way))
 
 -- the ways by one entry, and then those of the row
-abbrev pub IsEntryTally : Grammar → (sort least : ℕ) → List Ways → (from : ℕ) → Entry → Tally → Type 0
-IsEntryTally g sort least next from e t = IsWhere (FitsPart g e.maker sort least) (times (tally_of e.ways) (ways_at next (e.to - from))) t
+abbrev pub IsEntryTally : Grammar → (sort least : ℕ) → List Ways → (from : ℕ) → Entry → Tally →
+    Type 0
+IsEntryTally g sort least next from e t = IsWhere (FitsPart g e.maker sort least)
+    (times (tally_of e.ways) (ways_at next (e.to - from))) t
 
 -- the sum of those of the first n entries
-pub data SumTo (g : Grammar) (sort least : ℕ) (next : List Ways) (from : ℕ) (entries : List Entry) : ℕ → Tally → Type 0 where
+pub data SumTo (g : Grammar) (sort least : ℕ) (next : List Ways) (from : ℕ)
+    (entries : List Entry) : ℕ → Tally → Type 0 where
   sum_none : SumTo g sort least next from entries 0 no_way
-  sum_more : {n : ℕ} {t u : Tally} (e : Entry) → SumTo g sort least next from entries n t → slice_get entries n ≡ Some e →
-      IsEntryTally g sort least next from e u → SumTo g sort least next from entries (suc n) (plus t u)
+  sum_more : {n : ℕ} {t u : Tally} (e : Entry) → SumTo g sort least next from entries n t →
+      slice_get entries n ≡ Some e →
+      IsEntryTally g sort least next from e u →
+      SumTo g sort least next from entries (suc n) (plus t u)
 
 -- the ways to read the symbol from the place, and then those of the row
-abbrev pub IsPlace : Grammar → List Token → List Entry → Symbol → (from place : ℕ) → List Ways → Tally → Type 0
-IsPlace g tokens entries (literal text) from place next t = IsWhere (IsLiteral tokens place text) (ways_at next (suc place - from)) t
-IsPlace g tokens entries (lexical kind) from place next t = IsWhere (ReadsToken tokens (lexical kind) place) (times (one_way 1) (ways_at next (suc place - from))) t
-IsPlace g tokens entries (part sort least) from place next t = SumTo g sort least next from entries (length entries) t
+abbrev pub IsPlace : Grammar → List Token → List Entry → Symbol → (from place : ℕ) → List Ways →
+    Tally → Type 0
+IsPlace g tokens entries (literal text) from place next t =
+    IsWhere (IsLiteral tokens place text) (ways_at next (suc place - from)) t
+IsPlace g tokens entries (lexical kind) from place next t =
+    IsWhere (ReadsToken tokens (lexical kind) place)
+    (times (one_way 1) (ways_at next (suc place - from))) t
+IsPlace g tokens entries (part sort least) from place next t =
+    SumTo g sort least next from entries (length entries) t
 
 -- the same of a symbol that may be there
-abbrev pub IsNext : Grammar → List Token → List Entry → Option Symbol → (from place : ℕ) → List Ways → Tally → Type 0
+abbrev pub IsNext : Grammar → List Token → List Entry → Option Symbol → (from place : ℕ) →
+    List Ways → Tally → Type 0
 IsNext g tokens entries None from place next t = t ≡ no_way
-IsNext g tokens entries (Some symbol) from place next t = IsPlace g tokens entries symbol from place next t
+IsNext g tokens entries (Some symbol) from place next t =
+    IsPlace g tokens entries symbol from place next t
 
 -- the entries of the list at this place
 abbrev pub list_in : Option (Vec Entry) → List Entry
@@ -55,11 +70,13 @@ list_at lists place = list_in (slice_get lists place)
 
 -- what begins at a place ends no earlier
 abbrev pub AllLater : List (Vec Entry) → Type 0
-AllLater lists = (place i : ℕ) (e : Entry) → slice_get (list_at lists place) i ≡ Some e → place ≤ e.to
+AllLater lists = (place i : ℕ) (e : Entry) → slice_get (list_at lists place) i ≡ Some e →
+    place ≤ e.to
 
 -- from the second on they are in the order of their ends
 abbrev pub AreSorted : List Entry → Type 0
-AreSorted entries = (i j : ℕ) (a b : Entry) → 0 < i → i ≤ j → slice_get entries i ≡ Some a → slice_get entries j ≡ Some b → a.to ≤ b.to
+AreSorted entries = (i j : ℕ) (a b : Entry) → 0 < i → i ≤ j → slice_get entries i ≡ Some a →
+    slice_get entries j ≡ Some b → a.to ≤ b.to
 
 -- so are those of each place
 abbrev pub AllSorted : List (Vec Entry) → Type 0
@@ -71,9 +88,13 @@ IsIn stretch place = (stretch.first ≤ place) × (place < stretch.end)
 
 -- the symbol leads from the place to the end, over a part by an entry
 abbrev pub LeadsOver : Grammar → List Token → List Entry → Symbol → (place end : ℕ) → Type 0
-LeadsOver g tokens entries (literal text) place end = IsLiteral tokens place text × (end ≡ suc place)
-LeadsOver g tokens entries (lexical kind) place end = ReadsToken tokens (lexical kind) place × (end ≡ suc place)
-LeadsOver g tokens entries (part sort least) place end = (i : ℕ) × (e : Entry) × (slice_get entries i ≡ Some e) × FitsPart g e.maker sort least × (e.to ≡ end)
+LeadsOver g tokens entries (literal text) place end =
+    IsLiteral tokens place text × (end ≡ suc place)
+LeadsOver g tokens entries (lexical kind) place end =
+    ReadsToken tokens (lexical kind) place × (end ≡ suc place)
+LeadsOver g tokens entries (part sort least) place end =
+    (i : ℕ) × (e : Entry) × (slice_get entries i ≡ Some e) × FitsPart g e.maker sort least ×
+    (e.to ≡ end)
 
 -- the same of a symbol that may be there
 abbrev pub LeadsNext : Grammar → List Token → List Entry → Option Symbol → (place end : ℕ) → Type 0
@@ -81,9 +102,11 @@ LeadsNext g tokens entries None place end = ⊥
 LeadsNext g tokens entries (Some symbol) place end = LeadsOver g tokens entries symbol place end
 
 -- where the symbol leads from the stretch, up to this place, is in the other
-abbrev pub Spreads : Grammar → List Token → List (Vec Entry) → Option Symbol → (to : ℕ) → (stretch other : Stretch) → Type 0
+abbrev pub Spreads : Grammar → List Token → List (Vec Entry) → Option Symbol → (to : ℕ) →
+    (stretch other : Stretch) → Type 0
 Spreads g tokens lists symbol to stretch other =
-    (place end : ℕ) → IsIn stretch place → LeadsNext g tokens (list_at lists place) symbol place end → end ≤ to → IsIn other end
+    (place end : ℕ) → IsIn stretch place → LeadsNext g tokens
+    (list_at lists place) symbol place end → end ≤ to → IsIn other end
 
 -- the stretch at this place of a list of stretches
 abbrev pub stretch_in : Option Stretch → Stretch
@@ -93,15 +116,22 @@ stretch_in (Some stretch) = stretch
 abbrev pub stretch_at : List Stretch → ℕ → Stretch
 stretch_at stretches dot = stretch_in (slice_get stretches dot)
 
--- the stretch at the head's first symbol has the beginning of the span, and each of the first n symbols but the last leads to the next stretch
-pub record AreStretches (g : Grammar) (tokens : List Token) (lists : List (Vec Entry)) (head : Head) (n from to : ℕ) (stretches : List Stretch) : Type 0 where
+-- the stretch at the head's first symbol has the beginning of the span, and each of the first n
+-- symbols but the last leads to the next stretch
+pub record AreStretches (g : Grammar) (tokens : List Token) (lists : List (Vec Entry)) (head : Head)
+    (n from to : ℕ) (stretches : List Stretch) : Type 0 where
   pub first : IsIn (stretch_at stretches 0) from
-  pub each : (dot : ℕ) → suc dot < n → Spreads g tokens lists (next_symbol g head dot) to (stretch_at stretches dot) (stretch_at stretches (suc dot))
+  pub each : (dot : ℕ) → suc dot < n → Spreads g tokens lists (next_symbol g head dot) to
+      (stretch_at stretches dot) (stretch_at stretches (suc dot))
 
--- the ways from each place of the stretch by the symbol, and then those of the next row; none from other places
-pub record IsRow (g : Grammar) (tokens : List Token) (lists : List (Vec Entry)) (symbol : Option Symbol) (from to : ℕ) (stretch : Stretch) (next row : List Ways) : Type 0 where
-  pub each : (place : ℕ) → from ≤ place → place ≤ to → IsIn stretch place → IsNext g tokens (list_at lists place) symbol from place next (ways_at row (place - from))
-  pub outside : (place : ℕ) → from ≤ place → (place ≤ to → IsIn stretch place → ⊥) → ways_at row (place - from) ≡ no_way
+-- the ways from each place of the stretch by the symbol, and then those of the next row; none from
+-- other places
+pub record IsRow (g : Grammar) (tokens : List Token) (lists : List (Vec Entry))
+    (symbol : Option Symbol) (from to : ℕ) (stretch : Stretch) (next row : List Ways) : Type 0 where
+  pub each : (place : ℕ) → from ≤ place → place ≤ to → IsIn stretch place →
+      IsNext g tokens (list_at lists place) symbol from place next (ways_at row (place - from))
+  pub outside : (place : ℕ) → from ≤ place → (place ≤ to → IsIn stretch place → ⊥) →
+      ways_at row (place - from) ≡ no_way
 
 -- how many symbols a production has
 abbrev pub count_of : Option Production → ℕ
@@ -117,25 +147,32 @@ abbrev pub row_at : List Row → ℕ → List Ways
 row_at rows place = row_in (slice_get rows place)
 
 -- the row after all symbols, and the n rows before it, from the last symbol of the head on
-pub record AreRows (g : Grammar) (tokens : List Token) (lists : List (Vec Entry)) (head : Head) (count n from to : ℕ) (stretches : List Stretch) (rows : List Row) : Type 0 where
+pub record AreRows (g : Grammar) (tokens : List Token) (lists : List (Vec Entry)) (head : Head)
+    (count n from to : ℕ) (stretches : List Stretch) (rows : List Row) : Type 0 where
   pub long : length rows ≡ n + 1
   pub last : IsLastRow from to (row_at rows 0)
-  pub each : (k : ℕ) → k < n → IsRow g tokens lists (next_symbol g head (count - k - 1)) from to (stretch_at stretches (count - k - 1)) (row_at rows k) (row_at rows (k + 1))
+  pub each : (k : ℕ) → k < n → IsRow g tokens lists (next_symbol g head (count - k - 1)) from to
+      (stretch_at stretches (count - k - 1)) (row_at rows k) (row_at rows (k + 1))
 
 -- the rows of a span, from that after all symbols to that before all
-pub record AreSpanRows (g : Grammar) (tokens : List Token) (lists : List (Vec Entry)) (head : Head) (from to : ℕ) (rows : List Row) : Type 0 where
+pub record AreSpanRows (g : Grammar) (tokens : List Token) (lists : List (Vec Entry)) (head : Head)
+    (from to : ℕ) (rows : List Row) : Type 0 where
   pub stretches : List Stretch
   pub spread : AreStretches g tokens lists head (count_of (production_of g head)) from to stretches
-  pub are : AreRows g tokens lists head (count_of (production_of g head)) (count_of (production_of g head)) from to stretches rows
+  pub are : AreRows g tokens lists head (count_of (production_of g head))
+      (count_of (production_of g head)) from to stretches rows
 
 -- the tally is that of the head's rows, one deeper
-pub record IsSpanWays (g : Grammar) (tokens : List Token) (lists : List (Vec Entry)) (head : Head) (from to : ℕ) (t : Tally) : Type 0 where
+pub record IsSpanWays (g : Grammar) (tokens : List Token) (lists : List (Vec Entry)) (head : Head)
+    (from to : ℕ) (t : Tally) : Type 0 where
   pub rows : List Row
   pub are : AreSpanRows g tokens lists head from to rows
-  pub is : IsSmall (ways_at (row_at rows (count_of (production_of g head))) 0) → t ≡ deeper (ways_at (row_at rows (count_of (production_of g head))) 0)
+  pub is : IsSmall (ways_at (row_at rows (count_of (production_of g head))) 0) →
+      t ≡ deeper (ways_at (row_at rows (count_of (production_of g head))) 0)
 
 -- the tally is the sum over the entries of all tokens
-pub record IsWholeWays (g : Grammar) (start n : ℕ) (lists : List (Vec Entry)) (t : Tally) : Type 0 where
+pub record IsWholeWays (g : Grammar) (start n : ℕ) (lists : List (Vec Entry))
+    (t : Tally) : Type 0 where
   pub row : List Ways
   pub last : IsLastRow 0 n row
   pub sum : SumTo g start 0 row 0 (list_at lists 0) (length (list_at lists 0)) t

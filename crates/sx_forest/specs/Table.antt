@@ -1,8 +1,10 @@
 -- The table of the tallies of all complete spans.
-use Rattle.std.specs.Prelude.{suc, ◌≡◌, ◌<◌, ◌≤◌, ℕ, ◌+◌, ◌-◌, ◌++◌, List, [], ◌∷◌, Some, length, slice_get}
+use Rattle.std.specs.Prelude.{suc, ◌≡◌, ◌<◌, ◌≤◌, ℕ, ◌+◌, ◌-◌, ◌++◌, List, [], ◌∷◌, Some, length}
+use Rattle.std.specs.Prelude.{slice_get}
 use Rattle.std.specs.Global.{Vec}
 use Rattle.sx_grammar.specs.declared.head.Head.{Head}
-use Rattle.sx_grammar.specs.Grammar.{Symbol, Grammar, Token, Production, production_of, is_variable, of_sort}
+use Rattle.sx_grammar.specs.Grammar.{Symbol, Grammar, Token, Production, production_of, is_variable}
+use Rattle.sx_grammar.specs.Grammar.{of_sort}
 use Rattle.sx_grammar.specs.Reading.{Marked, ReadsAll, ReadsBy, reading_depth, readings_depth}
 use Rattle.sx_grammar.specs.Items.{Makes, Item, Span}
 use Rattle.sx_grammar.specs.Order.{ComesBefore}
@@ -19,48 +21,66 @@ use Rattle.sx_forest.specs.Rows.{list_at, AllSorted, IsSpanWays}
 
 -- the readings by the maker between these places are counted
 abbrev pub IsSoundBy : Grammar → List Token → (start : ℕ) → Maker → (place to : ℕ) → Tally → Type 0
-IsSoundBy g tokens start (Variable sort) place to t = Marked tokens place (is_variable (of_sort sort)) × (to ≡ suc place) × (t ≡ one_way 1)
+IsSoundBy g tokens start (Variable sort) place to t =
+    Marked tokens place (is_variable (of_sort sort)) × (to ≡ suc place) × (t ≡ one_way 1)
 IsSoundBy g tokens start (By head) place to t =
-    Span g tokens start head place to × ((sort : ℕ) → Makes g head sort 0 → IsTally (ReadsBy g tokens head sort place to) reading_depth t)
+    Span g tokens start head place to × ((sort : ℕ) → Makes g head sort 0 →
+    IsTally (ReadsBy g tokens head sort place to) reading_depth t)
 
 -- one of the entries is for the maker up to this end
 abbrev pub HasIn : List Entry → Maker → (to : ℕ) → Type 0
-HasIn entries maker to = (i : ℕ) × (e : Entry) × (slice_get entries i ≡ Some e) × (e.maker ≡ maker) × (e.to ≡ to)
+HasIn entries maker to = (i : ℕ) × (e : Entry) × (slice_get entries i ≡ Some e) ×
+    (e.maker ≡ maker) × (e.to ≡ to)
 
 -- there is an entry for the maker between these places
 abbrev pub HasEntry : List (Vec Entry) → (place : ℕ) → Maker → (to : ℕ) → Type 0
 HasEntry lists place maker to = HasIn (list_at lists place) maker to
 
--- each entry is counted and stands once, and each metavariable has one; from the second on they are by heads, in the order of their ends
-pub record IsTable (g : Grammar) (tokens : List Token) (start : ℕ) (lists : List (Vec Entry)) : Type 0 where
-  pub sound : (place i : ℕ) (e : Entry) → slice_get (list_at lists place) i ≡ Some e → IsSoundBy g tokens start e.maker place e.to (tally_of e.ways)
-  pub once : (place i j : ℕ) (a b : Entry) → slice_get (list_at lists place) i ≡ Some a → slice_get (list_at lists place) j ≡ Some b →
+-- each entry is counted and stands once, and each metavariable has one; from the second on they are
+-- by heads, in the order of their ends
+pub record IsTable (g : Grammar) (tokens : List Token) (start : ℕ)
+    (lists : List (Vec Entry)) : Type 0 where
+  pub sound : (place i : ℕ) (e : Entry) → slice_get (list_at lists place) i ≡ Some e →
+      IsSoundBy g tokens start e.maker place e.to (tally_of e.ways)
+  pub once : (place i j : ℕ) (a b : Entry) → slice_get (list_at lists place) i ≡ Some a →
+      slice_get (list_at lists place) j ≡ Some b →
       a.maker ≡ b.maker → a.to ≡ b.to → i ≡ j
-  pub variables : (place sort : ℕ) → Marked tokens place (is_variable (of_sort sort)) → HasEntry lists place (Variable sort) (suc place)
-  pub heads : (place i : ℕ) (e : Entry) → 0 < i → slice_get (list_at lists place) i ≡ Some e → (head : Head) × (e.maker ≡ By head)
+  pub variables : (place sort : ℕ) → Marked tokens place (is_variable (of_sort sort)) →
+      HasEntry lists place (Variable sort) (suc place)
+  pub heads : (place i : ℕ) (e : Entry) → 0 < i → slice_get (list_at lists place) i ≡ Some e →
+      (head : Head) × (e.maker ≡ By head)
   pub sorted : AllSorted lists
 
 -- the table has an entry for each complete span
-pub record IsFull (g : Grammar) (tokens : List Token) (start : ℕ) (lists : List (Vec Entry)) : Type 0 where
+pub record IsFull (g : Grammar) (tokens : List Token) (start : ℕ)
+    (lists : List (Vec Entry)) : Type 0 where
   pub table : IsTable g tokens start lists
-  pub has : (head : Head) (from to : ℕ) → Span g tokens start head from to → HasEntry lists from (By head) to
+  pub has : (head : Head) (from to : ℕ) → Span g tokens start head from to →
+      HasEntry lists from (By head) to
 
 -- each complete span inside these places that comes before has an entry
-abbrev pub HasBefore : Grammar → List Token → (start : ℕ) → (rank : ℕ → ℕ) → List (Vec Entry) → (from to sort_rank : ℕ) → Type 0
+abbrev pub HasBefore : Grammar → List Token → (start : ℕ) → (rank : ℕ → ℕ) → List (Vec Entry) →
+    (from to sort_rank : ℕ) → Type 0
 HasBefore g tokens start rank lists from to sort_rank =
-    (head : Head) (q : Production) (place end : ℕ) → production_of g head ≡ Some q → Span g tokens start head place end → from ≤ place → end ≤ to →
-    ComesBefore (end - place) (rank q.sort) (to - from) sort_rank → HasEntry lists place (By head) end
+    (head : Head) (q : Production) (place end : ℕ) → production_of g head ≡ Some q →
+    Span g tokens start head place end → from ≤ place → end ≤ to →
+    ComesBefore (end - place) (rank q.sort) (to - from) sort_rank →
+    HasEntry lists place (By head) end
 
 -- the row has the tally of the readings of the symbols from each place that the items reach
-abbrev pub IsRight : Grammar → List Token → (start : ℕ) → Head → (dot from to : ℕ) → List Symbol → List Ways → Type 0
+abbrev pub IsRight : Grammar → List Token → (start : ℕ) → Head → (dot from to : ℕ) → List Symbol →
+    List Ways → Type 0
 IsRight g tokens start head dot from to rest row =
-    (place : ℕ) → Item g tokens start head dot from place → IsTally (ReadsAll g tokens rest place to) readings_depth (ways_at row (place - from))
+    (place : ℕ) → Item g tokens start head dot from place →
+    IsTally (ReadsAll g tokens rest place to) readings_depth (ways_at row (place - from))
 
 -- at most one entry, of the metavariable that stands at the place
 pub record IsFirstList (tokens : List Token) (place : ℕ) (entries : List Entry) : Type 0 where
   pub only : (i : ℕ) (e : Entry) → slice_get entries i ≡ Some e →
-      (i ≡ 0) × (sort : ℕ) × Marked tokens place (is_variable (of_sort sort)) × (e ≡ record { maker = Variable sort; to = place + 1; ways = One 1 })
-  pub every : (sort : ℕ) → Marked tokens place (is_variable (of_sort sort)) → HasIn entries (Variable sort) (place + 1)
+      (i ≡ 0) × (sort : ℕ) × Marked tokens place (is_variable (of_sort sort)) ×
+      (e ≡ record { maker = Variable sort; to = place + 1; ways = One 1 })
+  pub every : (sort : ℕ) → Marked tokens place (is_variable (of_sort sort)) →
+      HasIn entries (Variable sort) (place + 1)
 
 -- each of the first n lists has its metavariable
 pub record IsFirstTable (tokens : List Token) (n : ℕ) (lists : List (Vec Entry)) : Type 0 where
@@ -74,7 +94,8 @@ pub record IsPut (old new : List (Vec Entry)) (place : ℕ) (e : Entry) : Type 0
   pub others : (p : ℕ) → (p ≡ place → ⊥) → list_at new p ≡ list_at old p
 
 -- the span has an entry more, with its ways
-pub record IsAdded (g : Grammar) (tokens : List Token) (old new : List (Vec Entry)) (s : completed.Span) : Type 0 where
+pub record IsAdded (g : Grammar) (tokens : List Token) (old new : List (Vec Entry))
+    (s : completed.Span) : Type 0 where
   pub ways : Ways
   pub counted : IsSpanWays g tokens old (head_of s.of) s.from s.to (tally_of ways)
   pub put : IsPut old new s.from (record { maker = By (head_of s.of); to = s.to; ways = ways })

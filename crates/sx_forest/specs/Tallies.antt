@@ -1,5 +1,6 @@
 -- Tallies of readings in rows of places.
-use Rattle.std.specs.Prelude.{zero, suc, ◌≡◌, ◌<◌, ◌^◌, ℕ, ◌-◌, List, ◌∷◌, Option, None, Some, length, slice_get}
+use Rattle.std.specs.Prelude.{zero, suc, ◌≡◌, ◌<◌, ◌^◌, ℕ, ◌-◌, List, ◌∷◌, Option, None, Some}
+use Rattle.std.specs.Prelude.{length, slice_get}
 use Rattle.sx_grammar.specs.Tally.{Tally, no_way, one_way, more_ways}
 use Rattle.sx_forest.specs.declared.row.Row.{Row}
 use Rattle.sx_forest.specs.declared.ways.Ways.{Ways}

@@ -20,9 +20,12 @@ use sx_term::NoMemory;
 pub(crate) fn first_reading(alloc: Global, forest: Forest, row: &Row) -> Result<Reading, NoMemory>
     requires forest { IsForest forest }
     requires row { IsLastRow 0 (length forest.shown.now) (ways_of row.now) }
-    requires low { (r : plain.Reading) → ReadsWhole (grammar_in forest) (tokens_in forest) forest.start r → reading_depth r ≤ 1000 }
-    requires some { (r : plain.Reading) × ReadsWhole (grammar_in forest) (tokens_in forest) forest.start r }
-    ensures { IfOk result (λ r. ReadsWhole (grammar_in forest.entry) (tokens_in forest.entry) forest.entry.start (plain_reading r)) }
+    requires low { (r : plain.Reading) → ReadsWhole (grammar_in forest)
+        (tokens_in forest) forest.start r → reading_depth r ≤ 1000 }
+    requires some { (r : plain.Reading) × ReadsWhole (grammar_in forest)
+        (tokens_in forest) forest.start r }
+    ensures { IfOk result (λ r. ReadsWhole (grammar_in forest.entry)
+        (tokens_in forest.entry) forest.entry.start (plain_reading r)) }
 {
     forest.grammar.facts();
     let entries = forest.table.from(0);
@@ -32,7 +35,8 @@ pub(crate) fn first_reading(alloc: Global, forest: Forest, row: &Row) -> Result<
     }
 }
 
-/// Two different readings of all tokens, where there is more than one. The row is that of no symbols, up to the end.
+/// Two different readings of all tokens, where there is more than one. The row is that of no
+/// symbols, up to the end.
 pub(crate) fn two_readings(
     alloc: Global,
     forest: Forest,
@@ -40,10 +44,15 @@ pub(crate) fn two_readings(
 ) -> Result<(Reading, Reading), NoMemory>
     requires forest { IsForest forest }
     requires row { IsLastRow 0 (length forest.shown.now) (ways_of row.now) }
-    requires low { (r : plain.Reading) → ReadsWhole (grammar_in forest) (tokens_in forest) forest.start r → reading_depth r ≤ 1000 }
-    requires two { (one : plain.Reading) × (other : plain.Reading) × ReadsWhole (grammar_in forest) (tokens_in forest) forest.start one × ReadsWhole (grammar_in forest) (tokens_in forest) forest.start other × (one ≢ other) }
-    ensures one { IfOk result (λ r. ReadsWhole (grammar_in forest.entry) (tokens_in forest.entry) forest.entry.start (plain_reading r.0)) }
-    ensures other { IfOk result (λ r. ReadsWhole (grammar_in forest.entry) (tokens_in forest.entry) forest.entry.start (plain_reading r.1)) }
+    requires low { (r : plain.Reading) → ReadsWhole (grammar_in forest)
+        (tokens_in forest) forest.start r → reading_depth r ≤ 1000 }
+    requires two { (one : plain.Reading) × (other : plain.Reading) ×
+        ReadsWhole (grammar_in forest) (tokens_in forest) forest.start one ×
+        ReadsWhole (grammar_in forest) (tokens_in forest) forest.start other × (one ≢ other) }
+    ensures one { IfOk result (λ r. ReadsWhole (grammar_in forest.entry)
+        (tokens_in forest.entry) forest.entry.start (plain_reading r.0)) }
+    ensures other { IfOk result (λ r. ReadsWhole (grammar_in forest.entry)
+        (tokens_in forest.entry) forest.entry.start (plain_reading r.1)) }
     ensures apart { IfOk result (λ r. plain_reading r.0 ≢ plain_reading r.1) }
 {
     forest.grammar.facts();

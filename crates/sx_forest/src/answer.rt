@@ -20,9 +20,9 @@ use sx_grammar::Grammar;
 use sx_term::Sort;
 use sx_token::Token;
 
-/// The only reading of the tokens as the start sort. It is an error where more than 2,000,000 items hold, where there is no reading,
-/// where a reading is deeper than 1,000 (the depth of a lexeme and of a variable is 1, and each node and each bracket pair adds 1),
-/// and where there are two.
+/// The only reading of the tokens as the start sort. It is an error where more than 2,000,000 items
+/// hold, where there is no reading, where a reading is deeper than 1,000 (the depth of a lexeme and
+/// of a variable is 1, and each node and each bracket pair adds 1), and where there are two.
 pub fn read_one(
     alloc: Global,
     grammar: &Grammar,
@@ -33,8 +33,11 @@ pub fn read_one(
     requires short { length tokens.now ≤ 10000 }
     requires start { IsSort grammar.now.parts start }
     requires known { AreKnown (grammars.texts grammar.now) metas.now.stems.items tokens.now }
-    ensures only { IfOk result (λ r. IsAnswer (plain grammar.now) (plain_tokens metas.now.stems.items tokens.now) (number_of start) (only (plain_reading r))) }
-    ensures refused { IfErr result (IsRefusal (labels grammar.now.parts) (texts tokens.now) (plain grammar.now) (plain_tokens metas.now.stems.items tokens.now) (number_of start)) }
+    ensures only { IfOk result (λ r. IsAnswer (plain grammar.now)
+        (plain_tokens metas.now.stems.items tokens.now) (number_of start)
+        (only (plain_reading r))) }
+    ensures refused { IfErr result (IsRefusal (labels grammar.now.parts) (texts tokens.now)
+        (plain grammar.now) (plain_tokens metas.now.stems.items tokens.now) (number_of start)) }
 {
     let stems = Stems::new(alloc, metas)?;
     read_one_by(alloc, grammar, start, &stems, tokens)
@@ -51,8 +54,10 @@ pub fn read_one_by(
     requires short { length tokens.now ≤ 10000 }
     requires start { IsSort grammar.now.parts start }
     requires known { AreKnown (grammars.texts grammar.now) stems.now tokens.now }
-    ensures only { IfOk result (λ r. IsAnswer (plain grammar.now) (plain_tokens stems.now tokens.now) (number_of start) (only (plain_reading r))) }
-    ensures refused { IfErr result (IsRefusal (labels grammar.now.parts) (texts tokens.now) (plain grammar.now) (plain_tokens stems.now tokens.now) (number_of start)) }
+    ensures only { IfOk result (λ r. IsAnswer (plain grammar.now)
+        (plain_tokens stems.now tokens.now) (number_of start) (only (plain_reading r))) }
+    ensures refused { IfErr result (IsRefusal (labels grammar.now.parts) (texts tokens.now)
+        (plain grammar.now) (plain_tokens stems.now tokens.now) (number_of start)) }
 {
     read_ranked(alloc, grammar, grammar.ranks(), start, stems, tokens)
 }

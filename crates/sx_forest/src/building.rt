@@ -9,7 +9,9 @@ ghost use Rattle.sx_grammar.specs.Tally.{IsLeafAt};
 ghost use Rattle.sx_earley.specs.Shown.{tokens_of};
 ghost use Rattle.sx_grammar.specs.Items.{ReadsToken};
 ghost use Rattle.sx_forest.specs.Readings.{plain_reading, plain_readings};
-ghost use Rattle.sx_forest.specs.Forests.{grammar_in, tokens_in, lists_in, symbols_of, end_of, followed, IsBy, IsForest, IsShallow, IsOpened, IsAt, IsStep, IsReadTo, HasKids, IsMadeOf};
+ghost use Rattle.sx_forest.specs.Forests.{grammar_in, tokens_in, lists_in, symbols_of, end_of};
+ghost use Rattle.sx_forest.specs.Forests.{followed, IsBy, IsForest, IsShallow, IsOpened, IsAt};
+ghost use Rattle.sx_forest.specs.Forests.{IsStep, IsReadTo, HasKids, IsMadeOf};
 
 use crate::entry::{Entry, Maker};
 use crate::forest::Forest;
@@ -44,7 +46,8 @@ pub(crate) fn wrap(
     to: u32,
 ) -> Result<Reading, NoMemory>
     requires { HasKids head (plain_readings kids.items) }
-    ensures { IfOk result (λ r. IsMadeOf head (plain_readings kids.items) from to (plain_reading r)) }
+    ensures { IfOk result (λ r. IsMadeOf head (plain_readings kids.items) from to
+        (plain_reading r)) }
 {
     match head {
         Head::Labelled(label) => Ok(node(label, kids, from, to)),
@@ -64,7 +67,9 @@ pub(crate) fn wrap(
 
 /// The reading of the token at the place, a lexeme or a metavariable.
 fn token_reading(shown: &[Shown], place: u32) -> Reading
-    ensures { (d : GrammarData) (kind : LexKind) → ReadsToken (tokens_of d shown.now) (lexical kind) place → IsLeafAt (tokens_of d shown.now) kind place (plain_reading result) }
+    ensures { (d : GrammarData) (kind : LexKind) →
+        ReadsToken (tokens_of d shown.now) (lexical kind) place →
+        IsLeafAt (tokens_of d shown.now) kind place (plain_reading result) }
 {
     match shown.get(place as usize) {
         Some(Shown::Kind(_)) => Reading::Var { token: place },
@@ -82,7 +87,8 @@ pub(crate) fn build(
 ) -> Result<Reading, NoMemory>
     requires forest { IsForest forest }
     requires entry { IsShallow (grammar_in forest) (tokens_in forest) forest.start from entry }
-    ensures { IfOk result (λ r. IsBy (grammar_in forest.entry) (tokens_in forest.entry) entry.maker from entry.to (plain_reading r)) }
+    ensures { IfOk result (λ r. IsBy (grammar_in forest.entry)
+        (tokens_in forest.entry) entry.maker from entry.to (plain_reading r)) }
 {
     match entry.maker {
         Maker::Variable(_) => Ok(Reading::Var { token: from }),
@@ -106,11 +112,16 @@ pub(crate) fn extend(
     kids: &mut Vec<Reading>,
 ) -> Result<(), NoMemory>
     requires forest { IsForest forest }
-    requires opened { IsOpened (grammar_in forest) (tokens_in forest) forest.start (lists_in forest) opened.now }
-    requires read { IsReadTo (grammar_in forest) (tokens_in forest) forest.start opened.now dot place (plain_readings kids.old.items) }
+    requires opened { IsOpened (grammar_in forest) (tokens_in forest) forest.start
+        (lists_in forest) opened.now }
+    requires read { IsReadTo (grammar_in forest)
+        (tokens_in forest) forest.start opened.now dot place (plain_readings kids.old.items) }
     requires within { dot ≤ length (symbols_of (grammar_in forest) opened.now.head) }
-    ensures read { OnOk result (ReadsAll (grammar_in forest.entry) (tokens_in forest.entry) (symbols_of (grammar_in forest.entry) opened.now.head) opened.now.from opened.now.to (plain_readings kids.new.items)) }
-    ensures behind { OnOk result ((more : Readings) × (plain_readings kids.new.items ≡ followed (plain_readings kids.old.items) more)) }
+    ensures read { OnOk result (ReadsAll (grammar_in forest.entry) (tokens_in forest.entry)
+        (symbols_of (grammar_in forest.entry) opened.now.head) opened.now.from opened.now.to
+        (plain_readings kids.new.items)) }
+    ensures behind { OnOk result ((more : Readings) ×
+        (plain_readings kids.new.items ≡ followed (plain_readings kids.old.items) more)) }
 {
     let mut here = place;
     for next in dot..symbol_count(forest.grammar, opened.head) {
@@ -133,11 +144,17 @@ pub(crate) fn go_over(
     kids: &mut Vec<Reading>,
 ) -> Result<(), NoMemory>
     requires forest { IsForest forest }
-    requires opened { IsOpened (grammar_in forest) (tokens_in forest) forest.start (lists_in forest) opened.now }
-    requires read { IsReadTo (grammar_in forest) (tokens_in forest) forest.start opened.now dot place (plain_readings kids.old.items) }
-    requires step { IsStep (grammar_in forest) (tokens_in forest) forest.start (lists_in forest) opened.now dot place step }
-    ensures read { OnOk result (IsReadTo (grammar_in forest.entry) (tokens_in forest.entry) forest.entry.start opened.now (suc dot) (end_of step place) (plain_readings kids.new.items)) }
-    ensures behind { OnOk result ((more : Readings) × (plain_readings kids.new.items ≡ followed (plain_readings kids.old.items) more)) }
+    requires opened { IsOpened (grammar_in forest) (tokens_in forest) forest.start
+        (lists_in forest) opened.now }
+    requires read { IsReadTo (grammar_in forest)
+        (tokens_in forest) forest.start opened.now dot place (plain_readings kids.old.items) }
+    requires step { IsStep (grammar_in forest) (tokens_in forest) forest.start
+        (lists_in forest) opened.now dot place step }
+    ensures read { OnOk result (IsReadTo (grammar_in forest.entry)
+        (tokens_in forest.entry) forest.entry.start opened.now (suc dot) (end_of step place)
+        (plain_readings kids.new.items)) }
+    ensures behind { OnOk result ((more : Readings) ×
+        (plain_readings kids.new.items ≡ followed (plain_readings kids.old.items) more)) }
 {
     match step {
         Step::Literal => Ok(()),

@@ -22,12 +22,14 @@ pub(crate) fn is_more(ways: Ways) -> bool
 /// Whether the entry reads the part, and the row the rest.
 fn is_usable(grammar: &Grammar, entry: Entry, sort: u32, least: u8, next: &Row, from: u32) -> bool
     requires { from ≤ entry.to }
-    ensures { IsTrue result ↔ IsUsable (plain grammar.now) sort least (ways_of next.now) from entry }
+    ensures { IsTrue result ↔ IsUsable (plain grammar.now) sort least
+        (ways_of next.now) from entry }
 {
     fits(grammar, entry, sort, least) && is_some(both(entry.ways, at(next, from, entry.to)))
 }
 
-/// The first entry from an index on that reads the part where the row reads the rest, with its index.
+/// The first entry from an index on that reads the part where the row reads the rest, with its
+/// index.
 pub(crate) fn first_usable(
     grammar: &Grammar,
     entries: &[Entry],
@@ -38,7 +40,8 @@ pub(crate) fn first_usable(
     first: usize,
 ) -> Option<(usize, Entry)>
     requires { (i : ℕ) (e : Entry) → slice_get entries.now i ≡ Some e → from ≤ e.to }
-    ensures { IsFirstUsable (plain grammar.now) sort least (ways_of next.now) from entries.now first result }
+    ensures { IsFirstUsable (plain grammar.now) sort least
+        (ways_of next.now) from entries.now first result }
 {
     for index in first..entries.len() {
         if is_usable(grammar, entries[index], sort, least, next, from) {
@@ -48,7 +51,8 @@ pub(crate) fn first_usable(
     None
 }
 
-/// How two readings part at a part, where this entry is the first usable one and has this index, or None where they do not.
+/// How two readings part at a part, where this entry is the first usable one and has this index, or
+/// None where they do not.
 pub(crate) fn fork_of(
     grammar: &Grammar,
     entries: &[Entry],
@@ -61,7 +65,8 @@ pub(crate) fn fork_of(
 ) -> Option<Fork>
     requires later { (i : ℕ) (e : Entry) → slice_get entries.now i ≡ Some e → from ≤ e.to }
     requires index { slice_get entries.now index ≡ Some entry }
-    ensures { IsForkOf (plain grammar.now) sort least (ways_of next.now) from entries.now index entry result }
+    ensures { IsForkOf (plain grammar.now) sort least
+        (ways_of next.now) from entries.now index entry result }
 {
     match first_usable(grammar, entries, sort, least, next, from, index + 1) {
         Some((_, other)) => Some(Fork::Apart(entry, other)),

@@ -24,7 +24,8 @@ fn is_whole(grammar: &Grammar, start: u32, count: usize, span: Span) -> bool
 
 /// Whether one of the spans is whole.
 fn has_whole(grammar: &Grammar, start: u32, count: usize, spans: &[Span]) -> bool
-    ensures { IsTrue result ↔ ((s : Span) × Contains spans.now s × IsWholeSpan (plain grammar.now) start count s) }
+    ensures { IsTrue result ↔ ((s : Span) × Contains spans.now s ×
+        IsWholeSpan (plain grammar.now) start count s) }
 {
     for i in 0..spans.len() {
         if is_whole(grammar, start, count, spans[i]) {
@@ -36,7 +37,9 @@ fn has_whole(grammar: &Grammar, start: u32, count: usize, spans: &[Span]) -> boo
 
 /// Whether what is shown is one metavariable of the sort.
 fn is_variable(start: u32, shown: &[Shown]) -> bool
-    ensures { (d : GrammarData) → IsTrue result ↔ ((length shown.now ≡ 1) × Marked (tokens_of d shown.now) 0 (is_variable (of_sort start))) }
+    ensures { (d : GrammarData) → IsTrue result
+        ↔ ((length shown.now ≡ 1) × Marked (tokens_of d shown.now) 0
+        (is_variable (of_sort start))) }
 {
     match variable_at(shown, 0) {
         Some(sort) => shown.len() == 1 && sort == start,
@@ -44,10 +47,12 @@ fn is_variable(start: u32, shown: &[Shown]) -> bool
     }
 }
 
-/// Whether all that is shown has a reading as the sort, where the spans are those that the items complete.
+/// Whether all that is shown has a reading as the sort, where the spans are those that the items
+/// complete.
 pub(crate) fn has_reading(grammar: &Grammar, start: u32, shown: &[Shown], spans: &[Span]) -> bool
     requires { IsChart (plain grammar.now) (tokens_of grammar.now shown.now) start spans.now }
-    ensures { IsTrue result ↔ ((r : plain.Reading) × ReadsWhole (plain grammar.now) (tokens_of grammar.now shown.now) start r) }
+    ensures { IsTrue result ↔ ((r : plain.Reading) ×
+        ReadsWhole (plain grammar.now) (tokens_of grammar.now shown.now) start r) }
 {
     grammar.facts();
     is_variable(start, shown) || has_whole(grammar, start, shown.len(), spans)

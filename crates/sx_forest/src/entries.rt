@@ -27,8 +27,10 @@ impl Entries {
     pub(crate) fn put(&mut self, place: u32, entry: Entry) -> Result<(), NoMemory>
         requires { place < length self.old.lists.items }
         ensures same { length self.new.lists.items ≡ length self.old.lists.items }
-        ensures there { OnOk result (list_at self.new.lists.items place ≡ list_at self.old.lists.items place ++ entry ∷ []) }
-        ensures others { (p : ℕ) → (p ≡ place → ⊥) → list_at self.new.lists.items p ≡ list_at self.old.lists.items p }
+        ensures there { OnOk result (list_at self.new.lists.items place
+            ≡ list_at self.old.lists.items place ++ entry ∷ []) }
+        ensures others { (p : ℕ) → (p ≡ place → ⊥) →
+            list_at self.new.lists.items p ≡ list_at self.old.lists.items p }
     {
         match self.lists[place as usize].push(entry) {
             Ok(_) => Ok(()),

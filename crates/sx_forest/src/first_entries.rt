@@ -16,7 +16,8 @@ use sx_term::NoMemory;
 
 /// The sort of the metavariable at the place, if it stands for a term.
 pub(crate) fn variable_at(shown: &[Shown], place: usize) -> Option<u32>
-    ensures { (d : GrammarData) (sort : ℕ) → (result ≡ Some sort) ↔ Marked (tokens_of d shown.now) place (is_variable (of_sort sort)) }
+    ensures { (d : GrammarData) (sort : ℕ) →
+        (result ≡ Some sort) ↔ Marked (tokens_of d shown.now) place (is_variable (of_sort sort)) }
 {
     match shown.get(place) {
         Some(token) => match token {
@@ -30,7 +31,8 @@ pub(crate) fn variable_at(shown: &[Shown], place: usize) -> Option<u32>
 /// The entries from a place before any span is counted: that of the metavariable that stands there.
 fn first_list(alloc: Global, shown: &[Shown], place: usize) -> Result<Vec<Entry>, NoMemory>
     requires { place ≤ 10000 }
-    ensures { IfOk result (λ v. (d : GrammarData) → IsFirstList (tokens_of d shown.now) place v.items) }
+    ensures { IfOk result (λ v. (d : GrammarData) →
+        IsFirstList (tokens_of d shown.now) place v.items) }
 {
     let mut entries = Vec::new(alloc);
     if let Some(sort) = variable_at(shown, place) {
@@ -46,7 +48,8 @@ fn first_list(alloc: Global, shown: &[Shown], place: usize) -> Result<Vec<Entry>
 /// The entries before any span is counted, from each place.
 pub(crate) fn first_entries(alloc: Global, shown: &[Shown]) -> Result<Entries, NoMemory>
     requires { length shown.now ≤ 10000 }
-    ensures { IfOk result (λ t. (d : GrammarData) → IsFirstTable (tokens_of d shown.now) (length shown.now + 1) t.lists.items) }
+    ensures { IfOk result (λ t. (d : GrammarData) →
+        IsFirstTable (tokens_of d shown.now) (length shown.now + 1) t.lists.items) }
 {
     let mut lists = Vec::new(alloc);
     for place in 0..shown.len() + 1 {

@@ -4,7 +4,10 @@ ghost use Rattle.std.specs.Prelude.{◌≡◌, ◌≢◌, suc, [], None, OnOk, I
 ghost use Rattle.sx_grammar.specs.Reading.{ReadsAll};
 ghost use Rattle.sx_forest.specs.Readings.{plain_reading, plain_readings};
 ghost use Rattle.sx_forest.specs.Tallies.{tally_of};
-ghost use Rattle.sx_forest.specs.Forests.{grammar_in, tokens_in, lists_in, symbols_of, end_of, one_of, other_of, IsBy, IsMore, IsForest, IsShallow, IsOpened, IsAt, IsReadTo, IsStep, IsForkAt, IsMoreAt, IsParting, AreKidsApart};
+ghost use Rattle.sx_forest.specs.Forests.{grammar_in, tokens_in, lists_in, symbols_of, end_of};
+ghost use Rattle.sx_forest.specs.Forests.{one_of, other_of, IsBy, IsMore, IsForest, IsShallow};
+ghost use Rattle.sx_forest.specs.Forests.{IsOpened, IsAt, IsReadTo, IsStep, IsForkAt, IsMoreAt};
+ghost use Rattle.sx_forest.specs.Forests.{IsParting, AreKidsApart};
 
 use crate::building::{build, extend, go_over, wrap};
 use crate::choosing::fork_of;
@@ -24,11 +27,15 @@ use sx_term::NoMemory;
 /// How two readings part at the step over the symbol at the dot, or None where they do not.
 fn fork_at(forest: Forest, opened: &Opened, dot: usize, place: u32, step: Step) -> Option<Fork>
     requires forest { IsForest forest }
-    requires opened { IsOpened (grammar_in forest) (tokens_in forest) forest.start (lists_in forest) opened.now }
+    requires opened { IsOpened (grammar_in forest) (tokens_in forest) forest.start
+        (lists_in forest) opened.now }
     requires at { IsAt (grammar_in forest) (tokens_in forest) forest.start opened.now dot place }
-    requires step { IsStep (grammar_in forest) (tokens_in forest) forest.start (lists_in forest) opened.now dot place step }
-    ensures fork { IfSome result (IsForkAt (grammar_in forest.entry) (lists_in forest.entry) opened.now dot place) }
-    ensures on { result ≡ None → IsMoreAt (grammar_in forest.entry) opened.now dot place → IsMoreAt (grammar_in forest.entry) opened.now (suc dot) (end_of step place) }
+    requires step { IsStep (grammar_in forest) (tokens_in forest) forest.start
+        (lists_in forest) opened.now dot place step }
+    ensures fork { IfSome result (IsForkAt (grammar_in forest.entry)
+        (lists_in forest.entry) opened.now dot place) }
+    ensures on { result ≡ None → IsMoreAt (grammar_in forest.entry) opened.now dot place →
+        IsMoreAt (grammar_in forest.entry) opened.now (suc dot) (end_of step place) }
 {
     match step {
         Step::Literal => None,
@@ -65,8 +72,10 @@ pub(crate) fn build_two(
     requires forest { IsForest forest }
     requires entry { IsShallow (grammar_in forest) (tokens_in forest) forest.start from entry }
     requires more { IsMore (tally_of entry.ways) }
-    ensures one { IfOk result (λ r. IsBy (grammar_in forest.entry) (tokens_in forest.entry) entry.maker from entry.to (plain_reading r.0)) }
-    ensures other { IfOk result (λ r. IsBy (grammar_in forest.entry) (tokens_in forest.entry) entry.maker from entry.to (plain_reading r.1)) }
+    ensures one { IfOk result (λ r. IsBy (grammar_in forest.entry)
+        (tokens_in forest.entry) entry.maker from entry.to (plain_reading r.0)) }
+    ensures other { IfOk result (λ r. IsBy (grammar_in forest.entry)
+        (tokens_in forest.entry) entry.maker from entry.to (plain_reading r.1)) }
     ensures apart { IfOk result (λ r. plain_reading r.0 ≢ plain_reading r.1) }
 {
     match entry.maker {
@@ -93,11 +102,14 @@ fn kids_apart(
     other: &mut Vec<Reading>,
 ) -> Result<(), NoMemory>
     requires forest { IsForest forest }
-    requires opened { IsOpened (grammar_in forest) (tokens_in forest) forest.start (lists_in forest) opened.now }
+    requires opened { IsOpened (grammar_in forest) (tokens_in forest) forest.start
+        (lists_in forest) opened.now }
     requires more { IsMore (tally_of opened.now.ways) }
     requires one { one.old.items ≡ [] }
     requires other { other.old.items ≡ [] }
-    ensures { OnOk result (AreKidsApart (grammar_in forest.entry) (tokens_in forest.entry) opened.now (plain_readings one.new.items) (plain_readings other.new.items)) }
+    ensures { OnOk result (AreKidsApart (grammar_in forest.entry)
+        (tokens_in forest.entry) opened.now (plain_readings one.new.items)
+        (plain_readings other.new.items)) }
 {
     let mut place = opened.from;
     for dot in 0..symbol_count(forest.grammar, opened.head) {
@@ -125,11 +137,16 @@ fn part(
     other: &mut Vec<Reading>,
 ) -> Result<(), NoMemory>
     requires forest { IsForest forest }
-    requires opened { IsOpened (grammar_in forest) (tokens_in forest) forest.start (lists_in forest) opened.now }
-    requires one { IsReadTo (grammar_in forest) (tokens_in forest) forest.start opened.now dot place (plain_readings one.old.items) }
-    requires other { IsReadTo (grammar_in forest) (tokens_in forest) forest.start opened.now dot place (plain_readings other.old.items) }
+    requires opened { IsOpened (grammar_in forest) (tokens_in forest) forest.start
+        (lists_in forest) opened.now }
+    requires one { IsReadTo (grammar_in forest) (tokens_in forest) forest.start opened.now dot place
+        (plain_readings one.old.items) }
+    requires other { IsReadTo (grammar_in forest)
+        (tokens_in forest) forest.start opened.now dot place (plain_readings other.old.items) }
     requires fork { IsForkAt (grammar_in forest) (lists_in forest) opened.now dot place fork }
-    ensures { OnOk result (AreKidsApart (grammar_in forest.entry) (tokens_in forest.entry) opened.now (plain_readings one.new.items) (plain_readings other.new.items)) }
+    ensures { OnOk result (AreKidsApart (grammar_in forest.entry)
+        (tokens_in forest.entry) opened.now (plain_readings one.new.items)
+        (plain_readings other.new.items)) }
 {
     let (first, second) = pair_at(alloc, forest, fork, place)?;
     one.push(first)?;
@@ -148,8 +165,10 @@ pub(crate) fn pair_at(
 ) -> Result<(Reading, Reading), NoMemory>
     requires forest { IsForest forest }
     requires parting { IsParting (grammar_in forest) (tokens_in forest) forest.start place fork }
-    ensures one { IfOk result (λ r. IsBy (grammar_in forest.entry) (tokens_in forest.entry) (one_of fork).maker place (one_of fork).to (plain_reading r.0)) }
-    ensures other { IfOk result (λ r. IsBy (grammar_in forest.entry) (tokens_in forest.entry) (other_of fork).maker place (other_of fork).to (plain_reading r.1)) }
+    ensures one { IfOk result (λ r. IsBy (grammar_in forest.entry) (tokens_in forest.entry)
+        (one_of fork).maker place (one_of fork).to (plain_reading r.0)) }
+    ensures other { IfOk result (λ r. IsBy (grammar_in forest.entry) (tokens_in forest.entry)
+        (other_of fork).maker place (other_of fork).to (plain_reading r.1)) }
     ensures apart { IfOk result (λ r. plain_reading r.0 ≢ plain_reading r.1) }
 {
     match fork {

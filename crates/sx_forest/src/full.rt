@@ -32,7 +32,8 @@ fn add_span(
     requires shown { AreBelow (length (texts grammar.now)) shown.now }
     requires later { AllLater table.old.lists.items }
     requires sorted { AllSorted table.old.lists.items }
-    ensures { OnOk result (IsAdded (plain grammar.now) (tokens_of grammar.now shown.now) table.old.lists.items table.new.lists.items span) }
+    ensures { OnOk result (IsAdded (plain grammar.now)
+        (tokens_of grammar.now shown.now) table.old.lists.items table.new.lists.items span) }
 {
     let head = head_of(span.of);
     let ways = span_ways(alloc, grammar, shown, table, head, span.from, span.to)?;
@@ -58,9 +59,11 @@ pub(crate) fn fill(
     requires short { length shown.now ≤ 10000 }
     requires below { AreBelow (length (texts grammar.now)) shown.now }
     requires ranking { IsRanking (plain grammar.now) (rank_at ranks.now) }
-    requires chart { IsChart (plain grammar.now) (tokens_of grammar.now shown.now) _start spans.now }
+    requires chart { IsChart (plain grammar.now)
+        (tokens_of grammar.now shown.now) _start spans.now }
     requires once { EachOnce spans.now }
-    ensures { IfOk result (λ t. IsFull (plain grammar.now) (tokens_of grammar.now shown.now) _start t.lists.items) }
+    ensures { IfOk result (λ t. IsFull (plain grammar.now)
+        (tokens_of grammar.now shown.now) _start t.lists.items) }
 {
     grammar.facts();
     let ordered = in_order(alloc, grammar, ranks, spans)?;

@@ -53,7 +53,8 @@ fn ordered(grammar: &Grammar, ranks: &[u32], span: Span) -> Ordered
     }
 }
 
-/// Sorts the spans by their ends, spans of one end by their widths, and those of one width too by their ranks.
+/// Sorts the spans by their ends, spans of one end by their widths, and those of one width too by
+/// their ranks.
 fn sort(list: &mut Vec<Ordered>) -> Result<(), NoMemory>
     ensures permutation { IsPermutation list.old.items list.new.items }
     ensures sorted { OnOk result (IsInOrder list.new.items) }
@@ -62,8 +63,9 @@ fn sort(list: &mut Vec<Ordered>) -> Result<(), NoMemory>
     Ok(())
 }
 
-/// The spans in the order in which they are counted: those that end earlier first, of one end the narrower ones, and of one width those
-/// of a lower rank. So the entries from each place stand in the order of their ends.
+/// The spans in the order in which they are counted: those that end earlier first, of one end the
+/// narrower ones, and of one width those of a lower rank. So the entries from each place stand in
+/// the order of their ends.
 pub(crate) fn in_order(
     alloc: Global,
     grammar: &Grammar,
@@ -72,7 +74,8 @@ pub(crate) fn in_order(
 ) -> Result<Vec<Ordered>, NoMemory>
     requires along { (s : Span) → Contains spans.now s → s.from ≤ s.to }
     requires once { EachOnce spans.now }
-    ensures { IfOk result (λ v. AreOrdered (plain grammar.now) (rank_at ranks.now) spans.now v.items) }
+    ensures { IfOk result (λ v. AreOrdered (plain grammar.now)
+        (rank_at ranks.now) spans.now v.items) }
 {
     let mut list = Vec::new(alloc);
     for span in spans {

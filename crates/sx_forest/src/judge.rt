@@ -30,7 +30,8 @@ pub(crate) fn whole_ways(
 ) -> Result<Ways, NoMemory>
     requires short { count ≤ 10000 }
     requires sorted { AllSorted table.now.lists.items }
-    ensures { IfOk result (λ w. IsWholeWays (plain grammar.now) start count table.now.lists.items (tally_of w)) }
+    ensures { IfOk result (λ w. IsWholeWays (plain grammar.now) start count table.now.lists.items
+        (tally_of w)) }
 {
     let row = last_row(alloc, 0, count)?;
     Ok(part_ways(grammar, table.from(0), start, 0, &row, 0))
@@ -41,7 +42,9 @@ const MOST_DEPTH: u64 = 1000;
 
 /// What the ways to read all tokens come to.
 pub(crate) fn judge(ways: Ways) -> Judged
-    ensures { (g : plain.Grammar) (ts : List plain.Token) (start : ℕ) → (MoreHold g ts start 2000000 → ⊥) → IsTally (ReadsWhole g ts start) reading_depth (tally_of ways) → IsVerdict g ts start result }
+    ensures { (g : plain.Grammar) (ts : List plain.Token) (start : ℕ) →
+        (MoreHold g ts start 2000000 → ⊥) → IsTally (ReadsWhole g ts start) reading_depth
+        (tally_of ways) → IsVerdict g ts start result }
 {
     match ways {
         Ways::Nothing => Judged::Nothing,

@@ -1,11 +1,14 @@
 //! The only reading of tokens by a grammar.
 //!
-//! - `read_one`: the only reading of tokens as a sort, or why there is none: too hard, no reading, too deep, or two of more.
-//!   `read_one_by`: the same by a table of stems that serves for many texts.
-//! - `Reading`: a node, a bracket pair, a lexeme or a metavariable; contracts see it as the plain reading of sx_grammar.
-//! - `write_tree`: its tree text. `strip`: its term, without brackets. `place_of`: where a part of the term begins.
-//! - `readings_fit`: what reads tokens by a grammar meets the conditions of these calls. `paths_leave_together`: `place_of` has no
-//!   place exactly where the path leaves the term.
+//! - `read_one`: the only reading of tokens as a sort, or why there is none: too hard, no reading,
+//!   too deep, or two of more. `read_one_by`: the same by a table of stems that serves for many
+//!   texts.
+//! - `Reading`: a node, a bracket pair, a lexeme or a metavariable; contracts see it as the plain
+//!   reading of sx_grammar.
+//! - `write_tree`: its tree text. `strip`: its term, without brackets. `place_of`: where a part of
+//!   the term begins.
+//! - `readings_fit`: what reads tokens by a grammar meets the conditions of these calls.
+//!   `paths_leave_together`: `place_of` has no place exactly where the path leaves the term.
 //! - Within: `ways` counts readings, none, one or more, with their greatest depth.
 #![tactic(auto)]
 

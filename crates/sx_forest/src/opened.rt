@@ -2,7 +2,8 @@
 
 ghost use Rattle.std.specs.Prelude.{◌≡◌, IfOk};
 ghost use Rattle.sx_forest.specs.declared.entry.Maker.{Maker};
-ghost use Rattle.sx_forest.specs.Forests.{grammar_in, tokens_in, lists_in, IsForest, IsShallow, IsOpened};
+ghost use Rattle.sx_forest.specs.Forests.{grammar_in, tokens_in, lists_in, IsForest, IsShallow};
+ghost use Rattle.sx_forest.specs.Forests.{IsOpened};
 
 use crate::entry::Entry;
 use crate::forest::Forest;
@@ -34,8 +35,10 @@ pub(crate) fn open(
     requires forest { IsForest forest }
     requires entry { IsShallow (grammar_in forest) (tokens_in forest) forest.start from entry }
     requires by { entry.maker ≡ Maker.By head }
-    ensures opened { IfOk result (IsOpened (grammar_in forest.entry) (tokens_in forest.entry) forest.entry.start (lists_in forest.entry)) }
-    ensures same { IfOk result (λ o. (o.head ≡ head) × (o.from ≡ from) × (o.to ≡ entry.to) × (o.ways ≡ entry.ways)) }
+    ensures opened { IfOk result (IsOpened (grammar_in forest.entry)
+        (tokens_in forest.entry) forest.entry.start (lists_in forest.entry)) }
+    ensures same { IfOk result (λ o. (o.head ≡ head) × (o.from ≡ from) × (o.to ≡ entry.to) ×
+        (o.ways ≡ entry.ways)) }
 {
     let rows = all_rows(
         alloc,

@@ -1,6 +1,7 @@
 //! The ways to read a part, and then the symbols after it.
 
-ghost use Rattle.std.specs.Prelude.{◌≡◌, ◌≢◌, ◌≤◌, ◌<◌, ◌-◌, ◌↔◌, ℕ, IsTrue, Some, length, slice_get};
+ghost use Rattle.std.specs.Prelude.{◌≡◌, ◌≢◌, ◌≤◌, ◌<◌, ◌-◌, ◌↔◌, ℕ, IsTrue, Some, length};
+ghost use Rattle.std.specs.Prelude.{slice_get};
 ghost use Rattle.sx_grammar.specs.Tally.{Tally, no_way, plus};
 ghost use Rattle.sx_earley.specs.Shown.{plain};
 ghost use Rattle.sx_forest.specs.Tallies.{tally_of, ways_at, ways_of};
@@ -39,7 +40,8 @@ pub(crate) fn fits(grammar: &Grammar, entry: Entry, sort: u32, least: u8) -> boo
 /// The ways by one entry, and then those of the row.
 fn entry_ways(grammar: &Grammar, entry: Entry, sort: u32, least: u8, next: &Row, from: u32) -> Ways
     requires { from ≤ entry.to }
-    ensures { IsEntryTally (plain grammar.now) sort least (ways_of next.now) from entry (tally_of result) }
+    ensures { IsEntryTally (plain grammar.now) sort least (ways_of next.now) from entry
+        (tally_of result) }
 {
     let rest = at(next, from, entry.to);
     if is_nothing(rest) {
@@ -52,8 +54,8 @@ fn entry_ways(grammar: &Grammar, entry: Entry, sort: u32, least: u8, next: &Row,
     }
 }
 
-/// The ways by the entries after the first, and then those of the row. It goes from the last entry back to one that ends before the
-/// row has ways.
+/// The ways by the entries after the first, and then those of the row. It goes from the last entry
+/// back to one that ends before the row has ways.
 fn later_ways(
     grammar: &Grammar,
     entries: &[Entry],
@@ -65,7 +67,10 @@ fn later_ways(
     requires sorted { AreSorted entries.now }
     requires later { (i : ℕ) (e : Entry) → slice_get entries.now i ≡ Some e → from ≤ e.to }
     requires some { 1 ≤ length entries.now }
-    ensures { (t : Tally) → SumTo (plain grammar.now) sort least (ways_of next.now) from entries.now 1 t → SumTo (plain grammar.now) sort least (ways_of next.now) from entries.now (length entries.now) (plus t (tally_of result)) }
+    ensures { (t : Tally) → SumTo (plain grammar.now) sort least
+        (ways_of next.now) from entries.now 1 t →
+        SumTo (plain grammar.now) sort least (ways_of next.now) from entries.now
+        (length entries.now) (plus t (tally_of result)) }
 {
     let mut all = Ways::Nothing;
     let mut left = entries.len();
@@ -92,7 +97,8 @@ pub(crate) fn part_ways(
 ) -> Ways
     requires sorted { AreSorted entries.now }
     requires later { (i : ℕ) (e : Entry) → slice_get entries.now i ≡ Some e → from ≤ e.to }
-    ensures { SumTo (plain grammar.now) sort least (ways_of next.now) from entries.now (length entries.now) (tally_of result) }
+    ensures { SumTo (plain grammar.now) sort least (ways_of next.now) from entries.now
+        (length entries.now) (tally_of result) }
 {
     if entries.is_empty() {
         return Ways::Nothing;

@@ -44,8 +44,9 @@ fn start(reading: &Reading) -> u32
     }
 }
 
-/// The number of the first token of the part of the term at the path, or the place where the part would stand if it reads no token.
-/// Brackets round the part do not belong to it. None comes exactly where the path leaves the term.
+/// The number of the first token of the part of the term at the path, or the place where the part
+/// would stand if it reads no token. Brackets round the part do not belong to it. None comes
+/// exactly where the path leaves the term.
 pub fn place_of(reading: &Reading, path: &Path) -> Option<u32>
     ensures { result ≡ place_at (plain_reading reading.now) path.now.steps.items }
 {

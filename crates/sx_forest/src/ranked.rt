@@ -36,8 +36,10 @@ pub(crate) fn read_ranked(
     requires start { IsSort grammar.now.parts start }
     requires known { AreKnown (grammars.texts grammar.now) stems.now tokens.now }
     requires ranking { IsRanking (plain grammar.now) (rank_at ranks.now) }
-    ensures only { IfOk result (λ r. IsAnswer (plain grammar.now) (plain_tokens stems.now tokens.now) (number_of start) (only (plain_reading r))) }
-    ensures refused { IfErr result (IsRefusal (labels grammar.now.parts) (texts tokens.now) (plain grammar.now) (plain_tokens stems.now tokens.now) (number_of start)) }
+    ensures only { IfOk result (λ r. IsAnswer (plain grammar.now)
+        (plain_tokens stems.now tokens.now) (number_of start) (only (plain_reading r))) }
+    ensures refused { IfErr result (IsRefusal (labels grammar.now.parts) (texts tokens.now)
+        (plain grammar.now) (plain_tokens stems.now tokens.now) (number_of start)) }
 {
     let shown = stems.show_all(alloc, tokens)?;
     match read_shown(alloc, grammar, ranks, number_of(start), &shown)? {

@@ -23,7 +23,8 @@ use std::alloc::Global;
 use sx_earley::{Shown, Span, chart_of};
 use sx_grammar::Grammar;
 
-/// The only reading of what is shown, or two of more, where there is one and the spans are those that the items complete.
+/// The only reading of what is shown, or two of more, where there is one and the spans are those
+/// that the items complete.
 fn read_spans(
     alloc: Global,
     grammar: &Grammar,
@@ -37,10 +38,14 @@ fn read_spans(
     requires ranking { IsRanking (plain grammar.now) (rank_at ranks.now) }
     requires chart { IsChart (plain grammar.now) (tokens_of grammar.now shown.now) start spans.now }
     requires once { EachOnce spans.now }
-    requires few { MoreHold (plain grammar.now) (tokens_of grammar.now shown.now) start 2000000 → ⊥ }
-    requires some { (r : plain.Reading) × ReadsWhole (plain grammar.now) (tokens_of grammar.now shown.now) start r }
-    ensures found { IfOk result (IsFound (plain grammar.now) (tokens_of grammar.now shown.now) start) }
-    ensures refused { IfErr result (λ e. (labels texts : List (List ℕ)) → IsRefusal labels texts (plain grammar.now) (tokens_of grammar.now shown.now) start e) }
+    requires few { MoreHold (plain grammar.now) (tokens_of grammar.now shown.now) start 2000000 →
+        ⊥ }
+    requires some { (r : plain.Reading) × ReadsWhole (plain grammar.now)
+        (tokens_of grammar.now shown.now) start r }
+    ensures found { IfOk result (IsFound (plain grammar.now)
+        (tokens_of grammar.now shown.now) start) }
+    ensures refused { IfErr result (λ e. (labels texts : List (List ℕ)) →
+        IsRefusal labels texts (plain grammar.now) (tokens_of grammar.now shown.now) start e) }
 {
     grammar.facts();
     let table = fill(alloc, grammar, ranks, start, shown, spans)?;
@@ -75,8 +80,10 @@ pub(crate) fn read_shown(
     requires short { length shown.now ≤ 10000 }
     requires below { AreBelow (length (texts grammar.now)) shown.now }
     requires ranking { IsRanking (plain grammar.now) (rank_at ranks.now) }
-    ensures found { IfOk result (IsFound (plain grammar.now) (tokens_of grammar.now shown.now) start) }
-    ensures refused { IfErr result (λ e. (labels texts : List (List ℕ)) → IsRefusal labels texts (plain grammar.now) (tokens_of grammar.now shown.now) start e) }
+    ensures found { IfOk result (IsFound (plain grammar.now)
+        (tokens_of grammar.now shown.now) start) }
+    ensures refused { IfErr result (λ e. (labels texts : List (List ℕ)) →
+        IsRefusal labels texts (plain grammar.now) (tokens_of grammar.now shown.now) start e) }
 {
     let chart = chart_of(alloc, grammar, start, shown)?;
     if has_reading(grammar, start, shown, chart.spans()) {

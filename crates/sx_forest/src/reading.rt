@@ -1,7 +1,8 @@
 //! Readings of tokens.
 
-/// A reading of tokens by a grammar. Places count tokens from 0: `from` is the first token that is read, and `to` the one after the
-/// last. The kids of a node are the readings of the symbols that are not literals.
+/// A reading of tokens by a grammar. Places count tokens from 0: `from` is the first token that is
+/// read, and `to` the one after the last. The kids of a node are the readings of the symbols that
+/// are not literals.
 #[derive(Drop)]
 pub enum Reading {
     /// By the production with this label.

@@ -8,8 +8,8 @@ use crate::ways::Ways;
 use std::alloc::Global;
 use sx_term::NoMemory;
 
-/// The ways from some places of a span that follow each other: none from the first places of the span, so many, and none from those
-/// after the last.
+/// The ways from some places of a span that follow each other: none from the first places of the
+/// span, so many, and none from those after the last.
 #[derive(Drop)]
 pub(crate) struct Row {
     pub(crate) skipped: u32,
@@ -51,9 +51,11 @@ pub(crate) fn at(row: &Row, from: u32, place: u32) -> Ways
     numbered(&row.ways, number - row.skipped)
 }
 
-/// Whether the place is before the first that may have ways, in a row of a span that begins at another.
+/// Whether the place is before the first that may have ways, in a row of a span that begins at
+/// another.
 pub(crate) fn is_ahead(row: &Row, from: u32, place: u32) -> bool
-    ensures { IsTrue result → (p : ℕ) → from ≤ p → p ≤ place → ways_at (ways_of row.now) (p - from) ≡ no_way }
+    ensures { IsTrue result → (p : ℕ) → from ≤ p → p ≤ place →
+        ways_at (ways_of row.now) (p - from) ≡ no_way }
 {
     place < from || place - from < row.skipped
 }

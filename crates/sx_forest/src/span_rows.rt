@@ -6,7 +6,8 @@ ghost use Rattle.sx_grammar.specs.Grammar.{production_of};
 ghost use Rattle.sx_grammar.specs.Tally.{no_way};
 ghost use Rattle.sx_earley.specs.Shown.{plain, texts, tokens_of, IsBelow, AreBelow};
 ghost use Rattle.sx_forest.specs.Tallies.{tally_of, ways_of};
-ghost use Rattle.sx_forest.specs.Rows.{AllLater, AllSorted, IsRow, count_of, row_at, AreSpanRows, IsSpanWays};
+ghost use Rattle.sx_forest.specs.Rows.{AllLater, AllSorted, IsRow, count_of, row_at, AreSpanRows};
+ghost use Rattle.sx_forest.specs.Rows.{IsSpanWays};
 
 use crate::entries::Entries;
 use crate::part_ways::is_nothing;
@@ -27,7 +28,8 @@ fn is_idle(ways: &[Ways], here: Ways) -> bool
     ways.is_empty() && is_nothing(here)
 }
 
-/// The row before the symbol, where `next` is that after it: the ways from the places of the stretch, from the first that has any on.
+/// The row before the symbol, where `next` is that after it: the ways from the places of the
+/// stretch, from the first that has any on.
 fn row_before(
     alloc: Global,
     grammar: &Grammar,
@@ -44,7 +46,10 @@ fn row_before(
     requires shown { AreBelow (length (texts grammar.now)) shown.now }
     requires later { AllLater table.now.lists.items }
     requires sorted { AllSorted table.now.lists.items }
-    ensures { IfOk result (λ r. IsRow (plain grammar.now) (tokens_of grammar.now shown.now) table.now.lists.items (option_map (symbol (texts grammar.now)) expected) from to stretch (ways_of next.now) (ways_of r)) }
+    ensures { IfOk result (λ r. IsRow (plain grammar.now)
+        (tokens_of grammar.now shown.now) table.now.lists.items
+        (option_map (symbol (texts grammar.now)) expected) from to stretch (ways_of next.now)
+        (ways_of r)) }
 {
     let places = clipped(stretch, from, to);
     let mut skipped = places.first - from;
@@ -100,7 +105,8 @@ pub(crate) fn all_rows(
     requires shown { AreBelow (length (texts grammar.now)) shown.now }
     requires later { AllLater table.now.lists.items }
     requires sorted { AllSorted table.now.lists.items }
-    ensures { IfOk result (λ v. AreSpanRows (plain grammar.now) (tokens_of grammar.now shown.now) table.now.lists.items head from to v.items) }
+    ensures { IfOk result (λ v. AreSpanRows (plain grammar.now)
+        (tokens_of grammar.now shown.now) table.now.lists.items head from to v.items) }
 {
     let count = symbol_count(grammar, head);
     let stretches = stretches(alloc, grammar, shown, table, head, count, from, to)?;
@@ -134,7 +140,8 @@ pub(crate) fn span_ways(
     requires shown { AreBelow (length (texts grammar.now)) shown.now }
     requires later { AllLater table.now.lists.items }
     requires sorted { AllSorted table.now.lists.items }
-    ensures { IfOk result (λ w. IsSpanWays (plain grammar.now) (tokens_of grammar.now shown.now) table.now.lists.items head from to (tally_of w)) }
+    ensures { IfOk result (λ w. IsSpanWays (plain grammar.now)
+        (tokens_of grammar.now shown.now) table.now.lists.items head from to (tally_of w)) }
 {
     let rows = all_rows(alloc, grammar, shown, table, head, from, to)?;
     let count = symbol_count(grammar, head);

@@ -1,10 +1,12 @@
 //! The places to which the symbols of a span can lead.
 
-ghost use Rattle.std.specs.Prelude.{◌≡◌, ◌≤◌, ℕ, suc, Some, IfOk, IfSome, length, slice_get, option_map};
+ghost use Rattle.std.specs.Prelude.{◌≡◌, ◌≤◌, ℕ, suc, Some, IfOk, IfSome, length, slice_get};
+ghost use Rattle.std.specs.Prelude.{option_map};
 ghost use Rattle.sx_grammar.specs.Numbered.{symbol};
 ghost use Rattle.sx_grammar.specs.Items.{ReadsToken};
 ghost use Rattle.sx_earley.specs.Shown.{plain, texts, tokens_of, IsBelow, AreBelow};
-ghost use Rattle.sx_forest.specs.Rows.{FitsPart, IsIn, LeadsNext, Spreads, AreStretches, stretch_at};
+ghost use Rattle.sx_forest.specs.Rows.{FitsPart, IsIn, LeadsNext, Spreads, AreStretches};
+ghost use Rattle.sx_forest.specs.Rows.{stretch_at};
 
 use crate::entries::Entries;
 use crate::entry::Entry;
@@ -28,7 +30,8 @@ fn over_token(
     requires below { IsBelow (length (texts grammar.now)) expected }
     requires shown { AreBelow (length (texts grammar.now)) shown.now }
     ensures kept { (p : ℕ) → IsIn stretch p → IsIn result p }
-    ensures over { ReadsToken (tokens_of grammar.now shown.now) (symbol (texts grammar.now) expected) place → suc place ≤ to → IsIn result (suc place) }
+    ensures over { ReadsToken (tokens_of grammar.now shown.now)
+        (symbol (texts grammar.now) expected) place → suc place ≤ to → IsIn result (suc place) }
 {
     if place < to && reads(grammar, expected, shown, place) {
         with(stretch, place + 1)
@@ -48,7 +51,8 @@ fn over_part(
 ) -> Stretch
     requires { to ≤ 10000 }
     ensures kept { (p : ℕ) → IsIn stretch p → IsIn result p }
-    ensures over { (i : ℕ) (e : Entry) → slice_get entries.now i ≡ Some e → FitsPart (plain grammar.now) e.maker sort least → e.to ≤ to → IsIn result e.to }
+    ensures over { (i : ℕ) (e : Entry) → slice_get entries.now i ≡ Some e →
+        FitsPart (plain grammar.now) e.maker sort least → e.to ≤ to → IsIn result e.to }
 {
     let mut grown = stretch;
     for entry in entries {
@@ -73,7 +77,9 @@ fn over_symbol(
     requires below { IfSome expected (IsBelow (length (texts grammar.now))) }
     requires shown { AreBelow (length (texts grammar.now)) shown.now }
     ensures kept { (p : ℕ) → IsIn stretch p → IsIn result p }
-    ensures over { (end : ℕ) → LeadsNext (plain grammar.now) (tokens_of grammar.now shown.now) entries.now (option_map (symbol (texts grammar.now)) expected) place end → end ≤ to → IsIn result end }
+    ensures over { (end : ℕ) → LeadsNext (plain grammar.now)
+        (tokens_of grammar.now shown.now) entries.now
+        (option_map (symbol (texts grammar.now)) expected) place end → end ≤ to → IsIn result end }
 {
     let Some(symbol) = expected else {
         return stretch;
@@ -99,7 +105,8 @@ fn spread(
     requires short { to ≤ 10000 }
     requires below { IfSome expected (IsBelow (length (texts grammar.now))) }
     requires shown { AreBelow (length (texts grammar.now)) shown.now }
-    ensures { Spreads (plain grammar.now) (tokens_of grammar.now shown.now) table.now.lists.items (option_map (symbol (texts grammar.now)) expected) to stretch result }
+    ensures { Spreads (plain grammar.now) (tokens_of grammar.now shown.now) table.now.lists.items
+        (option_map (symbol (texts grammar.now)) expected) to stretch result }
 {
     let mut grown = Stretch {
         first: to + 1,
@@ -122,7 +129,8 @@ pub(crate) fn stretch_of(stretches: &[Stretch], dot: usize) -> Stretch
     }
 }
 
-/// The stretches of places at which the symbols of the head can begin, from the beginning of a span on.
+/// The stretches of places at which the symbols of the head can begin, from the beginning of a span
+/// on.
 pub(crate) fn stretches(
     alloc: Global,
     grammar: &Grammar,
@@ -136,7 +144,8 @@ pub(crate) fn stretches(
     requires short { to ≤ 10000 }
     requires along { from ≤ to }
     requires shown { AreBelow (length (texts grammar.now)) shown.now }
-    ensures { IfOk result (λ v. AreStretches (plain grammar.now) (tokens_of grammar.now shown.now) table.now.lists.items head count from to v.items) }
+    ensures { IfOk result (λ v. AreStretches (plain grammar.now)
+        (tokens_of grammar.now shown.now) table.now.lists.items head count from to v.items) }
 {
     let mut all = Vec::new(alloc);
     all.push(Stretch {

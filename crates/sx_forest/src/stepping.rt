@@ -1,7 +1,8 @@
 //! The step that a reading takes at a symbol.
 
 ghost use Rattle.std.specs.Prelude.{◌≤◌, ◌<◌, length};
-ghost use Rattle.sx_forest.specs.Forests.{grammar_in, tokens_in, lists_in, symbols_of, IsForest, IsOpened, IsAt, IsStep};
+ghost use Rattle.sx_forest.specs.Forests.{grammar_in, tokens_in, lists_in, symbols_of, IsForest};
+ghost use Rattle.sx_forest.specs.Forests.{IsOpened, IsAt, IsStep};
 
 use crate::choosing::first_usable;
 use crate::forest::Forest;
@@ -11,13 +12,16 @@ use crate::step::Step;
 use sx_earley::symbol_of;
 use sx_grammar::NumberedSymbol;
 
-/// The step over the symbol at the dot, where the symbols before it are read up to the place and the others can be read from there.
+/// The step over the symbol at the dot, where the symbols before it are read up to the place and
+/// the others can be read from there.
 pub(crate) fn step_at(forest: Forest, opened: &Opened, dot: usize, place: u32) -> Step
     requires forest { IsForest forest }
-    requires opened { IsOpened (grammar_in forest) (tokens_in forest) forest.start (lists_in forest) opened.now }
+    requires opened { IsOpened (grammar_in forest) (tokens_in forest) forest.start
+        (lists_in forest) opened.now }
     requires at { IsAt (grammar_in forest) (tokens_in forest) forest.start opened.now dot place }
     requires within { dot < length (symbols_of (grammar_in forest) opened.now.head) }
-    ensures { IsStep (grammar_in forest.entry) (tokens_in forest.entry) forest.entry.start (lists_in forest.entry) opened.now dot place result }
+    ensures { IsStep (grammar_in forest.entry) (tokens_in forest.entry) forest.entry.start
+        (lists_in forest.entry) opened.now dot place result }
 {
     let count = symbol_count(forest.grammar, opened.head);
     let next = row_of(&opened.rows, count - dot - 1);

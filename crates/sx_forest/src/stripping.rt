@@ -1,6 +1,7 @@
 //! The term of a reading.
 
-ghost use Rattle.std.specs.Prelude.{◌≡◌, ℕ, ◌+◌, ◌^◌, ◌<◌, ◌≤◌, ◌++◌, ◌∷◌, List, length, drop, IfOk, OnOk, OnErr};
+ghost use Rattle.std.specs.Prelude.{◌≡◌, ℕ, ◌+◌, ◌^◌, ◌<◌, ◌≤◌, ◌++◌, ◌∷◌, List, length, drop};
+ghost use Rattle.std.specs.Prelude.{IfOk, OnOk, OnErr};
 ghost use Rattle.sx_term.specs.declared.lex_kind.LexKind.{LexKind};
 ghost use Rattle.sx_term.specs.Cutting.{AreDistinct};
 ghost use Rattle.sx_term.specs.Term.{tree};
@@ -17,8 +18,9 @@ use std::alloc::Global;
 use sx_term::{Mark, NoMemory, Term, Text, Vars};
 use sx_token::Token;
 
-/// The term of the reading, without brackets. Names of metavariables that `vars` lacks are added in order of standing; names that are
-/// added later do not change the term. Where memory is lacking, some of the names may have been added, the first ones.
+/// The term of the reading, without brackets. Names of metavariables that `vars` lacks are added in
+/// order of standing; names that are added later do not change the term. Where memory is lacking,
+/// some of the names may have been added, the first ones.
 pub fn strip(
     alloc: Global,
     reading: &Reading,
@@ -27,11 +29,15 @@ pub fn strip(
 ) -> Result<Term, NoMemory>
     requires depth { reading_depth (plain_reading reading.now) ≤ 1000 }
     requires marked { IsMarked tokens.now (plain_reading reading.now) }
-    requires room { length vars.now + length (names_in tokens.now (plain_reading reading.now)) < 2 ^ 32 }
+    requires room { length vars.now + length
+        (names_in tokens.now (plain_reading reading.now)) < 2 ^ 32 }
     ensures term { IfOk result (λ t. (stems : Stems) (later : List (List ℕ)) →
-        tree t ≡ term_of (plain_tokens stems tokens.now) (vars.new ++ later) (plain_reading reading.now)) }
-    ensures names { OnOk result (AddsEach vars.old (names_in tokens.now (plain_reading reading.now)) vars.new) }
-    ensures err { OnErr result (AddsFront vars.old (names_in tokens.now (plain_reading reading.now)) vars.new) }
+        tree t ≡ term_of (plain_tokens stems tokens.now) (vars.new ++ later)
+        (plain_reading reading.now)) }
+    ensures names { OnOk result (AddsEach vars.old
+        (names_in tokens.now (plain_reading reading.now)) vars.new) }
+    ensures err { OnErr result (AddsFront vars.old
+        (names_in tokens.now (plain_reading reading.now)) vars.new) }
 {
     match reading {
         Reading::Node {
@@ -62,7 +68,8 @@ pub fn strip(
 /// The lexeme that the token is.
 fn lexeme(alloc: Global, token: &Token) -> Result<Term, NoMemory>
     requires { (kind : LexKind) × (token.now.mark ≡ Mark.Lex kind) }
-    ensures { IfOk result (λ t. (kind : LexKind) → token.now.mark ≡ Mark.Lex kind → tree t ≡ lexeme kind token.now.text) }
+    ensures { IfOk result (λ t. (kind : LexKind) → token.now.mark ≡ Mark.Lex kind →
+        tree t ≡ lexeme kind token.now.text) }
 {
     match token.mark {
         Mark::Lex(kind) => Ok(Term::Lex {
@@ -73,12 +80,13 @@ fn lexeme(alloc: Global, token: &Token) -> Result<Term, NoMemory>
     }
 }
 
-/// The variable with the name behind the `~` of the token. The name is added where it is not there. Where memory is lacking, the
-/// names are as before.
+/// The variable with the name behind the `~` of the token. The name is added where it is not there.
+/// Where memory is lacking, the names are as before.
 fn variable(alloc: Global, token: &Token, vars: &mut Vars) -> Result<Term, NoMemory>
     requires text { (name : List ℕ) × (token.now.text ≡ 126 ∷ name) }
     requires room { length vars.now + 1 < 2 ^ 32 }
-    ensures ok { IfOk result (λ t. (number : ℕ) × (tree t ≡ hole number) × IsAdded vars.old vars.new (drop 1 token.now.text) number × AreDistinct vars.new) }
+    ensures ok { IfOk result (λ t. (number : ℕ) × (tree t ≡ hole number) ×
+        IsAdded vars.old vars.new (drop 1 token.now.text) number × AreDistinct vars.new) }
     ensures err { OnErr result (vars.new ≡ vars.old) }
 {
     let name = name_of(alloc, token)?;

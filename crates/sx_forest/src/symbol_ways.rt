@@ -1,6 +1,7 @@
 //! The ways to read a symbol, and then the symbols after it.
 
-ghost use Rattle.std.specs.Prelude.{◌≡◌, ◌≤◌, ◌<◌, ◌^◌, ℕ, Some, IfSome, length, slice_get, option_map};
+ghost use Rattle.std.specs.Prelude.{◌≡◌, ◌≤◌, ◌<◌, ◌^◌, ℕ, Some, IfSome, length, slice_get};
+ghost use Rattle.std.specs.Prelude.{option_map};
 ghost use Rattle.sx_grammar.specs.Numbered.{symbol};
 ghost use Rattle.sx_earley.specs.Shown.{plain, texts, tokens_of, IsBelow, AreBelow};
 ghost use Rattle.sx_forest.specs.Tallies.{tally_of, ways_of};
@@ -29,7 +30,8 @@ fn symbol_ways(
     requires shown { AreBelow (length (texts grammar.now)) shown.now }
     requires sorted { AreSorted entries.now }
     requires later { (i : ℕ) (e : Entry) → slice_get entries.now i ≡ Some e → from ≤ e.to }
-    ensures { IsPlace (plain grammar.now) (tokens_of grammar.now shown.now) entries.now (symbol (texts grammar.now) expected) from place (ways_of next.now) (tally_of result) }
+    ensures { IsPlace (plain grammar.now) (tokens_of grammar.now shown.now) entries.now
+        (symbol (texts grammar.now) expected) from place (ways_of next.now) (tally_of result) }
 {
     match expected {
         NumberedSymbol::Part { sort, least } => {
@@ -68,7 +70,9 @@ pub(crate) fn next_ways(
     requires shown { AreBelow (length (texts grammar.now)) shown.now }
     requires sorted { AreSorted entries.now }
     requires later { (i : ℕ) (e : Entry) → slice_get entries.now i ≡ Some e → from ≤ e.to }
-    ensures { IsNext (plain grammar.now) (tokens_of grammar.now shown.now) entries.now (option_map (symbol (texts grammar.now)) expected) from place (ways_of next.now) (tally_of result) }
+    ensures { IsNext (plain grammar.now) (tokens_of grammar.now shown.now) entries.now
+        (option_map (symbol (texts grammar.now)) expected) from place (ways_of next.now)
+        (tally_of result) }
 {
     match expected {
         None => Ways::Nothing,

@@ -33,10 +33,17 @@ fn text_is_after(
 ) -> Result<bool, NoMemory>
     requires one_deep { reading_depth (plain_reading one.now) ≤ 1000 }
     requires other_deep { reading_depth (plain_reading other.now) ≤ 1000 }
-    requires one_within { IsWithin (length grammar.now.parts.productions) (length tokens.now) (plain_reading one.now) }
-    requires other_within { IsWithin (length grammar.now.parts.productions) (length tokens.now) (plain_reading other.now) }
-    ensures not_after { IfOk result (λ b. b ≡ false → IsNotAfter (tree_text (labels grammar.now.parts) (texts tokens.now) (plain_reading one.now)) (tree_text (labels grammar.now.parts) (texts tokens.now) (plain_reading other.now))) }
-    ensures after { IfOk result (λ b. b ≡ true → IsNotAfter (tree_text (labels grammar.now.parts) (texts tokens.now) (plain_reading other.now)) (tree_text (labels grammar.now.parts) (texts tokens.now) (plain_reading one.now))) }
+    requires one_within { IsWithin (length grammar.now.parts.productions) (length tokens.now)
+        (plain_reading one.now) }
+    requires other_within { IsWithin (length grammar.now.parts.productions) (length tokens.now)
+        (plain_reading other.now) }
+    ensures not_after { IfOk result (λ b. b ≡ false →
+        IsNotAfter (tree_text (labels grammar.now.parts) (texts tokens.now) (plain_reading one.now))
+        (tree_text (labels grammar.now.parts) (texts tokens.now) (plain_reading other.now))) }
+    ensures after { IfOk result (λ b. b ≡ true →
+        IsNotAfter (tree_text (labels grammar.now.parts) (texts tokens.now)
+        (plain_reading other.now)) (tree_text (labels grammar.now.parts) (texts tokens.now)
+        (plain_reading one.now))) }
 {
     let mut first = Vec::new(alloc);
     write_tree(alloc, grammar, one, tokens, &mut first)?;
@@ -55,10 +62,15 @@ pub(crate) fn in_text_order(
 ) -> Result<(Reading, Reading), NoMemory>
     requires one_deep { reading_depth (plain_reading one) ≤ 1000 }
     requires other_deep { reading_depth (plain_reading other) ≤ 1000 }
-    requires one_within { IsWithin (length grammar.now.parts.productions) (length tokens.now) (plain_reading one) }
-    requires other_within { IsWithin (length grammar.now.parts.productions) (length tokens.now) (plain_reading other) }
-    ensures pair { IfOk result (λ p. ((p.0 ≡ one) × (p.1 ≡ other)) ⊎ ((p.0 ≡ other) × (p.1 ≡ one))) }
-    ensures order { IfOk result (λ p. IsNotAfter (tree_text (labels grammar.now.parts) (texts tokens.now) (plain_reading p.0)) (tree_text (labels grammar.now.parts) (texts tokens.now) (plain_reading p.1))) }
+    requires one_within { IsWithin (length grammar.now.parts.productions) (length tokens.now)
+        (plain_reading one) }
+    requires other_within { IsWithin (length grammar.now.parts.productions) (length tokens.now)
+        (plain_reading other) }
+    ensures pair { IfOk result (λ p. ((p.0 ≡ one) × (p.1 ≡ other)) ⊎
+        ((p.0 ≡ other) × (p.1 ≡ one))) }
+    ensures order { IfOk result (λ p. IsNotAfter
+        (tree_text (labels grammar.now.parts) (texts tokens.now) (plain_reading p.0))
+        (tree_text (labels grammar.now.parts) (texts tokens.now) (plain_reading p.1))) }
 {
     if text_is_after(alloc, grammar, tokens, &one, &other)? {
         Ok((other, one))

@@ -1,6 +1,7 @@
 //! The tree text of a reading.
 
-ghost use Rattle.std.specs.Prelude.{◌≡◌, ◌<◌, ◌≤◌, ◌++◌, List, ℕ, [], length, map, slice_index_or, OnOk, OnErr};
+ghost use Rattle.std.specs.Prelude.{◌≡◌, ◌<◌, ◌≤◌, ◌++◌, List, ℕ, [], length, map, slice_index_or};
+ghost use Rattle.std.specs.Prelude.{OnOk, OnErr};
 ghost use Rattle.sx_grammar.specs.Parts.{labels};
 ghost use Rattle.sx_grammar.specs.Reading.{reading_depth, readings_depth};
 ghost use Rattle.sx_forest.specs.Readings.{plain_reading, plain_readings};
@@ -12,9 +13,9 @@ use sx_grammar::Grammar;
 use sx_term::NoMemory;
 use sx_token::Token;
 
-/// Appends the tree text of the reading: a node is its label and, where it has kids, `(`, the kids with `,` between them, and `)`; a
-/// bracket pair is `[`, the inner reading and `]`; a lexeme or a metavariable is its token's text. Where memory is lacking, `into` is
-/// as before.
+/// Appends the tree text of the reading: a node is its label and, where it has kids, `(`, the kids
+/// with `,` between them, and `)`; a bracket pair is `[`, the inner reading and `]`; a lexeme or a
+/// metavariable is its token's text. Where memory is lacking, `into` is as before.
 pub fn write_tree(
     _alloc: Global,
     grammar: &Grammar,
@@ -23,8 +24,10 @@ pub fn write_tree(
     into: &mut Vec<u8>,
 ) -> Result<(), NoMemory>
     requires depth { reading_depth (plain_reading reading.now) ≤ 1000 }
-    requires within { IsWithin (length grammar.now.parts.productions) (length tokens.now) (plain_reading reading.now) }
-    ensures ok { OnOk result (into.new.items ≡ into.old.items ++ tree_text (labels grammar.now.parts) (texts tokens.now) (plain_reading reading.now)) }
+    requires within { IsWithin (length grammar.now.parts.productions) (length tokens.now)
+        (plain_reading reading.now) }
+    ensures ok { OnOk result (into.new.items ≡ into.old.items
+        ++ tree_text (labels grammar.now.parts) (texts tokens.now) (plain_reading reading.now)) }
     ensures err { OnErr result (into.new.items ≡ into.old.items) }
 {
     let before = into.len();
@@ -46,8 +49,10 @@ fn put_reading(
     into: &mut Vec<u8>,
 ) -> Result<(), NoMemory>
     requires depth { reading_depth (plain_reading reading.now) ≤ 1000 }
-    requires within { IsWithin (length grammar.now.parts.productions) (length tokens.now) (plain_reading reading.now) }
-    ensures ok { OnOk result (into.new.items ≡ into.old.items ++ tree_text (labels grammar.now.parts) (texts tokens.now) (plain_reading reading.now)) }
+    requires within { IsWithin (length grammar.now.parts.productions) (length tokens.now)
+        (plain_reading reading.now) }
+    ensures ok { OnOk result (into.new.items ≡ into.old.items
+        ++ tree_text (labels grammar.now.parts) (texts tokens.now) (plain_reading reading.now)) }
     ensures appends { (more : List ℕ) × (into.new.items ≡ into.old.items ++ more) }
 {
     match reading {
@@ -75,8 +80,8 @@ fn put_reading(
     }
 }
 
-/// Appends `(`, the tree texts of the kids with `,` between them, and `)`, or nothing where there are no kids, or a front of it where
-/// memory is lacking.
+/// Appends `(`, the tree texts of the kids with `,` between them, and `)`, or nothing where there
+/// are no kids, or a front of it where memory is lacking.
 #[cycle(put)]
 fn put_kids(
     grammar: &Grammar,
@@ -85,8 +90,10 @@ fn put_kids(
     into: &mut Vec<u8>,
 ) -> Result<(), NoMemory>
     requires depth { readings_depth (plain_readings kids.now) ≤ 1000 }
-    requires within { AreWithin (length grammar.now.parts.productions) (length tokens.now) (plain_readings kids.now) }
-    ensures ok { OnOk result (into.new.items ≡ into.old.items ++ kids_text (labels grammar.now.parts) (texts tokens.now) (plain_readings kids.now)) }
+    requires within { AreWithin (length grammar.now.parts.productions) (length tokens.now)
+        (plain_readings kids.now) }
+    ensures ok { OnOk result (into.new.items ≡ into.old.items
+        ++ kids_text (labels grammar.now.parts) (texts tokens.now) (plain_readings kids.now)) }
     ensures appends { (more : List ℕ) × (into.new.items ≡ into.old.items ++ more) }
 {
     match kids.split_first() {
@@ -107,7 +114,8 @@ fn put_kids(
 /// Appends the label of the production with this number, or nothing where memory is lacking.
 fn put_label(grammar: &Grammar, label: u32, into: &mut Vec<u8>) -> Result<(), NoMemory>
     requires { label < length grammar.now.parts.productions }
-    ensures ok { OnOk result (into.new.items ≡ into.old.items ++ slice_index_or (labels grammar.now.parts) label []) }
+    ensures ok { OnOk result (into.new.items ≡ into.old.items
+        ++ slice_index_or (labels grammar.now.parts) label []) }
     ensures err { OnErr result (into.new.items ≡ into.old.items) }
 {
     let parts = grammar.parts();
@@ -119,7 +127,8 @@ fn put_label(grammar: &Grammar, label: u32, into: &mut Vec<u8>) -> Result<(), No
 /// Appends the text of the token with this number, or nothing where memory is lacking.
 fn put_token(tokens: &[Token], token: u32, into: &mut Vec<u8>) -> Result<(), NoMemory>
     requires { token < length tokens.now }
-    ensures ok { OnOk result (into.new.items ≡ into.old.items ++ slice_index_or (texts tokens.now) token []) }
+    ensures ok { OnOk result (into.new.items ≡ into.old.items
+        ++ slice_index_or (texts tokens.now) token []) }
     ensures err { OnErr result (into.new.items ≡ into.old.items) }
 {
     let text = &tokens[token as usize].text;

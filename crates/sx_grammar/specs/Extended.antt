@@ -9,7 +9,9 @@ use Rattle.sx_grammar.specs.Made.{IsGrammar, IsRefused}
 abbrev pub extended : Parts → List Line → Parts
 extended p more = record { sorts = p.sorts; productions = p.productions ++ more }
 
--- the grammar is of the base's parts and more productions, the base productions of the base are its base, and the parts are those of a grammar; or why they are not
+-- the grammar is of the base's parts and more productions, the base productions of the base are its
+-- base, and the parts are those of a grammar; or why they are not
 abbrev pub IsExtended : GrammarData → List Line → Result GrammarData GrammarError → Type 0
-IsExtended base more (Ok g) = (g ≡ record { parts = extended base.parts more; base = base.base }) × IsGrammar (extended base.parts more)
+IsExtended base more (Ok g) = (g ≡ record { parts = extended base.parts more; base = base.base }) ×
+    IsGrammar (extended base.parts more)
 IsExtended base more (Err e) = IsRefused (extended base.parts more) e

@@ -42,7 +42,11 @@ brackets_of (Some line) = line.brackets
 abbrev pub bracket_production : ℕ → Option Brackets → Option Production
 bracket_production sort None = None
 bracket_production sort (Some pair) =
-    Some (record { sort = sort; level = 100; symbols = literal pair.opening ∷ part sort 0 ∷ literal pair.closing ∷ [] })
+    Some (record {
+      sort = sort;
+      level = 100;
+      symbols = literal pair.opening ∷ part sort 0 ∷ literal pair.closing ∷ [];
+    })
 
 -- the brackets of the sort, if it has them
 abbrev pub pair_of : Grammar → ℕ → Option Brackets
@@ -70,4 +74,5 @@ pub record Token : Type 0 where
 -- the levels that parts ask for are at most 99
 abbrev pub HasLevels : Grammar → Type 0
 HasLevels g = (label : ℕ) (p : Production) (place sort least : ℕ) →
-    slice_get g.productions label ≡ Some p → slice_get p.symbols place ≡ Some (part sort least) → least ≤ 99
+    slice_get g.productions label ≡ Some p → slice_get p.symbols place ≡ Some (part sort least) →
+    least ≤ 99

@@ -20,11 +20,13 @@ IsKnown names literals (Part name least) = IsAmong names name
 
 -- so it is of the production's sort and of all its symbols
 abbrev pub IsKnownLine : (names literals : List Text) → Production → Type 0
-IsKnownLine names literals p = IsAmong names p.sort × ((s : Symbol) → Contains p.symbols.items s → IsKnown names literals s)
+IsKnownLine names literals p = IsAmong names p.sort ×
+    ((s : Symbol) → Contains p.symbols.items s → IsKnown names literals s)
 
 -- the brackets are among the literals
 abbrev pub IsKnownPair : List Text → Option (Text × Text) → Type 0
-IsKnownPair literals pair = (text : Text) → Contains (bracket_literals pair) text → IsAmong literals text
+IsKnownPair literals pair = (text : Text) → Contains (bracket_literals pair) text →
+    IsAmong literals text
 
 -- the numbers of literals among the symbols are below the bound
 abbrev pub AreBelow : ℕ → List NumberedSymbol → Type 0

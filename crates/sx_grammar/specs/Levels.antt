@@ -1,5 +1,6 @@
 -- Typed parts and levels, by the numbers of sorts.
-use Rattle.std.specs.Prelude.{◌≡◌, ℕ, ◌<◌, ◌≤◌, ◌⊎◌, Bool, false, not, ◌&&◌, List, [], ◌∷◌, Some, slice_get, slice_index_or, max, min}
+use Rattle.std.specs.Prelude.{◌≡◌, ℕ, ◌<◌, ◌≤◌, ◌⊎◌, Bool, false, not, ◌&&◌, List, [], ◌∷◌, Some}
+use Rattle.std.specs.Prelude.{slice_get, slice_index_or, max, min}
 use Rattle.std.specs.List.{list_any}
 use Rattle.std.proofs.Common.{set}
 use Rattle.sx_grammar.specs.declared.sort_line.SortLine.{SortLine}
@@ -16,29 +17,35 @@ is_typed_part sorts (Part sort least) = is_typed (slice_get sorts sort)
 
 -- whether the production is of a sort that is not typed and has a typed part
 abbrev pub mixes : List SortLine → NumberedProduction → Bool
-mixes sorts p = not (is_typed (slice_get sorts p.sort)) && list_any (is_typed_part sorts) p.symbols.items
+mixes sorts p = not (is_typed (slice_get sorts p.sort)) && list_any
+    (is_typed_part sorts) p.symbols.items
 
 -- the sorts of the parts are below the bound
 abbrev pub ArePartsBelow : ℕ → List NumberedSymbol → Type 0
-ArePartsBelow bound symbols = (k sort least : ℕ) → slice_get symbols k ≡ Some (Part sort least) → sort < bound
+ArePartsBelow bound symbols = (k sort least : ℕ) → slice_get symbols k ≡ Some (Part sort least) →
+    sort < bound
 
 -- a part asks for this level of the sort
 abbrev pub AsksFor : List NumberedProduction → (sort least : ℕ) → Type 0
-AsksFor ps sort least = (label : ℕ) × (p : NumberedProduction) × (k : ℕ) × (slice_get ps label ≡ Some p) × (slice_get p.symbols.items k ≡ Some (Part sort least))
+AsksFor ps sort least = (label : ℕ) × (p : NumberedProduction) × (k : ℕ) ×
+    (slice_get ps label ≡ Some p) × (slice_get p.symbols.items k ≡ Some (Part sort least))
 
 -- a production of the sort has this level
 abbrev pub HasLevel : List NumberedProduction → (sort level : ℕ) → Type 0
-HasLevel ps sort level = (label : ℕ) × (p : NumberedProduction) × (slice_get ps label ≡ Some p) × (p.sort ≡ sort) × (p.level ≡ level)
+HasLevel ps sort level = (label : ℕ) × (p : NumberedProduction) × (slice_get ps label ≡ Some p) ×
+    (p.sort ≡ sort) × (p.level ≡ level)
 
 -- the greatest level that parts ask for of each sort, or 0
 pub record AreGreatest (ps : List NumberedProduction) (levels : List ℕ) : Type 0 where
   pub bound : (sort least : ℕ) → AsksFor ps sort least → least ≤ slice_index_or levels sort 0
-  pub some : (sort : ℕ) → (slice_index_or levels sort 0 ≡ 0) ⊎ AsksFor ps sort (slice_index_or levels sort 0)
+  pub some : (sort : ℕ) → (slice_index_or levels sort 0 ≡ 0) ⊎
+      AsksFor ps sort (slice_index_or levels sort 0)
 
 -- the least level of the productions of each sort, or 255
 pub record AreLeast (ps : List NumberedProduction) (levels : List ℕ) : Type 0 where
   pub bound : (sort level : ℕ) → HasLevel ps sort level → slice_index_or levels sort 255 ≤ level
-  pub some : (sort : ℕ) → (slice_index_or levels sort 255 ≡ 255) ⊎ HasLevel ps sort (slice_index_or levels sort 255)
+  pub some : (sort : ℕ) → (slice_index_or levels sort 255 ≡ 255) ⊎
+      HasLevel ps sort (slice_index_or levels sort 255)
 
 -- the greatest levels after one more symbol, after more symbols, and after more productions
 abbrev pub raised : List ℕ → NumberedSymbol → List ℕ

@@ -1,18 +1,24 @@
 -- What making a grammar of parts answers.
-use Rattle.std.specs.Prelude.{◌≡◌, ℕ, ◌<◌, ◌⊎◌, Bool, true, false, List, ◌∷◌, ◌++◌, Some, None, Contains, slice_get, codes}
+use Rattle.std.specs.Prelude.{◌≡◌, ℕ, ◌<◌, ◌⊎◌, Bool, true, false, List, ◌∷◌, ◌++◌, Some, None}
+use Rattle.std.specs.Prelude.{Contains, slice_get, codes}
 use Rattle.sx_term.specs.Cutting.{AreDistinct}
 use Rattle.sx_term.specs.Spaced.{IsWordLiteral, IsSymbolLiteral}
 use Rattle.sx_grammar.specs.declared.symbol.Symbol.TheVariants.{Part}
 use Rattle.sx_grammar.specs.declared.sort_line.SortLine.{SortLine}
 use Rattle.sx_grammar.specs.declared.grammar_error.GrammarError.{GrammarError}
-use Rattle.sx_grammar.specs.declared.grammar_error.GrammarError.TheVariants.{Memory, BadLiteral, SameSort, UnknownSort, SameLabel, PlainHasTyped, NoBrackets, Cyclic}
+use Rattle.sx_grammar.specs.declared.grammar_error.GrammarError.TheVariants.{Memory, BadLiteral}
+use Rattle.sx_grammar.specs.declared.grammar_error.GrammarError.TheVariants.{SameSort, UnknownSort}
+use Rattle.sx_grammar.specs.declared.grammar_error.GrammarError.TheVariants.{SameLabel}
+use Rattle.sx_grammar.specs.declared.grammar_error.GrammarError.TheVariants.{PlainHasTyped}
+use Rattle.sx_grammar.specs.declared.grammar_error.GrammarError.TheVariants.{NoBrackets, Cyclic}
 use Rattle.sx_grammar.specs.Grammar.{Text}
 use Rattle.sx_grammar.specs.Cyclic.{IsCyclic, IsNotCyclic}
 use Rattle.sx_grammar.specs.Parts.{Line, Parts, names, labels, literals, sorts_named, numbered}
 
 -- the first of the list with the property
 abbrev pub IsFirst : {X : Type 0} → (X → Type 0) → List X → X → Type 0
-IsFirst {X = X} P xs x = (before : List X) × (after : List X) × (xs ≡ before ++ x ∷ after) × P x × ((y : X) → Contains before y → ¬ (P y))
+IsFirst {X = X} P xs x = (before : List X) × (after : List X) × (xs ≡ before ++ x ∷ after) × P x ×
+    ((y : X) → Contains before y → ¬ (P y))
 
 -- none of the list has the property
 abbrev pub HasNone : {X : Type 0} → (X → Type 0) → List X → Type 0
@@ -20,7 +26,8 @@ HasNone {X = X} P xs = (x : X) → Contains xs x → ¬ (P x)
 
 -- the first of the list that stands there before
 abbrev pub IsFirstAgain : List Text → Text → Type 0
-IsFirstAgain xs x = (before : List Text) × (after : List Text) × (xs ≡ before ++ x ∷ after) × Contains before x × AreDistinct before
+IsFirstAgain xs x = (before : List Text) × (after : List Text) × (xs ≡ before ++ x ∷ after) ×
+    Contains before x × AreDistinct before
 
 -- neither a word nor symbol characters without `//`
 abbrev pub IsBadLiteral : Text → Type 0
@@ -40,11 +47,13 @@ IsTyped p name typed = (s : SortLine) × Contains p.sorts s × (s.name ≡ name)
 
 -- the production is of a plain sort and has a typed part
 abbrev pub MixesSorts : Parts → Line → Type 0
-MixesSorts p r = IsTyped p r.sort false × ((name : Text) × (least : ℕ) × Contains r.symbols (Part name least) × IsTyped p name true)
+MixesSorts p r = IsTyped p r.sort false × ((name : Text) × (least : ℕ) ×
+    Contains r.symbols (Part name least) × IsTyped p name true)
 
 -- the sort has no brackets, and a part asks for a level of it above that of one of its productions
 abbrev pub LacksBrackets : Parts → SortLine → Type 0
-LacksBrackets p s = (s.brackets ≡ None) × ((asks : Line) × (asked : Line) × (least : ℕ) × Contains p.productions asks × Contains asks.symbols (Part s.name least)
+LacksBrackets p s = (s.brackets ≡ None) × ((asks : Line) × (asked : Line) × (least : ℕ) ×
+    Contains p.productions asks × Contains asks.symbols (Part s.name least)
     × Contains p.productions asked × (asked.sort ≡ s.name) × (asked.level < least))
 
 -- each literal is a word or symbol characters
@@ -77,7 +86,8 @@ IsGrammar p = HasBrackets p × IsNotCyclic (numbered p)
 
 -- the first sort that derives itself has this name
 abbrev pub IsFirstCyclic : Parts → Text → Type 0
-IsFirstCyclic p name = (sort : ℕ) × (slice_get (names p) sort ≡ Some name) × IsCyclic (numbered p) sort × ((other : ℕ) → other < sort → ¬ (IsCyclic (numbered p) other))
+IsFirstCyclic p name = (sort : ℕ) × (slice_get (names p) sort ≡ Some name) ×
+    IsCyclic (numbered p) sort × ((other : ℕ) → other < sort → ¬ (IsCyclic (numbered p) other))
 
 -- why the parts are no grammar: the first refusal that holds of them, where the earlier do not
 abbrev pub IsRefused : Parts → GrammarError → Type 0
@@ -86,6 +96,8 @@ IsRefused p (BadLiteral text) = IsFirst IsBadLiteral (literals p) text
 IsRefused p (SameSort name) = HasLiterals p × IsFirstAgain (names p) name
 IsRefused p (UnknownSort name) = HasSorts p × IsFirst (IsUnknown (names p)) (sorts_named p) name
 IsRefused p (SameLabel label) = HasKnownSorts p × IsFirstAgain (labels p) label
-IsRefused p (PlainHasTyped label) = HasLabels p × ((r : Line) × IsFirst (MixesSorts p) p.productions r × (r.label ≡ label))
-IsRefused p (NoBrackets sort) = KeepsSorts p × ((s : SortLine) × IsFirst (LacksBrackets p) p.sorts s × (s.name ≡ sort))
+IsRefused p (PlainHasTyped label) = HasLabels p ×
+    ((r : Line) × IsFirst (MixesSorts p) p.productions r × (r.label ≡ label))
+IsRefused p (NoBrackets sort) = KeepsSorts p ×
+    ((s : SortLine) × IsFirst (LacksBrackets p) p.sorts s × (s.name ≡ sort))
 IsRefused p (Cyclic sort) = HasBrackets p × IsFirstCyclic p sort

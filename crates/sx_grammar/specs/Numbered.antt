@@ -12,7 +12,11 @@ symbol literals (Lex kind) = plain.lexical kind
 symbol literals (Part sort least) = plain.part sort least
 
 abbrev pub production : List plain.Text → NumberedProduction → plain.Production
-production literals p = record { sort = p.sort; level = p.level; symbols = map (symbol literals) p.symbols.items }
+production literals p = record {
+  sort = p.sort;
+  level = p.level;
+  symbols = map (symbol literals) p.symbols.items;
+}
 
 -- these are the productions of the grammar
 abbrev pub AreOf : plain.Grammar → List NumberedProduction → Type 0

@@ -1,5 +1,6 @@
 -- What a grammar is made of, by names, as plain data.
-use Rattle.std.specs.Prelude.{ℕ, Option, Some, None, List, [], ◌∷◌, ◌++◌, map, flat_map, position, unwrap_or, option_map, length}
+use Rattle.std.specs.Prelude.{ℕ, Option, Some, None, List, [], ◌∷◌, ◌++◌, map, flat_map, position}
+use Rattle.std.specs.Prelude.{unwrap_or, option_map, length}
 use Rattle.std.specs.Borrow.{Bor}
 use Rattle.std.specs.Str.{bytes_eq}
 use Rattle.sx_grammar.specs.declared.symbol.Symbol.{Symbol}
@@ -50,9 +51,11 @@ symbol_sorts (Part sort least) = sort ∷ []
 
 -- the brackets and literals as they stand, sorts before productions
 abbrev pub literals : Parts → List plain.Text
-literals p = flat_map (λ s. bracket_literals s.brackets) p.sorts ++ flat_map (λ r. flat_map symbol_literals r.symbols) p.productions
+literals p = flat_map (λ s. bracket_literals s.brackets) p.sorts
+    ++ flat_map (λ r. flat_map symbol_literals r.symbols) p.productions
 
--- the names of sorts as they stand in the productions, each production's own sort before those of its parts
+-- the names of sorts as they stand in the productions, each production's own sort before those of
+-- its parts
 abbrev pub sorts_named : Parts → List plain.Text
 sorts_named p = flat_map (λ r. r.sort ∷ flat_map symbol_sorts r.symbols) p.productions
 
@@ -66,7 +69,11 @@ numbered_symbol names (Lex kind) = plain.lexical kind
 numbered_symbol names (Part sort least) = plain.part (number_of names sort) least
 
 abbrev pub numbered_line : List plain.Text → Line → plain.Production
-numbered_line names r = record { sort = number_of names r.sort; level = r.level; symbols = map (numbered_symbol names) r.symbols }
+numbered_line names r = record {
+  sort = number_of names r.sort;
+  level = r.level;
+  symbols = map (numbered_symbol names) r.symbols;
+}
 
 abbrev pub numbered_pair : Option (plain.Text × plain.Text) → Option plain.Brackets
 numbered_pair brackets = option_map (λ pair. record { opening = pair.0; closing = pair.1 }) brackets
@@ -76,7 +83,10 @@ numbered_sort s = record { typed = s.typed; brackets = numbered_pair s.brackets 
 
 -- the grammar of the parts: a sort is the number of its line, a label the number of its production
 abbrev pub numbered : Parts → plain.Grammar
-numbered p = record { sorts = map numbered_sort p.sorts; productions = map (numbered_line (names p)) p.productions }
+numbered p = record {
+  sorts = map numbered_sort p.sorts;
+  productions = map (numbered_line (names p)) p.productions;
+}
 
 -- the texts behind references
 abbrev pub texts : List (Bor plain.Text) → List plain.Text

@@ -12,11 +12,13 @@ Holds g tokens start i = items.Item g tokens start i.head i.dot i.origin i.end
 
 -- more than n items hold
 abbrev pub MoreHold : Grammar → List Token → ℕ → ℕ → Type 0
-MoreHold g tokens start n = (list : List Item) × (n < length list) × EachOnce list × ((i : Item) → Contains list i → Holds g tokens start i)
+MoreHold g tokens start n = (list : List Item) × (n < length list) × EachOnce list ×
+    ((i : Item) → Contains list i → Holds g tokens start i)
 
 -- no item ends later; 0 where no item holds
 pub record IsGreatestEnd (g : Grammar) (tokens : List Token) (start : ℕ) (end : ℕ) : Type 0 where
-  pub some : ((i : Item) × Holds g tokens start i × (i.end ≡ end)) ⊎ (((i : Item) → Holds g tokens start i → ⊥) × (end ≡ 0))
+  pub some : ((i : Item) × Holds g tokens start i × (i.end ≡ end)) ⊎
+      (((i : Item) → Holds g tokens start i → ⊥) × (end ≡ 0))
   pub bound : (i : Item) → Holds g tokens start i → i.end ≤ end
 
 -- what reading all tokens may answer
@@ -33,11 +35,14 @@ IsAnswer g tokens start too_hard = MoreHold g tokens start 2000000
 IsAnswer g tokens start (only r) =
     (MoreHold g tokens start 2000000 → ⊥) × Only g tokens start r × (reading_depth r ≤ 1000)
 IsAnswer g tokens start (no_reading end) =
-    (MoreHold g tokens start 2000000 → ⊥) × ((r : Reading) → ReadsWhole g tokens start r → ⊥) × IsGreatestEnd g tokens start end
+    (MoreHold g tokens start 2000000 → ⊥) × ((r : Reading) → ReadsWhole g tokens start r → ⊥) ×
+    IsGreatestEnd g tokens start end
 IsAnswer g tokens start (too_deep depth) =
-    (MoreHold g tokens start 2000000 → ⊥) × (1000 < depth) × IsGreatest (ReadsWhole g tokens start) reading_depth depth
+    (MoreHold g tokens start 2000000 → ⊥) × (1000 < depth) ×
+    IsGreatest (ReadsWhole g tokens start) reading_depth depth
 IsAnswer g tokens start (ambiguous one other) =
-    (MoreHold g tokens start 2000000 → ⊥) × ((r : Reading) → ReadsWhole g tokens start r → reading_depth r ≤ 1000) ×
+    (MoreHold g tokens start 2000000 → ⊥) × ((r : Reading) → ReadsWhole g tokens start r →
+    reading_depth r ≤ 1000) ×
     ReadsWhole g tokens start one × ReadsWhole g tokens start other × (one ≢ other)
 
 -- two answers for the same tokens are the same, but for the pair of readings that is shown
@@ -46,4 +51,5 @@ SameAnswer (ambiguous one other) (ambiguous this that) = Unit {0}
 SameAnswer a b = a ≡ b
 
 abbrev pub AnswersAgree : Type 0
-AnswersAgree = (g : Grammar) (tokens : List Token) (start : ℕ) (a b : ReadAnswer) → IsAnswer g tokens start a → IsAnswer g tokens start b → SameAnswer a b
+AnswersAgree = (g : Grammar) (tokens : List Token) (start : ℕ) (a b : ReadAnswer) →
+    IsAnswer g tokens start a → IsAnswer g tokens start b → SameAnswer a b

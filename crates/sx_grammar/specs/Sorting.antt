@@ -9,4 +9,5 @@ use Rattle.sx_grammar.specs.Order.{AreRanks}
 -- the sorts are ranked, or this is the first of them that derives itself
 abbrev pub IsSortOrder : Grammar → ℕ → SortOrder → Type 0
 IsSortOrder g sorts (Ranked ranks) = AreRanks g ranks.items
-IsSortOrder g sorts (Cyclic sort) = (sort < sorts) × IsCyclic g sort × ((other : ℕ) → other < sort → ¬ (IsCyclic g other))
+IsSortOrder g sorts (Cyclic sort) = (sort < sorts) × IsCyclic g sort ×
+    ((other : ℕ) → other < sort → ¬ (IsCyclic g other))

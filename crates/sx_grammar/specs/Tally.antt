@@ -1,9 +1,11 @@
 -- How many readings there are, and how deep the deepest is.
 use Rattle.std.specs.Prelude.{◌≡◌, ◌≢◌, suc, ℕ, ◌+◌, ◌≤◌, ◌⊎◌, max, List, [], ◌∷◌}
 use Rattle.sx_term.specs.declared.lex_kind.LexKind.{LexKind}
-use Rattle.sx_grammar.specs.Grammar.{Symbol, Grammar, of_kind, of_sort, is_lexeme, is_variable, Token}
+use Rattle.sx_grammar.specs.Grammar.{Symbol, Grammar, of_kind, of_sort, is_lexeme, is_variable}
+use Rattle.sx_grammar.specs.Grammar.{Token}
 use Rattle.sx_grammar.specs.declared.head.Head.{Head}
-use Rattle.sx_grammar.specs.Reading.{Marked, Reading, Readings, leaf, variable, ◌▸◌, Reads, ReadsAll, ReadsBy}
+use Rattle.sx_grammar.specs.Reading.{Marked, Reading, Readings, leaf, variable, ◌▸◌, Reads}
+use Rattle.sx_grammar.specs.Reading.{ReadsAll, ReadsBy}
 use Rattle.sx_grammar.specs.Items.{Makes}
 
 -- how many there are, none, one or more, and the greatest depth
@@ -82,16 +84,21 @@ EachOnce (x ∷ xs) = (Among x xs → ⊥) × EachOnce xs
 
 -- the ways to read a lexical symbol
 abbrev pub IsLeafAt : List Token → LexKind → ℕ → Reading → Type 0
-IsLeafAt tokens kind from r = (Marked tokens from (is_lexeme kind) × (r ≡ leaf from)) ⊎ (Marked tokens from (is_variable (of_kind kind)) × (r ≡ variable from))
+IsLeafAt tokens kind from r = (Marked tokens from (is_lexeme kind) × (r ≡ leaf from)) ⊎
+    (Marked tokens from (is_variable (of_kind kind)) × (r ≡ variable from))
 
 -- the first part is read up to this place, and the other symbols from there on
-abbrev pub ReadsVia : Grammar → List Token → (sort least : ℕ) → List Symbol → (from to middle : ℕ) → Readings → Type 0
-ReadsVia g tokens sort least rest from to middle = Joined (Reads g tokens sort least from middle) (ReadsAll g tokens rest middle to) ◌▸◌
+abbrev pub ReadsVia : Grammar → List Token → (sort least : ℕ) → List Symbol → (from to middle : ℕ) →
+    Readings → Type 0
+ReadsVia g tokens sort least rest from to middle =
+    Joined (Reads g tokens sort least from middle) (ReadsAll g tokens rest middle to) ◌▸◌
 
 -- the reading is of this head, which makes the sort at least the level
 abbrev pub ReadsAt : Grammar → List Token → (sort least from to : ℕ) → Head → Reading → Type 0
-ReadsAt g tokens sort least from to head r = Makes g head sort least × ReadsBy g tokens head sort from to r
+ReadsAt g tokens sort least from to head r =
+    Makes g head sort least × ReadsBy g tokens head sort from to r
 
 -- the reading is one metavariable of the sort
 abbrev pub IsVariableAt : List Token → (sort from to : ℕ) → Reading → Type 0
-IsVariableAt tokens sort from to r = Marked tokens from (is_variable (of_sort sort)) × (to ≡ suc from) × (r ≡ variable from)
+IsVariableAt tokens sort from to r = Marked tokens from (is_variable (of_sort sort)) ×
+    (to ≡ suc from) × (r ≡ variable from)

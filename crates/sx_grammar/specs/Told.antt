@@ -1,5 +1,6 @@
 -- What a grammar tells of sorts, shapes and labels.
-use Rattle.std.specs.Prelude.{◌≡◌, ℕ, ◌<◌, Bool, false, cond, Option, Some, None, List, [], ◌∷◌, map, flat_map, slice_get}
+use Rattle.std.specs.Prelude.{◌≡◌, ℕ, ◌<◌, Bool, false, cond, Option, Some, None, List, [], ◌∷◌}
+use Rattle.std.specs.Prelude.{map, flat_map, slice_get}
 use Rattle.sx_term.specs.declared.sort.Sort.{Sort}
 use Rattle.sx_term.specs.declared.sort.Sort.TheVariants.{Lex, Plain, Typed}
 use Rattle.sx_term.specs.Sorts.{Shape}
@@ -21,11 +22,13 @@ sort_with sorts number = cond (is_typed (slice_get sorts number)) (Typed number)
 
 -- the sort of the production with this label
 abbrev pub IsSortOf : Parts → ℕ → Sort → Type 0
-IsSortOf p label sort = (r : Production) × (slice_get (numbered p).productions label ≡ Some r) × (sort ≡ sort_with p.sorts r.sort)
+IsSortOf p label sort = (r : Production) × (slice_get (numbered p).productions label ≡ Some r) ×
+    (sort ≡ sort_with p.sorts r.sort)
 
 -- the level of the production with this label
 abbrev pub IsLevelOf : Parts → ℕ → ℕ → Type 0
-IsLevelOf p label level = (r : Production) × (slice_get (numbered p).productions label ≡ Some r) × (level ≡ r.level)
+IsLevelOf p label level = (r : Production) × (slice_get (numbered p).productions label ≡ Some r) ×
+    (level ≡ r.level)
 
 -- the sort of the part of a term that the symbol stands for; a literal stands for none
 abbrev pub kid_sorts : List SortLine → Symbol → List Sort
@@ -35,7 +38,10 @@ kid_sorts sorts (part sort least) = sort_with sorts sort ∷ []
 
 -- the constructor that a production is
 abbrev pub shape_of : List SortLine → Production → Shape
-shape_of sorts r = record { sort = sort_with sorts r.sort; kids = flat_map (kid_sorts sorts) r.symbols }
+shape_of sorts r = record {
+  sort = sort_with sorts r.sort;
+  kids = flat_map (kid_sorts sorts) r.symbols;
+}
 
 -- the same of numbered symbols and productions
 abbrev pub numbered_kids : List SortLine → NumberedSymbol → List Sort
@@ -44,7 +50,10 @@ numbered_kids sorts (Lexical kind) = Lex kind ∷ []
 numbered_kids sorts (Part sort least) = sort_with sorts sort ∷ []
 
 abbrev pub numbered_shape : List SortLine → NumberedProduction → Shape
-numbered_shape sorts r = record { sort = sort_with sorts r.sort; kids = flat_map (numbered_kids sorts) r.symbols.items }
+numbered_shape sorts r = record {
+  sort = sort_with sorts r.sort;
+  kids = flat_map (numbered_kids sorts) r.symbols.items;
+}
 
 -- the constructors of the labels
 abbrev pub shapes_of : Parts → List Shape

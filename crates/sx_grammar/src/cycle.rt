@@ -1,6 +1,8 @@
 //! The first sort that derives itself.
 
-ghost use Rattle.std.specs.Prelude.{◌≡◌, ℕ, ◌+◌, ◌*◌, ◌<◌, ◌≤◌, ◌⊎◌, ◌↔◌, length, slice_index_or, count_by, not, false, Contains, IsTrue, IfOk, OnOk, MatchOption};
+ghost use Rattle.std.specs.Prelude.{◌≡◌, ℕ, ◌+◌, ◌*◌, ◌<◌, ◌≤◌, ◌⊎◌, ◌↔◌, length, slice_index_or};
+ghost use Rattle.std.specs.Prelude.{count_by, not, false, Contains, IsTrue, IfOk, OnOk};
+ghost use Rattle.std.specs.Prelude.{MatchOption};
 ghost use Rattle.sx_grammar.specs.Grammar.{Grammar};
 ghost use Rattle.sx_grammar.specs.Cyclic.{IsCyclic, IsNotCyclic};
 ghost use Rattle.sx_grammar.specs.Cycles.{list_at, AreStepsOf, AreStepsBelow, NeverFalls};
@@ -13,13 +15,19 @@ use std::alloc::{AllocError, Global};
 fn visit(sorts: &[usize], marks: &mut [bool], stack: &mut Vec<usize>) -> Result<(), AllocError>
     requires { (t : ℕ) → Contains sorts.now t → t < length marks.old }
     ensures same { length marks.new ≡ length marks.old }
-    ensures kept { OnOk result ((t : ℕ) → IsTrue (slice_index_or marks.old t false) → IsTrue (slice_index_or marks.new t false)) }
-    ensures only { OnOk result ((t : ℕ) → IsTrue (slice_index_or marks.new t false) → IsTrue (slice_index_or marks.old t false) ⊎ Contains sorts.now t) }
-    ensures all { OnOk result ((t : ℕ) → Contains sorts.now t → IsTrue (slice_index_or marks.new t false)) }
-    ensures waits { OnOk result ((t : ℕ) → IsTrue (slice_index_or marks.new t false) → IsTrue (slice_index_or marks.old t false) ⊎ Contains stack.new.items t) }
+    ensures kept { OnOk result ((t : ℕ) → IsTrue (slice_index_or marks.old t false) →
+        IsTrue (slice_index_or marks.new t false)) }
+    ensures only { OnOk result ((t : ℕ) → IsTrue (slice_index_or marks.new t false) →
+        IsTrue (slice_index_or marks.old t false) ⊎ Contains sorts.now t) }
+    ensures all { OnOk result ((t : ℕ) → Contains sorts.now t →
+        IsTrue (slice_index_or marks.new t false)) }
+    ensures waits { OnOk result ((t : ℕ) → IsTrue (slice_index_or marks.new t false) →
+        IsTrue (slice_index_or marks.old t false) ⊎ Contains stack.new.items t) }
     ensures stack_kept { OnOk result ((t : ℕ) → Contains stack.old.items t → Contains stack.new.items t) }
-    ensures stacked { OnOk result ((t : ℕ) → Contains stack.new.items t → Contains stack.old.items t ⊎ IsTrue (slice_index_or marks.new t false)) }
-    ensures less { OnOk result (2 * count_by not marks.new + length stack.new.items ≤ 2 * count_by not marks.old + length stack.old.items) }
+    ensures stacked { OnOk result ((t : ℕ) → Contains stack.new.items t →
+        Contains stack.old.items t ⊎ IsTrue (slice_index_or marks.new t false)) }
+    ensures less { OnOk result (2 * count_by not marks.new + length stack.new.items
+        ≤ 2 * count_by not marks.old + length stack.old.items) }
 {
     for sort in sorts {
         if !marks[*sort] {
@@ -42,7 +50,8 @@ pub(crate) fn list(lists: &[Vec<usize>], place: usize) -> &[usize]
 fn leads_back(alloc: Global, steps: &[Vec<usize>], sort: usize) -> Result<bool, AllocError>
     requires sort { sort < length steps.now }
     requires below { AreStepsBelow (length steps.now) steps.now }
-    ensures { IfOk result (λ r. (g : Grammar) → AreStepsOf g steps.now → IsTrue r ↔ IsCyclic g sort) }
+    ensures { IfOk result (λ r. (g : Grammar) → AreStepsOf g steps.now →
+        IsTrue r ↔ IsCyclic g sort) }
 {
     let mut marks = no_marks(alloc, steps.len())?;
     let mut stack = Vec::new(alloc);
@@ -63,7 +72,8 @@ fn is_cyclic(
     requires sort { sort < length steps.now }
     requires below { AreStepsBelow (length steps.now) steps.now }
     requires numbers { NeverFalls numbers.now steps.now }
-    ensures { IfOk result (λ r. (g : Grammar) → AreStepsOf g steps.now → IsTrue r ↔ IsCyclic g sort) }
+    ensures { IfOk result (λ r. (g : Grammar) → AreStepsOf g steps.now →
+        IsTrue r ↔ IsCyclic g sort) }
 {
     if rises(numbers, steps, sort) {
         return Ok(false);
@@ -74,8 +84,10 @@ fn is_cyclic(
 /// The first sort that derives itself.
 pub(crate) fn first_cyclic(alloc: Global, steps: &[Vec<usize>]) -> Result<Option<usize>, AllocError>
     requires below { AreStepsBelow (length steps.now) steps.now }
-    ensures { IfOk result (λ r. (g : Grammar) → AreStepsOf g steps.now → MatchOption r (IsNotCyclic g)
-        (λ sort. (sort < length steps.now) × IsCyclic g sort × ((other : ℕ) → other < sort → ¬ (IsCyclic g other)))) }
+    ensures { IfOk result (λ r. (g : Grammar) → AreStepsOf g steps.now →
+        MatchOption r (IsNotCyclic g)
+        (λ sort. (sort < length steps.now) × IsCyclic g sort ×
+        ((other : ℕ) → other < sort → ¬ (IsCyclic g other)))) }
 {
     let numbers = numbers(alloc, steps)?;
     for sort in 0..steps.len() {

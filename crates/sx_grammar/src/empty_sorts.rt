@@ -1,9 +1,11 @@
 //! The sorts that derive the empty list.
 
-ghost use Rattle.std.specs.Prelude.{◌≡◌, ℕ, ◌<◌, length, slice_index_or, count_by, map, not, is_some, false, List, MatchOption, IsFalse, IfOk};
+ghost use Rattle.std.specs.Prelude.{◌≡◌, ℕ, ◌<◌, length, slice_index_or, count_by, map, not};
+ghost use Rattle.std.specs.Prelude.{is_some, false, List, MatchOption, IsFalse, IfOk};
 ghost use Rattle.sx_grammar.specs.Grammar.{Grammar};
 ghost use Rattle.sx_grammar.specs.Numbered.{AreOf};
-ghost use Rattle.sx_grammar.specs.Cycles.{AreEmptySorts, IsClosed, is_marked, unmarked, ArePartsOf, AreRulesOf, HaveSortsBelow, HavePartsBelow};
+ghost use Rattle.sx_grammar.specs.Cycles.{AreEmptySorts, IsClosed, is_marked, unmarked, ArePartsOf};
+ghost use Rattle.sx_grammar.specs.Cycles.{AreRulesOf, HaveSortsBelow, HavePartsBelow};
 
 use crate::follow::follow;
 use crate::numbered::{NumberedProduction, NumberedSymbol};
@@ -51,7 +53,8 @@ pub(crate) fn unmarked(marks: &[bool], symbols: &[NumberedSymbol]) -> usize
 
 /// The sorts of the symbols, where all of these are parts.
 fn part_sorts(alloc: Global, symbols: &[NumberedSymbol]) -> Result<Option<Vec<usize>>, AllocError>
-    ensures { IfOk result (λ r. MatchOption r ((sorts : List ℕ) → ¬ (ArePartsOf symbols.now sorts)) (λ v. ArePartsOf symbols.now v.items)) }
+    ensures { IfOk result (λ r. MatchOption r ((sorts : List ℕ) → ¬ (ArePartsOf symbols.now sorts))
+        (λ v. ArePartsOf symbols.now v.items)) }
 {
     let mut sorts = Vec::new(alloc);
     for symbol in symbols {
@@ -63,7 +66,8 @@ fn part_sorts(alloc: Global, symbols: &[NumberedSymbol]) -> Result<Option<Vec<us
     Ok(Some(sorts))
 }
 
-/// A rule for each production of parts alone: its sort derives the empty list where those of its parts do.
+/// A rule for each production of parts alone: its sort derives the empty list where those of its
+/// parts do.
 fn empty_rules(alloc: Global, productions: &[NumberedProduction]) -> Result<Vec<Rule>, AllocError>
     ensures { IfOk result (λ v. AreRulesOf productions.now (length productions.now) v.items) }
 {
@@ -96,8 +100,10 @@ pub(crate) fn empty_sorts(
 ) -> Result<Vec<bool>, AllocError>
     requires heads { HaveSortsBelow sorts productions.now }
     requires parts { HavePartsBelow sorts productions.now }
-    ensures empty { IfOk result (λ marks. (g : Grammar) → AreOf g productions.now → AreEmptySorts g marks.items) }
-    ensures closed { IfOk result (λ marks. (g : Grammar) → AreOf g productions.now → IsClosed g marks.items) }
+    ensures empty { IfOk result (λ marks. (g : Grammar) → AreOf g productions.now →
+        AreEmptySorts g marks.items) }
+    ensures closed { IfOk result (λ marks. (g : Grammar) → AreOf g productions.now →
+        IsClosed g marks.items) }
 {
     let rules = empty_rules(alloc, productions)?;
     let ranks = follow(alloc, &rules, sorts)?;

@@ -41,8 +41,9 @@ fn with_more(
 }
 
 impl Grammar {
-    /// The grammar with these productions behind those of the base, where the base productions of the base are base and these are not; or the
-    /// first refusal that holds of all the sorts and productions.
+    /// The grammar with these productions behind those of the base, where the base productions of
+    /// the base are base and these are not; or the first refusal that holds of all the sorts and
+    /// productions.
     pub fn extend(
         alloc: Global,
         base: &Grammar,

@@ -18,7 +18,8 @@ fn is_bad_literal(text: &Text) -> bool
 
 /// The first bad literal.
 pub(crate) fn first_bad<'a>(literals: &[&'a Text]) -> Option<&'a Text>
-    ensures { MatchOption result (HasNone IsBadLiteral (texts literals.now)) (λ t. IsFirst IsBadLiteral (texts literals.now) t.now) }
+    ensures { MatchOption result (HasNone IsBadLiteral (texts literals.now))
+        (λ t. IsFirst IsBadLiteral (texts literals.now) t.now) }
 {
     for text in literals {
         if is_bad_literal(text) {
@@ -69,7 +70,8 @@ fn is_unknown(names: &Names, name: &Text) -> bool
 
 /// The first name that is none of the names, or is that of a lexical sort.
 pub(crate) fn first_unknown<'a>(names: &Names, list: &[&'a Text]) -> Option<&'a Text>
-    ensures { MatchOption result (HasNone (IsUnknown names.now) (texts list.now)) (λ t. IsFirst (IsUnknown names.now) (texts list.now) t.now) }
+    ensures { MatchOption result (HasNone (IsUnknown names.now) (texts list.now))
+        (λ t. IsFirst (IsUnknown names.now) (texts list.now) t.now) }
 {
     for name in list {
         if is_unknown(names, name) {

@@ -1,8 +1,10 @@
 //! What follows from rules.
 
-ghost use Rattle.std.specs.Prelude.{[], ◌≡◌, ℕ, ◌<◌, ◌≤◌, length, slice_get, slice_index, Some, Contains, MatchOption, OnOk, IfOk};
+ghost use Rattle.std.specs.Prelude.{[], ◌≡◌, ℕ, ◌<◌, ◌≤◌, length, slice_get, slice_index, Some};
+ghost use Rattle.std.specs.Prelude.{Contains, MatchOption, OnOk, IfOk};
 ghost use Rattle.sx_grammar.specs.declared.rule.Rule.{Rule as RuleOf};
-ghost use Rattle.sx_grammar.specs.Ranks.{HasRank, AreRulesBelow, AreRankedTo, IsFounded, IsComplete, HasRanksBelow, waiting_at};
+ghost use Rattle.sx_grammar.specs.Ranks.{HasRank, AreRulesBelow, AreRankedTo, IsFounded};
+ghost use Rattle.sx_grammar.specs.Ranks.{IsComplete, HasRanksBelow, waiting_at};
 ghost use Rattle.sx_grammar.specs.Settled.{IsSoundAt, Settles, SettlesTo, Goes};
 
 use crate::progress::{Progress, Waiting, blank, has_rank, learn, take_waiting, wait};
@@ -11,8 +13,10 @@ use std::alloc::{AllocError, Global};
 
 /// The first place, from this one on, of a number without a rank.
 fn first_unranked(ranks: &[Option<usize>], needs: &[usize], from: usize) -> Option<usize>
-    ensures { AreRankedTo ranks.now needs.now from → MatchOption result (AreRankedTo ranks.now needs.now (length needs.now))
-        (λ place. (place < length needs.now) × AreRankedTo ranks.now needs.now place × ¬ (HasRank ranks.now (slice_index needs.now place))) }
+    ensures { AreRankedTo ranks.now needs.now from →
+        MatchOption result (AreRankedTo ranks.now needs.now (length needs.now))
+        (λ place. (place < length needs.now) × AreRankedTo ranks.now needs.now place ×
+        ¬ (HasRank ranks.now (slice_index needs.now place))) }
 {
     for place in from..needs.len() {
         if !has_rank(ranks, needs[place]) {
@@ -22,7 +26,8 @@ fn first_unranked(ranks: &[Option<usize>], needs: &[usize], from: usize) -> Opti
     None
 }
 
-/// Gives the head of the rule a rank, or lets the rule wait for a number that it needs from the place on.
+/// Gives the head of the rule a rank, or lets the rule wait for a number that it needs from the
+/// place on.
 fn settle(
     rules: &[Rule],
     index: usize,
@@ -32,7 +37,8 @@ fn settle(
     requires index { index < length rules.now }
     requires below { AreRulesBelow (length progress.old.ranks.items) rules.now }
     requires sound { IsSoundAt rules.now progress.old }
-    requires place { (r : RuleOf) → slice_get rules.now index ≡ Some r → AreRankedTo progress.old.ranks.items r.needs.items place }
+    requires place { (r : RuleOf) → slice_get rules.now index ≡ Some r →
+        AreRankedTo progress.old.ranks.items r.needs.items place }
     ensures { OnOk result (Settles rules.now index progress.old progress.new) }
 {
     let rule = &rules[index];
@@ -75,7 +81,8 @@ fn release(rules: &[Rule], number: usize, progress: &mut Progress) -> Result<(),
     Ok(())
 }
 
-/// The ranks of the numbers that follow from the rules: each has a higher rank than those from which it follows.
+/// The ranks of the numbers that follow from the rules: each has a higher rank than those from
+/// which it follows.
 pub(crate) fn follow(
     alloc: Global,
     rules: &[Rule],

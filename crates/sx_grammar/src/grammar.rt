@@ -6,7 +6,8 @@ use crate::numbered::NumberedProduction;
 use std::marker::Model;
 use sx_term::Text;
 
-/// Sorts and productions that are well formed and not cyclic, and the tables by which they are read and printed.
+/// Sorts and productions that are well formed and not cyclic, and the tables by which they are read
+/// and printed.
 #[derive(Drop)]
 pub struct Grammar {
     pub(crate) parts: GrammarParts,
@@ -34,5 +35,6 @@ impl Model for Grammar {
 
     ghost view = { λ g. record { parts = plain.parts g.parts; base = g.base } };
 
-    ghost invariant = { λ g. IsTabled (plain.parts g.parts) g.base g.literals.items g.productions.items g.brackets.items g.sort_names g.literal_names g.ranks.items };
+    ghost invariant = { λ g. IsTabled (plain.parts g.parts) g.base g.literals.items
+        g.productions.items g.brackets.items g.sort_names g.literal_names g.ranks.items };
 }

@@ -25,7 +25,8 @@ pub enum GrammarError {
     /// The production with this label is of a plain sort and has a typed part.
     #[error("a plain production has a typed part")]
     PlainHasTyped(Text),
-    /// A part asks for a level of the sort above that of one of its productions, and the sort has no brackets.
+    /// A part asks for a level of the sort above that of one of its productions, and the sort has
+    /// no brackets.
     #[error("a sort has no brackets")]
     NoBrackets(Text),
     /// The sort derives itself.

@@ -1,11 +1,13 @@
-//! Numbers of the sorts: sorts that lead to each other have one number, and each step to another group rises.
-//! They spare searches and no more: that they never fall is checked where they are used.
+//! Numbers of the sorts: sorts that lead to each other have one number, and each step to another
+//! group rises. They spare searches and no more: that they never fall is checked where they are
+//! used.
 
 ghost use Rattle.std.specs.Prelude.{◌≡◌, length, slice_index_or};
 
 use std::alloc::{AllocError, Global};
 
-/// A sort on the way, the place of the step to look at, and the number that the sort was given as it was met.
+/// A sort on the way, the place of the step to look at, and the number that the sort was given as
+/// it was met.
 #[derive(Drop)]
 struct Visit {
     sort: usize,
@@ -16,7 +18,8 @@ struct Visit {
 /// A walk along the steps in depth.
 #[derive(Drop)]
 struct Walk {
-    /// 0 for a sort that is not met; then the least number known of a sort on the way to which it leads; in the end that of its group.
+    /// 0 for a sort that is not met; then the least number known of a sort on the way to which it
+    /// leads; in the end that of its group.
     numbers: Vec<usize>,
     /// The sorts that the walk has left, of groups that are not known.
     left: Vec<usize>,
@@ -90,7 +93,8 @@ fn step_at(steps: &[Vec<usize>], sort: usize, place: usize) -> Option<usize> {
     steps.get(sort)?.get(place).copied()
 }
 
-/// Looks at the step to the sort: goes there where it is not met yet, else notes its number and goes past the step.
+/// Looks at the step to the sort: goes there where it is not met yet, else notes its number and
+/// goes past the step.
 fn look(walk: &mut Walk, visit: Visit, to: usize) -> Result<(), AllocError> {
     let number = number_of(&walk.numbers, to);
     if number == 0 {

@@ -1,6 +1,7 @@
 //! Laws of readings, items and printing.
 
-ghost use Rattle.sx_grammar.specs.Laws.{InnerSpansAreFound, ItemsAreRead, SpansAreRead, SpansAreFound, PrintsAreRead, DepthIsBounded};
+ghost use Rattle.sx_grammar.specs.Laws.{InnerSpansAreFound, ItemsAreRead, SpansAreRead};
+ghost use Rattle.sx_grammar.specs.Laws.{SpansAreFound, PrintsAreRead, DepthIsBounded};
 ghost use Rattle.sx_grammar.specs.Order.{KidsComeBefore, RankedIsNotCyclic};
 ghost use Rattle.sx_grammar.specs.TallyLaws.{TalliesAreCounted};
 ghost use Rattle.sx_grammar.specs.ReadOne.{AnswersAgree};
@@ -21,8 +22,8 @@ pub fn spans_are_found()
     ensures { SpansAreFound }
 {}
 
-/// The printed tokens of a term without variables have a reading at the least level asked for, whose
-/// term is that term.
+/// The printed tokens of a term without variables have a reading at the least level asked for,
+/// whose term is that term.
 pub fn prints_are_read()
     ensures { PrintsAreRead }
 {}

@@ -1,11 +1,13 @@
 //! Levels of sorts, and the brackets that they ask for.
 
-ghost use Rattle.std.specs.Prelude.{◌≡◌, ℕ, List, ◌<◌, ◌↔◌, length, slice_index_or, max, min, None, IsTrue, IfOk, OnOk, IfErr};
+ghost use Rattle.std.specs.Prelude.{◌≡◌, ℕ, List, ◌<◌, ◌↔◌, length, slice_index_or, max, min, None};
+ghost use Rattle.std.specs.Prelude.{IsTrue, IfOk, OnOk, IfErr};
 ghost use Rattle.sx_grammar.specs.declared.numbered.NumberedProduction.{NumberedProduction as ProductionOf};
 ghost use Rattle.sx_grammar.specs.Parts.{parts};
 ghost use Rattle.sx_grammar.specs.Tables.{AreNumbered};
 ghost use Rattle.sx_grammar.specs.Cycles.{HaveSortsBelow, HavePartsBelow};
-ghost use Rattle.sx_grammar.specs.Levels.{raised, raised_by, lowered, greatest_after, least_after, ArePartsBelow, AreGreatest, AreLeast};
+ghost use Rattle.sx_grammar.specs.Levels.{raised, raised_by, lowered, greatest_after, least_after};
+ghost use Rattle.sx_grammar.specs.Levels.{ArePartsBelow, AreGreatest, AreLeast};
 ghost use Rattle.sx_grammar.specs.Made.{KeepsSorts, HasBrackets, IsRefused};
 
 use crate::grammar_error::GrammarError;
@@ -86,7 +88,8 @@ fn least_levels(
     Ok(levels)
 }
 
-/// Whether the sort has no brackets, where this level is asked for of it and its productions have at least that level.
+/// Whether the sort has no brackets, where this level is asked for of it and its productions have
+/// at least that level.
 fn lacks_brackets(sort: &SortLine, asked: u8, least: u8) -> bool
     ensures is { IsTrue result ↔ ((sort.now.brackets ≡ None) × (least < asked)) }
     ensures range { asked < 256 }
@@ -94,7 +97,8 @@ fn lacks_brackets(sort: &SortLine, asked: u8, least: u8) -> bool
     sort.brackets.is_none() && least < asked
 }
 
-/// The same by the greatest level that parts ask for of each sort, and the least level of its productions.
+/// The same by the greatest level that parts ask for of each sort, and the least level of its
+/// productions.
 fn has_brackets_at(
     alloc: Global,
     from: &GrammarParts,
@@ -104,7 +108,8 @@ fn has_brackets_at(
     requires sorts { KeepsSorts (parts from.now) }
     requires asked_size { length asked.now ≡ length from.now.sorts.items }
     requires least_size { length least.now ≡ length from.now.sorts.items }
-    requires levels { (ps : List ProductionOf) × AreNumbered (parts from.now) ps × AreGreatest ps asked.now × AreLeast ps least.now }
+    requires levels { (ps : List ProductionOf) × AreNumbered (parts from.now) ps ×
+        AreGreatest ps asked.now × AreLeast ps least.now }
     ensures good { OnOk result (HasBrackets (parts from.now)) }
     ensures refused { IfErr result (IsRefused (parts from.now)) }
 {

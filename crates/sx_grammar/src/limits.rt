@@ -67,14 +67,15 @@ fn literal_count(alloc: Global, from: &GrammarParts) -> Result<usize, AllocError
 
 /// Whether sorts, productions and this number are below 2^32.
 fn are_few(from: &GrammarParts, literals: usize) -> bool
-    ensures { IsTrue result ↔ (length from.now.sorts.items < 2 ^ 32) × (length from.now.productions.items < 2 ^ 32) × (literals < 2 ^ 32) }
+    ensures { IsTrue result ↔ (length from.now.sorts.items < 2 ^ 32) ×
+        (length from.now.productions.items < 2 ^ 32) × (literals < 2 ^ 32) }
 {
     from.sorts.len() < BOUND && from.productions.len() < BOUND && literals < BOUND
 }
 
 impl GrammarParts {
-    /// Whether a grammar can be made of the parts, or why not can be told: sorts, productions and literals are fewer
-    /// than 2^32, and levels are at most 99. The one refusal is want of memory.
+    /// Whether a grammar can be made of the parts, or why not can be told: sorts, productions and
+    /// literals are fewer than 2^32, and levels are at most 99. The one refusal is want of memory.
     pub fn is_within_limits(&self, alloc: Global) -> Result<bool, AllocError>
         ensures { IfOk result (λ r. IsTrue r ↔ IsWithinLimits (parts self.now)) }
     {

@@ -3,7 +3,8 @@
 ghost use Rattle.std.specs.Prelude.{◌≡◌, ◌≤◌, ℕ, length, OnOk, IfOk, IfErr};
 ghost use Rattle.sx_grammar.specs.Parts.{parts, literals, names, numbered, texts};
 ghost use Rattle.sx_grammar.specs.Order.{AreRanks};
-ghost use Rattle.sx_grammar.specs.Tables.{literals_of, AreNumbered, AreNumberedPairs, HaveLiteralsBelow, IsWithinLimits, IsTabled, IsMade};
+ghost use Rattle.sx_grammar.specs.Tables.{literals_of, AreNumbered, AreNumberedPairs};
+ghost use Rattle.sx_grammar.specs.Tables.{HaveLiteralsBelow, IsWithinLimits, IsTabled, IsMade};
 ghost use Rattle.sx_grammar.specs.Made.{HasLiterals, HasSorts, HasLabels, IsGrammar, IsRefused};
 
 use crate::checks::{good_labels, good_literals, good_sorts, known_sorts};
@@ -49,7 +50,8 @@ fn sort_names_of(alloc: Global, from: &GrammarParts) -> Result<Names, GrammarErr
     }
 }
 
-/// The brackets and literals in order, and the names of the sorts; or what is wrong with literals, sorts or labels.
+/// The brackets and literals in order, and the names of the sorts; or what is wrong with literals,
+/// sorts or labels.
 fn names_of(alloc: Global, from: &GrammarParts) -> Result<(Vec<&Text>, Names), GrammarError>
     ensures good { OnOk result (HasLabels (parts from.now)) }
     ensures texts { IfOk result (λ r. texts r.0.items ≡ literals (parts from.now)) }
@@ -66,7 +68,8 @@ fn names_of(alloc: Global, from: &GrammarParts) -> Result<(Vec<&Text>, Names), G
     }
 }
 
-/// The ranks of the sorts; or a plain production with a typed part, a sort without brackets or a cyclic sort.
+/// The ranks of the sorts; or a plain production with a typed part, a sort without brackets or a
+/// cyclic sort.
 fn ranks_of(
     alloc: Global,
     from: &GrammarParts,
@@ -84,7 +87,8 @@ fn ranks_of(
     not_cyclic(alloc, from, productions)
 }
 
-/// The productions with numbers, and the ranks of the sorts; or a plain production with a typed part, a sort without brackets or a cyclic sort.
+/// The productions with numbers, and the ranks of the sorts; or a plain production with a typed
+/// part, a sort without brackets or a cyclic sort.
 fn productions_of(
     alloc: Global,
     from: &GrammarParts,
@@ -118,7 +122,8 @@ struct NumberedParts {
     brackets: Vec<Option<(u32, u32)>>,
 }
 
-/// The productions and brackets with numbers, and the ranks of the sorts; or why the parts are no grammar.
+/// The productions and brackets with numbers, and the ranks of the sorts; or why the parts are no
+/// grammar.
 fn numbered_parts(
     alloc: Global,
     from: &GrammarParts,
@@ -133,7 +138,8 @@ fn numbered_parts(
     ensures same { IfOk result (λ n. AreNumbered (parts from.now) n.productions.items) }
     ensures below { IfOk result (λ n. HaveLiteralsBelow (length literals.now) n.productions.items) }
     ensures ranking { IfOk result (λ n. AreRanks (numbered (parts from.now)) n.ranks.items) }
-    ensures pairs { IfOk result (λ n. AreNumberedPairs literals.now (parts from.now).sorts n.brackets.items) }
+    ensures pairs { IfOk result (λ n. AreNumberedPairs literals.now
+        (parts from.now).sorts n.brackets.items) }
     ensures refused { IfErr result (IsRefused (parts from.now)) }
 {
     let (productions, ranks) = productions_of(alloc, from, sorts, literals)?;
@@ -165,7 +171,8 @@ fn tables_with(
     requires literals { literal_names ≡ literals_of (parts from.now) }
     requires limits { IsWithinLimits (parts from.now) }
     ensures tables { IfOk result (λ t. (base : ℕ) → base ≤ length (parts from.now).productions
-        → IsTabled (parts from.now) base t.literals.items t.productions.items t.brackets.items t.sort_names t.literal_names t.ranks.items) }
+        → IsTabled (parts from.now) base t.literals.items t.productions.items t.brackets.items
+        t.sort_names t.literal_names t.ranks.items) }
     ensures refused { IfErr result (IsRefused (parts from.now)) }
 {
     match numbered_parts(alloc, from, &sort_names, &literal_names) {
@@ -196,7 +203,8 @@ fn tables_with(
 pub(crate) fn tables(alloc: Global, from: &GrammarParts) -> Result<Tables, GrammarError>
     requires { IsWithinLimits (parts from.now) }
     ensures tables { IfOk result (λ t. (base : ℕ) → base ≤ length (parts from.now).productions
-        → IsTabled (parts from.now) base t.literals.items t.productions.items t.brackets.items t.sort_names t.literal_names t.ranks.items) }
+        → IsTabled (parts from.now) base t.literals.items t.productions.items t.brackets.items
+        t.sort_names t.literal_names t.ranks.items) }
     ensures refused { IfErr result (IsRefused (parts from.now)) }
 {
     let (texts, sort_names) = names_of(alloc, from)?;
@@ -214,7 +222,8 @@ pub(crate) fn tables(alloc: Global, from: &GrammarParts) -> Result<Tables, Gramm
 }
 
 impl Grammar {
-    /// The grammar of the parts, all of whose productions are base, or the first refusal that holds of the parts.
+    /// The grammar of the parts, all of whose productions are base, or the first refusal that holds
+    /// of the parts.
     pub fn make(alloc: Global, from: GrammarParts) -> Result<Grammar, GrammarError>
         requires { IsWithinLimits (parts from) }
         ensures { IsMade (parts from) result }

@@ -1,6 +1,7 @@
 //! Distinct names, numbered and found by their hash.
 
-ghost use Rattle.std.specs.Prelude.{◌≡◌, ◌++◌, [], ◌∷◌, slice_get, MatchOption, Some, Contains, IfOk, position};
+ghost use Rattle.std.specs.Prelude.{◌≡◌, ◌++◌, [], ◌∷◌, slice_get, MatchOption, Some, Contains};
+ghost use Rattle.std.specs.Prelude.{IfOk, position};
 ghost use Rattle.std.specs.Str.{bytes_eq};
 
 use indexmap::IndexSet;
@@ -34,7 +35,8 @@ impl Names {
 
     /// The number of the name, or None where it is none of the names.
     pub(crate) fn number(&self, name: &[u8]) -> Option<usize>
-        ensures exact { MatchOption result (¬ (Contains self.now name.now)) (λ n. slice_get self.now n ≡ Some name.now) }
+        ensures exact { MatchOption result (¬ (Contains self.now name.now))
+            (λ n. slice_get self.now n ≡ Some name.now) }
         ensures first { result ≡ position (λ other. bytes_eq other name.now) self.now }
     {
         self.texts.get_index_of(name)

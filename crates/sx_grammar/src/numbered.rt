@@ -2,7 +2,8 @@
 
 use sx_term::LexKind;
 
-/// A symbol: a literal by its place in the literals of the grammar, a lexical kind, or a part of a sort at a least level.
+/// A symbol: a literal by its place in the literals of the grammar, a lexical kind, or a part of a
+/// sort at a least level.
 #[derive(Clone, Copy)]
 pub enum NumberedSymbol {
     Lit(u32),

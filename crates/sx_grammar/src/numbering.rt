@@ -1,10 +1,12 @@
 //! Numbers in place of names and literals.
 
-ghost use Rattle.std.specs.Prelude.{◌≡◌, ◌<◌, ◌^◌, map, length, slice_get, Some, Contains, IfOk, [], ◌∷◌};
+ghost use Rattle.std.specs.Prelude.{◌≡◌, ◌<◌, ◌^◌, map, length, slice_get, Some, Contains, IfOk};
+ghost use Rattle.std.specs.Prelude.{[], ◌∷◌};
 ghost use Rattle.sx_grammar.specs.declared.symbol.Symbol.{Symbol as SymbolOf};
 ghost use Rattle.sx_grammar.specs.declared.production.Production.{Production as ProductionOf};
 ghost use Rattle.sx_grammar.specs.declared.sort_line.SortLine.{SortLine as SortLineOf};
-ghost use Rattle.sx_grammar.specs.Parts.{number_of, line, numbered_symbol, numbered_line, numbered_pair};
+ghost use Rattle.sx_grammar.specs.Parts.{number_of, line, numbered_symbol, numbered_line};
+ghost use Rattle.sx_grammar.specs.Parts.{numbered_pair};
 ghost use Rattle.sx_grammar.specs.Numbered as plain;
 ghost use Rattle.sx_grammar.specs.Tables.{HaveLiteralsBelow, IsNumberedPair, AreNumberedPairs};
 ghost use Rattle.sx_grammar.specs.Known.{IsAmong, IsKnown, IsKnownLine, IsKnownPair, AreBelow};
@@ -69,7 +71,8 @@ fn number_symbols(
     requires known { (s : SymbolOf) → Contains symbols.now s → IsKnown sorts.now literals.now s }
     requires few { length sorts.now < 2 ^ 32 }
     requires few_literals { length literals.now < 2 ^ 32 }
-    ensures same { IfOk result (λ v. map (plain.symbol literals.now) v.items ≡ map (numbered_symbol sorts.now) symbols.now) }
+    ensures same { IfOk result (λ v. map (plain.symbol literals.now) v.items
+        ≡ map (numbered_symbol sorts.now) symbols.now) }
     ensures below { IfOk result (λ v. AreBelow (length literals.now) v.items) }
 {
     let mut out = Vec::new(alloc);
@@ -89,7 +92,8 @@ fn number_production(
     requires known { IsKnownLine sorts.now literals.now production.now }
     requires few { length sorts.now < 2 ^ 32 }
     requires few_literals { length literals.now < 2 ^ 32 }
-    ensures same { IfOk result (λ q. plain.production literals.now q ≡ numbered_line sorts.now (line production.now)) }
+    ensures same { IfOk result (λ q. plain.production literals.now q
+        ≡ numbered_line sorts.now (line production.now)) }
     ensures below { IfOk result (λ q. AreBelow (length literals.now) q.symbols.items) }
 {
     Ok(NumberedProduction {
@@ -106,10 +110,12 @@ pub(crate) fn number_productions(
     literals: &Names,
     productions: &[Production],
 ) -> Result<Vec<NumberedProduction>, NoMemory>
-    requires known { (p : ProductionOf) → Contains productions.now p → IsKnownLine sorts.now literals.now p }
+    requires known { (p : ProductionOf) → Contains productions.now p →
+        IsKnownLine sorts.now literals.now p }
     requires few { length sorts.now < 2 ^ 32 }
     requires few_literals { length literals.now < 2 ^ 32 }
-    ensures same { IfOk result (λ v. map (plain.production literals.now) v.items ≡ map (numbered_line sorts.now) (map line productions.now)) }
+    ensures same { IfOk result (λ v. map (plain.production literals.now) v.items
+        ≡ map (numbered_line sorts.now) (map line productions.now)) }
     ensures below { IfOk result (λ v. HaveLiteralsBelow (length literals.now) v.items) }
 {
     let mut out = Vec::new(alloc);

@@ -1,11 +1,13 @@
 //! What follows from rules so far.
 
-ghost use Rattle.std.specs.Prelude.{◌≡◌, ℕ, ◌<◌, length, MatchOption, OnOk, IfOk, IsFalse, IsTrue, ◌++◌, ◌∷◌, [], ◌↔◌};
+ghost use Rattle.std.specs.Prelude.{◌≡◌, ℕ, ◌<◌, length, MatchOption, OnOk, IfOk, IsFalse, IsTrue};
+ghost use Rattle.std.specs.Prelude.{◌++◌, ◌∷◌, [], ◌↔◌};
 ghost use Rattle.sx_grammar.specs.Ranks.{HasRank, waiting_at, IsBlank, IsPut, IsTaken, IsLearnt};
 
 use std::alloc::{AllocError, Global};
 
-/// A rule that waits for the number that it needs at this place. The numbers that it needs before have ranks.
+/// A rule that waits for the number that it needs at this place. The numbers that it needs before
+/// have ranks.
 #[derive(Clone, Copy)]
 pub(crate) struct Waiting {
     pub(crate) rule: usize,

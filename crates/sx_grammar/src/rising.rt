@@ -51,7 +51,8 @@ pub(crate) fn rises(numbers: &[usize], steps: &[Vec<usize>], sort: usize) -> boo
     all_above(numbers, number_of(numbers, sort), list(steps, sort))
 }
 
-/// Numbers that never fall: those of the groups, or none, so that no step rises, where they do not prove to be so.
+/// Numbers that never fall: those of the groups, or none, so that no step rises, where they do not
+/// prove to be so.
 pub(crate) fn numbers(alloc: Global, steps: &[Vec<usize>]) -> Result<Vec<usize>, AllocError>
     ensures { IfOk result (λ v. NeverFalls v.items steps.now) }
 {

@@ -67,7 +67,8 @@ pub(crate) fn cons(
     sorts: &[SortLine],
     productions: &[NumberedProduction],
 ) -> Result<Vec<Con>, NoMemory>
-    ensures { IfOk result (λ v. map shape v.items ≡ map (numbered_shape sorts.now) productions.now) }
+    ensures { IfOk result (λ v. map shape v.items
+        ≡ map (numbered_shape sorts.now) productions.now) }
 {
     let mut out = Vec::new(alloc);
     for production in productions {

@@ -6,7 +6,8 @@ ghost use Rattle.sx_grammar.specs.Cyclic.{IsCyclic, IsNotCyclic};
 ghost use Rattle.sx_grammar.specs.Numbered.{AreOf};
 ghost use Rattle.sx_grammar.specs.Order.{AreRanks};
 ghost use Rattle.sx_grammar.specs.Ranks.{HasRanksBelow};
-ghost use Rattle.sx_grammar.specs.Cycles.{AreStepsOf, AreStepsBelow, AreStepRules, LacksRank, HaveSortsBelow, HavePartsBelow};
+ghost use Rattle.sx_grammar.specs.Cycles.{AreStepsOf, AreStepsBelow, AreStepRules, LacksRank};
+ghost use Rattle.sx_grammar.specs.Cycles.{HaveSortsBelow, HavePartsBelow};
 ghost use Rattle.sx_grammar.specs.Sorting.{IsSortOrder};
 
 use crate::cycle::{first_cyclic, list};
@@ -32,7 +33,8 @@ fn step_rules(alloc: Global, steps: &[Vec<usize>]) -> Result<Vec<Rule>, AllocErr
 /// The ranks, where each number has one.
 fn all_ranks(alloc: Global, ranks: &[Option<usize>]) -> Result<Option<Vec<u32>>, AllocError>
     requires { HasRanksBelow (2 ^ 32) ranks.now }
-    ensures { IfOk result (λ r. MatchOption r (LacksRank ranks.now) (λ v. map Some v.items ≡ ranks.now)) }
+    ensures { IfOk result (λ r. MatchOption r (LacksRank ranks.now)
+        (λ v. map Some v.items ≡ ranks.now)) }
 {
     let mut out = Vec::new(alloc);
     for rank in ranks {
@@ -48,7 +50,8 @@ fn all_ranks(alloc: Global, ranks: &[Option<usize>]) -> Result<Option<Vec<u32>>,
 fn ranks(alloc: Global, steps: &[Vec<usize>]) -> Result<Option<Vec<u32>>, AllocError>
     requires below { AreStepsBelow (length steps.now) steps.now }
     requires few { length steps.now < 2 ^ 32 }
-    ensures { IfOk result (λ r. (g : Grammar) → AreStepsOf g steps.now → MatchOption r (¬ (IsNotCyclic g)) (λ v. AreRanks g v.items)) }
+    ensures { IfOk result (λ r. (g : Grammar) → AreStepsOf g steps.now →
+        MatchOption r (¬ (IsNotCyclic g)) (λ v. AreRanks g v.items)) }
 {
     let rules = step_rules(alloc, steps)?;
     let found = follow(alloc, &rules, steps.len())?;
@@ -70,7 +73,8 @@ pub(crate) fn sort_ranks(
     requires heads { HaveSortsBelow sorts productions.now }
     requires parts { HavePartsBelow sorts productions.now }
     requires few { sorts < 2 ^ 32 }
-    ensures { IfOk result (λ order. (g : Grammar) → AreOf g productions.now → IsSortOrder g sorts order) }
+    ensures { IfOk result (λ order. (g : Grammar) → AreOf g productions.now →
+        IsSortOrder g sorts order) }
 {
     let empty = empty_sorts(alloc, productions, sorts)?;
     let steps = steps(alloc, productions, &empty, sorts)?;

@@ -1,7 +1,8 @@
 //! The literals and names of a grammar's parts as they stand.
 
 ghost use Rattle.std.specs.Prelude.{◌≡◌, [], ◌∷◌, ◌++◌, map, flat_map, OnOk, IfOk};
-ghost use Rattle.sx_grammar.specs.Parts.{parts, line, names, labels, literals, sorts_named, symbol_literals, symbol_sorts, bracket_literals, texts};
+ghost use Rattle.sx_grammar.specs.Parts.{parts, line, names, labels, literals, sorts_named};
+ghost use Rattle.sx_grammar.specs.Parts.{symbol_literals, symbol_sorts, bracket_literals, texts};
 
 use crate::grammar_parts::GrammarParts;
 use crate::production::Production;
@@ -20,7 +21,8 @@ fn put<'a>(text: &'a Text, out: &mut Vec<&'a Text>) -> Result<(), AllocError>
 
 /// Adds the literals among the symbols.
 fn add_literals<'a>(symbols: &'a [Symbol], out: &mut Vec<&'a Text>) -> Result<(), AllocError>
-    ensures { OnOk result (texts out.new.items ≡ texts out.old.items ++ flat_map symbol_literals symbols.now) }
+    ensures { OnOk result (texts out.new.items ≡ texts out.old.items
+        ++ flat_map symbol_literals symbols.now) }
 {
     for symbol in symbols {
         if let Symbol::Lit(text) = symbol {
@@ -32,7 +34,8 @@ fn add_literals<'a>(symbols: &'a [Symbol], out: &mut Vec<&'a Text>) -> Result<()
 
 /// Adds the names of the sorts of the parts among the symbols.
 fn add_sorts<'a>(symbols: &'a [Symbol], out: &mut Vec<&'a Text>) -> Result<(), AllocError>
-    ensures { OnOk result (texts out.new.items ≡ texts out.old.items ++ flat_map symbol_sorts symbols.now) }
+    ensures { OnOk result (texts out.new.items ≡ texts out.old.items
+        ++ flat_map symbol_sorts symbols.now) }
 {
     for symbol in symbols {
         if let Symbol::Part { sort, least: _ } = symbol {
@@ -47,7 +50,8 @@ fn add_brackets<'a>(
     brackets: &'a Option<(Text, Text)>,
     out: &mut Vec<&'a Text>,
 ) -> Result<(), AllocError>
-    ensures { OnOk result (texts out.new.items ≡ texts out.old.items ++ bracket_literals brackets.now) }
+    ensures { OnOk result (texts out.new.items ≡ texts out.old.items
+        ++ bracket_literals brackets.now) }
 {
     if let Some((opening, closing)) = brackets {
         put(opening, out)?;
@@ -58,7 +62,8 @@ fn add_brackets<'a>(
 
 /// Adds the literals of the bracket pairs of the sorts.
 fn add_brackets_of<'a>(sorts: &'a [SortLine], out: &mut Vec<&'a Text>) -> Result<(), AllocError>
-    ensures { OnOk result (texts out.new.items ≡ texts out.old.items ++ flat_map (λ s. bracket_literals s.brackets) sorts.now) }
+    ensures { OnOk result (texts out.new.items ≡ texts out.old.items
+        ++ flat_map (λ s. bracket_literals s.brackets) sorts.now) }
 {
     for sort in sorts {
         add_brackets(&sort.brackets, out)?;
@@ -71,7 +76,8 @@ fn add_literals_of<'a>(
     productions: &'a [Production],
     out: &mut Vec<&'a Text>,
 ) -> Result<(), AllocError>
-    ensures { OnOk result (texts out.new.items ≡ texts out.old.items ++ flat_map (λ r. flat_map symbol_literals r.symbols) (map line productions.now)) }
+    ensures { OnOk result (texts out.new.items ≡ texts out.old.items
+        ++ flat_map (λ r. flat_map symbol_literals r.symbols) (map line productions.now)) }
 {
     for production in productions {
         add_literals(&production.symbols, out)?;

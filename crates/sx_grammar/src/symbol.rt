@@ -5,7 +5,8 @@ ghost use Rattle.std.specs.Prelude.{◌≡◌, IfOk};
 use std::alloc::Global;
 use sx_term::{LexKind, NoMemory, Text};
 
-/// What stands in a production: a literal, a lexical kind, or a part of a sort at a least level from 0 to 99.
+/// What stands in a production: a literal, a lexical kind, or a part of a sort at a least level
+/// from 0 to 99.
 #[derive(Drop)]
 pub enum Symbol {
     Lit(Text),

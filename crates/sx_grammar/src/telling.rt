@@ -1,6 +1,7 @@
 //! What a grammar tells.
 
-ghost use Rattle.std.specs.Prelude.{◌≡◌, ◌<◌, ◌≤◌, ◌^◌, ◌↔◌, ℕ, length, slice_get, MatchOption, Some, Contains, IsTrue, IfOk};
+ghost use Rattle.std.specs.Prelude.{◌≡◌, ◌<◌, ◌≤◌, ◌^◌, ◌↔◌, ℕ, length, slice_get, MatchOption};
+ghost use Rattle.std.specs.Prelude.{Some, Contains, IsTrue, IfOk};
 ghost use Rattle.sx_term.specs.Cutting.{AreDistinct};
 ghost use Rattle.sx_term.specs.Term.{tree};
 ghost use Rattle.sx_term.specs.Tree.{depth_of};
@@ -12,7 +13,8 @@ ghost use Rattle.sx_grammar.specs.Cyclic.{IsNotCyclic};
 ghost use Rattle.sx_grammar.specs.Order.{IsRanking, rank_at};
 ghost use Rattle.sx_grammar.specs.Cycles.{HaveSortsBelow, HavePartsBelow};
 ghost use Rattle.sx_grammar.specs.Made.{IsGrammar};
-ghost use Rattle.sx_grammar.specs.Tables.{literals_of, AreNumbered, HaveLiteralsBelow, IsNumberedPair, IsWithinLimits};
+ghost use Rattle.sx_grammar.specs.Tables.{literals_of, AreNumbered, HaveLiteralsBelow};
+ghost use Rattle.sx_grammar.specs.Tables.{IsNumberedPair, IsWithinLimits};
 ghost use Rattle.sx_grammar.specs.Told.{IsSortOf, IsLevelOf, shapes_of, HasLabelsBelow};
 
 use crate::grammar::Grammar;
@@ -38,7 +40,8 @@ impl Grammar {
         &self.parts
     }
 
-    /// The productions with the numbers of their literals and sorts, which are those of literals and sorts of the grammar.
+    /// The productions with the numbers of their literals and sorts, which are those of literals
+    /// and sorts of the grammar.
     pub fn productions(&self) -> &[NumberedProduction]
         ensures same { AreNumbered self.now.parts result.now }
         ensures below { HaveLiteralsBelow (length (literals_of self.now.parts)) result.now }
@@ -83,9 +86,11 @@ impl Grammar {
         })
     }
 
-    /// The numbers of the literals that open and close the brackets of the sort with this number, or None where it has no brackets.
+    /// The numbers of the literals that open and close the brackets of the sort with this number,
+    /// or None where it has no brackets.
     pub fn brackets(&self, sort: u32) -> Option<(u32, u32)>
-        ensures { IsNumberedPair (literals_of self.now.parts) (pair_of (numbered self.now.parts) sort) result }
+        ensures { IsNumberedPair (literals_of self.now.parts)
+            (pair_of (numbered self.now.parts) sort) result }
     {
         let i = sort as usize;
         if i < self.brackets.len() {
@@ -94,8 +99,8 @@ impl Grammar {
         None
     }
 
-    /// The ranks of the sorts by their numbers. A production of a sort whose other symbols derive the empty list
-    /// has as its one further part only one of a sort of a lower rank.
+    /// The ranks of the sorts by their numbers. A production of a sort whose other symbols derive
+    /// the empty list has as its one further part only one of a sort of a lower rank.
     pub fn ranks(&self) -> &[u32]
         ensures ranking { IsRanking (numbered self.now.parts) (rank_at result.now) }
         ensures low { (sort : ℕ) → rank_at result.now sort < 2 ^ 32 }
@@ -105,7 +110,8 @@ impl Grammar {
 
     /// The number of the sort with this name, or None where no sort has it.
     pub fn sort_number(&self, name: &Text) -> Option<u32>
-        ensures { MatchOption result (¬ (Contains (names self.now.parts) name.now)) (λ n. slice_get (names self.now.parts) n ≡ Some name.now) }
+        ensures { MatchOption result (¬ (Contains (names self.now.parts) name.now))
+            (λ n. slice_get (names self.now.parts) n ≡ Some name.now) }
     {
         match self.sort_names.number(name.bytes()) {
             Some(number) => Some(number as u32),
@@ -115,7 +121,8 @@ impl Grammar {
 
     /// The number of the literal with these bytes, or None where no literal has them.
     pub fn literal_number(&self, text: &[u8]) -> Option<u32>
-        ensures { MatchOption result (¬ (Contains (literals_of self.now.parts) text.now)) (λ n. slice_get (literals_of self.now.parts) n ≡ Some text.now) }
+        ensures { MatchOption result (¬ (Contains (literals_of self.now.parts) text.now))
+            (λ n. slice_get (literals_of self.now.parts) n ≡ Some text.now) }
     {
         match self.literal_names.number(text) {
             Some(number) => Some(number as u32),
@@ -123,8 +130,9 @@ impl Grammar {
         }
     }
 
-    /// What holds of every grammar: its parts are those of a grammar, can be numbered by a u32 and have levels of at most 99;
-    /// its base productions are among its productions, and its literals are distinct.
+    /// What holds of every grammar: its parts are those of a grammar, can be numbered by a u32 and
+    /// have levels of at most 99; its base productions are among its productions, and its literals
+    /// are distinct.
     pub fn facts(&self)
         ensures grammar { IsGrammar self.now.parts }
         ensures limits { IsWithinLimits self.now.parts }

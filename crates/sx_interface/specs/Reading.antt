@@ -4,7 +4,8 @@ use Rattle.std.specs.Prelude.{◌≡◌, ℕ, List, Option, Some, None, Result, 
 use Rattle.std.specs.Str.{IsUtf8}
 use Rattle.std.specs.Str.Lossy.{utf8_valid_len}
 use Rattle.sx_interface.specs.declared.error.HeaderError.{HeaderError}
-use Rattle.sx_interface.specs.declared.error.HeaderError.TheVariants.{Memory, NotUtf8, Header, Version}
+use Rattle.sx_interface.specs.declared.error.HeaderError.TheVariants.{Memory, NotUtf8, Header}
+use Rattle.sx_interface.specs.declared.error.HeaderError.TheVariants.{Version}
 
 -- an error for want of memory, or at the line that reading refuses
 abbrev pub Refuses : {Y : Type 0} → HeaderError → Result Y ℕ → Type 0
@@ -31,7 +32,8 @@ IsVersion bytes version (Header n) = ⊥
 IsVersion bytes version (Version n) = IsUtf8 bytes × (n ≡ version)
 
 -- where the first line names another version, that version; else what reading gives
-abbrev pub AnswersVersion : {X Y : Type 0} → List ℕ → Option ℕ → (X → Y) → Result X HeaderError → Result Y ℕ → Type 0
+abbrev pub AnswersVersion : {X Y : Type 0} → List ℕ → Option ℕ → (X → Y) → Result X HeaderError →
+    Result Y ℕ → Type 0
 AnswersVersion bytes (Some version) view (Ok x) read = ⊥
 AnswersVersion bytes (Some version) view (Err e) read = IsVersion bytes version e
 AnswersVersion bytes None view result read = Gives view (RefusesText bytes) result read

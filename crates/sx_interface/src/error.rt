@@ -15,7 +15,8 @@ pub enum HeaderError {
     /// The bytes are not UTF-8: how many bytes stand before the first bad sequence.
     #[error("not UTF-8")]
     NotUtf8(usize),
-    /// The number of the first line that is not as defined, or 1 more than the number of lines where one is missing.
+    /// The number of the first line that is not as defined, or 1 more than the number of lines
+    /// where one is missing.
     #[error("a bad line")]
     Header(u32),
     /// The number of another version, in the first line of an interface.

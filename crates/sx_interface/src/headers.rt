@@ -1,6 +1,7 @@
 //! Headers of module files.
 
-ghost use Rattle.std.specs.Prelude.{◌≡◌, [], ◌+◌, ◌-◌, ◌^◌, ◌<◌, ◌≤◌, length, drop, IfOk, Ok, IfErr, IfSome, true, false};
+ghost use Rattle.std.specs.Prelude.{◌≡◌, [], ◌+◌, ◌-◌, ◌^◌, ◌<◌, ◌≤◌, length, drop, IfOk, Ok};
+ghost use Rattle.std.specs.Prelude.{IfErr, IfSome, true, false};
 ghost use Rattle.sx_lines.specs.FirstBad.{IsFirstBad};
 ghost use Rattle.sx_interface.specs.Headers.{HeaderParts};
 ghost use Rattle.sx_interface.specs.StatedHeader.{StatesHeader};
@@ -45,7 +46,8 @@ struct Parts<'a> {
     body: Rest<'a>,
 }
 
-/// The language and the body that the lines of a module's file state, with the names in the `use` and `import` lines.
+/// The language and the body that the lines of a module's file state, with the names in the `use`
+/// and `import` lines.
 #[tactic(auto, unfolding(crate::specs::Headers::header_of))]
 fn read_rows<'a>(
     alloc: Global,
@@ -57,7 +59,8 @@ fn read_rows<'a>(
     requires numbered { length bytes.now + 1 < 2 ^ 32 }
     requires uses { uses.old.items ≡ [] }
     requires imports { imports.old.items ≡ [] }
-    ensures rows { Gives (λ x. rows_view name.now x.0.now uses.new.items imports.new.items x.1.bytes.now x.1.number) Refuses result
+    ensures rows { Gives (λ x. rows_view name.now x.0.now uses.new.items imports.new.items
+        x.1.bytes.now x.1.number) Refuses result
         (spec.header_of name.now (kept (lines_from 1 bytes.entry.now))) }
     ensures named { IfOk result (λ x. is_name false x.0.now ≡ true) }
 {
@@ -72,7 +75,8 @@ fn read_rows<'a>(
 /// The header that the lines of a module's file state.
 fn header_parts<'a>(alloc: Global, name: &Text, bytes: &'a [u8]) -> Result<Parts<'a>, HeaderError>
     requires { length bytes.now + 1 < 2 ^ 32 }
-    ensures { Gives (parts_view name.now) Refuses result (spec.header_of name.now (kept (lines_from 1 bytes.entry.now))) }
+    ensures { Gives (parts_view name.now) Refuses result
+        (spec.header_of name.now (kept (lines_from 1 bytes.entry.now))) }
 {
     let mut uses = Vec::new(alloc);
     let mut imports = Vec::new(alloc);
@@ -130,19 +134,21 @@ fn checked_header(alloc: Global, name: &Text, bytes: &[u8]) -> Result<Header, He
     }
 }
 
-/// The header of the module file with these bytes, of a module of this name. The file has fewer than 2^32 - 1 bytes,
-/// so that the number of a line fits.
+/// The header of the module file with these bytes, of a module of this name. The file has fewer
+/// than 2^32 - 1 bytes, so that the number of a line fits.
 ///
-/// Blank lines and lines that begin with `//` are skipped. The lines are `module` and the name, `language` and a name,
-/// then `use` lines, then `import` lines, then `---`; the body is what follows. No name stands in two `use` lines or in
-/// two `import` lines.
+/// Blank lines and lines that begin with `//` are skipped. The lines are `module` and the name,
+/// `language` and a name, then `use` lines, then `import` lines, then `---`; the body is what
+/// follows. No name stands in two `use` lines or in two `import` lines.
 ///
-/// `NotUtf8` comes exactly where the bytes are not UTF-8, and else `Header` exactly where they have no header.
+/// `NotUtf8` comes exactly where the bytes are not UTF-8, and else `Header` exactly where they have
+/// no header.
 pub fn read_header(alloc: Global, name: &Text, bytes: &[u8]) -> Result<Header, HeaderError>
     requires { length bytes.now + 1 < 2 ^ 32 }
     ensures text { IsText bytes.now result }
     // What is read is stated.
-    ensures found { IfOk result (λ h. StatesHeader name.now (kept (lines_from 1 bytes.now)) (header_view bytes.now h)) }
+    ensures found { IfOk result (λ h. StatesHeader name.now (kept (lines_from 1 bytes.now))
+        (header_view bytes.now h)) }
     // What is stated is read, unless memory runs out.
     ensures only { (h : HeaderParts) → StatesHeader name.now (kept (lines_from 1 bytes.now)) h
         → Gives (header_view bytes.now) (RefusesText bytes.now) result (Ok h) }

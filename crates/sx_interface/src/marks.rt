@@ -1,6 +1,7 @@
 //! Digests and their digits.
 
-ghost use Rattle.std.specs.Prelude.{◌≡◌, ◌≢◌, ℕ, ◌++◌, List, length, option_map, OnOk, OnErr, IfSome, IfNone};
+ghost use Rattle.std.specs.Prelude.{◌≡◌, ◌≢◌, ℕ, ◌++◌, List, length, option_map, OnOk, OnErr};
+ghost use Rattle.std.specs.Prelude.{IfSome, IfNone};
 ghost use Rattle.hex.specs.Hex.{encode_lower, IsBytes};
 ghost use Rattle.sx_interface.specs.Digests.{digest_of};
 
@@ -23,7 +24,8 @@ fn digits(digest: &Digest) -> [u8; 64]
     digits
 }
 
-/// Appends the 64 lower-case hexadecimal digits of the digest. After want of memory `into` is as before.
+/// Appends the 64 lower-case hexadecimal digits of the digest. After want of memory `into` is as
+/// before.
 pub fn write_digest(_alloc: Global, digest: &Digest, into: &mut Vec<u8>) -> Result<(), NoMemory>
     ensures ok { OnOk result (into.new.items ≡ into.old.items ++ encode_lower digest.now.bytes) }
     ensures err { OnErr result (into.new.items ≡ into.old.items) }
@@ -32,11 +34,13 @@ pub fn write_digest(_alloc: Global, digest: &Digest, into: &mut Vec<u8>) -> Resu
     Ok(())
 }
 
-/// The digest with these digits, or `None` exactly where the text is not 64 lower-case hexadecimal digits.
+/// The digest with these digits, or `None` exactly where the text is not 64 lower-case hexadecimal
+/// digits.
 pub fn read_digest(text: &[u8]) -> Option<Digest>
     ensures value { option_map (λ d. d.bytes) result ≡ digest_of text.now }
     ensures found { IfSome result (λ d. text.now ≡ encode_lower d.bytes) }
-    ensures none { IfNone result ((bytes : List ℕ) → length bytes ≡ 32 → IsBytes bytes → text.now ≢ encode_lower bytes) }
+    ensures none { IfNone result ((bytes : List ℕ) → length bytes ≡ 32 → IsBytes bytes →
+        text.now ≢ encode_lower bytes) }
 {
     let mut bytes = [0u8; 32];
     if hex::decode_to_slice(text, &mut bytes).is_err() {

@@ -1,6 +1,7 @@
 //! The rows of headers and interfaces.
 
-ghost use Rattle.std.specs.Prelude.{◌≡◌, ℕ, ◌+◌, [], ◌∷◌, ◌++◌, List, codes, true, false, IfOk, IfSome};
+ghost use Rattle.std.specs.Prelude.{◌≡◌, ℕ, ◌+◌, [], ◌∷◌, ◌++◌, List, codes, true, false, IfOk};
+ghost use Rattle.std.specs.Prelude.{IfSome};
 ghost use Rattle.std.specs.Option.{option_copied};
 ghost use Rattle.std.specs.Str.{bytes_eq};
 ghost use Rattle.sx_lines.specs.Left.{left};
@@ -46,7 +47,8 @@ pub fn is_row(text: &[u8], front: &[u8], name: &[u8]) -> bool
 /// What is left after the line `module` and the name.
 #[tactic(auto, unfolding(sx_lines::specs::Reading::the_line))]
 pub fn module_line<'a>(name: &[u8], rest: Rest<'a>) -> Result<Rest<'a>, HeaderError>
-    ensures { Gives (λ x. kept (left x)) Refuses result (the_line (codes "module " ++ name.now) (kept (left rest.entry))) }
+    ensures { Gives (λ x. kept (left x)) Refuses result
+        (the_line (codes "module " ++ name.now) (kept (left rest.entry))) }
 {
     let (line, more) = rest.next_kept()?;
     if !is_row(line.text, b"module ", name) {
@@ -58,7 +60,8 @@ pub fn module_line<'a>(name: &[u8], rest: Rest<'a>) -> Result<Rest<'a>, HeaderEr
 /// The name in the next row, and what is left after it.
 #[tactic(auto, unfolding(sx_lines::specs::Reading::next_line))]
 pub fn name_row<'a>(front: &[u8], rest: Rest<'a>) -> Result<(&'a [u8], Rest<'a>), HeaderError>
-    ensures row { Gives (λ x. (x.0.now, kept (left x.1))) Refuses result (next_line (spec.name_after front.now) (kept (left rest.entry))) }
+    ensures row { Gives (λ x. (x.0.now, kept (left x.1))) Refuses result
+        (next_line (spec.name_after front.now) (kept (left rest.entry))) }
     ensures named { IfOk result (λ x. is_name false x.0.now ≡ true) }
 {
     let (line, more) = rest.next_kept()?;
@@ -78,7 +81,8 @@ fn add_rows<'a>(
 ) -> Result<Rest<'a>, HeaderError>
     requires seen { seen.old ≡ [] }
     requires names { names.old.items ≡ [] }
-    ensures { Gives (λ x. (names.new.items, kept (left x))) Refuses result (spec.distinct_names front.now (kept (left rest.entry))) }
+    ensures { Gives (λ x. (names.new.items, kept (left x))) Refuses result
+        (spec.distinct_names front.now (kept (left rest.entry))) }
 {
     let mut rest = rest;
     'rows: while let Ok((line, more)) = rest.next_kept() {
@@ -105,7 +109,8 @@ pub fn name_rows<'a>(
     names: &mut Vec<Text>,
 ) -> Result<Rest<'a>, HeaderError>
     requires { names.old.items ≡ [] }
-    ensures { Gives (λ x. (names.new.items, kept (left x))) Refuses result (spec.distinct_names front.now (kept (left rest.entry))) }
+    ensures { Gives (λ x. (names.new.items, kept (left x))) Refuses result
+        (spec.distinct_names front.now (kept (left rest.entry))) }
 {
     let mut seen = Names::new(alloc);
     let read = add_rows(alloc, front, rest, &mut seen, names);
@@ -116,7 +121,8 @@ pub fn name_rows<'a>(
 /// What is left after the line `---`: the body.
 #[tactic(auto, unfolding(sx_lines::specs::Rows::bytes_after))]
 pub fn end_line<'a>(rest: Rest<'a>) -> Result<Rest<'a>, HeaderError>
-    ensures { Gives (λ x. (x.number, x.bytes.now)) Refuses result (spec.bytes_after (codes "---") (kept (left rest.entry))) }
+    ensures { Gives (λ x. (x.number, x.bytes.now)) Refuses result
+        (spec.bytes_after (codes "---") (kept (left rest.entry))) }
 {
     let (line, more) = rest.next_kept()?;
     if line.text != b"---".as_slice() {

@@ -60,8 +60,8 @@ fn subject_sort(forms: &[Form], form: u32) -> Option<Sort>
     }
 }
 
-/// The body that the lines state, where the form of the conclusion has a subject and the body's line
-/// is there. Names of variables that `vars` lacks are added.
+/// The body that the lines state, where the form of the conclusion has a subject and the body's
+/// line is there. Names of variables that `vars` lacks are added.
 pub(crate) fn read_body(
     alloc: Global,
     by: &RuleReader,

@@ -22,13 +22,17 @@ abbrev mutual
   HaveLexemes literals none = Unit {0}
   HaveLexemes literals (t ▹ ts) = HasLexemes literals t × HaveLexemes literals ts
 
--- the text, with any blanks behind it, and with or without metavariables, is cut into pieces that show as just these tokens
+-- the text, with any blanks behind it, and with or without metavariables, is cut into pieces that
+-- show as just these tokens
 pub record IsCutInto (literals : List Text) (tokens : List Token) (text : List ℕ) : Type 0 where
   pub pieces : List Piece
   pub show : (stem_of : Text → Stem) → map (shown stem_of) pieces ≡ tokens
-  pub cut : (metas : Bool) (blanks : List ℕ) → AreBlanks blanks → Cuts literals metas (length (text ++ blanks)) (text ++ blanks) pieces []
-  pub outcome : (metas : Bool) (blanks : List ℕ) → AreBlanks blanks → length tokens ≤ 10000 → IsOutcome literals metas (text ++ blanks) (cutting.tokens pieces)
+  pub cut : (metas : Bool) (blanks : List ℕ) → AreBlanks blanks →
+      Cuts literals metas (length (text ++ blanks)) (text ++ blanks) pieces []
+  pub outcome : (metas : Bool) (blanks : List ℕ) → AreBlanks blanks → length tokens ≤ 10000 →
+      IsOutcome literals metas (text ++ blanks) (cutting.tokens pieces)
 
 -- the tokens have a reading as the sort at the least level whose term is this one
 abbrev pub HasReading : Grammar → List Text → List Token → (sort least : ℕ) → Tree → Type 0
-HasReading g names tokens sort least t = (r : Reading) × Reads g tokens sort least 0 (length tokens) r × (term_of tokens names r ≡ t)
+HasReading g names tokens sort least t = (r : Reading) ×
+    Reads g tokens sort least 0 (length tokens) r × (term_of tokens names r ≡ t)

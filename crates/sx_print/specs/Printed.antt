@@ -1,9 +1,11 @@
 -- The text of printed tokens, and which terms can be printed.
-use Rattle.std.specs.Prelude.{◌≡◌, ℕ, ◌+◌, ◌<◌, ◌≤◌, ◌⊎◌, List, [], ◌∷◌, ◌++◌, Option, Some, None, cond, nat_lt, length, map, flat_map}
+use Rattle.std.specs.Prelude.{◌≡◌, ℕ, ◌+◌, ◌<◌, ◌≤◌, ◌⊎◌, List, [], ◌∷◌, ◌++◌, Option, Some, None}
+use Rattle.std.specs.Prelude.{cond, nat_lt, length, map, flat_map}
 use Rattle.std.specs.List.{slice_get, AllByRecursion, join_with_byte}
 use Rattle.std.specs.Str.{IsUtf8}
 use Rattle.sx_term.specs.Tree.{Tree, Trees, node, lexeme, hole, none, ◌▹◌, listed}
-use Rattle.sx_grammar.specs.Grammar.{Text, Symbol, literal, lexical, part, Production, Brackets, Grammar, pair_of, Stem, of_kind, of_sort, Token}
+use Rattle.sx_grammar.specs.Grammar.{Text, Symbol, literal, lexical, part, Production, Brackets}
+use Rattle.sx_grammar.specs.Grammar.{Grammar, pair_of, Stem, of_kind, of_sort, Token}
 use Rattle.sx_grammar.specs.Print.{Fits}
 
 -- the tokens' texts with one blank between them
@@ -14,7 +16,8 @@ text_of tokens = join_with_byte 32 (map (λ token. token.text) tokens)
 abbrev pub IsAskedFor : Grammar → Stem → ℕ → Type 0
 IsAskedFor g (of_kind kind) least = Unit {0}
 IsAskedFor g (of_sort sort) least = (least ≡ 0)
-    ⊎ ((label : ℕ) × (p : Production) × (place : ℕ) × (slice_get g.productions label ≡ Some p) × (slice_get p.symbols place ≡ Some (part sort least)))
+    ⊎ ((label : ℕ) × (p : Production) × (place : ℕ) × (slice_get g.productions label ≡ Some p) ×
+    (slice_get p.symbols place ≡ Some (part sort least)))
 
 -- the term fits where this least level is asked for, under some sorts of as many variables at most
 pub record IsPrintable (g : Grammar) (variables least : ℕ) (t : Tree) : Type 0 where
@@ -45,9 +48,12 @@ parts_in (lexical kind ∷ rest) = parts_in rest + 1
 parts_in (part sort least ∷ rest) = parts_in rest + 1
 
 abbrev mutual
-  -- each label has a production with as many parts as the node has kids, and each variable is below the number
+  -- each label has a production with as many parts as the node has kids, and each variable is below
+  -- the number
   pub IsBuilt : Grammar → ℕ → Tree → Type 0
-  IsBuilt g variables (node label kids) = (p : Production) × (slice_get g.productions label ≡ Some p) × (parts_in p.symbols ≡ length (listed kids)) × AreBuilt g variables kids
+  IsBuilt g variables (node label kids) = (p : Production) ×
+      (slice_get g.productions label ≡ Some p) × (parts_in p.symbols ≡ length (listed kids)) ×
+      AreBuilt g variables kids
   IsBuilt g variables (lexeme kind text) = Unit {0}
   IsBuilt g variables (hole v) = v < variables
 

@@ -18,8 +18,11 @@ place_of (Typed number) = of_sort number
 
 -- a term that is well sorted by the shapes of a grammar fits it
 abbrev pub SortedTermsFit : Type 0
-SortedTermsFit = (p : Parts) (vars : List Sort) (t : Tree) (sort : Sort) → HasSort (shapes_of p) vars t sort → Fits (numbered p) (map place_of vars) (place_of sort) t
+SortedTermsFit = (p : Parts) (vars : List Sort) (t : Tree) (sort : Sort) →
+    HasSort (shapes_of p) vars t sort → Fits (numbered p) (map place_of vars) (place_of sort) t
 
 -- where its variables have names, it can be printed at level 0
 abbrev pub SortedTermsArePrintable : Type 0
-SortedTermsArePrintable = (p : Parts) (vars : List Sort) (variables : ℕ) (t : Tree) (sort : Sort) → HasSort (shapes_of p) vars t sort → length vars ≤ variables → IsPrintable (numbered p) variables 0 t
+SortedTermsArePrintable = (p : Parts) (vars : List Sort) (variables : ℕ) (t : Tree) (sort : Sort) →
+    HasSort (shapes_of p) vars t sort → length vars ≤ variables →
+    IsPrintable (numbered p) variables 0 t

@@ -18,8 +18,9 @@ use std::alloc::Global;
 use sx_grammar::Grammar;
 use sx_term::{NoMemory, Term, Vars};
 
-/// Appends the tokens of the term with one blank between them, and brackets exactly where a node's level is below the least level
-/// asked for. A variable stands as `~` and its name. Where memory is lacking, `into` is as before.
+/// Appends the tokens of the term with one blank between them, and brackets exactly where a node's
+/// level is below the least level asked for. A variable stands as `~` and its name. Where memory is
+/// lacking, `into` is as before.
 pub fn print(
     _alloc: Global,
     grammar: &Grammar,
@@ -29,20 +30,25 @@ pub fn print(
     into: &mut Vec<u8>,
 ) -> Result<(), NoMemory>
     requires depth { depth_of (tree term.now) ≤ 1000 }
-    requires printable { IsPrintable (numbered grammar.now.parts) (length vars.now) least (tree term.now) }
+    requires printable { IsPrintable (numbered grammar.now.parts) (length vars.now) least
+        (tree term.now) }
 
     // The printed tokens are appended. Their text is the same at each place: a place decides only how variables are marked.
     ensures text { OnOk result ((place : Stem) →
-        into.new.items ≡ into.old.items ++ text_of (plain.print (numbered grammar.now.parts) vars.now (tree term.now) place least)) }
+        into.new.items ≡ into.old.items ++ text_of
+        (plain.print (numbered grammar.now.parts) vars.now (tree term.now) place least)) }
     ensures utf8 { OnOk result ((place : Stem) →
-        IsUtf8 (text_of (plain.print (numbered grammar.now.parts) vars.now (tree term.now) place least))) }
+        IsUtf8 (text_of (plain.print (numbered grammar.now.parts) vars.now
+        (tree term.now) place least))) }
 
     // Without variables the text is cut into just these tokens, and they are read as the term.
-    ensures cut { OnOk result ((place : Stem) → Fits (numbered grammar.now.parts) [] place (tree term.now) →
+    ensures cut { OnOk result ((place : Stem) →
+        Fits (numbered grammar.now.parts) [] place (tree term.now) →
         HasLexemes (literals_of grammar.now.parts) (tree term.now) →
         let printed = plain.print (numbered grammar.now.parts) vars.now (tree term.now) place least in
         IsCutInto (literals_of grammar.now.parts) printed (text_of printed)) }
-    ensures read { (sort : ℕ) → Fits (numbered grammar.now.parts) [] (of_sort sort) (tree term.now) →
+    ensures read { (sort : ℕ) → Fits (numbered grammar.now.parts) [] (of_sort sort)
+        (tree term.now) →
         let printed = plain.print (numbered grammar.now.parts) vars.now (tree term.now) (of_sort sort) least in
         HasReading (numbered grammar.now.parts) vars.now printed sort least (tree term.now) }
 

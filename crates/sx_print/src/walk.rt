@@ -15,10 +15,12 @@ use crate::writing::{put_literal, put_token, put_variable};
 use sx_grammar::{Grammar, NumberedProduction, NumberedSymbol};
 use sx_term::{NoMemory, Term, Vars};
 
-/// The numbers of the literals that stand round a node of the production, or None where its level is not below the least.
+/// The numbers of the literals that stand round a node of the production, or None where its level
+/// is not below the least.
 fn pair_for(grammar: &Grammar, production: &NumberedProduction, least: u8) -> Option<(u32, u32)>
     ensures { IsNumberedPair (literals_of grammar.now.parts)
-        (brackets_below (numbered grammar.now.parts) production.now.sort production.now.level least) result }
+        (brackets_below (numbered grammar.now.parts) production.now.sort production.now.level
+        least) result }
 {
     if production.level < least {
         grammar.brackets(production.sort)
@@ -27,7 +29,8 @@ fn pair_for(grammar: &Grammar, production: &NumberedProduction, least: u8) -> Op
     }
 }
 
-/// Appends the tokens of the term, each with a blank behind it, or a front of them where memory is lacking.
+/// Appends the tokens of the term, each with a blank behind it, or a front of them where memory is
+/// lacking.
 #[cycle(put)]
 pub fn put_term(
     grammar: &Grammar,
@@ -39,7 +42,8 @@ pub fn put_term(
     requires depth { depth_of (tree term.now) ≤ 1000 }
     requires built { IsBuilt (numbered grammar.now.parts) (length vars.now) (tree term.now) }
     ensures ok { OnOk result ((place : Stem) →
-        Adds (print (numbered grammar.now.parts) vars.now (tree term.now) place least) into.old.items into.new.items) }
+        Adds (print (numbered grammar.now.parts) vars.now
+        (tree term.now) place least) into.old.items into.new.items) }
     ensures appends { (more : List ℕ) × (into.new.items ≡ into.old.items ++ more) }
 {
     match term {
@@ -59,8 +63,8 @@ pub fn put_term(
     }
 }
 
-/// Appends the tokens of the symbols with the kids in their places, each with a blank behind it, or a front of them where memory is
-/// lacking.
+/// Appends the tokens of the symbols with the kids in their places, each with a blank behind it, or
+/// a front of them where memory is lacking.
 #[cycle(put)]
 fn put_symbols(
     grammar: &Grammar,
@@ -71,10 +75,13 @@ fn put_symbols(
 ) -> Result<(), NoMemory>
     requires depth { greatest_depth (forest (map tree kids.now)) ≤ 1000 }
     requires below { HasLiteralsBelow (length (literals_of grammar.now.parts)) symbols.now }
-    requires many { parts_in (map (symbol (literals_of grammar.now.parts)) symbols.now) ≡ length kids.now }
-    requires built { AreBuilt (numbered grammar.now.parts) (length vars.now) (forest (map tree kids.now)) }
+    requires many { parts_in (map (symbol (literals_of grammar.now.parts)) symbols.now)
+        ≡ length kids.now }
+    requires built { AreBuilt (numbered grammar.now.parts) (length vars.now)
+        (forest (map tree kids.now)) }
     ensures ok { OnOk result (Adds
-        (print_symbols (map (symbol (literals_of grammar.now.parts)) symbols.now) (print_each (numbered grammar.now.parts) vars.now (forest (map tree kids.now))))
+        (print_symbols (map (symbol (literals_of grammar.now.parts)) symbols.now)
+        (print_each (numbered grammar.now.parts) vars.now (forest (map tree kids.now))))
         into.old.items into.new.items) }
     ensures appends { (more : List ℕ) × (into.new.items ≡ into.old.items ++ more) }
 {

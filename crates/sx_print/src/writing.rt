@@ -11,7 +11,8 @@ use sx_term::{NoMemory, Text, Vars};
 
 /// Appends the text and a blank, or a front of them where memory is lacking.
 pub fn put_token(text: &Text, into: &mut Vec<u8>) -> Result<(), NoMemory>
-    ensures ok { OnOk result ((mark : Mark) → Adds (record { mark = mark; text = text.now } ∷ []) into.old.items into.new.items) }
+    ensures ok { OnOk result ((mark : Mark) →
+        Adds (record { mark = mark; text = text.now } ∷ []) into.old.items into.new.items) }
     ensures appends { (more : List ℕ) × (into.new.items ≡ into.old.items ++ more) }
 {
     into.extend_from_slice(text.bytes())?;
@@ -22,7 +23,9 @@ pub fn put_token(text: &Text, into: &mut Vec<u8>) -> Result<(), NoMemory>
 /// Appends the literal with this number and a blank, or a front of them where memory is lacking.
 pub fn put_literal(grammar: &Grammar, number: u32, into: &mut Vec<u8>) -> Result<(), NoMemory>
     requires { number < length (literals_of grammar.now.parts) }
-    ensures ok { OnOk result (Adds (literal_token (slice_index_or (literals_of grammar.now.parts) number []) ∷ []) into.old.items into.new.items) }
+    ensures ok { OnOk result
+        (Adds (literal_token (slice_index_or (literals_of grammar.now.parts) number []) ∷
+        []) into.old.items into.new.items) }
     ensures appends { (more : List ℕ) × (into.new.items ≡ into.old.items ++ more) }
 {
     let literals = grammar.literals();
@@ -33,7 +36,11 @@ pub fn put_literal(grammar: &Grammar, number: u32, into: &mut Vec<u8>) -> Result
 pub(crate) fn put_variable(vars: &Vars, variable: u32, into: &mut Vec<u8>) -> Result<(), NoMemory>
     requires { variable < length vars.now }
     ensures ok { OnOk result ((place : Stem) →
-        Adds (record { mark = is_variable place; text = 126 ∷ slice_index_or vars.now variable [] } ∷ []) into.old.items into.new.items) }
+        Adds (record {
+          mark = is_variable place;
+          text = 126 ∷ slice_index_or vars.now variable [];
+        } ∷
+        []) into.old.items into.new.items) }
     ensures appends { (more : List ℕ) × (into.new.items ≡ into.old.items ++ more) }
 {
     match vars.name(variable) {
@@ -47,7 +54,8 @@ pub(crate) fn put_variable(vars: &Vars, variable: u32, into: &mut Vec<u8>) -> Re
 
 /// Removes the blank behind the last token, where tokens were written from this place on.
 pub fn drop_last_blank(start: usize, into: &mut Vec<u8>)
-    ensures { (tokens : List Token) (before : List ℕ) → length before ≡ start → into.old.items ≡ before ++ written tokens →
+    ensures { (tokens : List Token) (before : List ℕ) → length before ≡ start →
+        into.old.items ≡ before ++ written tokens →
         into.new.items ≡ before ++ text_of tokens }
 {
     let end = into.len();

@@ -1,5 +1,6 @@
 -- Where reading a list stops.
-use Rattle.std.specs.Prelude.{◌≡◌, ℕ, ◌-◌, ◌<◌, ◌≤◌, List, [], ◌⊎◌, map, take, length, Some, None, Result, Ok, Err, Vec}
+use Rattle.std.specs.Prelude.{◌≡◌, ℕ, ◌-◌, ◌<◌, ◌≤◌, List, [], ◌⊎◌, map, take, length, Some, None}
+use Rattle.std.specs.Prelude.{Result, Ok, Err, Vec}
 use Rattle.std.specs.declared.alloc.Global.{Global}
 use Rattle.sx_term.specs.Tree.{Tree}
 use Rattle.sx_rules.specs.Rules.{Rule, Hypotheses}
@@ -9,12 +10,15 @@ use Rattle.sx_arena.specs.Arena.{tree_at}
 use Rattle.sx_replay.specs.declared.noted.Noted.{Noted}
 use Rattle.sx_replay.specs.declared.reader.Reader.{Reader}
 use Rattle.sx_replay.specs.declared.replay_error.ReplayError.{ReplayError}
-use Rattle.sx_replay.specs.declared.replay_error.ReplayError.TheVariants.{Memory, WrongAt, EndsEarly, LongList, TooDeep, TooBig, DeepList}
+use Rattle.sx_replay.specs.declared.replay_error.ReplayError.TheVariants.{Memory, WrongAt}
+use Rattle.sx_replay.specs.declared.replay_error.ReplayError.TheVariants.{EndsEarly, LongList}
+use Rattle.sx_replay.specs.declared.replay_error.ReplayError.TheVariants.{TooDeep, TooBig, DeepList}
 use Rattle.sx_replay.specs.Limits.{nothing_noted}
 use Rattle.sx_replay.specs.Machine.{Frame, asks, Reading, wrong, open_at, ended, read}
 use Rattle.sx_replay.specs.Reader.{reader_trees}
 
--- what is found of an entry at a goal for which that many rules wait, and of the terms up to the next entry
+-- what is found of an entry at a goal for which that many rules wait, and of the terms up to the
+-- next entry
 abbrev pub IsChecked : ℕ → Noted → ℕ → Result (Unit {0}) ReplayError → Type 0
 IsChecked level n number (Ok x) = (level < 3000) × (n ≡ nothing_noted)
 IsChecked level n number (Err (DeepList k)) = (3000 ≤ level) × (k ≡ number)
@@ -32,7 +36,8 @@ module _ (modes : Modes) (rules : List Rule) (hyps : Hypotheses) (goal : Goal) w
 
   -- at a goal, within the limits
   abbrev pub StandsOpen : List Entry → Type 0
-  StandsOpen list = (g : Goal) × (fs : List Frame) × (d : ℕ) × (reading list ≡ open_at g fs nothing_noted d) × (d ≤ 3000)
+  StandsOpen list = (g : Goal) × (fs : List Frame) × (d : ℕ) ×
+      (reading list ≡ open_at g fs nothing_noted d) × (d ≤ 3000)
 
   -- at the end of a derivation, within the limits
   abbrev pub StandsWhole : List Entry → List Tree → Type 0
@@ -41,7 +46,8 @@ module _ (modes : Modes) (rules : List Rule) (hyps : Hypotheses) (goal : Goal) w
   -- at a goal or at the end of a derivation, with this noted and this depth
   abbrev pub StandsAt : List Entry → Noted → ℕ → Type 0
   StandsAt list n d =
-      ((g : Goal) × (fs : List Frame) × (reading list ≡ open_at g fs n d)) ⊎ ((outs : List Tree) × (reading list ≡ ended outs n d []))
+      ((g : Goal) × (fs : List Frame) × (reading list ≡ open_at g fs n d)) ⊎
+      ((outs : List Tree) × (reading list ≡ ended outs n d []))
 
   -- the entries before number k stand at a goal
   abbrev pub StandsBefore : List Entry → ℕ → Type 0
@@ -51,11 +57,15 @@ module _ (modes : Modes) (rules : List Rule) (hyps : Hypotheses) (goal : Goal) w
   IsRefused list Memory = Unit {0}
   IsRefused list (WrongAt k) = StandsBefore list k × (reading (take k list) ≡ wrong)
   IsRefused list EndsEarly = StandsOpen list
-  IsRefused list (LongList k) = (1 ≤ k) × (k ≤ length list) × ((outs : List Tree) × StandsWhole (take (k - 1) list) outs)
-  IsRefused list (DeepList k) = (n : Noted) × (d : ℕ) × StandsBefore list k × StandsAt (take k list) n d × (3000 < d)
-  IsRefused list (TooDeep m) = (k : ℕ) × (n : Noted) × (d : ℕ) × StandsBefore list k × StandsAt (take k list) n d × (d ≤ 3000) × (n.deep ≡ Some m)
+  IsRefused list (LongList k) = (1 ≤ k) × (k ≤ length list) ×
+      ((outs : List Tree) × StandsWhole (take (k - 1) list) outs)
+  IsRefused list (DeepList k) = (n : Noted) × (d : ℕ) × StandsBefore list k ×
+      StandsAt (take k list) n d × (3000 < d)
+  IsRefused list (TooDeep m) = (k : ℕ) × (n : Noted) × (d : ℕ) × StandsBefore list k ×
+      StandsAt (take k list) n d × (d ≤ 3000) × (n.deep ≡ Some m)
   IsRefused list (TooBig m) =
-      (k : ℕ) × (n : Noted) × (d : ℕ) × StandsBefore list k × StandsAt (take k list) n d × (d ≤ 3000) × (n.deep ≡ None) × (n.big ≡ Some m)
+      (k : ℕ) × (n : Noted) × (d : ℕ) × StandsBefore list k × StandsAt (take k list) n d ×
+      (d ≤ 3000) × (n.deep ≡ None) × (n.big ≡ Some m)
 
   abbrev pub IsFollowed : List Entry → Reader → Result (Vec ℕ Global) ReplayError → Type 0
   IsFollowed list r (Ok outs) = StandsWhole list (map (tree_at (reader_trees r)) outs.items)

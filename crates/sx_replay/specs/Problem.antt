@@ -11,7 +11,8 @@ use Rattle.sx_replay.specs.Limits.{nothing_noted}
 use Rattle.sx_replay.specs.Reader.{reader_trees, base_trees, IsReader}
 
 -- the problem has the hypotheses and the terms of the goal by their numbers, and nothing is read
-pub record IsProblem (modes : Modes) (rules : List Rule) (hyps : Hypotheses) (terms : List Tree) (p : Problem) : Type 0 where
+pub record IsProblem (modes : Modes) (rules : List Rule) (hyps : Hypotheses) (terms : List Tree)
+    (p : Problem) : Type 0 where
   pub reader : IsReader rules p.reader
   pub none_waits : p.reader.waiting.items ≡ []
   pub noted : p.reader.noted ≡ nothing_noted

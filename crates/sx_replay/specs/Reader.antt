@@ -1,5 +1,6 @@
 -- What the checker keeps, as plain data, and how it grows.
-use Rattle.std.specs.Prelude.{◌≡◌, ℕ, ◌+◌, ◌<◌, ◌≤◌, Bool, List, [], ◌∷◌, map, take, drop, length, get_or, slice_get, Option, Some, None}
+use Rattle.std.specs.Prelude.{◌≡◌, ℕ, ◌+◌, ◌<◌, ◌≤◌, Bool, List, [], ◌∷◌, map, take, drop, length}
+use Rattle.std.specs.Prelude.{get_or, slice_get, Option, Some, None}
 use Rattle.sx_term.specs.Tree.{Tree}
 use Rattle.sx_rules.specs.Instances.{instance}
 use Rattle.sx_rules.specs.Rules.{Judgement, Premise, holds, apart, Rule, Hypotheses}
@@ -59,7 +60,8 @@ stack_on modes rules es fs (c ∷ cs) = stack_on modes rules es (frame_of modes 
 abbrev pub stack : Modes → List Rule → Reader → List Frame
 stack modes rules r = stack_on modes rules (reader_envs r) [] r.waiting.items
 
--- the rule is there, and waits at a judgement premise, with bindings that were there when it began to wait
+-- the rule is there, and waits at a judgement premise, with bindings that were there when it began
+-- to wait
 pub record WaitsAt (rules : List Rule) (n : ℕ) (c : Waiting) : Type 0 where
   pub rule : Rule
   pub judgement : Judgement
@@ -82,7 +84,8 @@ abbrev pub AreTo : ℕ → List Bind → Type 0
 AreTo n [] = Unit {0}
 AreTo n (b ∷ bs) = (b.term < n) × AreTo n bs
 
--- where each rule began to wait the terms of the problem were there, and the bindings were to terms that were there
+-- where each rule began to wait the terms of the problem were there, and the bindings were to terms
+-- that were there
 abbrev pub AreKept : ℕ → List Bind → List Waiting → Type 0
 AreKept base bs [] = Unit {0}
 AreKept base bs (c ∷ cs) = ((base ≤ c.terms) × AreTo c.terms (take c.mark bs)) × AreKept base bs cs
@@ -109,7 +112,8 @@ pub record GoesOn (rules : List Rule) (old new : Reader) : Type 0 where
 
 -- the outputs of a judgement, or else its inputs, under bindings
 abbrev pub places_made : Modes → Bool → Assignment → Judgement → List Tree
-places_made modes outputs env j = selected outputs (modes j.form) (map (instance (filled env)) j.places)
+places_made modes outputs env j = selected outputs (modes j.form)
+    (map (instance (filled env)) j.places)
 
 -- the terms are made and noted, and nothing else changes
 pub record IsMade (old new : Reader) (ts : List Tree) (is : List ℕ) : Type 0 where
@@ -127,28 +131,39 @@ hyps_in pairs r js = record { judgements = js; pairs = pairs_of (reader_trees r)
 abbrev pub goal_in : Reader → ℕ → List ℕ → Goal
 goal_in r form terms = record { form = form; terms = map (tree_at (reader_trees r)) terms }
 
--- the step stands for the move, where next says what becomes of outputs; with outputs the rules that wait are those before
-abbrev pub IsStep : Modes → List Rule → List Waiting → Reader → (List Tree → Noted → Move) → Step → Move → Type 0
+-- the step stands for the move, where next says what becomes of outputs; with outputs the rules
+-- that wait are those before
+abbrev pub IsStep : Modes → List Rule → List Waiting → Reader → (List Tree → Noted → Move) → Step →
+    Move → Type 0
 IsStep modes rules cs r next Clash m = m ≡ clash
 IsStep modes rules cs r next (Done outs) m =
-    AreBelow (length (reader_trees r)) outs.items × (r.waiting.items ≡ cs) × (m ≡ next (map (tree_at (reader_trees r)) outs.items) r.noted)
+    AreBelow (length (reader_trees r)) outs.items × (r.waiting.items ≡ cs) ×
+    (m ≡ next (map (tree_at (reader_trees r)) outs.items) r.noted)
 IsStep modes rules cs r next (Asks form terms) m =
-    AreBelow (length (reader_trees r)) terms.items × (m ≡ asks (goal_in r form terms.items) (stack modes rules r) r.noted)
+    AreBelow (length (reader_trees r)) terms.items ×
+    (m ≡ asks (goal_in r form terms.items) (stack modes rules r) r.noted)
 
 -- what comes of the premises
-pub record IsPremises (modes : Modes) (rules : List Rule) (pairs : List Pair) (old new : Reader) (rule : Rule) (env : ℕ) (ps : List Premise) (step : Step) : Type 0 where
+pub record IsPremises (modes : Modes) (rules : List Rule) (pairs : List Pair) (old new : Reader)
+    (rule : Rule) (env : ℕ) (ps : List Premise) (step : Step) : Type 0 where
   pub grows : Grows rules old new
   pub is : (js : List Judgement) (next : List Tree → Noted → Move) →
-      IsStep modes rules old.waiting.items new next step (premises_move modes (hyps_in pairs old js) next (stack modes rules old) rule ps (env_at (reader_envs old) env) old.noted)
+      IsStep modes rules old.waiting.items new next step
+      (premises_move modes (hyps_in pairs old js) next (stack modes rules old) rule ps
+      (env_at (reader_envs old) env) old.noted)
 
 -- what comes of the outputs at a rule that waits for them
-pub record IsResumed (modes : Modes) (rules : List Rule) (pairs : List Pair) (old new : Reader) (c : Waiting) (outs : List ℕ) (step : Step) : Type 0 where
+pub record IsResumed (modes : Modes) (rules : List Rule) (pairs : List Pair) (old new : Reader)
+    (c : Waiting) (outs : List ℕ) (step : Step) : Type 0 where
   pub grows : Grows rules old new
   pub is : (js : List Judgement) →
-      IsStep modes rules old.waiting.items new (hand_on modes (hyps_in pairs old js) (stack modes rules old)) step
-      (hand_on modes (hyps_in pairs old js) (frame_of modes rules (reader_envs old) c ∷ stack modes rules old) (map (tree_at (reader_trees old)) outs) old.noted)
+      IsStep modes rules old.waiting.items new
+      (hand_on modes (hyps_in pairs old js) (stack modes rules old)) step
+      (hand_on modes (hyps_in pairs old js) (frame_of modes rules (reader_envs old) c ∷
+      stack modes rules old) (map (tree_at (reader_trees old)) outs) old.noted)
 
 -- what comes of a candidate, or of outputs handed on, is the machine's move
-pub record IsMoved (modes : Modes) (rules : List Rule) (pairs : List Pair) (old new : Reader) (move : Hypotheses → Move) (step : Step) : Type 0 where
+pub record IsMoved (modes : Modes) (rules : List Rule) (pairs : List Pair) (old new : Reader)
+    (move : Hypotheses → Move) (step : Step) : Type 0 where
   pub grows : GoesOn rules old new
   pub is : (js : List Judgement) → IsStep modes rules [] new ends step (move (hyps_in pairs old js))

@@ -1,5 +1,6 @@
 -- What replaying a list answers.
-use Rattle.std.specs.Prelude.{◌≡◌, ℕ, ◌-◌, ◌<◌, ◌≤◌, List, map, take, length, Some, None, Result, Ok, Err, Vec}
+use Rattle.std.specs.Prelude.{◌≡◌, ℕ, ◌-◌, ◌<◌, ◌≤◌, List, map, take, length, Some, None, Result}
+use Rattle.std.specs.Prelude.{Ok, Err, Vec}
 use Rattle.std.specs.declared.alloc.Global.{Global}
 use Rattle.sx_term.specs.Tree.{Tree}
 use Rattle.sx_term.specs.Term.{tree}
@@ -8,7 +9,9 @@ use Rattle.sx_rules.specs.Rules.{Rule, Hypotheses}
 use Rattle.sx_rules.specs.Modes.{Modes, Goal}
 use Rattle.sx_rules.specs.Orders.{Entry}
 use Rattle.sx_replay.specs.declared.replay_error.ReplayError.{ReplayError}
-use Rattle.sx_replay.specs.declared.replay_error.ReplayError.TheVariants.{Memory, WrongAt, EndsEarly, LongList, TooDeep, TooBig, DeepList}
+use Rattle.sx_replay.specs.declared.replay_error.ReplayError.TheVariants.{Memory, WrongAt}
+use Rattle.sx_replay.specs.declared.replay_error.ReplayError.TheVariants.{EndsEarly, LongList}
+use Rattle.sx_replay.specs.declared.replay_error.ReplayError.TheVariants.{TooDeep, TooBig, DeepList}
 use Rattle.sx_replay.specs.Limits.{first_deep, first_big}
 use Rattle.sx_replay.specs.Fronts.{Stage, open_one, whole, IsFront}
 
@@ -22,7 +25,8 @@ module _ (modes : Modes) (rules : List Rule) (hyps : Hypotheses) (goal : Goal) w
     pub small : first_big terms ≡ None
     pub level : depth ≤ 3000
 
-  -- the entries before number k, counted from 1, are those of a derivation within the limits that has goals left
+  -- the entries before number k, counted from 1, are those of a derivation within the limits that
+  -- has goals left
   pub record IsReached (list : List Entry) (k : ℕ) : Type 0 where
     pub first : 1 ≤ k
     pub last : k ≤ length list
@@ -34,19 +38,25 @@ module _ (modes : Modes) (rules : List Rule) (hyps : Hypotheses) (goal : Goal) w
     pub stage : Stage
     pub front : IsFront modes rules hyps goal stage (take k list) terms depth
 
-  -- the answer: the outputs of the derivation that has this list, or else what is wrong at the first entry at which something is
+  -- the answer: the outputs of the derivation that has this list, or else what is wrong at the
+  -- first entry at which something is
   abbrev pub IsReplayAnswer : List Entry → Result (List Tree) ReplayError → Type 0
   IsReplayAnswer list (Ok outs) = IsWithin (whole outs) list
   IsReplayAnswer list (Err Memory) = Unit {0}
   IsReplayAnswer list (Err (WrongAt k)) =
-      IsReached list k × ((stage : Stage) (terms : List Tree) (depth : ℕ) → IsFront modes rules hyps goal stage (take k list) terms depth → ⊥)
+      IsReached list k × ((stage : Stage) (terms : List Tree) (depth : ℕ) →
+      IsFront modes rules hyps goal stage (take k list) terms depth → ⊥)
   IsReplayAnswer list (Err EndsEarly) = IsWithin open_one list
-  IsReplayAnswer list (Err (LongList k)) = (1 ≤ k) × (k ≤ length list) × ((outs : List Tree) × IsWithin (whole outs) (take (k - 1) list))
-  IsReplayAnswer list (Err (DeepList k)) = (terms : List Tree) × (depth : ℕ) × IsFitting list k terms depth × (3000 < depth)
+  IsReplayAnswer list (Err (LongList k)) = (1 ≤ k) × (k ≤ length list) ×
+      ((outs : List Tree) × IsWithin (whole outs) (take (k - 1) list))
+  IsReplayAnswer list (Err (DeepList k)) = (terms : List Tree) × (depth : ℕ) ×
+      IsFitting list k terms depth × (3000 < depth)
   IsReplayAnswer list (Err (TooDeep n)) =
-      (k : ℕ) × (terms : List Tree) × (depth : ℕ) × IsFitting list k terms depth × (depth ≤ 3000) × (first_deep terms ≡ Some n)
+      (k : ℕ) × (terms : List Tree) × (depth : ℕ) × IsFitting list k terms depth × (depth ≤ 3000) ×
+      (first_deep terms ≡ Some n)
   IsReplayAnswer list (Err (TooBig n)) =
-      (k : ℕ) × (terms : List Tree) × (depth : ℕ) × IsFitting list k terms depth × (depth ≤ 3000) × (first_deep terms ≡ None) × (first_big terms ≡ Some n)
+      (k : ℕ) × (terms : List Tree) × (depth : ℕ) × IsFitting list k terms depth × (depth ≤ 3000) ×
+      (first_deep terms ≡ None) × (first_big terms ≡ Some n)
 
   -- what replaying a list answers
   abbrev pub IsReplayed : List Entry → Result (Vec Term Global) ReplayError → Type 0

@@ -10,7 +10,8 @@ ghost use Rattle.sx_arena.specs.Pairs.{ArePairs};
 ghost use Rattle.sx_arena.specs.Views.{rules_of, modes_of, rule_of};
 ghost use Rattle.std.specs.Prelude.{List, []};
 ghost use Rattle.sx_replay.specs.Machine.{rule_move, given_move, entry_move, ends};
-ghost use Rattle.sx_replay.specs.Reader.{IsReader, IsMoved, reader_trees, base_trees, stack, goal_in, hyps_in, IsStep, GoesOn};
+ghost use Rattle.sx_replay.specs.Reader.{IsReader, IsMoved, reader_trees, base_trees, stack};
+ghost use Rattle.sx_replay.specs.Reader.{goal_in, hyps_in, IsStep, GoesOn};
 
 use crate::handing::hand_on;
 use crate::premise_loop::premises;
@@ -37,8 +38,11 @@ fn try_rule(
     requires reader { IsReader (rules_of rules.now) reader.old }
     requires pairs { ArePairs (length (base_trees reader.old)) pairs.now }
     requires terms { AreBelow (length (reader_trees reader.old)) terms.now }
-    ensures { IfOk result (λ step. IsMoved (modes_of rules.now) (rules_of rules.now) pairs.now reader.old reader.new
-        (λ hyps. rule_move (modes_of rules.now) hyps (rule_of rule.now) (goal_in reader.old form terms.now) (stack (modes_of rules.now) (rules_of rules.now) reader.old) reader.old.noted) step) }
+    ensures { IfOk result (λ step. IsMoved (modes_of rules.now)
+        (rules_of rules.now) pairs.now reader.old reader.new
+        (λ hyps. rule_move (modes_of rules.now) hyps (rule_of rule.now)
+        (goal_in reader.old form terms.now)
+        (stack (modes_of rules.now) (rules_of rules.now) reader.old) reader.old.noted) step) }
 {
     if rule.conclusion.form != form {
         return Ok(Step::Clash);
@@ -75,10 +79,13 @@ fn try_given(
     requires reader { IsReader (rules_of rules.now) reader.old }
     requires pairs { ArePairs (length (base_trees reader.old)) pairs.now }
     requires terms { AreBelow (length (reader_trees reader.old)) terms.now }
-    requires fact { (j : Judgement) × IsFact (modes_of rules.now) (reader_trees reader.old) j fact.now }
-    ensures { IfOk result (λ step. (j : Judgement) → IsFact (modes_of rules.now) (reader_trees reader.old) j fact.now →
+    requires fact { (j : Judgement) × IsFact (modes_of rules.now)
+        (reader_trees reader.old) j fact.now }
+    ensures { IfOk result (λ step. (j : Judgement) →
+        IsFact (modes_of rules.now) (reader_trees reader.old) j fact.now →
         IsMoved (modes_of rules.now) (rules_of rules.now) pairs.now reader.old reader.new
-        (λ hyps. given_move (modes_of rules.now) hyps j (goal_in reader.old form terms.now) (stack (modes_of rules.now) (rules_of rules.now) reader.old) reader.old.noted) step) }
+        (λ hyps. given_move (modes_of rules.now) hyps j (goal_in reader.old form terms.now)
+        (stack (modes_of rules.now) (rules_of rules.now) reader.old) reader.old.noted) step) }
 {
     if fact.form != form {
         return Ok(Step::Clash);
@@ -105,11 +112,15 @@ pub fn try_entry(
     requires reader { IsReader (rules_of rules.now) reader.old }
     requires pairs { ArePairs (length (base_trees reader.old)) pairs.now }
     requires terms { AreBelow (length (reader_trees reader.old)) terms.now }
-    requires facts { (js : List Judgement) × AreFacts (modes_of rules.now) (base_trees reader.old) js facts.now }
-    ensures { IfOk result (λ step. (js : List Judgement) → AreFacts (modes_of rules.now) (base_trees reader.old) js facts.now →
+    requires facts { (js : List Judgement) ×
+        AreFacts (modes_of rules.now) (base_trees reader.old) js facts.now }
+    ensures { IfOk result (λ step. (js : List Judgement) →
+        AreFacts (modes_of rules.now) (base_trees reader.old) js facts.now →
         GoesOn (rules_of rules.now) reader.old reader.new
         × IsStep (modes_of rules.now) (rules_of rules.now) [] reader.new ends step
-        (entry_move (modes_of rules.now) (hyps_in pairs.now reader.old js) (rules_of rules.now) (entry_of entry) (goal_in reader.old form terms.now) (stack (modes_of rules.now) (rules_of rules.now) reader.old) reader.old.noted)) }
+        (entry_move (modes_of rules.now) (hyps_in pairs.now reader.old js) (rules_of rules.now)
+        (entry_of entry) (goal_in reader.old form terms.now)
+        (stack (modes_of rules.now) (rules_of rules.now) reader.old) reader.old.noted)) }
 {
     match entry {
         Entry::Given(number) => {

@@ -1,6 +1,7 @@
 //! The entries of a list, one after another.
 
-ghost use Rattle.std.specs.Prelude.{◌≡◌, ℕ, ◌-◌, ◌^◌, ◌≤◌, ◌<◌, List, [], IfOk, length, map, get_or};
+ghost use Rattle.std.specs.Prelude.{◌≡◌, ℕ, ◌-◌, ◌^◌, ◌≤◌, ◌<◌, List, [], IfOk, length, map};
+ghost use Rattle.std.specs.Prelude.{get_or};
 ghost use Rattle.sx_rules.specs.Deep.{RulesAreShallow};
 ghost use Rattle.sx_rules.specs.Rules.{Judgement};
 ghost use Rattle.sx_rules.specs.EntryView.{entries};
@@ -33,8 +34,8 @@ fn entry_at(list: &[Entry], index: usize) -> Entry
 /// The most levels of a derivation.
 const MOST_LEVELS: usize = 3000;
 
-/// Whether the entry with this number may stand at a goal for which `level` rules wait, and no term up to the next entry
-/// passes a limit.
+/// Whether the entry with this number may stand at a goal for which `level` rules wait, and no term
+/// up to the next entry passes a limit.
 fn checked(level: usize, noted: Noted, number: u32) -> Result<(), ReplayError>
     ensures { IsChecked level noted number result }
 {
@@ -68,11 +69,14 @@ pub fn follow(
     requires noted { reader.old.noted ≡ nothing_noted }
     requires pairs { ArePairs (length (base_trees reader.old)) pairs.now }
     requires terms { AreBelow (length (reader_trees reader.old)) terms.items }
-    requires facts { (js : List Judgement) × AreFacts (modes_of rules.now) (base_trees reader.old) js facts.now }
+    requires facts { (js : List Judgement) ×
+        AreFacts (modes_of rules.now) (base_trees reader.old) js facts.now }
     ensures arena { IfOk result (λ outs. IsArena reader.new.arena) }
     ensures within { IfOk result (λ outs. AreBelow (length (reader_trees reader.new)) outs.items) }
-    ensures followed { (js : List Judgement) → AreFacts (modes_of rules.now) (base_trees reader.old) js facts.now →
-        IsFollowed (modes_of rules.now) (rules_of rules.now) (hyps_in pairs.now reader.old js) (goal_in reader.old form terms.items) (entries list.now) reader.new result }
+    ensures followed { (js : List Judgement) →
+        AreFacts (modes_of rules.now) (base_trees reader.old) js facts.now →
+        IsFollowed (modes_of rules.now) (rules_of rules.now) (hyps_in pairs.now reader.old js)
+        (goal_in reader.old form terms.items) (entries list.now) reader.new result }
 {
     let mut form = form;
     let mut terms = terms;

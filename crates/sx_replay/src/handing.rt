@@ -6,7 +6,8 @@ ghost use Rattle.sx_arena.specs.Arena.{tree_at, AreBelow};
 ghost use Rattle.sx_arena.specs.Pairs.{ArePairs};
 ghost use Rattle.sx_arena.specs.Views.{rules_of, modes_of};
 ghost use Rattle.sx_replay.specs.Machine.{hand_on as handed};
-ghost use Rattle.sx_replay.specs.Reader.{IsReader, WaitsAt, IsResumed, IsMoved, reader_trees, base_trees, stack};
+ghost use Rattle.sx_replay.specs.Reader.{IsReader, WaitsAt, IsResumed, IsMoved, reader_trees};
+ghost use Rattle.sx_replay.specs.Reader.{base_trees, stack};
 
 use crate::premise_loop::premises;
 use crate::reader::{Reader, Waiting};
@@ -30,7 +31,8 @@ fn resume(
     requires pairs { ArePairs (length (reader_trees reader.old)) pairs.now }
     requires waits { WaitsAt (rules_of rules.now) (length reader.old.binds.cells.items) waiting }
     requires outputs { AreBelow (length (reader_trees reader.old)) outputs.now }
-    ensures { IfOk result (λ step. IsResumed (modes_of rules.now) (rules_of rules.now) pairs.now reader.old reader.new waiting outputs.now step) }
+    ensures { IfOk result (λ step. IsResumed (modes_of rules.now)
+        (rules_of rules.now) pairs.now reader.old reader.new waiting outputs.now step) }
 {
     let rule = rule_at(rules, waiting.rule);
     match &rule.premises[waiting.premise] {
@@ -75,8 +77,11 @@ pub fn hand_on(
     requires reader { IsReader (rules_of rules.now) reader.old }
     requires pairs { ArePairs (length (base_trees reader.old)) pairs.now }
     requires outputs { AreBelow (length (reader_trees reader.old)) outputs.items }
-    ensures { IfOk result (λ step. IsMoved (modes_of rules.now) (rules_of rules.now) pairs.now reader.old reader.new
-        (λ hyps. handed (modes_of rules.now) hyps (stack (modes_of rules.now) (rules_of rules.now) reader.old) (map (tree_at (reader_trees reader.old)) outputs.items) reader.old.noted) step) }
+    ensures { IfOk result (λ step. IsMoved (modes_of rules.now)
+        (rules_of rules.now) pairs.now reader.old reader.new
+        (λ hyps. handed (modes_of rules.now) hyps
+        (stack (modes_of rules.now) (rules_of rules.now) reader.old)
+        (map (tree_at (reader_trees reader.old)) outputs.items) reader.old.noted) step) }
 {
     let mut outputs = outputs;
     while let Some(waiting) = reader.waiting.pop() {

@@ -7,8 +7,8 @@ ghost use Rattle.sx_replay.specs.Limits.{earlier, some_when, note};
 
 use sx_arena::Arena;
 
-/// The depth of the first term deeper than 1,000 and the size of the first with more than 1,000,000 nodes, each the
-/// greatest number where it is more.
+/// The depth of the first term deeper than 1,000 and the size of the first with more than 1,000,000
+/// nodes, each the greatest number where it is more.
 #[derive(Clone, Copy)]
 pub struct Noted {
     pub deep: Option<u64>,

@@ -29,7 +29,9 @@ pub fn premises(
     requires reader { IsReader (rules_of rules.now) reader.old }
     requires pairs { ArePairs (length (reader_trees reader.old)) pairs.now }
     requires env { env ≤ length reader.old.binds.cells.items }
-    ensures { IfOk result (λ step. IsPremises (modes_of rules.now) (rules_of rules.now) pairs.now reader.old reader.new (rule_of rule.now) env (drop from (map premise_of rule.now.premises.items)) step) }
+    ensures { IfOk result (λ step. IsPremises (modes_of rules.now)
+        (rules_of rules.now) pairs.now reader.old reader.new (rule_of rule.now) env
+        (drop from (map premise_of rule.now.premises.items)) step) }
 {
     for k in from..rule.premises.len() {
         match &rule.premises[k] {

@@ -78,7 +78,9 @@ pub fn make(
     requires arena { IsArena reader.old.arena }
     requires binds { IsBinds (trees reader.old.arena) reader.old.binds }
     requires env { env ≤ length reader.old.binds.cells.items }
-    ensures { IfOk result (λ r. IsMade reader.old reader.new (places_made (modes_of rules.now) outputs (env_at (reader_envs reader.old) env) (judgement_of judgement.now)) r.items) }
+    ensures { IfOk result (λ r. IsMade reader.old reader.new
+        (places_made (modes_of rules.now) outputs (env_at (reader_envs reader.old) env)
+        (judgement_of judgement.now)) r.items) }
 {
     let made = make_places(
         alloc,

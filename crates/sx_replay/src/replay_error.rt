@@ -20,7 +20,8 @@ pub enum ReplayError {
     /// The depth of a term deeper than 1,000, or the greatest number where it is more.
     #[error("a term is too deep")]
     TooDeep(u64),
-    /// The number of nodes of a term that has more than 1,000,000, or the greatest number where it is more.
+    /// The number of nodes of a term that has more than 1,000,000, or the greatest number where it
+    /// is more.
     #[error("a term has too many nodes")]
     TooBig(u64),
     /// The number of the first entry at a goal deeper than 3,000.

@@ -37,7 +37,8 @@ fn enter_problem(
     requires holds { ShallowJudgements (hypotheses given.now).judgements }
     requires apart { ArePairsShallow (hypotheses given.now).pairs }
     requires goal { AreShallow (goal_of goal.now).terms }
-    ensures { IfOk result (λ p. IsProblem (modes_of rules.now) (rules_of rules.now) (hypotheses given.now) (goal_of goal.now).terms p) }
+    ensures { IfOk result (λ p. IsProblem (modes_of rules.now) (rules_of rules.now)
+        (hypotheses given.now) (goal_of goal.now).terms p) }
 {
     let mut reader = Reader::new(alloc);
     let facts = match enter_facts(alloc, rules, &mut reader.arena, &given.holds) {
@@ -73,13 +74,15 @@ fn enter_problem(
     })
 }
 
-/// The outputs of the derivation of the goal from the hypotheses whose entries in preorder are the list. The terms of the
-/// goal and of the hypotheses are at most 1,000 deep, and the list has fewer than 2^32 - 1 entries.
+/// The outputs of the derivation of the goal from the hypotheses whose entries in preorder are the
+/// list. The terms of the goal and of the hypotheses are at most 1,000 deep, and the list has fewer
+/// than 2^32 - 1 entries.
 ///
 /// Entries are numbered from 1, and the first at which something is wrong is answered:
 /// - `WrongAt`: it fits no derivation that begins with the entries before it.
 /// - `DeepList`: it stands at a goal deeper than 3,000.
-/// - `TooDeep`, `TooBig`: with it a term is made that is deeper than 1,000, or that has more than 1,000,000 nodes.
+/// - `TooDeep`, `TooBig`: with it a term is made that is deeper than 1,000, or that has more than
+///   1,000,000 nodes.
 /// - `LongList`: the entries before it are a whole derivation.
 /// - `EndsEarly`: the list ends with goals left.
 pub fn replay(
@@ -93,7 +96,8 @@ pub fn replay(
     requires holds { ShallowJudgements (hypotheses given.now).judgements }
     requires apart { ArePairsShallow (hypotheses given.now).pairs }
     requires goal { AreShallow (goal_of goal.now).terms }
-    ensures { IsReplayed (modes_of rules.now) (rules_of rules.now) (hypotheses given.now) (goal_of goal.now) (entries list.now) result }
+    ensures { IsReplayed (modes_of rules.now) (rules_of rules.now) (hypotheses given.now)
+        (goal_of goal.now) (entries list.now) result }
 {
     rules.facts();
     let problem = match enter_problem(alloc, rules, given, goal) {
