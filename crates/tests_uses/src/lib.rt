@@ -1,0 +1,5 @@
+//! Tests of what `sx_uses` shows.
+#![tactic(auto)]
+
+#[cfg(test)]
+mod uses_read;
