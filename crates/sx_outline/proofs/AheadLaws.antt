@@ -5,7 +5,7 @@ use Rattle.sx_directives.specs.declared.file_kind.FileKind.{FileKind}
 use Rattle.sx_directives.specs.declared.file_kind.FileKind.TheVariants as files
 use Rattle.sx_directives.specs.Rows.{IsRow}
 use Rattle.sx_directives.specs.declared.row.Row.{Row}
-use Rattle.sx_directives.specs.declared.row.Row.TheVariants.{Language, Sort, Prod, Var, Form, Main, Plain, Rule, End, Extension, To}
+use Rattle.sx_directives.specs.declared.row.Row.TheVariants.{Sort, Prod, Var, Form, Main, Plain, Rule, End, To}
 use Rattle.sx_outline.specs.Declarations.{Declared, form, nothing, declare}
 use Rattle.sx_outline.specs.Known.{Declares, GoesOn}
 use Rattle.sx_outline.specs.Stages.{PlainData, RuleData, Stage, at_start, at_declarations, at_body, at_plains, at_rules, at_premises, at_conclusion, at_end, State, Steps, StepsAt, MayStandAt, IsWhole, after, head_row}

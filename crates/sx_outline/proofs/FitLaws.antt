@@ -2,7 +2,7 @@
 use Rattle.std.proofs.Common.{◌≡◌, ℕ, ◌+◌, ◌≤◌, false, List, [], length, None, Result, Ok, Err, refl, sym, ap, subst, ◌∙◌, arith}
 use Rattle.std.specs.Prelude.{IfOk}
 use Rattle.std.specs.List.{AllByRecursion}
-use Rattle.sx_lines.specs.Lines.{Lines, over, lines_from}
+use Rattle.sx_lines.specs.Lines.{over, lines_from}
 use Rattle.sx_lines.specs.declared.kind.Kind.{Kind}
 use Rattle.sx_directives.specs.declared.file_kind.FileKind.TheVariants as files
 use Rattle.sx_directives.specs.Spelling.{NotLexical}

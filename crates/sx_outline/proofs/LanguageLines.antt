@@ -10,12 +10,12 @@ use Rattle.sx_outline.specs.declared.outline_error.OutlineError.TheVariants.{Not
 use Rattle.sx_outline.specs.Declarations.{Declared, nothing}
 use Rattle.sx_outline.specs.Fitting.{IsMainOf}
 use Rattle.sx_outline.specs.Known.{Declares, kept_lines}
-use Rattle.sx_outline.specs.Stages.{Numbered, PlainData, RuleData, State, start}
+use Rattle.sx_outline.specs.Stages.{Numbered, PlainData, RuleData, start}
 use Rattle.sx_outline.specs.Outlined.{OutlineData, declared_by, IsEnd, IsOutlineOf, IsReadAs}
 use Rattle.sx_outline.specs.Structure.{numbered_lines, AreDeclarations, ArePairs, AreRules, AreOutlineLines}
 use Rattle.sx_outline.proofs.OutcomeSteps.{IsReached, reached, reaches_outcome}
 use Rattle.sx_outline.proofs.FitLaws.{known_by, no_error}
-use Rattle.sx_outline.proofs.LeftLines.{Whole, IsFile, LeftAt}
+use Rattle.sx_outline.proofs.LeftLines.{Whole, IsFile}
 use Rattle.sx_outline.proofs.LinesLaws.{left_of}
 use Rattle.sx_outline.proofs.LinesOutlined.{HasAll, all_of}
 use Rattle.sx_outline.proofs.LinesDeclared.{none_first, head_same, tail_same, declares_of}

@@ -5,7 +5,6 @@ use Rattle.sx_directives.specs.declared.file_kind.FileKind.{FileKind}
 use Rattle.sx_directives.specs.Rows.{IsRow}
 use Rattle.sx_directives.specs.declared.row.Row.TheVariants.{End}
 use Rattle.sx_outline.specs.Declarations.{Declared}
-use Rattle.sx_outline.specs.Fitting.{ArePartNames}
 use Rattle.sx_outline.specs.Stages.{Numbered, PlainData, RuleData, Begun, BegunPlain, Stage, at_start, at_declarations, at_body, at_plains, at_rules, at_premises, at_conclusion, at_end, State, IsBar, head_row, paired, with_body}
 use Rattle.sx_outline.specs.Structure.{AreBodies, AreDeclarations, ArePairs, AreRules}
 

@@ -26,3 +26,8 @@ pub mod OneOutline
 mod ReadRows
 mod HeaderLaws
 mod OneHeader
+pub mod UseLines
+pub mod ExtensionLaws
+pub mod ExtensionFits
+pub mod ExtensionLines
+pub mod OneExtension

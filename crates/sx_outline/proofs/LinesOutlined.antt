@@ -13,10 +13,10 @@ use Rattle.sx_outline.specs.declared.main_form.MainForm.{MainForm}
 use Rattle.sx_outline.specs.Declarations.{Declared, declare}
 use Rattle.sx_outline.specs.Fitting.{ArePartNames, Fits, IsMainOf}
 use Rattle.sx_outline.specs.Stages.{Numbered, PlainData, RuleData, Begun, BegunPlain, begun_plain, Stage, at_start, at_declarations, at_body, at_plains, at_rules, at_premises, at_conclusion, at_end, State, StepsAt, IsGoodRow, IsBar, IsWhole, MayStandAt, after, at as to, with_premise, with_body, with_plain, concluded, paired, head_row}
-use Rattle.sx_outline.specs.Structure.{numbered_lines, IsDeclaring, IsPair, AreBodies, AreDeclarations, ArePairs, AreRules}
+use Rattle.sx_outline.specs.Structure.{numbered_lines, IsDeclaring, AreBodies, AreDeclarations, ArePairs, AreRules}
 use Rattle.sx_outline.proofs.OutcomeSteps.{Reaches}
 use Rattle.sx_outline.proofs.LinesDeclared.{none_first, head_same, tail_same}
-use Rattle.sx_outline.proofs.LeftLines.{Whole, IsRest, IsInRule, LeftPremises, LeftConclusion, LeftEnd, IsBodyLeft, IsInPair, IsRestOfPairs, IsRestOfFile, IsLeft, LeftAt}
+use Rattle.sx_outline.proofs.LeftLines.{Whole, IsRest, IsInRule, LeftPremises, LeftConclusion, IsBodyLeft, IsInPair, IsRestOfPairs, IsRestOfFile, IsLeft, LeftAt}
 
 -- ---- no line
 

@@ -182,7 +182,7 @@ one_outline s o p h k =
     let e : declared_by o h.line ≡ declared_by p k.line = sym h.declared ∙ k.declared in
     same_outline o p h.line k.line e (one_form s.declared h.line k.line o.main p.main (one_line h.line k.line (ap (λ (x : Declared). x.mains) e)) h.main k.main) (sym h.rules ∙ k.rules)
 
-inside_or_whole : (at : Stage) (n : ℕ) → IsInside at n → IsWhole at → ⊥
+pub inside_or_whole : (at : Stage) (n : ℕ) → IsInside at n → IsWhole at → ⊥
 inside_or_whole at_start n h w = h
 inside_or_whole at_declarations n h w = h
 inside_or_whole (at_body b) n h w = w
@@ -192,7 +192,7 @@ inside_or_whole (at_premises b) n h w = w
 inside_or_whole (at_conclusion b) n h w = w
 inside_or_whole (at_end r) n h w = w
 
-one_inside : (at : Stage) (n m : ℕ) → IsInside at n → IsInside at m → n ≡ m
+pub one_inside : (at : Stage) (n m : ℕ) → IsInside at n → IsInside at m → n ≡ m
 one_inside at_start n m h k = absurd h
 one_inside at_declarations n m h k = absurd h
 one_inside (at_body b) n m h k = sym h ∙ k

@@ -1,10 +1,10 @@
 -- Outcomes of the lines of a file.
-use Rattle.std.proofs.Common.{◌≡◌, ℕ, List, refl, sym, ap, subst, inl, inr}
+use Rattle.std.proofs.Common.{◌≡◌, ℕ, List, refl, sym, subst, inl, inr}
 use Rattle.sx_lines.specs.Lines.{Lines, over, line}
 use Rattle.sx_lines.specs.declared.kind.Kind.{Kind}
 use Rattle.sx_directives.specs.declared.file_kind.FileKind.{FileKind}
 use Rattle.sx_outline.specs.Declarations.{Declared}
-use Rattle.sx_outline.specs.Stages.{State, Steps, IsBad}
+use Rattle.sx_outline.specs.Stages.{State, Steps}
 use Rattle.sx_outline.specs.Outcomes.{IsOutcome}
 
 -- what comes of the end and of a bad line may say less

@@ -1,5 +1,5 @@
 -- Reading all lines.
-use Rattle.std.proofs.Common.{◌≡◌, ℕ, Bool, true, false, ◌+◌, ◌≤◌, ◌<◌, ◌^◌, List, [], length, map, None, Result, Ok, Err, refl, sym, ap, subst, ◌∙◌, inl, inr, arith}
+use Rattle.std.proofs.Common.{◌≡◌, ℕ, Bool, true, false, ◌+◌, ◌≤◌, ◌<◌, ◌^◌, List, [], length, map, Result, Ok, Err, refl, sym, ap, subst, ◌∙◌, inl, inr, arith}
 use Rattle.std.specs.Str.{IsUtf8}
 use Rattle.sx_lines.specs.Lines.{Lines, over, line, lines_from}
 use Rattle.sx_lines.specs.declared.kind.Kind.{Kind}
@@ -16,7 +16,7 @@ use Rattle.sx_outline.specs.Known.{Declares, GoesOn, kept_lines}
 use Rattle.sx_outline.specs.Stages.{State, start, rule_data, plain_data, IsWhole}
 use Rattle.sx_outline.specs.Outcomes.{IsOutcome}
 use Rattle.sx_outline.specs.Outlined.{OutlineData, outline, IsEnd, IsOutlined}
-use Rattle.sx_outline.specs.Reading.{IsReader, IsMainRead, IsNewReader, IsAhead, IsCounted, HasRoom, GrowsByOne, IsLineRead, IsLineRefused, IsReadTo, EndsAt, IsBadLine, AreLinesRead, IsEndRead, IsOutlineRead}
+use Rattle.sx_outline.specs.Reading.{IsReader, IsMainRead, IsNewReader, IsAhead, IsCounted, HasRoom, GrowsByOne, IsLineRead, IsLineRefused, EndsAt, IsBadLine, AreLinesRead, IsEndRead, IsOutlineRead}
 use Rattle.sx_outline.proofs.AheadLaws.{ahead_front, ahead_next, whole_known}
 use Rattle.sx_outline.proofs.OutcomeSteps.{outcome_to, reached}
 

@@ -67,7 +67,7 @@ pub weight_is : (d : Declared)
 unfolding weight
 weight_is d = refl
 
-literals_many : (d : Declared) → length (literals (parts_of d)) ≡ length (flat_map (λ s. bracket_literals s.brackets) d.sorts) + length (flat_map (λ r. flat_map symbol_literals r.symbols) d.productions)
+pub literals_many : (d : Declared) → length (literals (parts_of d)) ≡ length (flat_map (λ s. bracket_literals s.brackets) d.sorts) + length (flat_map (λ r. flat_map symbol_literals r.symbols) d.productions)
 literals_many d = length-append (flat_map (λ s. bracket_literals s.brackets) d.sorts) (flat_map (λ r. flat_map symbol_literals r.symbols) d.productions)
 
 bracket_few : (parts : List (List ℕ)) (pair : Option (List ℕ × List ℕ)) → AreBrackets parts pair → length (bracket_literals pair) ≤ length parts

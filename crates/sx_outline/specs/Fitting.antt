@@ -19,7 +19,6 @@ use Rattle.sx_directives.specs.declared.spelled.FormSymbol.TheVariants.{Lit as F
 use Rattle.sx_directives.specs.declared.rows.MainLine.{MainLine}
 use Rattle.sx_directives.specs.declared.row.Row.{Row}
 use Rattle.sx_directives.specs.declared.rows.VarLine.{VarLine}
-use Rattle.sx_directives.specs.declared.rows.PlainLine.{PlainLine}
 use Rattle.sx_directives.specs.declared.row.Row.TheVariants.{Var, Form, Use, Plain}
 use Rattle.sx_outline.specs.declared.main_form.MainForm.{MainForm}
 use Rattle.sx_outline.specs.Declarations.{Declared, FormData, parts_of}

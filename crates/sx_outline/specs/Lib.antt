@@ -12,5 +12,8 @@ pub mod Sized
 pub mod Reading
 pub mod Headers
 pub mod HeaderReading
+pub mod ExtensionOutlined
+pub mod ExtensionReading
+pub mod ExtensionSized
 pub mod Structure
 pub mod Laws

@@ -88,6 +88,15 @@ pub record IsNewReader (r : Reader) : Type 0 where
   pub plains : r.read.plains.items ≡ []
   pub rules : r.read.rules.items ≡ []
 
+-- a reader after the header of an extension file whose language has so many stems
+pub record IsReaderAfter (stems : ℕ) (r : Reader) : Type 0 where
+  pub stage : stage r.stage ≡ at_declarations
+  pub forms : r.forms ≡ 0
+  pub vars : r.vars ≡ stems
+  pub main : r.main ≡ None
+  pub plains : r.read.plains.items ≡ []
+  pub rules : r.read.rules.items ≡ []
+
 -- there is one plain pair more
 pub record AddsPlain (old : ReadLines) (p : PlainLines) (new : ReadLines) : Type 0 where
   pub plains : new.plains.items ≡ old.plains.items ++ p ∷ []

@@ -1,5 +1,5 @@
 -- What holds of each outline.
-use Rattle.std.specs.Prelude.{◌≡◌, ℕ, ◌+◌, ◌≤◌, List, [], ◌∷◌, None, IfSome, length, flat_map, Contains}
+use Rattle.std.specs.Prelude.{◌≡◌, ℕ, ◌+◌, ◌≤◌, List, None, IfSome, length, flat_map, Contains}
 use Rattle.std.specs.List.{AllByRecursion}
 use Rattle.sx_grammar.specs.Parts.{literals}
 use Rattle.sx_grammar.specs.Tables.{HasGoodLevels}

@@ -8,11 +8,15 @@ use Rattle.sx_directives.specs.Rows.{IsRow}
 use Rattle.sx_directives.specs.declared.rows.MainLine.{MainLine}
 use Rattle.sx_directives.specs.declared.rows.PlainLine.{PlainLine}
 use Rattle.sx_directives.specs.declared.row.Row.{Row}
-use Rattle.sx_directives.specs.declared.row.Row.TheVariants.{Language, Sort, Prod, Var, Form, Main, Plain, Rule, To, End}
-use Rattle.sx_outline.specs.Declarations.{Declared, nothing, declare}
-use Rattle.sx_outline.specs.Fitting.{ArePartNames, Fits, IsMainOf}
+use Rattle.sx_directives.specs.declared.row.Row.TheVariants.{Language, Sort, Prod, Var, Form, Main, Plain, Rule, To, End, Extension, Use}
+use Rattle.sx_outline.specs.Declarations.{Declared, nothing, declare, declared_before}
+use Rattle.sx_outline.specs.Fitting.{ArePartNames, AreDistinct, Fits, IsMainOf}
 use Rattle.sx_outline.specs.Stages.{Numbered, PlainData, RuleData, begun_plain, paired, IsBar}
+use Rattle.sx_grammar.specs.declared.sort_line.SortLine.{SortLine}
+use Rattle.sx_directives.specs.declared.rows.VarLine.{VarLine}
+use Rattle.sx_outline.specs.Headers.{HeaderData}
 use Rattle.sx_outline.specs.Outlined.{OutlineData, declared_by}
+use Rattle.sx_outline.specs.ExtensionOutlined.{ExtensionOutlineData, extension_declares}
 
 -- the lines with their numbers
 abbrev pub numbered_lines : Lines → List Numbered
@@ -33,6 +37,12 @@ abbrev pub AreDeclarations : FileKind → (known before : Declared) → List Num
 AreDeclarations kind known before [] all = before ≡ all
 AreDeclarations kind known before (l ∷ lines) all =
     (row : Row) × IsRow kind l.text row × IsDeclaring row × Fits known before row × AreDeclarations kind known (declare before row) lines all
+
+-- the lines are `use` lines of these names
+abbrev pub AreUseLines : List Numbered → List (List ℕ) → Type 0
+AreUseLines [] [] = Unit {0}
+AreUseLines (l ∷ lines) (used ∷ uses) = IsRow files.Extension l.text (Use used) × AreUseLines lines uses
+AreUseLines _ _ = ⊥
 
 -- `plain LABEL VAR..`, which fits, and one line after it
 pub record IsPair (kind : FileKind) (known : Declared) (first body : Numbered) (p : PlainData) : Type 0 where
@@ -84,3 +94,26 @@ pub record AreOutlineLines (name : List ℕ) (lines : List Numbered) (o : Outlin
   pub declared : AreDeclarations files.Language (declared_by o main_line) nothing declarations (declared_by o main_line)
   pub main : IsMainOf (declared_by o main_line) main_line o.main
   pub rules_are : AreRules files.Language rules o.rules
+
+-- `extension NAME`, `language NAME` and the `use` lines, of which each names what none before it names
+pub record AreHeaderLines (lines : List Numbered) (h : HeaderData) : Type 0 where
+  pub first : Numbered
+  pub second : Numbered
+  pub others : List Numbered
+  pub lines_are : lines ≡ first ∷ second ∷ others
+  pub named : IsRow files.Extension first.text (Extension h.name)
+  pub language : IsRow files.Extension second.text (Language h.language)
+  pub uses : AreUseLines others h.uses
+  pub once : AreDistinct h.uses
+
+-- the lines of an extension file: its first lines, those of the declarations, of the plain pairs, and of the rules
+pub record AreExtensionLines (sorts : List SortLine) (vars : List VarLine) (lines : List Numbered) (o : ExtensionOutlineData) : Type 0 where
+  pub header : List Numbered
+  pub declarations : List Numbered
+  pub pairs : List Numbered
+  pub rules : List Numbered
+  pub lines_are : lines ≡ header ++ (declarations ++ (pairs ++ rules))
+  pub header_is : AreHeaderLines header o.header
+  pub declared : AreDeclarations files.Extension (extension_declares sorts o) (declared_before sorts vars o.header.uses) declarations (extension_declares sorts o)
+  pub pairs_are : ArePairs files.Extension (extension_declares sorts o) pairs o.plains
+  pub rules_are : AreRules files.Extension rules o.rules

@@ -1,7 +1,7 @@
 //! What the lines of a language file or of an extension file declare.
 
-ghost use Rattle.std.specs.Prelude.{◌≡◌, OnOk};
-ghost use Rattle.sx_outline.specs.Declarations.{nothing, declare};
+ghost use Rattle.std.specs.Prelude.{◌≡◌, [], IfOk, OnOk};
+ghost use Rattle.sx_outline.specs.Declarations.{declare, declared_before, nothing};
 ghost use Rattle.sx_outline.specs.Tables.{declared_in};
 
 use std::alloc::Global;
@@ -20,6 +20,38 @@ pub(crate) struct DeclaredRows {
     pub uses: Vec<Text>,
 }
 
+/// Fills a list that has no sorts with equal ones.
+fn fill_sorts(alloc: Global, sorts: &[SortLine], copies: &mut Vec<SortLine>) -> Result<(), NoMemory>
+    requires { copies.old.items ≡ [] }
+    ensures { OnOk result (copies.new.items ≡ sorts.now) }
+{
+    for i in 0..sorts.len() {
+        copies.push(sorts[i].copy(alloc)?)?;
+    }
+    Ok(())
+}
+
+/// An equal stem with an equal sort.
+fn copy_var(alloc: Global, var: &VarLine) -> Result<VarLine, NoMemory>
+    ensures { IfOk result (λ v. v ≡ var.now) }
+{
+    Ok(VarLine {
+        stem: var.stem.copy(alloc)?,
+        sort: var.sort.copy(alloc)?,
+    })
+}
+
+/// Fills a list that has no stems with equal ones.
+fn fill_vars(alloc: Global, vars: &[VarLine], copies: &mut Vec<VarLine>) -> Result<(), NoMemory>
+    requires { copies.old.items ≡ [] }
+    ensures { OnOk result (copies.new.items ≡ vars.now) }
+{
+    for i in 0..vars.len() {
+        copies.push(copy_var(alloc, &vars[i])?)?;
+    }
+    Ok(())
+}
+
 impl DeclaredRows {
     /// No rows. It takes no memory.
     pub(crate) fn new(alloc: Global) -> DeclaredRows
@@ -33,6 +65,22 @@ impl DeclaredRows {
             mains: Vec::new(alloc),
             uses: Vec::new(alloc),
         }
+    }
+
+    /// What is declared after the header of an extension file that uses these names: the sorts and the stems of its language.
+    pub(crate) fn before(
+        alloc: Global,
+        sorts: &[SortLine],
+        vars: &[VarLine],
+        uses: Vec<Text>,
+    ) -> Result<DeclaredRows, NoMemory>
+        ensures { IfOk result (λ rows. declared_in rows ≡ declared_before sorts.now vars.now uses.items) }
+    {
+        let mut rows = DeclaredRows::new(alloc);
+        rows.uses = uses;
+        fill_sorts(alloc, sorts, &mut rows.sorts)?;
+        fill_vars(alloc, vars, &mut rows.vars)?;
+        Ok(rows)
     }
 
     /// Adds a row at the end of those of its kind, where it is one that declares.

@@ -1,6 +1,7 @@
 //! Reading the first lines of an extension file.
 
-ghost use Rattle.std.specs.Prelude.{◌+◌, ◌<◌, ◌^◌, length};
+ghost use Rattle.std.specs.Prelude.{◌+◌, ◌<◌, ◌^◌, IfOk, length};
+ghost use Rattle.std.specs.Str.{IsUtf8};
 ghost use Rattle.sx_lines.specs.Lines.{lines_from};
 ghost use Rattle.sx_lines.specs.Left.{left};
 ghost use Rattle.sx_outline.specs.Known.{kept_lines};
@@ -20,7 +21,8 @@ use sx_term::Text;
 
 /// The names that the next lines use, and what is left from the first line of another word on.
 fn read_uses<'a>(alloc: Global, rest: Rest<'a>) -> Result<(Vec<Text>, Rest<'a>), OutlineError>
-    ensures { AreUsesRead (kept_lines (left rest.entry)) result }
+    ensures read { AreUsesRead (kept_lines (left rest.entry)) result }
+    ensures utf8 { IsUtf8 rest.entry.bytes.now → IfOk result (λ x. IsUtf8 x.1.bytes.now) }
 {
     let mut uses = HeaderUses::new(alloc);
     let mut left = rest;
@@ -45,7 +47,8 @@ fn read_language<'a>(
     name: Text,
     lines: Rest<'a>,
 ) -> Result<(ExtensionHeader, Rest<'a>), OutlineError>
-    ensures { IsLanguageRead name (kept_lines (left lines.entry)) result }
+    ensures read { IsLanguageRead name (kept_lines (left lines.entry)) result }
+    ensures utf8 { IsUtf8 lines.entry.bytes.now → IfOk result (λ x. IsUtf8 x.1.bytes.now) }
 {
     match next_kept_line(lines) {
         Ok((line, more)) => {
@@ -91,7 +94,8 @@ pub(crate) fn read_header<'a>(
     alloc: Global,
     lines: Rest<'a>,
 ) -> Result<(ExtensionHeader, Rest<'a>), OutlineError>
-    ensures { IsAnyHeaderRead (kept_lines (left lines.entry)) result }
+    ensures read { IsAnyHeaderRead (kept_lines (left lines.entry)) result }
+    ensures utf8 { IsUtf8 lines.entry.bytes.now → IfOk result (λ x. IsUtf8 x.1.bytes.now) }
 {
     match next_kept_line(lines) {
         Ok((line, more)) => {

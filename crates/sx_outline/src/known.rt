@@ -1,7 +1,7 @@
 //! What is known of a file before its lines are judged.
 
 ghost use Rattle.std.specs.Prelude.{◌≡◌, map, IfOk};
-ghost use Rattle.sx_grammar.specs.Parts.{parts};
+ghost use Rattle.sx_grammar.specs.Parts.{line, parts};
 ghost use Rattle.sx_outline.specs.Declarations.{form, parts_of};
 ghost use Rattle.sx_outline.specs.Tables.{AreTables, AreFew, declared_in};
 
@@ -9,8 +9,8 @@ use crate::declared_rows::DeclaredRows;
 use crate::tables::Tables;
 use std::alloc::Global;
 use sx_directives::{FormLine, VarLine};
-use sx_grammar::GrammarParts;
-use sx_term::NoMemory;
+use sx_grammar::{GrammarParts, Production};
+use sx_term::{NoMemory, Text};
 
 /// What the lines of a file declare, found by the hash of the names.
 #[derive(Drop)]
@@ -55,5 +55,27 @@ impl Known {
         drop(mains);
         drop(uses);
         (GrammarParts { sorts, productions }, vars, forms)
+    }
+
+    /// The productions, the stems and the names that are used.
+    pub(crate) fn into_own(self) -> (Vec<Production>, Vec<VarLine>, Vec<Text>)
+        ensures productions { map line result.0.items ≡ (declared_in self.rows).productions }
+        ensures vars { result.1.items ≡ (declared_in self.rows).vars }
+        ensures uses { result.2.items ≡ (declared_in self.rows).uses }
+    {
+        let Known { rows, tables } = self;
+        drop(tables);
+        let DeclaredRows {
+            sorts,
+            productions,
+            vars,
+            forms,
+            mains,
+            uses,
+        } = rows;
+        drop(sorts);
+        drop(forms);
+        drop(mains);
+        (productions, vars, uses)
     }
 }

@@ -1,6 +1,6 @@
 //! What holds of language and extension files.
 
-ghost use Rattle.sx_outline.specs.Laws.{OutlinesHaveLines, LinesHaveOutlines, OneHeaderAnswer, OneOutlineAnswer};
+ghost use Rattle.sx_outline.specs.Laws.{ExtensionOutlinesHaveLines, LinesHaveExtensionOutlines, LinesHaveOutlines, OneExtensionOutline, OneHeaderAnswer, OneOutlineAnswer, OutlinesHaveHeaders, OutlinesHaveLines};
 
 /// The lines that a file with an outline keeps are the first line, those of the declarations, and those of the rules.
 pub fn outlines_have_lines()
@@ -20,4 +20,25 @@ pub fn one_outline_answer()
 /// Two headers of the bytes of an extension file agree, out of memory aside.
 pub fn one_extension_header()
     ensures { OneHeaderAnswer }
+{}
+
+/// Two outlines of the bytes of an extension file agree, out of memory aside.
+pub fn one_extension_outline()
+    ensures { OneExtensionOutline }
+{}
+
+/// The lines that an extension file with an outline keeps are its first lines, those of the declarations, of the plain pairs, and of the
+/// rules.
+pub fn extension_outlines_have_lines()
+    ensures { ExtensionOutlinesHaveLines }
+{}
+
+/// A text whose lines are those of an outline of an extension file has it.
+pub fn lines_have_extension_outlines()
+    ensures { LinesHaveExtensionOutlines }
+{}
+
+/// An extension file with an outline has the header that this states.
+pub fn outlines_have_headers()
+    ensures { OutlinesHaveHeaders }
 {}

@@ -1,9 +1,12 @@
-//! Language files and the first lines of extension files, read line by line without a grammar.
+//! Language files and extension files, read line by line without a grammar.
 #![tactic(auto)]
 
 mod declared_rows;
 mod due;
+mod extension_finish;
 mod extension_header;
+mod extension_outline;
+mod extension_reading;
 mod finish;
 mod first_pass;
 mod fitting;
@@ -18,6 +21,7 @@ mod laws;
 mod main_finding;
 mod main_form;
 mod next_line;
+mod open_line;
 mod outline;
 mod outline_error;
 mod part_names;
@@ -36,9 +40,13 @@ mod stems;
 mod tables;
 
 pub use extension_header::ExtensionHeader;
+pub use extension_outline::ExtensionOutline;
+pub use extension_reading::read_extension_outline;
 pub use header_reading::read_extension_header;
 pub use laws::{
-    lines_have_outlines, one_extension_header, one_outline_answer, outlines_have_lines,
+    extension_outlines_have_lines, lines_have_extension_outlines, lines_have_outlines,
+    one_extension_header, one_extension_outline, one_outline_answer, outlines_have_headers,
+    outlines_have_lines,
 };
 pub use main_form::MainForm;
 pub use outline::Outline;

@@ -1,6 +1,6 @@
 //! What has been read of a language file or of an extension file.
 
-ghost use Rattle.sx_outline.specs.Reading.{IsNewReader};
+ghost use Rattle.sx_outline.specs.Reading.{IsNewReader, IsReaderAfter};
 
 use crate::main_form::MainForm;
 use crate::read_lines::ReadLines;
@@ -27,6 +27,22 @@ impl Reader {
             stage: Stage::Start,
             forms: 0,
             vars: 0,
+            main: None,
+            read: ReadLines {
+                plains: Vec::new(alloc),
+                rules: Vec::new(alloc),
+            },
+        }
+    }
+
+    /// The reader after the header of an extension file whose language has so many stems. It takes no memory.
+    pub(crate) fn after_header(alloc: Global, vars: usize) -> Reader
+        ensures { IsReaderAfter vars result }
+    {
+        Reader {
+            stage: Stage::Declarations,
+            forms: 0,
+            vars,
             main: None,
             read: ReadLines {
                 plains: Vec::new(alloc),

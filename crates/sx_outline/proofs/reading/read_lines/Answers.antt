@@ -1,7 +1,7 @@
 use Rattle.sx_lines.specs.Left.{left}
 use Rattle.sx_outline.specs.Known.{kept_lines}
 use Rattle.sx_outline.specs.View as view
-use Rattle.sx_outline.proofs.ReadLaws.{begun_reading, reading_on, reading_refused, reading_ended, small_reader}
+use Rattle.sx_outline.proofs.ReadLaws.{begun_reading, reading_on, reading_refused, reading_ended}
 use Rattle.sx_outline.proofs.reading.read_lines.Goals as goal
 
 pub lines-init : goal.lines-init

@@ -1,4 +1,4 @@
-use Rattle.std.proofs.Common.{◌≡◌, Some, None, refl, sym, ap, ◌∙◌}
+use Rattle.std.proofs.Common.{◌≡◌, Some, None, refl, ap, ◌∙◌}
 use Rattle.std.specs.HashMap.{get_by_text}
 use Rattle.sx_outline.specs.Fitting.{kid_sort, stems}
 use Rattle.sx_outline.specs.Variables.{stem_of}

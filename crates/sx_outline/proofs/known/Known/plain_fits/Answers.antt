@@ -1,4 +1,4 @@
-use Rattle.std.proofs.Common.{◌≡◌, ℕ, Bool, IsTrue, ◌↔◌, List, Some, None, refl, sym, ◌∙◌}
+use Rattle.std.proofs.Common.{◌≡◌, IsTrue, ◌↔◌, Some, None, refl, ◌∙◌}
 use Rattle.sx_grammar.specs.Parts.{line, labels}
 use Rattle.sx_outline.specs.Declarations.{parts_of}
 use Rattle.sx_outline.specs.Fitting.{ArePartNames, AreDistinct, IsPlain, NamesFit, kids_of}
