@@ -18,7 +18,8 @@ pub record FormData : Type 0 where
 abbrev pub form : FormLine → FormData
 form f = record { name = f.name; symbols = f.symbols.items }
 
--- sorts, productions, stems, forms and main forms, each in the order of their lines, and the names that the first lines use
+-- sorts, productions, stems, forms and main forms, each in the order of their lines, and the names
+-- that the first lines use
 pub record Declared : Type 0 where
   pub sorts : List SortLine
   pub productions : List Line
@@ -31,19 +32,62 @@ pub record Declared : Type 0 where
 abbrev pub nothing : Declared
 nothing = record { sorts = []; productions = []; vars = []; forms = []; mains = []; uses = [] }
 
--- what is declared after the first lines of an extension file, which use these names: the sorts and stems of its language
+-- what is declared after the first lines of an extension file, which use these names: the sorts and
+-- stems of its language
 abbrev pub declared_before : List SortLine → List VarLine → List (List ℕ) → Declared
-declared_before sorts vars uses = record { sorts = sorts; productions = []; vars = vars; forms = []; mains = []; uses = uses }
+declared_before sorts vars uses = record {
+  sorts = sorts;
+  productions = [];
+  vars = vars;
+  forms = [];
+  mains = [];
+  uses = uses;
+}
 
 -- with one more row at the end
 abbrev pub declare : Declared → Row → Declared
-declare d (Sort s) = record { sorts = d.sorts ++ s ∷ []; productions = d.productions; vars = d.vars; forms = d.forms; mains = d.mains; uses = d.uses }
+declare d (Sort s) = record {
+  sorts = d.sorts ++ s ∷ [];
+  productions = d.productions;
+  vars = d.vars;
+  forms = d.forms;
+  mains = d.mains;
+  uses = d.uses;
+}
 declare d (Prod p) =
-    record { sorts = d.sorts; productions = d.productions ++ line p ∷ []; vars = d.vars; forms = d.forms; mains = d.mains; uses = d.uses }
-declare d (Var v) = record { sorts = d.sorts; productions = d.productions; vars = d.vars ++ v ∷ []; forms = d.forms; mains = d.mains; uses = d.uses }
+    record {
+      sorts = d.sorts;
+      productions = d.productions ++ line p ∷ [];
+      vars = d.vars;
+      forms = d.forms;
+      mains = d.mains;
+      uses = d.uses;
+    }
+declare d (Var v) = record {
+  sorts = d.sorts;
+  productions = d.productions;
+  vars = d.vars ++ v ∷ [];
+  forms = d.forms;
+  mains = d.mains;
+  uses = d.uses;
+}
 declare d (Form f) =
-    record { sorts = d.sorts; productions = d.productions; vars = d.vars; forms = d.forms ++ form f ∷ []; mains = d.mains; uses = d.uses }
-declare d (Main m) = record { sorts = d.sorts; productions = d.productions; vars = d.vars; forms = d.forms; mains = d.mains ++ m ∷ []; uses = d.uses }
+    record {
+      sorts = d.sorts;
+      productions = d.productions;
+      vars = d.vars;
+      forms = d.forms ++ form f ∷ [];
+      mains = d.mains;
+      uses = d.uses;
+    }
+declare d (Main m) = record {
+  sorts = d.sorts;
+  productions = d.productions;
+  vars = d.vars;
+  forms = d.forms;
+  mains = d.mains ++ m ∷ [];
+  uses = d.uses;
+}
 declare d _ = d
 
 -- the parts of the grammar

@@ -1,5 +1,6 @@
 -- Which rows of a language file or of an extension file fit what the file declares.
-use Rattle.std.specs.Prelude.{◌≡◌, ℕ, ◌≤◌, ◌⊎◌, false, List, [], ◌∷◌, Option, Some, IfSome, map, flat_map, slice_get, length, Contains}
+use Rattle.std.specs.Prelude.{◌≡◌, ℕ, ◌≤◌, ◌⊎◌, false, List, [], ◌∷◌, Option, Some, IfSome, map}
+use Rattle.std.specs.Prelude.{flat_map, slice_get, length, Contains}
 use Rattle.std.specs.List.{find, AllByRecursion}
 use Rattle.std.specs.Str.{bytes_eq}
 use Rattle.sx_term.specs.declared.lex_kind.LexKind.{LexKind}
@@ -44,7 +45,8 @@ sort_named d name = find (λ s. bytes_eq s.name name) d.sorts
 abbrev pub IsKnownSort : Declared → List ℕ → Type 0
 IsKnownSort d name = ((kind : LexKind) × (name ≡ lex_text kind)) ⊎ Contains (sort_names d) name
 
--- A subject's sort is typed, and that of another place is not. A sort that is not declared is left to the grammar.
+-- A subject's sort is typed, and that of another place is not. A sort that is not declared is left
+-- to the grammar.
 abbrev pub PlaceFits : Declared → Role → SpelledSort → Type 0
 PlaceFits d role (Lexical kind) = is_sub role ≡ false
 PlaceFits d role (Named sort least) = IfSome (sort_named d sort) (λ s. s.typed ≡ is_sub role)
@@ -118,7 +120,8 @@ NamesFit d (name ∷ names) [] = ⊥
 abbrev pub IsPlain : Declared → List ℕ → Type 0
 IsPlain d name = (s : SortLine) × (sort_named d name ≡ Some s) × (s.typed ≡ false)
 
--- the first production with this label is of a plain sort, and the names, none of which stands twice, are variables of its parts' sorts
+-- the first production with this label is of a plain sort, and the names, none of which stands
+-- twice, are variables of its parts' sorts
 pub record ArePartNames (d : Declared) (label : List ℕ) (names : List (List ℕ)) : Type 0 where
   pub line : Line
   pub line_is : production_named d label ≡ Some line
@@ -126,18 +129,20 @@ pub record ArePartNames (d : Declared) (label : List ℕ) (names : List (List �
   pub once : AreDistinct names
   pub fit : NamesFit d names (kids_of line.symbols)
 
--- Among what the whole file declares, and after the lines before it, the row is as it should be. Names that stand twice are left to the
--- grammar and to the rule set where these refuse them.
+-- Among what the whole file declares, and after the lines before it, the row is as it should be.
+-- Names that stand twice are left to the grammar and to the rule set where these refuse them.
 abbrev pub Fits : (known before : Declared) → Row → Type 0
 Fits known before (Var v) = (Contains (stems before) v.stem → ⊥) × IsKnownSort known v.sort
 Fits known before (Form f) =
-    (Contains (form_names before) f.name → ⊥) × AllByRecursion (SymbolFits known) f.symbols.items × HasOneSubject f.symbols.items
+    (Contains (form_names before) f.name → ⊥) × AllByRecursion (SymbolFits known) f.symbols.items ×
+    HasOneSubject f.symbols.items
 Fits known before (Use name) = Contains known.uses name → ⊥
 Fits known before (Plain p) = ArePartNames known p.label p.names.items
 Fits known before _ = Unit {0}
 
 -- the production with this label is the one with this number, and has this sort and these parts
-pub record IsConstructor (d : Declared) (label : List ℕ) (number : ℕ) (sort : List ℕ) (kids : List Kid) : Type 0 where
+pub record IsConstructor (d : Declared) (label : List ℕ) (number : ℕ) (sort : List ℕ)
+    (kids : List Kid) : Type 0 where
   pub line : Line
   pub is : slice_get d.productions number ≡ Some line
   pub first : number ≡ number_of (labels (parts_of d)) label
@@ -149,8 +154,9 @@ pub record HasOneAt (f : FormData) (role : Role) (sort : List ℕ) : Type 0 wher
   pub least : ℕ
   pub is : sorts_at role f.symbols ≡ Named sort least ∷ []
 
--- The form has one input, for an environment, one subject and one output, for a signature, whose sort is plain. The empty constructor has no
--- parts. The other one has an environment, a name and a signature as parts. Both make environments.
+-- The form has one input, for an environment, one subject and one output, for a signature, whose
+-- sort is plain. The empty constructor has no parts. The other one has an environment, a name and a
+-- signature as parts. Both make environments.
 pub record IsMainOf (d : Declared) (m : MainLine) (main : MainForm) : Type 0 where
   pub form : FormData
   pub form_is : slice_get d.forms main.form ≡ Some form
@@ -165,4 +171,5 @@ pub record IsMainOf (d : Declared) (m : MainLine) (main : MainForm) : Type 0 whe
   pub signature_is : sort_named d signature ≡ Some signature_line
   pub signature_plain : signature_line.typed ≡ false
   pub empty : IsConstructor d m.empty main.empty environment []
-  pub add : IsConstructor d m.add main.add environment (of_sort environment ∷ of_kind Id ∷ of_sort signature ∷ [])
+  pub add : IsConstructor d m.add main.add environment
+      (of_sort environment ∷ of_kind Id ∷ of_sort signature ∷ [])

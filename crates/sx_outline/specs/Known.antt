@@ -1,5 +1,6 @@
 -- The lines that a language file or an extension file keeps, and what they declare.
-use Rattle.std.specs.Prelude.{◌≡◌, ℕ, ◌⊎◌, Bool, true, false, List, [], ◌∷◌, codes, is_some, if◌then◌else◌}
+use Rattle.std.specs.Prelude.{◌≡◌, ℕ, ◌⊎◌, Bool, true, false, List, [], ◌∷◌, codes, is_some}
+use Rattle.std.specs.Prelude.{if◌then◌else◌}
 use Rattle.sx_lines.specs.Lines.{Lines, over, line}
 use Rattle.sx_lines.specs.Words.{after}
 use Rattle.sx_directives.specs.declared.file_kind.FileKind.{FileKind}
@@ -17,19 +18,23 @@ is_dropped (part ∷ parts) = is_some (after (codes "//") part)
 -- the lines that are not dropped
 unfoldable pub kept_lines : Lines → Lines
 kept_lines (over n) = over n
-kept_lines (line n text after more) = if is_dropped (parts_of text) then kept_lines more else line n text after (kept_lines more)
+kept_lines (line n text after more) = if is_dropped (parts_of text) then kept_lines more else line n
+    text after (kept_lines more)
 
--- A row of a rule ends the declarations. After another they go on, and after one of a plain pair the next line is a body.
+-- A row of a rule ends the declarations. After another they go on, and after one of a plain pair
+-- the next line is a body.
 abbrev pub GoesOn : Declared → Row → Declared → (Bool → Declared → Type 0) → Type 0
 GoesOn d (Rule name) all Next = all ≡ d
 GoesOn d (Plain p) all Next = Next true d
 GoesOn d row all Next = Next false (declare d row)
 
--- After these declarations the lines up to the first that spells a row of a rule declare the rest of all. A line that spells no row declares
--- nothing, nor does the body of a plain pair, which is the next line where the flag is set.
+-- After these declarations the lines up to the first that spells a row of a rule declare the rest
+-- of all. A line that spells no row declares nothing, nor does the body of a plain pair, which is
+-- the next line where the flag is set.
 abbrev pub Declares : FileKind → (is_body : Bool) → Declared → Lines → Declared → Type 0
 Declares kind is_body d (over n) all = all ≡ d
 Declares kind true d (line n text after more) all = Declares kind false d more all
 Declares kind false d (line n text after more) all =
-    ((row : Row) × IsRow kind text row × GoesOn d row all (λ is_body next. Declares kind is_body next more all))
+    ((row : Row) × IsRow kind text row × GoesOn d row all
+    (λ is_body next. Declares kind is_body next more all))
     ⊎ (((row : Row) → IsRow kind text row → ⊥) × Declares kind false d more all)

@@ -22,10 +22,13 @@ pub record AreMainSorts (symbols : List FormSymbol) (environment signature : Lis
   pub subject : sorts_at Sub symbols ≡ subject_sort ∷ []
   pub output : IsOneName symbols Out signature
 
--- the constructors that the row names are the empty one, and the one that adds a name and a signature
-pub record AreConstructors (d : Declared) (m : MainLine) (environment signature : List ℕ) (empty add : ℕ) : Type 0 where
+-- the constructors that the row names are the empty one, and the one that adds a name and a
+-- signature
+pub record AreConstructors (d : Declared) (m : MainLine) (environment signature : List ℕ)
+    (empty add : ℕ) : Type 0 where
   pub empty_is : IsConstructor d m.empty empty environment []
-  pub add_is : IsConstructor d m.add add environment (of_sort environment ∷ of_kind Id ∷ of_sort signature ∷ [])
+  pub add_is : IsConstructor d m.add add environment
+      (of_sort environment ∷ of_kind Id ∷ of_sort signature ∷ [])
 
 -- the symbol is this part, and no literal
 abbrev pub IsKid : Symbol → Kid → Type 0

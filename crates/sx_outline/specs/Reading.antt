@@ -1,5 +1,6 @@
 -- The reader of a language file or of an extension file, and the state that it stands for.
-use Rattle.std.specs.Prelude.{◌≡◌, ℕ, true, false, ◌+◌, ◌≤◌, ◌<◌, ◌^◌, ◌⊎◌, List, [], ◌∷◌, ◌++◌, map, length, Option, Some, None, Result, Ok, Err, MatchResult}
+use Rattle.std.specs.Prelude.{◌≡◌, ℕ, true, false, ◌+◌, ◌≤◌, ◌<◌, ◌^◌, ◌⊎◌, List, [], ◌∷◌, ◌++◌}
+use Rattle.std.specs.Prelude.{map, length, Option, Some, None, Result, Ok, Err, MatchResult}
 use Rattle.sx_lines.specs.Lines.{Lines}
 use Rattle.sx_directives.specs.declared.file_kind.FileKind.{FileKind}
 use Rattle.sx_directives.specs.declared.file_kind.FileKind.TheVariants as files
@@ -12,7 +13,8 @@ use Rattle.sx_lines.specs.declared.kind.Kind.TheVariants.{Head, Order, Main as N
 use Rattle.sx_outline.specs.declared.main_form.MainForm.{MainForm}
 use Rattle.sx_outline.specs.declared.outline.Outline.{Outline}
 use Rattle.sx_outline.specs.declared.outline_error.OutlineError.{OutlineError}
-use Rattle.sx_outline.specs.declared.outline_error.OutlineError.TheVariants.{Memory, NotUtf8, Notation}
+use Rattle.sx_outline.specs.declared.outline_error.OutlineError.TheVariants.{Memory, NotUtf8}
+use Rattle.sx_outline.specs.declared.outline_error.OutlineError.TheVariants.{Notation}
 use Rattle.sx_directives.specs.declared.rows.PlainLine.{PlainLine}
 use Rattle.sx_outline.specs.declared.stage.Begun.{Begun as BegunOf}
 use Rattle.sx_outline.specs.declared.stage.BegunPlain.{BegunPlain as BegunPlainOf}
@@ -25,7 +27,11 @@ use Rattle.sx_outline.specs.declared.reader.Reader.{Reader}
 use Rattle.sx_outline.specs.Declarations.{Declared}
 use Rattle.sx_outline.specs.Fitting.{IsMainOf}
 use Rattle.sx_outline.specs.Known.{Declares}
-use Rattle.sx_outline.specs.Stages.{Numbered, RuleData, numbered, rule_data, plain_data, with_body, MayStandAt, Begun, BegunPlain, begun_plain, Stage, at_start, at_declarations, at_body, at_plains, at_rules, at_premises, at_conclusion, at_end, head_row, State, start, MayStand, HasMain, Steps, IsBad, IsBar, IsWhole, with_premise, after}
+use Rattle.sx_outline.specs.Stages.{Numbered, RuleData, numbered, rule_data, plain_data, with_body}
+use Rattle.sx_outline.specs.Stages.{MayStandAt, Begun, BegunPlain, begun_plain, Stage, at_start}
+use Rattle.sx_outline.specs.Stages.{at_declarations, at_body, at_plains, at_rules, at_premises}
+use Rattle.sx_outline.specs.Stages.{at_conclusion, at_end, head_row, State, start, MayStand}
+use Rattle.sx_outline.specs.Stages.{HasMain, Steps, IsBad, IsBar, IsWhole, with_premise, after}
 use Rattle.sx_outline.specs.Outcomes.{IsOutcome}
 use Rattle.sx_outline.specs.Outlined.{outline, IsEnd}
 
@@ -122,13 +128,16 @@ IsDeclaration forms vars _ = ⊥
 
 -- a rule without a body has this one then, and elsewhere none may stand
 abbrev pub IsBodyTaken : Stage → Numbered → Option StageOf → Type 0
-IsBodyTaken old line None = (mains : List MainLine) (body : List ℕ) → MayStandAt old mains (To body) → ⊥
-IsBodyTaken old line (Some next) = (r : RuleData) × (old ≡ at_end r) × (r.body ≡ None) × (stage next ≡ at_end (with_body r line))
+IsBodyTaken old line None = (mains : List MainLine) (body : List ℕ) →
+    MayStandAt old mains (To body) → ⊥
+IsBodyTaken old line (Some next) = (r : RuleData) × (old ≡ at_end r) × (r.body ≡ None) ×
+    (stage next ≡ at_end (with_body r line))
 
 -- a plain pair begins here with this line, or none may
 abbrev pub IsPlainBegun : Stage → ℕ → PlainLine → Option StageOf → Type 0
 IsPlainBegun old number p None = (mains : List MainLine) → MayStandAt old mains (Plain p) → ⊥
-IsPlainBegun old number p (Some next) = ((mains : List MainLine) → MayStandAt old mains (Plain p)) × (stage next ≡ at_body (begun_plain number p))
+IsPlainBegun old number p (Some next) = ((mains : List MainLine) → MayStandAt old mains (Plain p)) ×
+    (stage next ≡ at_body (begun_plain number p))
 
 -- why a row that fits is not taken
 abbrev pub IsRowRefused : Declared → State → ℕ → Row → OutlineError → Type 0
@@ -136,36 +145,45 @@ IsRowRefused known s number row Memory = Unit {0}
 IsRowRefused known s number row (NotUtf8 place) = ⊥
 IsRowRefused known s number row (Notation l Order) = (l ≡ number) × (MayStand s row → ⊥)
 IsRowRefused known s number row (Notation l NoMain) =
-    (l ≡ number) × (m : MainLine) × (row ≡ Main m) × MayStand s row × ((main : MainForm) → IsMainOf known m main → ⊥)
+    (l ≡ number) × (m : MainLine) × (row ≡ Main m) × MayStand s row ×
+    ((main : MainForm) → IsMainOf known m main → ⊥)
 IsRowRefused known s number row (Notation l _) = ⊥
 
 -- what taking a row that fits answers
 abbrev pub IsRowTaken : Declared → Reader → ℕ → Row → Result Reader OutlineError → Type 0
 IsRowTaken known r number row result = (s : State) → IsReader known r s →
-    MatchResult result (λ next. MayStand s row × HasMain known row × IsReader known next (after s number row)) (λ e. IsRowRefused known s number row e)
+    MatchResult result (λ next. MayStand s row × HasMain known row ×
+    IsReader known next (after s number row)) (λ e. IsRowRefused known s number row e)
 
 -- why a line is refused
 abbrev pub IsLineRefused : FileKind → Declared → List ℕ → State → ℕ → List ℕ → OutlineError → Type 0
 IsLineRefused kind known name s number text Memory = Unit {0}
 IsLineRefused kind known name s number text (NotUtf8 place) = ⊥
-IsLineRefused kind known name s number text (Notation l bad) = (l ≡ number) × IsBad kind known name s text bad
+IsLineRefused kind known name s number text (Notation l bad) =
+    (l ≡ number) × IsBad kind known name s text bad
 
 -- what reading a line answers
-abbrev pub IsLineRead : FileKind → Declared → List ℕ → Reader → ℕ → List ℕ → Result Reader OutlineError → Type 0
-IsLineRead kind known name r number text result = (s : State) → IsReader known r s → IsFront s.declared known →
-    MatchResult result (λ next. (t : State) × Steps kind known name s number text t × IsReader known next t) (λ e. IsLineRefused kind known name s number text e)
+abbrev pub IsLineRead : FileKind → Declared → List ℕ → Reader → ℕ → List ℕ →
+    Result Reader OutlineError → Type 0
+IsLineRead kind known name r number text result = (s : State) → IsReader known r s →
+    IsFront s.declared known →
+    MatchResult result (λ next. (t : State) × Steps kind known name s number text t ×
+    IsReader known next t) (λ e. IsLineRefused kind known name s number text e)
 
 -- what is bad about a first line
 abbrev pub IsHeadRefused : FileKind → List ℕ → ℕ → List ℕ → OutlineError → Type 0
 IsHeadRefused kind name number text Memory = Unit {0}
 IsHeadRefused kind name number text (NotUtf8 place) = ⊥
-IsHeadRefused kind name number text (Notation l Head) = (l ≡ number) × (IsRow kind text (head_row kind name) → ⊥)
+IsHeadRefused kind name number text (Notation l Head) =
+    (l ≡ number) × (IsRow kind text (head_row kind name) → ⊥)
 IsHeadRefused kind name number text (Notation l _) = ⊥
 
 -- a rule that has begun, after one more line
 abbrev pub AddsPremise : Begun → ℕ → List ℕ → Stage → Type 0
 AddsPremise b number text next =
-    (IsBar text × (next ≡ at_conclusion b)) ⊎ ((IsBar text → ⊥) × (next ≡ at_premises (with_premise b (record { number = number; text = text }))))
+    (IsBar text × (next ≡ at_conclusion b)) ⊎
+    ((IsBar text → ⊥) × (next ≡ at_premises
+    (with_premise b (record { number = number; text = text }))))
 
 -- what the reader stands for has been declared before these lines, or is all that the file declares
 abbrev pub IsAhead : FileKind → Stage → Declared → Lines → Declared → Type 0
@@ -175,11 +193,13 @@ IsAhead kind (at_body b) before lines known = Declares kind true before lines kn
 IsAhead kind at_plains before lines known = Declares kind false before lines known
 IsAhead kind _ before lines known = before ≡ known
 
--- the reader stands for the last state, in which all that the file declares was declared if nothing is left open, before a line of this number
-pub record IsReadTo (known : Declared) (r : Reader) (number : ℕ) (s : State) (end : ℕ) : Type 0 where
-  pub stands : IsReader known r s
-  pub whole : IsWhole s.stage → s.declared ≡ known
-  pub ends : end ≡ number
+-- the reader stands for the last state, in which all that the file declares was declared if nothing
+-- is left open, before a line of this number
+pub record IsReadTo (known : Declared) (r : Reader) (number : ℕ) (s : State) (end : ℕ) : Type 0
+  where
+    pub stands : IsReader known r s
+    pub whole : IsWhole s.stage → s.declared ≡ known
+    pub ends : end ≡ number
 
 -- where the reading ends
 abbrev pub EndsAt : Declared → Result (Reader × ℕ) OutlineError → State → ℕ → Type 0
@@ -191,19 +211,23 @@ abbrev pub IsBadLine : Result (Reader × ℕ) OutlineError → ℕ → Kind → 
 IsBadLine result number bad = result ≡ Err (Notation number bad)
 
 -- what reading lines from this state on answers, where memory may be lacking at each
-abbrev pub AreLinesRead : FileKind → Declared → List ℕ → State → Lines → Result (Reader × ℕ) OutlineError → Type 0
+abbrev pub AreLinesRead : FileKind → Declared → List ℕ → State → Lines →
+    Result (Reader × ℕ) OutlineError → Type 0
 AreLinesRead kind known name s lines (Err Memory) = Unit {0}
 AreLinesRead kind known name s lines (Err (NotUtf8 place)) = ⊥
-AreLinesRead kind known name s lines result = IsOutcome kind known name s lines (EndsAt known result) (IsBadLine result)
+AreLinesRead kind known name s lines result =
+    IsOutcome kind known name s lines (EndsAt known result) (IsBadLine result)
 
 -- what reading the lines of a language file answers, where memory may be lacking at each
 abbrev pub IsOutlineRead : Declared → List ℕ → Lines → Result Outline OutlineError → Type 0
 IsOutlineRead known name lines (Ok o) =
-    IsOutcome files.Language known name start lines (λ s end. IsEnd s end (Ok (outline o))) (λ number bad. ⊥)
+    IsOutcome files.Language known name start lines (λ s end. IsEnd s end (Ok (outline o)))
+    (λ number bad. ⊥)
 IsOutlineRead known name lines (Err Memory) = Unit {0}
 IsOutlineRead known name lines (Err (NotUtf8 place)) = ⊥
 IsOutlineRead known name lines (Err (Notation number bad)) =
-    IsOutcome files.Language known name start lines (λ s end. IsEnd s end (Err (Notation number bad))) (λ l other. (l ≡ number) × (other ≡ bad))
+    IsOutcome files.Language known name start lines
+    (λ s end. IsEnd s end (Err (Notation number bad))) (λ l other. (l ≡ number) × (other ≡ bad))
 
 -- what the end of the lines of a language file answers where a further line would have this number
 abbrev pub IsEndRead : State → ℕ → Result Outline OutlineError → Type 0

@@ -10,19 +10,22 @@ use Rattle.sx_directives.specs.declared.spelled.FormSymbol.{FormSymbol}
 use Rattle.sx_directives.specs.declared.spelled.FormSymbol.TheVariants.{Lit, Place}
 use Rattle.sx_directives.specs.declared.rows.MainLine.{MainLine}
 use Rattle.sx_outline.specs.Declarations.{FormData}
-use Rattle.sx_outline.specs.Fitting.{AreDistinct, IsKnownSort, SymbolFits, HasOneSubject, IsMainOf, stems, form_names}
+use Rattle.sx_outline.specs.Fitting.{AreDistinct, IsKnownSort, SymbolFits, HasOneSubject, IsMainOf}
+use Rattle.sx_outline.specs.Fitting.{stems, form_names}
 use Rattle.sx_outline.specs.Stages.{RuleData}
 use Rattle.sx_outline.specs.Outlined.{OutlineData, declared_by}
 
 -- least levels of the places of the forms are at most 99
 abbrev pub HaveGoodLevels : List FormData → Type 0
 HaveGoodLevels forms =
-    (f : FormData) (role : Role) (name : List ℕ) (least : ℕ) → Contains forms f → Contains f.symbols (Place role (Named name least)) → least ≤ 99
+    (f : FormData) (role : Role) (name : List ℕ) (least : ℕ) → Contains forms f →
+    Contains f.symbols (Place role (Named name least)) → least ≤ 99
 
 -- the rule has at most so many premises, and its lines have at most so many bytes each
 abbrev pub HasShortLines : ℕ → RuleData → Type 0
 HasShortLines size r =
-    (length r.premises ≤ size) × AllByRecursion (λ l. length l.text ≤ size) r.premises × (length r.conclusion.text ≤ size)
+    (length r.premises ≤ size) × AllByRecursion (λ l. length l.text ≤ size) r.premises ×
+    (length r.conclusion.text ≤ size)
     × IfSome r.body (λ l. length l.text ≤ size)
 
 -- the outline is no larger than a file of so many bytes can state
@@ -47,7 +50,8 @@ pub record IsFit (o : OutlineData) : Type 0 where
   pub stems_once : AreDistinct (stems (declared_by o line))
   pub vars : AllByRecursion (λ v. IsKnownSort (declared_by o line) v.sort) o.vars
   pub forms_once : AreDistinct (form_names (declared_by o line))
-  pub places : AllByRecursion (λ f. AllByRecursion (SymbolFits (declared_by o line)) f.symbols) o.forms
+  pub places : AllByRecursion (λ f. AllByRecursion
+      (SymbolFits (declared_by o line)) f.symbols) o.forms
   pub named : AllByRecursion (λ f. AllByRecursion HasName f.symbols) o.forms
   pub subjects : AllByRecursion (λ f. HasOneSubject f.symbols) o.forms
   pub bodies : AllByRecursion (λ r. r.body ≡ None) o.rules

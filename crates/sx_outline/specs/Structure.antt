@@ -8,7 +8,8 @@ use Rattle.sx_directives.specs.Rows.{IsRow}
 use Rattle.sx_directives.specs.declared.rows.MainLine.{MainLine}
 use Rattle.sx_directives.specs.declared.rows.PlainLine.{PlainLine}
 use Rattle.sx_directives.specs.declared.row.Row.{Row}
-use Rattle.sx_directives.specs.declared.row.Row.TheVariants.{Language, Sort, Prod, Var, Form, Main, Plain, Rule, To, End, Extension, Use}
+use Rattle.sx_directives.specs.declared.row.Row.TheVariants.{Language, Sort, Prod, Var, Form, Main}
+use Rattle.sx_directives.specs.declared.row.Row.TheVariants.{Plain, Rule, To, End, Extension, Use}
 use Rattle.sx_outline.specs.Declarations.{Declared, nothing, declare, declared_before}
 use Rattle.sx_outline.specs.Fitting.{ArePartNames, AreDistinct, Fits, IsMainOf}
 use Rattle.sx_outline.specs.Stages.{Numbered, PlainData, RuleData, begun_plain, paired, IsBar}
@@ -33,19 +34,23 @@ IsDeclaring (Main m) = Unit {0}
 IsDeclaring _ = ⊥
 
 -- each line spells a row that declares something and fits, and after all of them this is declared
-abbrev pub AreDeclarations : FileKind → (known before : Declared) → List Numbered → Declared → Type 0
+abbrev pub AreDeclarations : FileKind → (known before : Declared) → List Numbered → Declared →
+    Type 0
 AreDeclarations kind known before [] all = before ≡ all
 AreDeclarations kind known before (l ∷ lines) all =
-    (row : Row) × IsRow kind l.text row × IsDeclaring row × Fits known before row × AreDeclarations kind known (declare before row) lines all
+    (row : Row) × IsRow kind l.text row × IsDeclaring row × Fits known before row ×
+    AreDeclarations kind known (declare before row) lines all
 
 -- the lines are `use` lines of these names
 abbrev pub AreUseLines : List Numbered → List (List ℕ) → Type 0
 AreUseLines [] [] = Unit {0}
-AreUseLines (l ∷ lines) (used ∷ uses) = IsRow files.Extension l.text (Use used) × AreUseLines lines uses
+AreUseLines (l ∷ lines) (used ∷ uses) = IsRow files.Extension l.text (Use used) ×
+    AreUseLines lines uses
 AreUseLines _ _ = ⊥
 
 -- `plain LABEL VAR..`, which fits, and one line after it
-pub record IsPair (kind : FileKind) (known : Declared) (first body : Numbered) (p : PlainData) : Type 0 where
+pub record IsPair (kind : FileKind) (known : Declared) (first body : Numbered)
+    (p : PlainData) : Type 0 where
   pub row : PlainLine
   pub spelled : IsRow kind first.text (Plain row)
   pub fits : ArePartNames known row.label row.names.items
@@ -54,7 +59,8 @@ pub record IsPair (kind : FileKind) (known : Declared) (first body : Numbered) (
 -- the lines of one plain pair after the other
 abbrev pub ArePairs : FileKind → Declared → List Numbered → List PlainData → Type 0
 ArePairs kind known [] [] = Unit {0}
-ArePairs kind known (first ∷ body ∷ lines) (p ∷ plains) = IsPair kind known first body p × ArePairs kind known lines plains
+ArePairs kind known (first ∷ body ∷ lines) (p ∷ plains) =
+    IsPair kind known first body p × ArePairs kind known lines plains
 ArePairs kind known _ _ = ⊥
 
 -- the lines of a body: none, or one `to` line
@@ -63,7 +69,8 @@ AreBodies kind [] None = Unit {0}
 AreBodies kind (l ∷ []) (Some body) = IsRow kind l.text (To body.text) × (l.number ≡ body.number)
 AreBodies kind _ _ = ⊥
 
--- `rule NAME`, the premises, of which none is just `---`, then `---`, the conclusion, the body, if there is one, and `end`
+-- `rule NAME`, the premises, of which none is just `---`, then `---`, the conclusion, the body, if
+-- there is one, and `end`
 pub record AreRuleLines (kind : FileKind) (lines : List Numbered) (r : RuleData) : Type 0 where
   pub first : Numbered
   pub bar : Numbered
@@ -81,9 +88,11 @@ pub record AreRuleLines (kind : FileKind) (lines : List Numbered) (r : RuleData)
 abbrev pub AreRules : FileKind → List Numbered → List RuleData → Type 0
 AreRules kind lines [] = lines ≡ []
 AreRules kind lines (r ∷ rules) =
-    (front back : List Numbered) × (lines ≡ front ++ back) × AreRuleLines kind front r × AreRules kind back rules
+    (front back : List Numbered) × (lines ≡ front ++ back) × AreRuleLines kind front r ×
+    AreRules kind back rules
 
--- `language NAME`, the lines of the declarations, among them one main line, and the lines of the rules, which have no bodies
+-- `language NAME`, the lines of the declarations, among them one main line, and the lines of the
+-- rules, which have no bodies
 pub record AreOutlineLines (name : List ℕ) (lines : List Numbered) (o : OutlineData) : Type 0 where
   pub first : Numbered
   pub declarations : List Numbered
@@ -91,11 +100,13 @@ pub record AreOutlineLines (name : List ℕ) (lines : List Numbered) (o : Outlin
   pub lines_are : lines ≡ first ∷ declarations ++ rules
   pub named : IsRow files.Language first.text (Language name)
   pub main_line : MainLine
-  pub declared : AreDeclarations files.Language (declared_by o main_line) nothing declarations (declared_by o main_line)
+  pub declared : AreDeclarations files.Language (declared_by o main_line) nothing declarations
+      (declared_by o main_line)
   pub main : IsMainOf (declared_by o main_line) main_line o.main
   pub rules_are : AreRules files.Language rules o.rules
 
--- `extension NAME`, `language NAME` and the `use` lines, of which each names what none before it names
+-- `extension NAME`, `language NAME` and the `use` lines, of which each names what none before it
+-- names
 pub record AreHeaderLines (lines : List Numbered) (h : HeaderData) : Type 0 where
   pub first : Numbered
   pub second : Numbered
@@ -106,14 +117,17 @@ pub record AreHeaderLines (lines : List Numbered) (h : HeaderData) : Type 0 wher
   pub uses : AreUseLines others h.uses
   pub once : AreDistinct h.uses
 
--- the lines of an extension file: its first lines, those of the declarations, of the plain pairs, and of the rules
-pub record AreExtensionLines (sorts : List SortLine) (vars : List VarLine) (lines : List Numbered) (o : ExtensionOutlineData) : Type 0 where
+-- the lines of an extension file: its first lines, those of the declarations, of the plain pairs,
+-- and of the rules
+pub record AreExtensionLines (sorts : List SortLine) (vars : List VarLine) (lines : List Numbered)
+    (o : ExtensionOutlineData) : Type 0 where
   pub header : List Numbered
   pub declarations : List Numbered
   pub pairs : List Numbered
   pub rules : List Numbered
   pub lines_are : lines ≡ header ++ (declarations ++ (pairs ++ rules))
   pub header_is : AreHeaderLines header o.header
-  pub declared : AreDeclarations files.Extension (extension_declares sorts o) (declared_before sorts vars o.header.uses) declarations (extension_declares sorts o)
+  pub declared : AreDeclarations files.Extension (extension_declares sorts o)
+      (declared_before sorts vars o.header.uses) declarations (extension_declares sorts o)
   pub pairs_are : ArePairs files.Extension (extension_declares sorts o) pairs o.plains
   pub rules_are : AreRules files.Extension rules o.rules

@@ -32,7 +32,8 @@ declared_in r = record {
 
 -- each name is found at the first of its places
 abbrev pub ArePlaces : List (List ℕ) → Places → Type 0
-ArePlaces names places = (name : List ℕ) → get_by_text places.entries name ≡ position (λ other. bytes_eq other name) names
+ArePlaces names places = (name : List ℕ) → get_by_text places.entries name
+    ≡ position (λ other. bytes_eq other name) names
 
 -- the names of sorts, labels, stems, names of forms and names that are used are found
 pub record AreTables (d : Declared) (t : Tables) : Type 0 where
@@ -47,7 +48,8 @@ pub record AreFew (d : Declared) : Type 0 where
   pub few_forms : length d.forms < 2 ^ 32
   pub few_productions : length d.productions < 2 ^ 32
 
--- where nothing is due nothing more is declared, and else the next lines declare the rest, the first of them perhaps a body
+-- where nothing is due nothing more is declared, and else the next lines declare the rest, the
+-- first of them perhaps a body
 abbrev pub EndsOrGoesOn : FileKind → Due → Declared → Lines → Declared → Type 0
 EndsOrGoesOn kind dues.Nothing d more all = all ≡ d
 EndsOrGoesOn kind dues.Body d more all = Declares kind true d more all
@@ -66,7 +68,8 @@ TakesRow old row due new = (due ≡ due_after row) × (new ≡ declare old row)
 -- after a line with this text so much is declared, and this is due
 abbrev pub TakesLine : FileKind → Declared → List ℕ → Due → Declared → Type 0
 TakesLine kind old text due new =
-    (n : ℕ) (after : List ℕ) (more : Lines) (all : Declared) → EndsOrGoesOn kind due new more all → Declares kind false old (lines.line n text after more) all
+    (n : ℕ) (after : List ℕ) (more : Lines) (all : Declared) → EndsOrGoesOn kind due new more all →
+    Declares kind false old (lines.line n text after more) all
 
 -- the lines after the first
 abbrev pub lines_after : Lines → Lines

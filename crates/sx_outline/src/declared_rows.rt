@@ -9,7 +9,8 @@ use sx_directives::{FormLine, MainLine, Row, VarLine};
 use sx_grammar::{Production, SortLine};
 use sx_term::{NoMemory, Text};
 
-/// Sorts, productions, stems, forms and main lines, each in the order of their lines, and the names that the first lines use.
+/// Sorts, productions, stems, forms and main lines, each in the order of their lines, and the names
+/// that the first lines use.
 #[derive(Drop)]
 pub(crate) struct DeclaredRows {
     pub sorts: Vec<SortLine>,
@@ -67,14 +68,16 @@ impl DeclaredRows {
         }
     }
 
-    /// What is declared after the header of an extension file that uses these names: the sorts and the stems of its language.
+    /// What is declared after the header of an extension file that uses these names: the sorts and
+    /// the stems of its language.
     pub(crate) fn before(
         alloc: Global,
         sorts: &[SortLine],
         vars: &[VarLine],
         uses: Vec<Text>,
     ) -> Result<DeclaredRows, NoMemory>
-        ensures { IfOk result (λ rows. declared_in rows ≡ declared_before sorts.now vars.now uses.items) }
+        ensures { IfOk result (λ rows. declared_in rows
+            ≡ declared_before sorts.now vars.now uses.items) }
     {
         let mut rows = DeclaredRows::new(alloc);
         rows.uses = uses;

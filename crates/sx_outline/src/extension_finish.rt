@@ -25,8 +25,10 @@ pub(crate) fn finish_extension(
 ) -> Result<ExtensionOutline, OutlineError>
     requires no_forms { (view.known known).forms ≡ [] }
     requires no_mains { (view.known known).mains ≡ [] }
-    ensures { (s : State) → IsReader (view.known known) reader s → (s.stage ≡ at_start → ⊥) → (IsWhole s.stage → s.declared ≡ view.known known)
-        → IsExtensionEndRead (view.known known).sorts (record { name = name; language = language; uses = (view.known known).uses }) s result }
+    ensures { (s : State) → IsReader (view.known known) reader s → (s.stage ≡ at_start → ⊥) →
+        (IsWhole s.stage → s.declared ≡ view.known known)
+        → IsExtensionEndRead (view.known known).sorts
+        (record { name = name; language = language; uses = (view.known known).uses }) s result }
 {
     let Reader {
         stage,

@@ -6,8 +6,9 @@ use crate::rule_lines::RuleLines;
 use sx_directives::VarLine;
 use sx_grammar::Production;
 
-/// An extension file before its texts are read by its grammar: its header, its own productions, the stems of metavariables, those of
-/// its language first and then its own, its plain pairs, and the lines of its rules.
+/// An extension file before its texts are read by its grammar: its header, its own productions, the
+/// stems of metavariables, those of its language first and then its own, its plain pairs, and the
+/// lines of its rules.
 #[derive(Drop)]
 pub struct ExtensionOutline {
     pub header: ExtensionHeader,

@@ -7,7 +7,8 @@ ghost use Rattle.sx_outline.specs.Declarations.{declared_before};
 ghost use Rattle.sx_outline.specs.Headers.{header as header_of};
 ghost use Rattle.sx_outline.specs.Known.{kept_lines};
 ghost use Rattle.sx_outline.specs.Tables.{declared_in};
-ghost use Rattle.sx_outline.specs.ExtensionOutlined.{IsExtensionOutlined, extension_outline as outline_of};
+ghost use Rattle.sx_outline.specs.ExtensionOutlined.{IsExtensionOutlined};
+ghost use Rattle.sx_outline.specs.ExtensionOutlined.{extension_outline as outline_of};
 ghost use Rattle.sx_outline.specs.ExtensionReading.{AreAfterRead};
 ghost use Rattle.sx_outline.specs.ExtensionSized.{IsExtensionFit, IsExtensionSized};
 
@@ -34,7 +35,8 @@ fn read_after(
     lines: Rest,
 ) -> Result<ExtensionOutline, OutlineError>
     requires { IsUtf8 lines.bytes.now }
-    ensures { AreAfterRead sorts.now vars.now (header_of header) (kept_lines (left lines.entry)) result }
+    ensures { AreAfterRead sorts.now vars.now (header_of header)
+        (kept_lines (left lines.entry)) result }
 {
     let ExtensionHeader {
         name,
@@ -53,11 +55,14 @@ fn read_after(
     }
 }
 
-/// What an extension file states line by line, where its language has these sorts and these stems of metavariables: its header, its own
-/// productions, its stems after those of the language, its plain pairs, and the lines of its rules, with the bodies that `to` lines state.
-/// Whose the file is and whether the language has the name that it states is left to the caller. It is refused where the bytes are not UTF-8,
-/// and else at its first bad line: an own stem that the language has is `Shape`, as is a `plain` line whose names are not those of the parts
-/// of a production of the file with a plain sort. The file has fewer than 2^32 - 1 bytes, so that the number of a line fits.
+/// What an extension file states line by line, where its language has these sorts and these stems
+/// of metavariables: its header, its own productions, its stems after those of the language, its
+/// plain pairs, and the lines of its rules, with the bodies that `to` lines state. Whose the file
+/// is and whether the language has the name that it states is left to the caller. It is refused
+/// where the bytes are not UTF-8, and else at its first bad line: an own stem that the language has
+/// is `Shape`, as is a `plain` line whose names are not those of the parts of a production of the
+/// file with a plain sort. The file has fewer than 2^32 - 1 bytes, so that the number of a line
+/// fits.
 pub fn read_extension_outline(
     alloc: Global,
     sorts: &[SortLine],
@@ -66,7 +71,8 @@ pub fn read_extension_outline(
 ) -> Result<ExtensionOutline, OutlineError>
     requires { length bytes.now + 1 < 2 ^ 32 }
     ensures answer { IsExtensionOutlined sorts.now vars.now bytes.now result }
-    ensures sized { IfOk result (λ o. IsExtensionSized (length bytes.now) (length vars.now) (outline_of o)) }
+    ensures sized { IfOk result (λ o. IsExtensionSized (length bytes.now) (length vars.now)
+        (outline_of o)) }
     ensures fit { IfOk result (λ o. IsExtensionFit sorts.now vars.now (outline_of o)) }
 {
     match std::str::from_utf8(bytes) {

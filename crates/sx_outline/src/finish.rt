@@ -23,7 +23,8 @@ fn finish_whole(
     number: u32,
 ) -> Result<Outline, OutlineError>
     requires { (view.known known).uses ≡ [] }
-    ensures { (s : State) → IsWhole s.stage → s.declared ≡ view.known known → IsMainRead (view.known known) main s.declared.mains
+    ensures { (s : State) → IsWhole s.stage → s.declared ≡ view.known known →
+        IsMainRead (view.known known) main s.declared.mains
         → map rule_data rules.items ≡ s.rules → IsEndRead s number result }
 {
     match main {
@@ -48,7 +49,8 @@ fn finish_whole(
 /// What comes of a reader where no line is left. A further line would have this number.
 pub(crate) fn finish(known: Known, reader: Reader, number: u32) -> Result<Outline, OutlineError>
     requires { (view.known known).uses ≡ [] }
-    ensures { (s : State) → IsReader (view.known known) reader s → (IsWhole s.stage → s.declared ≡ view.known known) → IsEndRead s number result }
+    ensures { (s : State) → IsReader (view.known known) reader s →
+        (IsWhole s.stage → s.declared ≡ view.known known) → IsEndRead s number result }
 {
     let Reader {
         stage,

@@ -3,7 +3,8 @@
 ghost use Rattle.std.specs.Prelude.{◌≡◌, false, [], ◌+◌, ◌≤◌, ◌<◌, ◌^◌, length, IfOk, OnOk};
 ghost use Rattle.sx_lines.specs.Left.{left};
 ghost use Rattle.sx_outline.specs.Known.{kept_lines, Declares};
-ghost use Rattle.sx_outline.specs.Tables.{AreFew, Grows, TakesLine, TakesRow, declared_in, due_after, lines_after};
+ghost use Rattle.sx_outline.specs.Tables.{AreFew, Grows, TakesLine, TakesRow, declared_in};
+ghost use Rattle.sx_outline.specs.Tables.{due_after, lines_after};
 ghost use Rattle.sx_outline.specs.View.{known};
 
 use crate::declared_rows::DeclaredRows;
@@ -29,7 +30,8 @@ fn due_after(row: &Row) -> Due
 
 /// Adds what a row declares, and tells what is due after it.
 fn take_row(rows: &mut DeclaredRows, row: Row) -> Result<Due, NoMemory>
-    ensures taken { IfOk result (λ due. TakesRow (declared_in rows.old) row due (declared_in rows.new)) }
+    ensures taken { IfOk result (λ due. TakesRow (declared_in rows.old) row due
+        (declared_in rows.new)) }
     ensures grows { OnOk result (Grows (declared_in rows.old) (declared_in rows.new)) }
 {
     let due = due_after(&row);
@@ -44,7 +46,8 @@ fn take_line(
     rows: &mut DeclaredRows,
     text: &[u8],
 ) -> Result<Due, NoMemory>
-    ensures taken { IfOk result (λ due. TakesLine kind (declared_in rows.old) text.now due (declared_in rows.new)) }
+    ensures taken { IfOk result (λ due. TakesLine kind (declared_in rows.old) text.now due
+        (declared_in rows.new)) }
     ensures grows { OnOk result (Grows (declared_in rows.old) (declared_in rows.new)) }
 {
     match spelled_row(alloc, kind, text)? {
@@ -73,7 +76,8 @@ fn read_rows(
 ) -> Result<DeclaredRows, NoMemory>
     requires no_forms { (declared_in rows).forms ≡ [] }
     requires no_productions { (declared_in rows).productions ≡ [] }
-    ensures declared { IfOk result (λ all. Declares kind false (declared_in rows) (kept_lines (left lines.entry)) (declared_in all)) }
+    ensures declared { IfOk result (λ all. Declares kind false (declared_in rows)
+        (kept_lines (left lines.entry)) (declared_in all)) }
     ensures few { IfOk result (λ all. AreFew (declared_in all)) }
 {
     let mut found = rows;
@@ -94,7 +98,8 @@ fn read_rows(
     }
 }
 
-/// What is known of a file: what its lines declare, up to the first line of a rule, after what these rows declare.
+/// What is known of a file: what its lines declare, up to the first line of a rule, after what
+/// these rows declare.
 pub(crate) fn read_known(
     alloc: Global,
     kind: FileKind,
@@ -103,7 +108,8 @@ pub(crate) fn read_known(
 ) -> Result<Known, NoMemory>
     requires no_forms { (declared_in rows).forms ≡ [] }
     requires no_productions { (declared_in rows).productions ≡ [] }
-    ensures { IfOk result (λ k. Declares kind false (declared_in rows) (kept_lines (left lines.entry)) (known k)) }
+    ensures { IfOk result (λ k. Declares kind false (declared_in rows)
+        (kept_lines (left lines.entry)) (known k)) }
 {
     Known::make(alloc, read_rows(alloc, kind, rows, lines)?)
 }

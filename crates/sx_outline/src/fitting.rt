@@ -4,7 +4,8 @@ ghost use Rattle.std.specs.Prelude.{◌≡◌, ◌↔◌, IsTrue, IfOk, take, Co
 ghost use Rattle.std.specs.List.{AllByRecursion};
 ghost use Rattle.sx_term.specs.Roles as roles;
 ghost use Rattle.sx_outline.specs.Declarations.{Declared};
-ghost use Rattle.sx_outline.specs.Fitting.{Fits, HasOneSubject, IsKnownSort, IsPlain, PlaceFits, SymbolFits, form_names, sort_named, stems};
+ghost use Rattle.sx_outline.specs.Fitting.{Fits, HasOneSubject, IsKnownSort, IsPlain, PlaceFits};
+ghost use Rattle.sx_outline.specs.Fitting.{SymbolFits, form_names, sort_named, stems};
 ghost use Rattle.sx_outline.specs.View.{known};
 
 use crate::known::Known;
@@ -92,7 +93,9 @@ impl Known {
 
     /// Whether the stem is none of the first stems, so many, and its sort is known.
     fn var_fits(&self, vars: usize, var: &VarLine) -> bool
-        ensures { IsTrue result ↔ ((Contains (take vars (stems (known self.now))) var.now.stem → ⊥) × IsKnownSort (known self.now) var.now.sort) }
+        ensures { IsTrue result
+            ↔ ((Contains (take vars (stems (known self.now))) var.now.stem → ⊥) ×
+            IsKnownSort (known self.now) var.now.sort) }
     {
         if self.tables.stems.is_before(vars, &var.stem) {
             return false;
@@ -100,10 +103,13 @@ impl Known {
         self.is_known_sort(&var.sort)
     }
 
-    /// Whether the name is none of those of the first forms, so many, each symbol fits, and there is at most one subject.
+    /// Whether the name is none of those of the first forms, so many, each symbol fits, and there
+    /// is at most one subject.
     fn form_fits(&self, forms: usize, form: &FormLine) -> bool
-        ensures { IsTrue result ↔ ((Contains (take forms (form_names (known self.now))) form.now.name → ⊥)
-            × AllByRecursion (SymbolFits (known self.now)) form.now.symbols.items × HasOneSubject form.now.symbols.items) }
+        ensures { IsTrue result
+            ↔ ((Contains (take forms (form_names (known self.now))) form.now.name → ⊥)
+            × AllByRecursion (SymbolFits (known self.now)) form.now.symbols.items ×
+            HasOneSubject form.now.symbols.items) }
     {
         if self.tables.forms.is_before(forms, &form.name) {
             return false;
@@ -129,7 +135,8 @@ impl Known {
         vars: usize,
         row: &Row,
     ) -> Result<bool, NoMemory>
-        ensures { (before : Declared) → before.forms ≡ take forms (known self.now).forms → before.vars ≡ take vars (known self.now).vars
+        ensures { (before : Declared) → before.forms ≡ take forms (known self.now).forms →
+            before.vars ≡ take vars (known self.now).vars
             → IfOk result (λ fits. IsTrue fits ↔ Fits (known self.now) before row.now) }
     {
         match row {

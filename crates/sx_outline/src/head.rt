@@ -36,7 +36,8 @@ pub(crate) fn first_line(
     number: u32,
     text: &[u8],
 ) -> Result<(), OutlineError>
-    ensures { MatchResult result (λ _. IsRow kind text.now (head_row kind name.now)) (λ e. IsHeadRefused kind name.now number text.now e) }
+    ensures { MatchResult result (λ _. IsRow kind text.now (head_row kind name.now))
+        (λ e. IsHeadRefused kind name.now number text.now e) }
 {
     match spelled_row(alloc, kind, text)? {
         Some(row) => {

@@ -6,7 +6,8 @@ ghost use Rattle.sx_lines.specs.Lines.{lines_from};
 ghost use Rattle.sx_lines.specs.Left.{left};
 ghost use Rattle.sx_outline.specs.Known.{kept_lines};
 ghost use Rattle.sx_outline.specs.Headers.{IsHeaderRead};
-ghost use Rattle.sx_outline.specs.HeaderReading.{AreUsesRead, IsAnyHeaderRead, IsLanguageRead, IsNamedHeaderRead};
+ghost use Rattle.sx_outline.specs.HeaderReading.{AreUsesRead, IsAnyHeaderRead, IsLanguageRead};
+ghost use Rattle.sx_outline.specs.HeaderReading.{IsNamedHeaderRead};
 
 use crate::extension_header::ExtensionHeader;
 use crate::head::first_line;
@@ -106,11 +107,13 @@ pub(crate) fn read_header<'a>(
     }
 }
 
-/// What the first lines of the file of the extension with this name state: its language and the extensions that it uses. The
-/// header ends before the first line after the second whose first part is not `use`. It is refused where the bytes are not UTF-8,
-/// and else at its first bad line: `Head` for a first line that is not `extension NAME`, for a second that is no `language` line,
-/// and at 1 more than the number of lines where one of the two is missing; `Shape` for a `use` line that is not as stated or names
-/// again what one before it names. The file has fewer than 2^32 - 1 bytes, so that the number of a line fits.
+/// What the first lines of the file of the extension with this name state: its language and the
+/// extensions that it uses. The header ends before the first line after the second whose first part
+/// is not `use`. It is refused where the bytes are not UTF-8, and else at its first bad line:
+/// `Head` for a first line that is not `extension NAME`, for a second that is no `language` line,
+/// and at 1 more than the number of lines where one of the two is missing; `Shape` for a `use` line
+/// that is not as stated or names again what one before it names. The file has fewer than 2^32 - 1
+/// bytes, so that the number of a line fits.
 pub fn read_extension_header(
     alloc: Global,
     name: &Text,

@@ -29,7 +29,8 @@ impl HeaderUses {
     /// Adds a name, unless it stands there, and tells whether it was added.
     pub(crate) fn add(&mut self, alloc: Global, name: Text) -> Result<bool, NoMemory>
         requires { AreUsesFound self.now }
-        ensures added { IfOk result (λ is_new. IsUseAdded self.old.names.items name is_new self.new.names.items) }
+        ensures added { IfOk result (λ is_new.
+            IsUseAdded self.old.names.items name is_new self.new.names.items) }
         ensures found { OnOk result (AreUsesFound self.new) }
     {
         if self.places.is_before(self.names.len(), &name) {

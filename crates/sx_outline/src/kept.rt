@@ -24,14 +24,17 @@ fn is_dropped(text: &[u8]) -> bool
     true
 }
 
-/// The first line that a language file keeps, and what is left after it. `NoLine` comes exactly where no such line is left.
+/// The first line that a language file keeps, and what is left after it. `NoLine` comes exactly
+/// where no such line is left.
 pub(crate) fn next_kept_line<'a>(rest: Rest<'a>) -> Result<(Line<'a>, Rest<'a>), NoLine>
     ensures first { MatchResult result
-        (λ x. kept_lines (left rest.entry) ≡ line x.0.number x.0.text.now x.1.bytes.now (kept_lines (left x.1)))
+        (λ x. kept_lines (left rest.entry) ≡ line x.0.number x.0.text.now x.1.bytes.now
+        (kept_lines (left x.1)))
         (λ e. kept_lines (left rest.entry) ≡ over e.number) }
     ensures shorter { IfOk result (λ x. length x.1.bytes.now < length rest.entry.bytes.now) }
     ensures numbers { IfOk result (λ x. x.1.number ≡ x.0.number + 1) }
-    ensures utf8 { IsUtf8 rest.entry.bytes.now → IfOk result (λ x. IsUtf8 x.0.text.now × IsUtf8 x.1.bytes.now) }
+    ensures utf8 { IsUtf8 rest.entry.bytes.now →
+        IfOk result (λ x. IsUtf8 x.0.text.now × IsUtf8 x.1.bytes.now) }
 {
     let mut lines = rest;
     'kept: loop {

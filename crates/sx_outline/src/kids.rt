@@ -21,7 +21,8 @@ fn is_literal(symbol: &Symbol) -> bool
 
 /// The first part, and the symbols after it.
 pub(crate) fn next_kid(symbols: &[Symbol]) -> Option<(&Symbol, &[Symbol])>
-    ensures { MatchOption result (kids_of symbols.now ≡ []) (λ x. (kid : Kid) × IsKid x.0.now kid × (kids_of symbols.now ≡ kid ∷ kids_of x.1.now)) }
+    ensures { MatchOption result (kids_of symbols.now ≡ [])
+        (λ x. (kid : Kid) × IsKid x.0.now kid × (kids_of symbols.now ≡ kid ∷ kids_of x.1.now)) }
 {
     for i in 0..symbols.len() {
         if !is_literal(&symbols[i]) {
@@ -75,7 +76,9 @@ fn is_id(symbol: &Symbol) -> bool
 
 /// The symbols after the first part, where that is of this sort.
 fn after_sort<'a>(symbols: &'a [Symbol], sort: &Text) -> Option<&'a [Symbol]>
-    ensures { MatchOption result ((kids : List Kid) → kids_of symbols.entry.now ≡ of_sort sort.now ∷ kids → ⊥) (λ rest. kids_of symbols.entry.now ≡ of_sort sort.now ∷ kids_of rest.now) }
+    ensures { MatchOption result ((kids : List Kid) →
+        kids_of symbols.entry.now ≡ of_sort sort.now ∷ kids → ⊥)
+        (λ rest. kids_of symbols.entry.now ≡ of_sort sort.now ∷ kids_of rest.now) }
 {
     match next_kid(symbols) {
         Some((kid, rest)) => {
@@ -90,7 +93,9 @@ fn after_sort<'a>(symbols: &'a [Symbol], sort: &Text) -> Option<&'a [Symbol]>
 
 /// The symbols after the first part, where that is an identifier.
 fn after_id(symbols: &[Symbol]) -> Option<&[Symbol]>
-    ensures { MatchOption result ((kids : List Kid) → kids_of symbols.now ≡ of_kind kinds.Id ∷ kids → ⊥) (λ rest. kids_of symbols.now ≡ of_kind kinds.Id ∷ kids_of rest.now) }
+    ensures { MatchOption result ((kids : List Kid) →
+        kids_of symbols.now ≡ of_kind kinds.Id ∷ kids → ⊥)
+        (λ rest. kids_of symbols.now ≡ of_kind kinds.Id ∷ kids_of rest.now) }
 {
     match next_kid(symbols) {
         Some((kid, rest)) => {
@@ -105,7 +110,8 @@ fn after_id(symbols: &[Symbol]) -> Option<&[Symbol]>
 
 /// Whether the parts are an environment, a name and a signature.
 pub(crate) fn are_add_kids(symbols: &[Symbol], environment: &Text, signature: &Text) -> bool
-    ensures { IsTrue result ↔ (kids_of symbols.now ≡ of_sort environment.now ∷ of_kind kinds.Id ∷ of_sort signature.now ∷ []) }
+    ensures { IsTrue result ↔ (kids_of symbols.now
+        ≡ of_sort environment.now ∷ of_kind kinds.Id ∷ of_sort signature.now ∷ []) }
 {
     match after_sort(symbols, environment) {
         Some(rest) => match after_id(rest) {

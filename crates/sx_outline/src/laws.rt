@@ -1,8 +1,11 @@
 //! What holds of language and extension files.
 
-ghost use Rattle.sx_outline.specs.Laws.{ExtensionOutlinesHaveLines, LinesHaveExtensionOutlines, LinesHaveOutlines, OneExtensionOutline, OneHeaderAnswer, OneOutlineAnswer, OutlinesHaveHeaders, OutlinesHaveLines};
+ghost use Rattle.sx_outline.specs.Laws.{ExtensionOutlinesHaveLines, LinesHaveExtensionOutlines};
+ghost use Rattle.sx_outline.specs.Laws.{LinesHaveOutlines, OneExtensionOutline, OneHeaderAnswer};
+ghost use Rattle.sx_outline.specs.Laws.{OneOutlineAnswer, OutlinesHaveHeaders, OutlinesHaveLines};
 
-/// The lines that a file with an outline keeps are the first line, those of the declarations, and those of the rules.
+/// The lines that a file with an outline keeps are the first line, those of the declarations, and
+/// those of the rules.
 pub fn outlines_have_lines()
     ensures { OutlinesHaveLines }
 {}
@@ -27,8 +30,8 @@ pub fn one_extension_outline()
     ensures { OneExtensionOutline }
 {}
 
-/// The lines that an extension file with an outline keeps are its first lines, those of the declarations, of the plain pairs, and of the
-/// rules.
+/// The lines that an extension file with an outline keeps are its first lines, those of the
+/// declarations, of the plain pairs, and of the rules.
 pub fn extension_outlines_have_lines()
     ensures { ExtensionOutlinesHaveLines }
 {}

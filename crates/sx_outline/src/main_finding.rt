@@ -14,9 +14,11 @@ use crate::role_places::{count_at, one_at};
 use sx_directives::{FormSymbol, MainLine, SpelledSort};
 use sx_term::{Role, Text};
 
-/// The name of the sort of the one place with this role, where there is just one, and it is of no lexical sort.
+/// The name of the sort of the one place with this role, where there is just one, and it is of no
+/// lexical sort.
 fn one_name(symbols: &[FormSymbol], role: Role) -> Option<&Text>
-    ensures { MatchOption result ((name : List ℕ) → IsOneName symbols.now role name → ⊥) (λ name. IsOneName symbols.now role name.now) }
+    ensures { MatchOption result ((name : List ℕ) → IsOneName symbols.now role name → ⊥)
+        (λ name. IsOneName symbols.now role name.now) }
 {
     match one_at(symbols, role) {
         Some(SpelledSort::Named { sort, least: _ }) => Some(sort),
@@ -24,9 +26,12 @@ fn one_name(symbols: &[FormSymbol], role: Role) -> Option<&Text>
     }
 }
 
-/// The names of the sorts of environments and of signatures, where the symbols are those of a main form.
+/// The names of the sorts of environments and of signatures, where the symbols are those of a main
+/// form.
 fn main_sorts(symbols: &[FormSymbol]) -> Option<(&Text, &Text)>
-    ensures { MatchOption result ((environment signature : List ℕ) → AreMainSorts symbols.now environment signature → ⊥) (λ x. AreMainSorts symbols.now x.0.now x.1.now) }
+    ensures { MatchOption result ((environment signature : List ℕ) →
+        AreMainSorts symbols.now environment signature → ⊥)
+        (λ x. AreMainSorts symbols.now x.0.now x.1.now) }
 {
     if count_at(symbols, Role::Sub) != 1 {
         return None;
@@ -43,8 +48,10 @@ fn main_sorts(symbols: &[FormSymbol]) -> Option<(&Text, &Text)>
 impl Known {
     /// The number of the production with this label, where it has this sort.
     fn constructor(&self, label: &Text, sort: &Text) -> Option<usize>
-        ensures { MatchOption result ((number : ℕ) (kids : List Kid) → IsConstructor (known self.now) label.now number sort.now kids → ⊥)
-            (λ number. (kids : List Kid) × IsConstructor (known self.now) label.now number sort.now kids) }
+        ensures { MatchOption result ((number : ℕ) (kids : List Kid) →
+            IsConstructor (known self.now) label.now number sort.now kids → ⊥)
+            (λ number. (kids : List Kid) × IsConstructor (known self.now) label.now number sort.now
+            kids) }
     {
         match self.tables.labels.place(label) {
             Some(place) => {
@@ -59,7 +66,8 @@ impl Known {
 
     /// The number of the production with this label, where it makes an environment of nothing.
     fn empty_of(&self, label: &Text, environment: &Text) -> Option<u32>
-        ensures { MatchOption result ((number : ℕ) → IsConstructor (known self.now) label.now number environment.now [] → ⊥)
+        ensures { MatchOption result ((number : ℕ) →
+            IsConstructor (known self.now) label.now number environment.now [] → ⊥)
             (λ number. IsConstructor (known self.now) label.now number environment.now []) }
     {
         match self.constructor(label, environment) {
@@ -73,10 +81,14 @@ impl Known {
         }
     }
 
-    /// The number of the production with this label, where it makes an environment of one, a name and a signature.
+    /// The number of the production with this label, where it makes an environment of one, a name
+    /// and a signature.
     fn add_of(&self, label: &Text, environment: &Text, signature: &Text) -> Option<u32>
-        ensures { MatchOption result ((number : ℕ) → IsConstructor (known self.now) label.now number environment.now (of_sort environment.now ∷ of_kind kinds.Id ∷ of_sort signature.now ∷ []) → ⊥)
-            (λ number. IsConstructor (known self.now) label.now number environment.now (of_sort environment.now ∷ of_kind kinds.Id ∷ of_sort signature.now ∷ [])) }
+        ensures { MatchOption result ((number : ℕ) →
+            IsConstructor (known self.now) label.now number environment.now
+            (of_sort environment.now ∷ of_kind kinds.Id ∷ of_sort signature.now ∷ []) → ⊥)
+            (λ number. IsConstructor (known self.now) label.now number environment.now
+            (of_sort environment.now ∷ of_kind kinds.Id ∷ of_sort signature.now ∷ [])) }
     {
         match self.constructor(label, environment) {
             Some(number) => {
@@ -90,14 +102,16 @@ impl Known {
         }
     }
 
-    /// The numbers of the empty constructor that the row names and of the one that adds, where they are such.
+    /// The numbers of the empty constructor that the row names and of the one that adds, where they
+    /// are such.
     fn constructors(
         &self,
         row: &MainLine,
         environment: &Text,
         signature: &Text,
     ) -> Option<(u32, u32)>
-        ensures { MatchOption result ((empty add : ℕ) → AreConstructors (known self.now) row.now environment.now signature.now empty add → ⊥)
+        ensures { MatchOption result ((empty add : ℕ) →
+            AreConstructors (known self.now) row.now environment.now signature.now empty add → ⊥)
             (λ x. AreConstructors (known self.now) row.now environment.now signature.now x.0 x.1) }
     {
         match self.empty_of(&row.empty, environment) {
@@ -111,7 +125,8 @@ impl Known {
 
     /// The main form that the row names, where it is one.
     pub(crate) fn main_of(&self, row: &MainLine) -> Option<MainForm>
-        ensures { MatchOption result ((main : MainFormOf) → IsMainOf (known self.now) row.now main → ⊥) (λ main. IsMainOf (known self.now) row.now main) }
+        ensures { MatchOption result ((main : MainFormOf) → IsMainOf (known self.now) row.now main →
+            ⊥) (λ main. IsMainOf (known self.now) row.now main) }
     {
         match self.tables.forms.place(&row.form) {
             Some(form) => match main_sorts(&self.rows.forms[form].symbols) {

@@ -4,8 +4,10 @@ ghost use Rattle.std.specs.Prelude.{◌≡◌, ◌↔◌, List, ℕ, IsTrue, IfO
 ghost use Rattle.std.specs.Str.{IsUtf8};
 ghost use Rattle.sx_directives.specs.declared.row.Row.TheVariants as rows;
 ghost use Rattle.sx_outline.specs.Declarations.{Declared};
-ghost use Rattle.sx_outline.specs.Stages.{IsDue, IsBar, at_end, at_premises, concluded, numbered, paired, plain_data, with_premise};
-ghost use Rattle.sx_outline.specs.Reading.{IsCounted, GrowsByOne, IsLineRead, AddsPremise, begun as begun_of, plain_begun, stage as stage_of};
+ghost use Rattle.sx_outline.specs.Stages.{IsDue, IsBar, at_end, at_premises, concluded, numbered};
+ghost use Rattle.sx_outline.specs.Stages.{paired, plain_data, with_premise};
+ghost use Rattle.sx_outline.specs.Reading.{IsCounted, GrowsByOne, IsLineRead, AddsPremise};
+ghost use Rattle.sx_outline.specs.Reading.{begun as begun_of, plain_begun, stage as stage_of};
 ghost use Rattle.sx_outline.specs.View as view;
 
 use crate::head::first_line;
@@ -71,7 +73,9 @@ fn rule_line(alloc: Global, number: u32, text: &[u8]) -> Result<RuleLine, NoMemo
 /// Reads a premise of a rule.
 fn add_premise(alloc: Global, begun: Begun, number: u32, text: &[u8]) -> Result<Stage, NoMemory>
     requires { IsUtf8 text.now }
-    ensures { IfOk result (λ next. stage_of next ≡ at_premises (with_premise (begun_of begun) (record { number = number; text = text.now }))) }
+    ensures { IfOk result (λ next. stage_of next
+        ≡ at_premises (with_premise (begun_of begun)
+        (record { number = number; text = text.now }))) }
 {
     match rule_line(alloc, number, text) {
         Ok(premise) => {
@@ -112,7 +116,8 @@ fn premise_line(alloc: Global, begun: Begun, number: u32, text: &[u8]) -> Result
 /// Reads the conclusion of a rule.
 fn conclusion_line(alloc: Global, begun: Begun, number: u32, text: &[u8]) -> Result<Stage, NoMemory>
     requires { IsUtf8 text.now }
-    ensures { IfOk result (λ next. stage_of next ≡ at_end (concluded (begun_of begun) (record { number = number; text = text.now }))) }
+    ensures { IfOk result (λ next. stage_of next
+        ≡ at_end (concluded (begun_of begun) (record { number = number; text = text.now }))) }
 {
     match rule_line(alloc, number, text) {
         Ok(conclusion) => {
@@ -144,7 +149,8 @@ fn body_line(
     text: &[u8],
 ) -> Result<PlainLines, NoMemory>
     requires { IsUtf8 text.now }
-    ensures { IfOk result (λ p. plain_data p ≡ paired (plain_begun begun) (record { number = number; text = text.now })) }
+    ensures { IfOk result (λ p. plain_data p ≡ paired (plain_begun begun)
+        (record { number = number; text = text.now })) }
 {
     match rule_line(alloc, number, text) {
         Ok(body) => {
@@ -177,7 +183,8 @@ fn row_line(
 ) -> Result<Reader, OutlineError>
     requires due { IsDue (stage_of reader.stage) }
     requires counted { IsCounted reader }
-    ensures read { (name : List ℕ) → IsLineRead kind (view.known known.now) name reader line.entry.number line.entry.text.now result }
+    ensures read { (name : List ℕ) → IsLineRead kind (view.known known.now) name reader
+        line.entry.number line.entry.text.now result }
     ensures grows { IfOk result (GrowsByOne reader) }
 {
     match read_row(alloc, kind, line.text) {
@@ -219,7 +226,8 @@ fn other_line(
 ) -> Result<Reader, OutlineError>
     requires other { IsDue (stage_of reader.stage) → ⊥ }
     requires utf8 { IsUtf8 line.text.now }
-    ensures read { (known : Declared) → IsLineRead kind known name.now reader line.entry.number line.entry.text.now result }
+    ensures read { (known : Declared) → IsLineRead kind known name.now reader line.entry.number
+        line.entry.text.now result }
     ensures grows { IfOk result (GrowsByOne reader) }
 {
     let Reader {
@@ -286,7 +294,8 @@ pub(crate) fn read_next(
 ) -> Result<Reader, OutlineError>
     requires counted { IsCounted reader }
     requires utf8 { IsUtf8 line.text.now }
-    ensures read { IsLineRead kind (view.known known.now) name.now reader line.entry.number line.entry.text.now result }
+    ensures read { IsLineRead kind (view.known known.now) name.now reader line.entry.number
+        line.entry.text.now result }
     ensures grows { IfOk result (GrowsByOne reader) }
 {
     if is_due(&reader.stage) {

@@ -8,7 +8,8 @@ use crate::stage::Stage;
 
 /// The number of the first line of the plain pair or the rule that has begun and is not ended.
 pub(crate) fn open_line(stage: &Stage) -> Option<u32>
-    ensures { MatchOption result ((number : ℕ) → IsInside (stage_of stage.now) number → ⊥) (λ number. IsInside (stage_of stage.now) number) }
+    ensures { MatchOption result ((number : ℕ) → IsInside (stage_of stage.now) number → ⊥)
+        (λ number. IsInside (stage_of stage.now) number) }
 {
     match stage {
         Stage::Start | Stage::Declarations | Stage::Plains | Stage::Rules => None,

@@ -5,8 +5,8 @@ use crate::rule_lines::RuleLines;
 use sx_directives::{FormLine, VarLine};
 use sx_grammar::GrammarParts;
 
-/// A language file before its rules are read by its grammar: the parts of the grammar, the stems of metavariables, the forms, the main
-/// form, and the lines of the rules.
+/// A language file before its rules are read by its grammar: the parts of the grammar, the stems of
+/// metavariables, the forms, the main form, and the lines of the rules.
 #[derive(Drop)]
 pub struct Outline {
     pub parts: GrammarParts,

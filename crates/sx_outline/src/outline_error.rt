@@ -17,7 +17,8 @@ pub enum OutlineError {
     /// The bytes are not UTF-8: how many bytes stand before the first bad sequence.
     #[error("not UTF-8")]
     NotUtf8(usize),
-    /// The first bad line, or 1 more than the number of lines where one is missing, and what is bad about it.
+    /// The first bad line, or 1 more than the number of lines where one is missing, and what is bad
+    /// about it.
     #[error("a bad line")]
     Notation { line: u32, kind: Kind },
 }

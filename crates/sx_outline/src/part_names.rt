@@ -1,7 +1,8 @@
 //! Whether the names of a `plain` line are variables of its production's parts.
 
 ghost use Rattle.std.specs.Prelude.{◌↔◌, IsTrue, IfOk};
-ghost use Rattle.sx_outline.specs.Fitting.{ArePartNames, AreDistinct, IsPlain, IsVariableOf, Kid, NamesFit, kids_of, kid_sort};
+ghost use Rattle.sx_outline.specs.Fitting.{ArePartNames, AreDistinct, IsPlain, IsVariableOf, Kid};
+ghost use Rattle.sx_outline.specs.Fitting.{NamesFit, kids_of, kid_sort};
 ghost use Rattle.sx_outline.specs.MainSorts.{IsKid};
 ghost use Rattle.sx_outline.specs.View.{known};
 
@@ -32,7 +33,8 @@ fn are_distinct(alloc: Global, names: &[Text]) -> Result<bool, NoMemory>
 impl Known {
     /// Whether the name is that of a variable of the part's sort.
     fn name_fits(&self, name: &Text, part: &Symbol) -> bool
-        ensures { (kid : Kid) → IsKid part.now kid → IsTrue result ↔ IsVariableOf (known self.now) name.now (kid_sort kid) }
+        ensures { (kid : Kid) → IsKid part.now kid →
+            IsTrue result ↔ IsVariableOf (known self.now) name.now (kid_sort kid) }
     {
         match self.tables.stems.place_of(stem_of(name)) {
             Some(place) => is_sort_of(part, &self.rows.vars[place].sort),
@@ -59,15 +61,18 @@ impl Known {
         has_no_kid(rest)
     }
 
-    /// Whether the production is of a plain sort, and the names, none of which stands twice, are variables of its parts' sorts.
+    /// Whether the production is of a plain sort, and the names, none of which stands twice, are
+    /// variables of its parts' sorts.
     fn parts_fit(
         &self,
         alloc: Global,
         production: &Production,
         plain: &PlainLine,
     ) -> Result<bool, NoMemory>
-        ensures { IfOk result (λ b. IsTrue b ↔ (IsPlain (known self.now) production.now.sort × AreDistinct plain.now.names.items
-            × NamesFit (known self.now) plain.now.names.items (kids_of production.now.symbols.items))) }
+        ensures { IfOk result (λ b. IsTrue b ↔
+            (IsPlain (known self.now) production.now.sort × AreDistinct plain.now.names.items
+            × NamesFit (known self.now) plain.now.names.items
+            (kids_of production.now.symbols.items))) }
     {
         if !self.is_plain(&production.sort) {
             return Ok(false);
@@ -78,9 +83,11 @@ impl Known {
         are_distinct(alloc, &plain.names)
     }
 
-    /// Whether the label is that of a production of a plain sort, and the names are those of its parts.
+    /// Whether the label is that of a production of a plain sort, and the names are those of its
+    /// parts.
     pub(crate) fn plain_fits(&self, alloc: Global, plain: &PlainLine) -> Result<bool, NoMemory>
-        ensures { IfOk result (λ b. IsTrue b ↔ ArePartNames (known self.now) plain.now.label plain.now.names.items) }
+        ensures { IfOk result (λ b. IsTrue b ↔ ArePartNames (known self.now) plain.now.label
+            plain.now.names.items) }
     {
         match self.tables.labels.place(&plain.label) {
             Some(place) => self.parts_fit(alloc, &self.rows.productions[place], plain),

@@ -1,6 +1,7 @@
 //! The first places of names, found by their hash.
 
-ghost use Rattle.std.specs.Prelude.{◌≡◌, ◌↔◌, IsTrue, ℕ, List, ◌++◌, [], ◌∷◌, length, take, Contains, OnOk};
+ghost use Rattle.std.specs.Prelude.{◌≡◌, ◌↔◌, IsTrue, ℕ, List, ◌++◌, [], ◌∷◌, length, take};
+ghost use Rattle.std.specs.Prelude.{Contains, OnOk};
 ghost use Rattle.std.specs.HashMap.{get_by_text};
 ghost use Rattle.sx_outline.specs.Tables.{ArePlaces};
 
@@ -40,7 +41,8 @@ impl Places {
 
     /// Whether the name stands among the first of the names, so many.
     pub(crate) fn is_before(&self, count: usize, name: &Text) -> bool
-        ensures { (names : List (List ℕ)) → ArePlaces names self.now → IsTrue result ↔ Contains (take count names) name.now }
+        ensures { (names : List (List ℕ)) → ArePlaces names self.now →
+            IsTrue result ↔ Contains (take count names) name.now }
     {
         match self.place(name) {
             Some(place) => place < count,
@@ -50,7 +52,8 @@ impl Places {
 
     /// Adds a name at its place, which is that after all others.
     pub(crate) fn push(&mut self, alloc: Global, name: &Text, place: usize) -> Result<(), NoMemory>
-        ensures { OnOk result ((names : List (List ℕ)) → ArePlaces names self.old → place ≡ length names → ArePlaces (names ++ name.now ∷ []) self.new) }
+        ensures { OnOk result ((names : List (List ℕ)) → ArePlaces names self.old →
+            place ≡ length names → ArePlaces (names ++ name.now ∷ []) self.new) }
     {
         if self.place(name).is_some() {
             return Ok(());

@@ -31,10 +31,12 @@ fn read_language(
     name: &Text,
     bytes: &[u8],
 ) -> Result<Outline, OutlineError>
-    requires declares { Declares files.Language false nothing (kept_lines (lines_from 1 bytes.now)) (view.known known) }
+    requires declares { Declares files.Language false nothing (kept_lines (lines_from 1 bytes.now))
+        (view.known known) }
     requires utf8 { IsUtf8 bytes.now }
     requires small { length bytes.now + 1 < 2 ^ 32 }
-    ensures { IsOutlineRead (view.known known) name.now (kept_lines (lines_from 1 bytes.now)) result }
+    ensures { IsOutlineRead (view.known known) name.now
+        (kept_lines (lines_from 1 bytes.now)) result }
 {
     let reader = Reader::new(alloc);
     match read_lines(
@@ -53,9 +55,10 @@ fn read_language(
     }
 }
 
-/// What a file of the language with this name states line by line: the parts of its grammar, its stems of metavariables, its forms, its
-/// main form, and the lines of its rules, which have no bodies. It is refused where the bytes are not UTF-8, and else at its first bad line. The file has fewer
-/// than 2^32 - 1 bytes, so that the number of a line fits.
+/// What a file of the language with this name states line by line: the parts of its grammar, its
+/// stems of metavariables, its forms, its main form, and the lines of its rules, which have no
+/// bodies. It is refused where the bytes are not UTF-8, and else at its first bad line. The file
+/// has fewer than 2^32 - 1 bytes, so that the number of a line fits.
 pub fn read_outline(alloc: Global, name: &Text, bytes: &[u8]) -> Result<Outline, OutlineError>
     requires { length bytes.now + 1 < 2 ^ 32 }
     ensures answer { IsOutlined name.now bytes.now result }

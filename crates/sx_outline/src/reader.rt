@@ -7,8 +7,8 @@ use crate::read_lines::ReadLines;
 use crate::stage::Stage;
 use std::alloc::Global;
 
-/// Where the reading stands, how many forms and stems were declared, the main form of the main line, if there was one, and the plain
-/// pairs and rules that were read.
+/// Where the reading stands, how many forms and stems were declared, the main form of the main
+/// line, if there was one, and the plain pairs and rules that were read.
 #[derive(Drop)]
 pub(crate) struct Reader {
     pub stage: Stage,
@@ -35,7 +35,8 @@ impl Reader {
         }
     }
 
-    /// The reader after the header of an extension file whose language has so many stems. It takes no memory.
+    /// The reader after the header of an extension file whose language has so many stems. It takes
+    /// no memory.
     pub(crate) fn after_header(alloc: Global, vars: usize) -> Reader
         ensures { IsReaderAfter vars result }
     {

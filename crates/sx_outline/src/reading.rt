@@ -18,7 +18,8 @@ use sx_directives::FileKind;
 use sx_lines::Rest;
 use sx_term::Text;
 
-/// Reads the lines of a file of which so much is known: where the reader stands then, and the number of a further line.
+/// Reads the lines of a file of which so much is known: where the reader stands then, and the
+/// number of a further line.
 pub(crate) fn read_lines(
     alloc: Global,
     kind: FileKind,
@@ -29,8 +30,10 @@ pub(crate) fn read_lines(
 ) -> Result<(Reader, u32), OutlineError>
     requires room { HasRoom reader (length lines.bytes.now) }
     requires utf8 { IsUtf8 lines.bytes.now }
-    ensures { (s : State) → IsReader (view.known known.now) reader s → IsAhead kind s.stage s.declared (kept_lines (left_of lines.entry)) (view.known known.now)
-        → AreLinesRead kind (view.known known.now) name.now s (kept_lines (left_of lines.entry)) result }
+    ensures { (s : State) → IsReader (view.known known.now) reader s →
+        IsAhead kind s.stage s.declared (kept_lines (left_of lines.entry)) (view.known known.now)
+        → AreLinesRead kind (view.known known.now) name.now s
+        (kept_lines (left_of lines.entry)) result }
 {
     let mut reader = reader;
     let mut left = lines;

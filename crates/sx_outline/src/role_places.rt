@@ -9,7 +9,8 @@ use sx_term::Role;
 
 /// The sort of the symbol, where it is a place with this role.
 fn sort_of(symbol: &FormSymbol, role: Role) -> Option<&SpelledSort>
-    ensures { MatchOption result (sort_at role symbol.now ≡ []) (λ s. sort_at role symbol.now ≡ s.now ∷ []) }
+    ensures { MatchOption result (sort_at role symbol.now ≡ [])
+        (λ s. sort_at role symbol.now ≡ s.now ∷ []) }
 {
     match symbol {
         FormSymbol::Lit(_) => None,
@@ -37,7 +38,8 @@ pub(crate) fn count_at(symbols: &[FormSymbol], role: Role) -> usize
 
 /// The sort of the first place with this role.
 fn first_at(symbols: &[FormSymbol], role: Role) -> Option<&SpelledSort>
-    ensures { MatchOption result (sorts_at role symbols.now ≡ []) (λ s. (more : List SortOf) × (sorts_at role symbols.now ≡ s.now ∷ more)) }
+    ensures { MatchOption result (sorts_at role symbols.now ≡ [])
+        (λ s. (more : List SortOf) × (sorts_at role symbols.now ≡ s.now ∷ more)) }
 {
     for i in 0..symbols.len() {
         if let Some(sort) = sort_of(&symbols[i], role) {
@@ -49,7 +51,8 @@ fn first_at(symbols: &[FormSymbol], role: Role) -> Option<&SpelledSort>
 
 /// The sort of the one place with this role, where there is just one.
 pub(crate) fn one_at(symbols: &[FormSymbol], role: Role) -> Option<&SpelledSort>
-    ensures { MatchOption result ((s : SortOf) → sorts_at role symbols.now ≡ s ∷ [] → ⊥) (λ s. sorts_at role symbols.now ≡ s.now ∷ []) }
+    ensures { MatchOption result ((s : SortOf) → sorts_at role symbols.now ≡ s ∷ [] → ⊥)
+        (λ s. sorts_at role symbols.now ≡ s.now ∷ []) }
 {
     if count_at(symbols, role) != 1 {
         return None;

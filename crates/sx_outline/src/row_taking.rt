@@ -6,7 +6,8 @@ ghost use Rattle.sx_directives.specs.declared.row.Row.TheVariants as rows;
 ghost use Rattle.sx_lines.specs.declared.kind.Kind.TheVariants as kinds;
 ghost use Rattle.sx_outline.specs.declared.outline_error.OutlineError.TheVariants as errors;
 ghost use Rattle.sx_outline.specs.Declarations.{Declared};
-ghost use Rattle.sx_outline.specs.Reading.{IsBodyTaken, IsPlainBegun, IsCounted, GrowsByOne, IsDeclaration, IsRowTaken, stage as stage_of};
+ghost use Rattle.sx_outline.specs.Reading.{IsBodyTaken, IsPlainBegun, IsCounted, GrowsByOne};
+ghost use Rattle.sx_outline.specs.Reading.{IsDeclaration, IsRowTaken, stage as stage_of};
 ghost use Rattle.sx_outline.specs.View as view;
 
 use crate::known::Known;
@@ -85,7 +86,8 @@ impl Reader {
     ) -> Result<Reader, OutlineError>
         requires counted { IsCounted self }
         requires few { (more_forms ≤ 1) × (more_vars ≤ 1) }
-        ensures taken { (known : Declared) (row : RowOf) → IsDeclaration more_forms more_vars row → IsRowTaken known self number row result }
+        ensures taken { (known : Declared) (row : RowOf) → IsDeclaration more_forms more_vars row →
+            IsRowTaken known self number row result }
         ensures grows { IfOk result (GrowsByOne self) }
     {
         let Reader {
@@ -203,7 +205,8 @@ impl Reader {
 
     /// Takes the first line of a plain pair.
     fn take_plain(self, number: u32, plain: PlainLine) -> Result<Reader, OutlineError>
-        ensures taken { (known : Declared) → IsRowTaken known self number (rows.Plain plain) result }
+        ensures taken { (known : Declared) →
+            IsRowTaken known self number (rows.Plain plain) result }
         ensures grows { IfOk result (GrowsByOne self) }
     {
         let Reader {

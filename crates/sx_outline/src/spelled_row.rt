@@ -14,7 +14,8 @@ pub(crate) fn spelled_row(
     kind: FileKind,
     text: &[u8],
 ) -> Result<Option<Row>, NoMemory>
-    ensures { IfOk result (λ o. MatchOption o ((row : RowOf) → IsRow kind text.now row → ⊥) (λ row. IsRow kind text.now row)) }
+    ensures { IfOk result (λ o. MatchOption o ((row : RowOf) → IsRow kind text.now row → ⊥)
+        (λ row. IsRow kind text.now row)) }
 {
     match read_row(alloc, kind, text) {
         Ok(read) => Ok(read),

@@ -12,7 +12,8 @@ use sx_directives::{FormLine, VarLine};
 use sx_grammar::{Production, SortLine};
 use sx_term::{NoMemory, Text};
 
-/// The first places of the names of sorts, of labels, of stems, of the names of forms and of the names that are used.
+/// The first places of the names of sorts, of labels, of stems, of the names of forms and of the
+/// names that are used.
 #[derive(Drop)]
 pub(crate) struct Tables {
     pub sorts: Places,
