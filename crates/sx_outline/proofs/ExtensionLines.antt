@@ -17,7 +17,7 @@ use Rattle.sx_outline.specs.ExtensionOutlined.{ExtensionOutlineData, extension_d
 use Rattle.sx_outline.proofs.OutcomeSteps.{reaches_outcome}
 use Rattle.sx_outline.proofs.LeftLines.{Whole, IsRestOfFile}
 use Rattle.sx_outline.proofs.LinesLaws.{left_of}
-use Rattle.sx_outline.proofs.LinesOutlined.{HasAll, all_of}
+use Rattle.sx_outline.proofs.LinesLead.{HasAll, all_of}
 use Rattle.sx_outline.proofs.LinesDeclared.{declares_of, head_same}
 use Rattle.sx_outline.proofs.UseLines.{HeaderTo, header_lines, BeginsOther, IsOther, no_use, header_back, named_of}
 use Rattle.sx_outline.proofs.ExtensionFits.{IsLastOf, last_of_extension, header_is, no_error}

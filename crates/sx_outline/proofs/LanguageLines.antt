@@ -17,7 +17,7 @@ use Rattle.sx_outline.proofs.OutcomeSteps.{IsReached, reached, reaches_outcome}
 use Rattle.sx_outline.proofs.FitLaws.{known_by, no_error}
 use Rattle.sx_outline.proofs.LeftLines.{Whole, IsFile}
 use Rattle.sx_outline.proofs.LinesLaws.{left_of}
-use Rattle.sx_outline.proofs.LinesOutlined.{HasAll, all_of}
+use Rattle.sx_outline.proofs.LinesLead.{HasAll, all_of}
 use Rattle.sx_outline.proofs.LinesDeclared.{none_first, head_same, tail_same, declares_of}
 
 -- a language file has no plain pairs

@@ -21,7 +21,10 @@ pub mod LeftLines
 pub mod LinesLaws
 pub mod LanguageLines
 pub mod LinesDeclared
+pub mod LinesEnded
+pub mod MainLines
 pub mod LinesOutlined
+pub mod LinesLead
 pub mod OneOutline
 mod ReadRows
 mod HeaderLaws

@@ -1,105 +1,29 @@
 -- Lines that are those of a file lead to its end.
-use Rattle.std.proofs.Common.{◌≡◌, ℕ, List, [], ◌∷◌, ◌++◌, length, Option, Some, None, refl, sym, ap, subst, ◌∙◌, inl, inr, append_assoc, append-nil, arith}
+use Rattle.std.proofs.Common.{◌≡◌, ℕ, List, [], ◌∷◌, ◌++◌, Option, Some, None, refl, sym, ap, subst, ◌∙◌, inl, inr, append_assoc, append-nil}
 use Rattle.std.specs.List.{AllByRecursion}
-use Rattle.std.proofs.lemmas.List.{length-append}
 use Rattle.sx_lines.specs.Lines.{Lines, over, line}
 use Rattle.sx_directives.specs.declared.file_kind.FileKind.{FileKind}
 use Rattle.sx_directives.specs.Rows.{IsRow}
-use Rattle.sx_directives.specs.declared.rows.MainLine.{MainLine}
 use Rattle.sx_directives.specs.declared.rows.PlainLine.{PlainLine}
 use Rattle.sx_directives.specs.declared.row.Row.{Row}
 use Rattle.sx_directives.specs.declared.row.Row.TheVariants.{Sort, Prod, Var, Form, Main, Plain, Rule, End, To}
-use Rattle.sx_outline.specs.declared.main_form.MainForm.{MainForm}
 use Rattle.sx_outline.specs.Declarations.{Declared, declare}
-use Rattle.sx_outline.specs.Fitting.{ArePartNames, Fits, IsMainOf}
-use Rattle.sx_outline.specs.Stages.{Numbered, PlainData, RuleData, Begun, BegunPlain, begun_plain, Stage, at_start, at_declarations, at_body, at_plains, at_rules, at_premises, at_conclusion, at_end, State, StepsAt, IsGoodRow, IsBar, IsWhole, MayStandAt, after, at as to, with_premise, with_body, with_plain, concluded, paired, head_row}
+use Rattle.sx_outline.specs.Fitting.{ArePartNames, Fits}
+use Rattle.sx_outline.specs.Stages.{Numbered, PlainData, RuleData, Begun, BegunPlain, begun_plain, Stage, at_start, at_declarations, at_body, at_plains, at_rules, at_premises, at_conclusion, at_end, State, StepsAt, IsGoodRow, IsBar, MayStandAt, after, at as to, with_premise, with_body, with_plain, concluded, paired, head_row}
 use Rattle.sx_outline.specs.Structure.{numbered_lines, IsDeclaring, AreBodies, AreDeclarations, ArePairs, AreRules}
 use Rattle.sx_outline.proofs.OutcomeSteps.{Reaches}
+use Rattle.sx_outline.proofs.LinesEnded.{IsAll, ends_whole}
+use Rattle.sx_outline.proofs.MainLines.{AreMains, first_main, mains_stay}
 use Rattle.sx_outline.proofs.LinesDeclared.{none_first, head_same, tail_same}
 use Rattle.sx_outline.proofs.LeftLines.{Whole, IsRest, IsInRule, LeftPremises, LeftConclusion, IsBodyLeft, IsInPair, IsRestOfPairs, IsRestOfFile, IsLeft, LeftAt}
-
--- ---- no line
-
--- no rule has no lines
-no_rules : (kind : FileKind) (rules : List RuleData) → AreRules kind [] rules → rules ≡ []
-no_rules kind [] h = refl
-no_rules kind (r ∷ rules) (front, back, e, lines, more) =
-    absurd (none_first lines.first ((r.premises ++ lines.bar ∷ r.conclusion ∷ lines.bodies ++ lines.last ∷ []) ++ back) (e ∙ ap (λ (x : List Numbered). x ++ back) lines.lines_are))
-
-no_plains : (kind : FileKind) (known : Declared) (pairs rule_lines : List Numbered) (plains : List PlainData) → [] ≡ pairs ++ rule_lines → ArePairs kind known pairs plains → plains ≡ []
-no_plains kind known [] rule_lines [] e h = refl
-no_plains kind known [] rule_lines (p ∷ plains) e h = absurd h
-no_plains kind known (l ∷ pairs) rule_lines plains e h = absurd (none_first l (pairs ++ rule_lines) e)
-
-end_declared : (kind : FileKind) (known d : Declared) (declarations others : List Numbered) → [] ≡ declarations ++ others → AreDeclarations kind known d declarations known → d ≡ known
-end_declared kind known d [] others e h = h
-end_declared kind known d (l ∷ declarations) others e h = absurd (none_first l (declarations ++ others) e)
-
-end_lines : (front back : List Numbered) → [] ≡ front ++ back → back ≡ []
-end_lines [] back e = sym e
-end_lines (l ∷ front) back e = absurd (none_first l (front ++ back) e)
-
-all_rules : (rules more : List RuleData) (o : Whole) → o.rules ≡ rules ++ more → more ≡ [] → rules ≡ o.rules
-all_rules rules more o e n = sym (e ∙ ap (λ (x : List RuleData). rules ++ x) n ∙ append-nil rules)
-
-all_plains : (plains more : List PlainData) (o : Whole) → o.plains ≡ plains ++ more → more ≡ [] → plains ≡ o.plains
-all_plains plains more o e n = sym (e ∙ ap (λ (x : List PlainData). plains ++ x) n ∙ append-nil plains)
-
--- the state has all that the file states
-pub record IsAll (known : Declared) (o : Whole) (at : Stage) (d : Declared) (plains : List PlainData) (rules : List RuleData) : Type 0 where
-  pub whole : IsWhole at
-  pub declared : d ≡ known
-  pub plains_are : plains ≡ o.plains
-  pub rules_are : rules ≡ o.rules
-
-pairs_whole : (kind : FileKind) (known : Declared) (at : Stage) (d : Declared) (plains : List PlainData) (rules : List RuleData) (o : Whole) (lines : List Numbered) → [] ≡ lines → IsWhole at
-    → IsRestOfPairs kind known d plains rules o lines → IsAll known o at d plains rules
-pairs_whole kind known at d plains rules o lines e whole h =
-    let none : [] ≡ h.pairs ++ h.rule_lines = e ∙ h.lines_are in
-    record {
-      whole = whole;
-      declared = h.declared;
-      plains_are = all_plains plains h.more_plains o h.plains_are (no_plains kind known h.pairs h.rule_lines h.more_plains none h.pairs_are);
-      rules_are = all_rules rules h.more o h.rules_are (no_rules kind h.more (subst (λ x. AreRules kind x h.more) (end_lines h.pairs h.rule_lines none) h.are));
-    }
-
--- what is left of a rule has a line
-premises_left : (kind : FileKind) (b : Begun) (front back : List Numbered) (r : RuleData) → LeftPremises kind b front r → [] ≡ front ++ back → ⊥
-premises_left kind b front back r h e = first_of h.premises (e ∙ ap (λ (x : List Numbered). x ++ back) h.front_is)
-  where
-    first_of : (premises : List Numbered) → [] ≡ (premises ++ h.bar ∷ r.conclusion ∷ h.bodies ++ h.last ∷ []) ++ back → ⊥
-    first_of [] e = none_first h.bar (r.conclusion ∷ (h.bodies ++ h.last ∷ []) ++ back) e
-    first_of (p ∷ premises) e = none_first p ((premises ++ h.bar ∷ r.conclusion ∷ h.bodies ++ h.last ∷ []) ++ back) e
-
-bodies_left : (bodies : List Numbered) (last : Numbered) (back : List Numbered) → [] ≡ (bodies ++ last ∷ []) ++ back → ⊥
-bodies_left [] last back e = none_first last back e
-bodies_left (b ∷ bodies) last back e = none_first b ((bodies ++ last ∷ []) ++ back) e
-
-ends_whole : (kind : FileKind) (known : Declared) (name : List ℕ) (at : Stage) (d : Declared) (plains : List PlainData) (rules : List RuleData) (o : Whole) → IsLeft kind known name at d plains rules o []
-    → IsAll known o at d plains rules
-ends_whole kind known name at_start d plains rules o h = absurd (none_first h.first h.others h.lines_are)
-ends_whole kind known name at_declarations d plains rules o h =
-    let same : d ≡ known = end_declared kind known d h.declarations h.others h.lines_are h.declared in
-    let rest : IsAll known o at_declarations known plains rules =
-    pairs_whole kind known at_declarations known plains rules o h.others (sym (end_lines h.declarations h.others h.lines_are)) tt h.rest in
-    record { whole = tt; declared = same; plains_are = rest.plains_are; rules_are = rest.rules_are }
-ends_whole kind known name (at_body b) d plains rules o h = absurd (none_first h.body h.others h.lines_are)
-ends_whole kind known name at_plains d plains rules o h = pairs_whole kind known at_plains d plains rules o [] refl tt h
-ends_whole kind known name at_rules d plains rules o h =
-    record { whole = tt; declared = h.declared; plains_are = h.plains_are; rules_are = all_rules rules h.more o h.rules_are (no_rules kind h.more h.are) }
-ends_whole kind known name (at_premises b) d plains rules o h = absurd (premises_left kind b h.front h.back h.rule h.left h.lines_are)
-ends_whole kind known name (at_conclusion b) d plains rules o h =
-    absurd (none_first h.rule.conclusion ((h.left.bodies ++ h.left.last ∷ []) ++ h.back) (h.lines_are ∙ ap (λ (x : List Numbered). x ++ h.back) h.left.front_is))
-ends_whole kind known name (at_end r) d plains rules o h =
-    absurd (bodies_left h.left.bodies h.left.last h.back (h.lines_are ∙ ap (λ (x : List Numbered). x ++ h.back) h.left.front_is))
 
 -- ---- one line
 
 -- a line leads to a state whose lines are left
-record LeadsOn (kind : FileKind) (known : Declared) (name : List ℕ) (at : Stage) (d : Declared) (plains : List PlainData) (rules : List RuleData) (o : Whole) (n : ℕ) (text : List ℕ) (lines : List Numbered) : Type 0 where
-  next : State
-  steps : StepsAt at kind known name (record { stage = at; declared = d; plains = plains; rules = rules }) n text next
-  left : LeftAt kind known name o lines next
+pub record LeadsOn (kind : FileKind) (known : Declared) (name : List ℕ) (at : Stage) (d : Declared) (plains : List PlainData) (rules : List RuleData) (o : Whole) (n : ℕ) (text : List ℕ) (lines : List Numbered) : Type 0 where
+  pub next : State
+  pub steps : StepsAt at kind known name (record { stage = at; declared = d; plains = plains; rules = rules }) n text next
+  pub left : LeftAt kind known name o lines next
 
 -- the first line of a rule
 begin_rule : (kind : FileKind) (known d : Declared) (plains : List PlainData) (rules : List RuleData) (o : Whole) (n : ℕ) (text : List ℕ) (lines : List Numbered) (more : List RuleData) → d ≡ known
@@ -225,42 +149,6 @@ undeclared_lead kind known name d plains rules o n text lines (by_rule given spe
   steps = (Rule given, good_rule kind known at_declarations d plains rules text given spelled tt, refl);
   left = h;
 }
-
--- ---- main lines
-
--- main lines stay
-pub mains_stay : (kind : FileKind) (known d all : Declared) (lines : List Numbered) → AreDeclarations kind known d lines all → (more : List MainLine) × (all.mains ≡ d.mains ++ more)
-mains_stay kind known d all [] h = ([], ap (λ (x : Declared). x.mains) (sym h) ∙ sym (append-nil d.mains))
-mains_stay kind known d all (l ∷ lines) (Sort s, spelled, declaring, fits, h) = mains_stay kind known (declare d (Sort s)) all lines h
-mains_stay kind known d all (l ∷ lines) (Prod p, spelled, declaring, fits, h) = mains_stay kind known (declare d (Prod p)) all lines h
-mains_stay kind known d all (l ∷ lines) (Var v, spelled, declaring, fits, h) = mains_stay kind known (declare d (Var v)) all lines h
-mains_stay kind known d all (l ∷ lines) (Form f, spelled, declaring, fits, h) = mains_stay kind known (declare d (Form f)) all lines h
-mains_stay kind known d all (l ∷ lines) (Main m, spelled, declaring, fits, h) =
-    let k = mains_stay kind known (declare d (Main m)) all lines h in
-    (m ∷ k.0, k.1 ∙ append_assoc d.mains (m ∷ []) k.0)
-mains_stay kind known d all (l ∷ lines) (_, spelled, declaring, fits, h) = absurd declaring
-
--- there is at most one main line, and it is of a main form
-abbrev pub AreMains : Declared → List MainLine → Type 0
-AreMains known [] = Unit {0}
-AreMains known (m ∷ []) = (main : MainForm) × IsMainOf known m main
-AreMains known (m ∷ n ∷ mains) = ⊥
-
--- so a main line is the first, and of a main form
-first_main : (known : Declared) (mains before more : List MainLine) (m : MainLine) → mains ≡ before ++ m ∷ more → AreMains known mains → (before ≡ []) × ((main : MainForm) × IsMainOf known m main)
-first_main known [] before more m e h =
-    let many = length-append before (m ∷ more) in
-    let same : 0 ≡ length (before ++ m ∷ more) = ap (λ (x : List MainLine). length x) e in
-    absurd (omega arith)
-first_main known (l ∷ []) [] more m e h = (refl, (h.0, subst (λ x. IsMainOf known x h.0) (first_same l m more e) h.1))
-  where
-    first_same : (l m : MainLine) (more : List MainLine) → l ∷ [] ≡ m ∷ more → l ≡ m
-    first_same l m more e = cc
-first_main known (l ∷ []) (b ∷ before) more m e h =
-    let many = length-append before (m ∷ more) in
-    let same : length (l ∷ []) ≡ length (b ∷ before ++ m ∷ more) = ap length e in
-    absurd (omega arith)
-first_main known (l ∷ k ∷ mains) before more m e h = absurd h
 
 -- ---- declarations
 
@@ -480,7 +368,7 @@ end_leads kind known name given d plains rules o n text lines r (first ∷ bodie
       };
     }
 
-leads_on : (kind : FileKind) (known : Declared) (name : List ℕ) (at : Stage) (d : Declared) (plains : List PlainData) (rules : List RuleData) (o : Whole) → AreMains known known.mains
+pub leads_on : (kind : FileKind) (known : Declared) (name : List ℕ) (at : Stage) (d : Declared) (plains : List PlainData) (rules : List RuleData) (o : Whole) → AreMains known known.mains
     → (n : ℕ) (text : List ℕ) (lines : List Numbered) → IsLeft kind known name at d plains rules o (record { number = n; text = text } ∷ lines) → LeadsOn kind known name at d plains rules o n text lines
 leads_on kind known name at_start d plains rules o mains n text lines h =
     let here : Numbered = record { number = n; text = text } in
@@ -502,19 +390,3 @@ leads_on kind known name (at_conclusion b) d plains rules o mains n text lines h
 leads_on kind known name (at_end r) d plains rules o mains n text lines h =
     end_leads kind known name r d plains rules o n text lines h.rule h.left.bodies h.left.last h.back h.more (h.lines_are ∙ ap (λ (x : List Numbered). x ++ h.back) h.left.front_is)
     h.left.body h.left.ends h.declared h.plains_are h.rules_are h.are
-
--- the lines of a file lead to a state that has all that it states
-pub record HasAll (kind : FileKind) (known : Declared) (name : List ℕ) (s : State) (left : Lines) (o : Whole) : Type 0 where
-  pub state : State
-  pub number : ℕ
-  pub all : IsAll known o state.stage state.declared state.plains state.rules
-  pub reaches : Reaches kind known name s left state number
-
-pub all_of : (kind : FileKind) (known : Declared) (name : List ℕ) (s : State) (left : Lines) (o : Whole) → AreMains known known.mains → LeftAt kind known name o (numbered_lines left) s
-    → HasAll kind known name s left o
-all_of kind known name s (over n) o mains h =
-    record { state = s; number = n; all = ends_whole kind known name s.stage s.declared s.plains s.rules o h; reaches = (refl, refl) }
-all_of kind known name s (line n text after more) o mains h =
-    let lead = leads_on kind known name s.stage s.declared s.plains s.rules o mains n text (numbered_lines more) h in
-    let next = all_of kind known name lead.next more o mains lead.left in
-    record { state = next.state; number = next.number; all = next.all; reaches = inl (lead.next, lead.steps, next.reaches) }
