@@ -13,7 +13,7 @@ use Rattle.sx_plain.specs.Uses.{ArePositive}
 use Rattle.sx_plain.proofs.Measured.{depths, sizes, sat, node-depth, node-size, positive}
 use Rattle.sx_plain.proofs.PartLaws.{node-sats}
 use Rattle.sx_arena.specs.declared.arena.Cell.{Cell}
-use Rattle.sx_arena.specs.declared.arena.Shape.TheVariants.{Node as Branch}
+use Rattle.sx_arena.specs.declared.shape.Shape.TheVariants.{Node as Branch}
 use Rattle.sx_arena.specs.Arena.{tree_at, IsRead}
 use Rattle.sx_images.specs.Images.{IsMeasure, AreMeasured}
 use Rattle.sx_images.proofs.Parts.{node_read, depth_among, image_kids}

@@ -7,7 +7,7 @@ use Rattle.sx_term.specs.Instances.{instance, bound_by}
 use Rattle.sx_plain.specs.Plain.{Body, Table, image_node, image, images}
 use Rattle.sx_plain.specs.Tables.{FitsTable, FitTable}
 use Rattle.sx_arena.specs.declared.arena.Cell.{Cell}
-use Rattle.sx_arena.specs.declared.arena.Shape.TheVariants.{Node as Branch}
+use Rattle.sx_arena.specs.declared.shape.Shape.TheVariants.{Node as Branch}
 use Rattle.sx_arena.specs.Arena.{tree_at, shape_tree, IsRead}
 
 -- a node that is read
