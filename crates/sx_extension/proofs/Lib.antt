@@ -1,2 +1,3 @@
 pub mod AddedBodies
 pub mod Lacking
+pub mod Owned

@@ -1,2 +1,3 @@
 pub mod PlainBodies
 pub mod PlainTables
+pub mod OwnSyntax

@@ -5,6 +5,7 @@
 #![tactic(auto)]
 
 mod layers;
+mod own_syntax;
 mod plain_body;
 mod plain_table;
 mod table_error;
