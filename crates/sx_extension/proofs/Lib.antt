@@ -1,3 +1,4 @@
 pub mod AddedBodies
 pub mod Lacking
 pub mod Owned
+pub mod Naming

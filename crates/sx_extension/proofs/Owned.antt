@@ -1,12 +1,12 @@
 -- The typed syntax that an extension itself adds.
-use Rattle.std.proofs.Common.{◌≡◌, ℕ, ◌+◌, ◌<◌, ◌≤◌, ◌↔◌, IsTrue, Bool, true, false, List, [], ◌∷◌, ◌⊎◌, inl, inr, map, drop, length, get_or, Some, Vec, refl, sym, ap, ◌∙◌, subst, arith}
+use Rattle.std.proofs.Common.{◌≡◌, ℕ, ◌+◌, ◌<◌, ◌≤◌, ◌↔◌, IsTrue, Bool, true, false, List, inl, inr, map, drop, length, get_or, Some, Vec, refl, sym, ap, ◌∙◌, subst, arith}
 use Rattle.std.specs.Prelude.{slice_get, option_map}
 use Rattle.std.specs.declared.alloc.Global.{Global}
 use Rattle.std.proofs.lemmas.Option.{slice_get-map, slice_get_read, slice_get_within}
 use Rattle.sx_term.specs.declared.con.Con.{Con}
 use Rattle.sx_term.specs.declared.sort.Sort.TheVariants.{Typed}
 use Rattle.sx_term.specs.declared.term.Term.{Term, Node}
-use Rattle.sx_term.specs.Tree.{Tree, Trees, node, none, ◌▹◌}
+use Rattle.sx_term.specs.Tree.{Tree, Trees, node}
 use Rattle.sx_term.specs.Term.{tree}
 use Rattle.sx_term.specs.Sorts.{Shape}
 use Rattle.sx_term.specs.Shapes.{shape}

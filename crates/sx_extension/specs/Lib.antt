@@ -1,3 +1,4 @@
 pub mod PlainBodies
 pub mod PlainTables
 pub mod OwnSyntax
+pub mod Defects
