@@ -2,3 +2,4 @@ pub mod PlainBodies
 pub mod PlainTables
 pub mod OwnSyntax
 pub mod Defects
+pub mod TableRefusals

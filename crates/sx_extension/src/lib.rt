@@ -6,9 +6,12 @@
 #![tactic(auto)]
 
 mod defect_naming;
+mod extension_error;
 mod layers;
+mod names;
 mod own_syntax;
 mod plain_body;
 mod plain_defect;
 mod plain_table;
 mod table_error;
+mod table_naming;
