@@ -6,3 +6,5 @@ pub mod NamesCopied
 pub mod Defining
 pub mod OwnShapes
 pub mod Rooms
+pub mod Subjected
+pub mod Bodying

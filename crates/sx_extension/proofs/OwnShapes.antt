@@ -136,8 +136,7 @@ module _ (p : Parts) (fs : List FormLine) (is : IsGrammar p) (rule_is : IsGramma
           let both : Some (numbered_line (names p) l.0) ≡ Some r.0 = sym (productions_stay p fs label (numbered_line (names p) l.0) is here) ∙ r.1 in
           let same : numbered_line (names p) l.0 ≡ r.0 = cc in
           let x = shape_same l.0 has in
-          let e : shape_of p.sorts (numbered_line (names p) l.0) ≡ s = sym x.0 ∙ ap (shape_of q.sorts) same ∙ r.2 in
-          (
+          let e : shape_of p.sorts (numbered_line (names p) l.0) ≡ s = sym x.0 ∙ ap (shape_of q.sorts) same ∙ r.2 in (
             slice_get-map (shape_of p.sorts) (numbered p).productions label ∙ ap (option_map (shape_of p.sorts)) here ∙ ap (λ (y : Shape). Some y) e,
             subst (λ (y : Shape). AreBelow n y.kids) e x.1,
           )

@@ -33,9 +33,10 @@ module _ (cons : List Con) (first label : ℕ) where
 
   pub own_at : (c : Con) (b : Bool) → first ≤ label → label < length cons → c ≡ get_or cons label c → (IsTrue b ↔ ((k : ℕ) × (c.sort ≡ Typed k))) → IsTrue b ↔ IsOwn (map shape cons) first label
   own_at c b low h e same =
-      let at : slice_get (map shape cons) label ≡ Some (shape c) = slice_get-map shape cons label ∙ ap (option_map shape) (slice_get_read cons (length cons) label c refl h e) in
-      (λ t. (low, (shape c, at, same.0 t)),
-       λ o. same.1 (let q : Some o.1.0 ≡ Some (shape c) = sym o.1.1 ∙ at in let r : o.1.0 ≡ shape c = cc in subst (λ (s : Shape). (k : ℕ) × (s.sort ≡ Typed k)) r o.1.2))
+      let at : slice_get (map shape cons) label ≡ Some (shape c) = slice_get-map shape cons label ∙ ap (option_map shape) (slice_get_read cons (length cons) label c refl h e) in (
+        λ t. (low, (shape c, at, same.0 t)),
+        λ o. same.1 (let q : Some o.1.0 ≡ Some (shape c) = sym o.1.1 ∙ at in let r : o.1.0 ≡ shape c = cc in subst (λ (s : Shape). (k : ℕ) × (s.sort ≡ Typed k)) r o.1.2),
+      )
 
 -- the kids of a node
 module _ (shapes : List Shape) (first : ℕ) (t : Term) (label : ℕ) (kids : Vec Term Global) (e : t ≡ Node label kids) where
@@ -60,11 +61,14 @@ module _ (shapes : List Shape) (first : ℕ) (t : Term) (label : ℕ) (kids : Ve
     own_on i k b h g n same so = (
       λ x. so.0 (subst (λ (y : Trees). HaveOwn shapes first y) (sym (trees-drop ts i k h g)) (inr x)),
       λ x. elim (subst (λ (y : Trees). HaveOwn shapes first y) (trees-drop ts i k h g) (so.1 x)) [
-        inl o ↦ absurd (let y : b ≡ true = same.1 o in let e : true ≡ false = sym y ∙ n in cc) | inr o ↦ o ],
+        | inl o ↦ absurd (let y : b ≡ true = same.1 o in let e : true ≡ false = sym y ∙ n in cc)
+        | inr o ↦ o
+      ],
     )
 
     pub none_own : (b : Bool) (i : ℕ) → b ≡ false → (IsTrue b ↔ IsOwn shapes first label) → length ts ≤ i → (HaveOwn shapes first (trees (drop i ts)) ↔ HaveOwn shapes first (trees ts)) →
         IsTrue false ↔ HasOwn shapes first (tree t)
     none_own b i n same l so = never (λ h. elim (of_node h) [
-      inl o ↦ (let y : b ≡ true = same.1 o in let e : true ≡ false = sym y ∙ n in cc)
-      | inr o ↦ subst (λ (y : Trees). HaveOwn shapes first y) (trees-drop_all ts i l) (so.1 (subst (λ (x : List Term). HaveOwn shapes first (trees x)) (sym s) o)) ])
+      | inl o ↦ (let y : b ≡ true = same.1 o in let e : true ≡ false = sym y ∙ n in cc)
+      | inr o ↦ subst (λ (y : Trees). HaveOwn shapes first y) (trees-drop_all ts i l) (so.1 (subst (λ (x : List Term). HaveOwn shapes first (trees x)) (sym s) o))
+    ])

@@ -3,3 +3,4 @@ pub mod PlainTables
 pub mod OwnSyntax
 pub mod Defects
 pub mod TableRefusals
+pub mod Bodies

@@ -20,7 +20,8 @@ Adds base old b new = IsAdded base old new b.label b.parts b.term (Ok tt)
 -- the bodies are added to the table in order
 abbrev pub AddsAll : ℕ → Table → List BodyData → Table → Type 0
 AddsAll base old [] new = (label : ℕ) → new label ≡ old label
-AddsAll base old (b ∷ bs) new = (middle : Table) × Adds base old b middle × AddsAll base middle bs new
+AddsAll base old (b ∷ bs) new = (middle : Table) × Adds base old b middle ×
+    AddsAll base middle bs new
 
 -- the bodies before the one with this number are added, and that one is refused
 abbrev pub IsFirstRefused : ℕ → Table → List BodyData → ℕ → PlainError → Type 0
@@ -44,11 +45,12 @@ HasAll shapes first table =
     (label : ℕ) → first ≤ label → IsPlainLabel shapes label → IsSome (table label)
 
 -- this plain constructor is the first from the number on that has no entry
-pub record IsFirstWithout (shapes : List Shape) (first : ℕ) (table : Table) (label : ℕ) : Type 0 where
-  pub new : first ≤ label
-  pub lacks : LacksEntry shapes table label
-  pub before : (other : ℕ) → first ≤ other → other < label → IsPlainLabel shapes other →
-      IsSome (table other)
+pub record IsFirstWithout (shapes : List Shape) (first : ℕ) (table : Table) (label : ℕ) : Type 0
+  where
+    pub new : first ≤ label
+    pub lacks : LacksEntry shapes table label
+    pub before : (other : ℕ) → first ≤ other → other < label → IsPlainLabel shapes other →
+        IsSome (table other)
 
 -- memory aside
 abbrev pub IsReason : PlainError → Type 0
@@ -72,7 +74,8 @@ IsNotAdded base old bodies (NoPlain label) = ⊥
 abbrev pub IsTableMade : ℕ → List Shape → ℕ → Table → List BodyData →
     Result PlainTable TableError → Type 0
 IsTableMade base shapes first old bodies (Ok table) =
-    (table.base ≡ base) × AddsAll base old bodies (table_of table) × HasAll shapes first (table_of table)
+    (table.base ≡ base) × AddsAll base old bodies (table_of table) ×
+    HasAll shapes first (table_of table)
 IsTableMade base shapes first old bodies (Err (NoPlain label)) =
     (table : Table) × AddsAll base old bodies table × IsFirstWithout shapes first table label
 IsTableMade base shapes first old bodies (Err e) = IsNotAdded base old bodies e

@@ -10,7 +10,8 @@ ghost use Rattle.sx_plain.specs.Adds.{IsAdded};
 ghost use Rattle.sx_plain.specs.Views.{table_of};
 ghost use Rattle.sx_extension.specs.PlainBodies.{body_data, IsBodyOf};
 ghost use Rattle.sx_extension.specs.PlainTables.{AddsAll, IsPlainLabel, LacksEntry, HasAll};
-ghost use Rattle.sx_extension.specs.PlainTables.{IsFirstWithout, IsRefusal, IsNotAdded, IsTableMade};
+ghost use Rattle.sx_extension.specs.PlainTables.{IsFirstWithout, IsRefusal, IsNotAdded};
+ghost use Rattle.sx_extension.specs.PlainTables.{IsTableMade};
 
 use crate::layers::Layers;
 use crate::plain_body::PlainBody;
