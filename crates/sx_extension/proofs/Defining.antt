@@ -6,7 +6,9 @@ use Rattle.std.proofs.lemmas.Option.{slice_get_within, none-some}
 use Rattle.sx_term.specs.Tree.{Tree, Trees, node, lexeme, hole, none, ◌▹◌}
 use Rattle.sx_term.specs.declared.sort.Sort.{Sort}
 use Rattle.sx_term.specs.Sorts.{Shape, HasSort, KidsHaveSorts}
-use Rattle.sx_grammar.specs.Parts.{Parts}
+use Rattle.std.proofs.lemmas.List.{length-map}
+use Rattle.sx_grammar.specs.Parts.{Parts, names, numbered, numbered_line}
+use Rattle.sx_grammar.specs.Told.{shape_of, shapes_of}
 use Rattle.sx_plain.specs.declared.plain_error.PlainError.{PlainError}
 use Rattle.sx_plain.specs.declared.plain_error.PlainError.TheVariants as plain
 use Rattle.sx_plain.specs.Adds.{uncovered, or_else, first_uncovered, first_uncovered_of, IsAdded}
@@ -75,3 +77,7 @@ module _ (all : List Shape) (first base : ℕ) (p : Parts) (many : length all �
   can_name ls bs is parts old (table.Plain number e) h = named_at ls bs is parts old number e h.1
   can_name ls bs is parts old (table.NoPlain number) h =
       let at = h.2.lacks.0 in subst (λ (k : ℕ). number < k) many (slice_get_within all number at.0 at.1)
+
+-- there are as many shapes as productions
+pub many_shapes : (p : Parts) (all : List Shape) → all ≡ shapes_of p → length all ≡ length p.productions
+many_shapes p all is = ap length is ∙ length-map (numbered p).productions (shape_of p.sorts) ∙ length-map p.productions (numbered_line (names p))

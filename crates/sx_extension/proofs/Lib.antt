@@ -8,3 +8,9 @@ pub mod OwnShapes
 pub mod Rooms
 pub mod Subjected
 pub mod Bodying
+pub mod Grounding
+pub mod Outlining
+pub mod Grammaring
+pub mod PlainSorts
+pub mod Prepares
+pub mod PlainsRead

@@ -4,3 +4,7 @@ pub mod OwnSyntax
 pub mod Defects
 pub mod TableRefusals
 pub mod Bodies
+pub mod Grounds
+pub mod Readings
+pub mod Stages
+pub mod ReadTexts

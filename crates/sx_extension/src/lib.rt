@@ -1,19 +1,32 @@
 //! What extension files add.
 //!
-//! So far there is the plain table of an extension: the flat bodies of the plain constructors that
-//! it adds, after those of the extensions before it (`plain_table`), and why one of them is
-//! refused, by the names of the file (`defect_of`). Reading the files comes next.
+//! So far an extension file is read up to its texts: its outline, its grammars, and what its texts
+//! are read by (`prepare`); its plain bodies and its rules (`read_texts`); its rules are checked
+//! after those before it (`check_rule_set`), and its plain table is made (`make_table`).
 #![tactic(auto)]
 
+mod before;
 mod body_checking;
 mod body_defect;
 mod defect_naming;
 mod extension_error;
+mod grammars;
 mod layers;
 mod names;
 mod own_syntax;
 mod plain_body;
 mod plain_defect;
+mod plain_reading;
 mod plain_table;
+mod prepared;
+mod preparing;
+mod read_texts;
+mod rule_set_checking;
 mod table_error;
+mod table_making;
 mod table_naming;
+mod texts_reading;
+
+pub use before::Before;
+pub use extension_error::ExtensionError;
+pub use plain_defect::PlainDefect;

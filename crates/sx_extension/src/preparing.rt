@@ -1,0 +1,132 @@
+//! Reading an extension file before its texts are read.
+
+ghost use Rattle.std.specs.Prelude.{◌≤◌, length, IfOk, IfErr};
+ghost use Rattle.sx_extension.specs.Grounds.{ground, IsBefore};
+ghost use Rattle.sx_language.specs.States.{AreStems};
+ghost use Rattle.sx_extension.specs.Stages.{IsOutlineRefusal, IsUsable, IsUnoutlined, IsPrepared};
+ghost use Rattle.sx_extension.specs.Stages.{IsUnprepared};
+
+use crate::before::Before;
+use crate::grammars::{Grammars, make_grammars};
+use crate::prepared::Prepared;
+use std::alloc::Global;
+use sx_directives::VarLine;
+use sx_language::{metas_of, var_lines};
+use sx_notation::NotationError;
+use sx_outline::{ExtensionHeader, ExtensionOutline, OutlineError, read_extension_outline};
+
+/// The refusal of a text that has no outline.
+fn outline_error(error: OutlineError) -> NotationError
+    ensures { IsOutlineRefusal error result }
+{
+    match error {
+        OutlineError::Memory => NotationError::Memory,
+        OutlineError::NotUtf8(place) => NotationError::NotUtf8(place),
+        OutlineError::Notation { line, kind } => NotationError::Notation { line, kind },
+    }
+}
+
+/// The outline of the text after the stems of the language.
+fn outline_after(
+    alloc: Global,
+    before: &Before,
+    vars: &[VarLine],
+    bytes: &[u8],
+) -> Result<ExtensionOutline, NotationError>
+    requires before { IsBefore (ground before.now) }
+    requires stems { AreStems (ground before.now).language vars.now (ground before.now).stems }
+    requires short { length bytes.now ≤ 262144 }
+    ensures usable { IfOk result (IsUsable (ground before.now) bytes.now) }
+    ensures refused { IfErr result (IsUnoutlined (ground before.now) bytes.now) }
+{
+    before.grammar.facts();
+    before.rule_grammar.facts();
+    let sorts = &before.language.grammar.parts().sorts;
+    match read_extension_outline(alloc, sorts, vars, bytes) {
+        Ok(outline) => Ok(outline),
+        Err(error) => Err(outline_error(error)),
+    }
+}
+
+/// The outline of the text.
+fn outline_of(
+    alloc: Global,
+    before: &Before,
+    bytes: &[u8],
+) -> Result<ExtensionOutline, NotationError>
+    requires before { IsBefore (ground before.now) }
+    requires short { length bytes.now ≤ 262144 }
+    ensures usable { IfOk result (IsUsable (ground before.now) bytes.now) }
+    ensures refused { IfErr result (IsUnoutlined (ground before.now) bytes.now) }
+{
+    let language = before.language;
+    let vars = var_lines(alloc, &language.grammar, &language.metas)?;
+    let outline = outline_after(alloc, before, &vars, bytes);
+    drop(vars);
+    outline
+}
+
+/// What the text states before the lines of its plain pairs and its rules are read.
+pub(crate) fn prepare(
+    alloc: Global,
+    before: &Before,
+    bytes: &[u8],
+) -> Result<Prepared, NotationError>
+    requires before { IsBefore (ground before.now) }
+    requires short { length bytes.now ≤ 262144 }
+    ensures prepared { IfOk result (IsPrepared (ground before.now) bytes.now) }
+    ensures refused { IfErr result (IsUnprepared (ground before.now) bytes.now) }
+{
+    let ExtensionOutline {
+        header,
+        productions,
+        vars,
+        plains,
+        rules,
+    } = match outline_of(alloc, before, bytes) {
+        Ok(outline) => outline,
+        Err(error) => return Err(error),
+    };
+    let ExtensionHeader {
+        name,
+        language,
+        uses,
+    } = header;
+    drop(uses);
+    drop(language);
+    let Grammars {
+        grammar,
+        rule_grammar,
+    } = match make_grammars(alloc, before, productions) {
+        Ok(grammars) => grammars,
+        Err(error) => {
+            drop(rules);
+            drop(plains);
+            drop(vars);
+            drop(name);
+            return Err(error);
+        }
+    };
+    match metas_of(alloc, &grammar, &vars) {
+        Ok(metas) => {
+            drop(vars);
+            Ok(Prepared {
+                name,
+                grammar,
+                rule_grammar,
+                metas,
+                plains,
+                rules,
+            })
+        }
+        Err(_) => {
+            drop(rule_grammar);
+            drop(grammar);
+            drop(rules);
+            drop(plains);
+            drop(vars);
+            drop(name);
+            Err(NotationError::Memory)
+        }
+    }
+}
