@@ -14,3 +14,4 @@ pub mod Grammaring
 pub mod PlainSorts
 pub mod Prepares
 pub mod PlainsRead
+pub mod Checking

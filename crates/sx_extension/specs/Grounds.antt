@@ -22,7 +22,7 @@ use Rattle.sx_extension.specs.declared.before.Before.{Before}
 
 -- The sorts and productions of the language, its stems and its forms; the grammar with the
 -- extensions before, the parts by which their rules are read, the rules with their names, the
--- shapes that these have, and the plain table with the number of its base labels.
+-- shapes and the forms that these have, and the plain table with the number of its base labels.
 pub record Ground : Type 0 where
   pub language : Parts
   pub stems : Stems
@@ -31,6 +31,7 @@ pub record Ground : Type 0 where
   pub by_rules : Parts
   pub rules : List NamedRule
   pub shapes : List Shape
+  pub rule_forms : List FormData
   pub base : ℕ
   pub table : Table
 
@@ -44,6 +45,7 @@ ground b = record {
   by_rules = b.rule_grammar.now.parts;
   rules = rules_in b.rules.now;
   shapes = shapes_in b.rules.now;
+  rule_forms = forms_in b.rules.now;
   base = b.plain.now.base;
   table = table_of b.plain.now;
 }
@@ -55,8 +57,8 @@ pub record HasForms (g : Ground) (lines : List FormLine) : Type 0 where
   pub known : HaveSortsOf g.language lines
 
 -- The grammar goes on from that of the language, whose productions are base, with one sort of
--- judgements and the forms of the language for its rules. The rules have its constructors, and the
--- plain table is for these. There is room for one file more.
+-- judgements and the forms of the language for its rules. The rules have its constructors and
+-- the language's forms, and the plain table is for these constructors. There is room for one file more.
 pub record IsBefore (g : Ground) : Type 0 where
   pub more : List Line
   pub goes_on : g.grammar.parts ≡ extended g.language more
@@ -67,6 +69,7 @@ pub record IsBefore (g : Ground) : Type 0 where
   pub vars : List VarLine
   pub stems : AreStems g.language vars g.stems
   pub shapes : g.shapes ≡ shapes_of g.grammar.parts
+  pub rule_forms : g.rule_forms ≡ g.forms
   pub labels : g.base ≡ length g.language.productions
   pub desugars : Desugars (shapes_of g.language) (shapes_of g.grammar.parts) g.table
   pub productions : length g.by_rules.productions + 262144 ≤ 2 ^ 31

@@ -8,3 +8,4 @@ pub mod Grounds
 pub mod Readings
 pub mod Stages
 pub mod ReadTexts
+pub mod Checks

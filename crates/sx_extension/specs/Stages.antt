@@ -18,11 +18,11 @@ use Rattle.sx_directives.specs.declared.rows.VarLine.{VarLine}
 use Rattle.sx_outline.specs.declared.extension_outline.ExtensionOutline.{ExtensionOutline}
 use Rattle.sx_outline.specs.declared.outline_error.OutlineError.{OutlineError}
 use Rattle.sx_outline.specs.declared.outline_error.OutlineError.TheVariants as outline
-use Rattle.sx_outline.specs.Fitting.{AreDistinct}
+use Rattle.sx_outline.specs.Fitting.{AreDistinct, ArePartNames}
 use Rattle.sx_outline.specs.Sized.{HasShortLines}
 use Rattle.sx_outline.specs.Stages.{PlainData, plain_data, rule_data}
 use Rattle.sx_outline.specs.ExtensionOutlined.{ExtensionOutlineData, extension_outline}
-use Rattle.sx_outline.specs.ExtensionOutlined.{IsExtensionAnswer}
+use Rattle.sx_outline.specs.ExtensionOutlined.{IsExtensionAnswer, extension_declares}
 use Rattle.sx_outline.specs.ExtensionSized.{IsExtensionFit}
 use Rattle.sx_notation.specs.declared.notation_error.NotationError.{NotationError}
 use Rattle.sx_notation.specs.declared.notation_error.NotationError.TheVariants.{Memory, NotUtf8}
@@ -110,13 +110,16 @@ pub record CanReadTexts (g : Ground) (x : Prepared) : Type 0 where
       (map plain_data x.plains.items)
   pub short : AllByRecursion (λ l. HasShortLines 262144 (rule_data l)) x.rules.items
 
--- the text has an outline with grammars, and this is made of it
+-- the text has an outline with grammars, whose plain pairs have the names of their parts, and this
+-- is made of it
 pub record IsPrepared (g : Ground) (bytes : Text) (x : Prepared) : Type 0 where
   pub from : ExtensionOutlineData
   pub readable : IsReadable g bytes from x.grammar x.rule_grammar (reader_of g x)
   pub name : x.name ≡ from.header.name
   pub plains : map plain_data x.plains.items ≡ from.plains
   pub rules : map rule_data x.rules.items ≡ from.rules
+  pub named : AllByRecursion (λ p. ArePartNames (extension_declares g.language.sorts from) p.label
+      p.names) from.plains
   pub can : CanReadTexts g x
 
 -- this is the refusal of rules that are no rule set, whose last ones have these names and these

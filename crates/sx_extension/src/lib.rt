@@ -25,6 +25,7 @@ mod rule_set_checking;
 mod table_error;
 mod table_making;
 mod table_naming;
+mod texts_checking;
 mod texts_reading;
 
 pub use before::Before;

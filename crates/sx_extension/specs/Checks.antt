@@ -1,0 +1,46 @@
+-- The checks of an extension whose texts are read.
+use Rattle.std.specs.Prelude.{◌≡◌, ◌⊎◌, List, ◌++◌, Ok, map, length}
+use Rattle.sx_grammar.specs.Told.{shapes_of}
+use Rattle.sx_rules.specs.Good.{IsRuleSet}
+use Rattle.sx_plain.specs.declared.table.PlainTable.{PlainTable}
+use Rattle.sx_outline.specs.Stages.{plain_data}
+use Rattle.sx_notation.specs.declared.notation_error.NotationError.{NotationError}
+use Rattle.sx_notation.specs.declared.notation_error.NotationError.TheVariants as notation
+use Rattle.sx_extension.specs.declared.extension_error.ExtensionError.{ExtensionError}
+use Rattle.sx_extension.specs.declared.extension_error.ExtensionError.TheVariants.{Memory, Notation}
+use Rattle.sx_extension.specs.declared.prepared.Prepared.{Prepared}
+use Rattle.sx_extension.specs.declared.read_texts.ReadTexts.{ReadTexts}
+use Rattle.sx_extension.specs.Grounds.{Ground}
+use Rattle.sx_extension.specs.PlainTables.{IsTableMade}
+use Rattle.sx_extension.specs.ReadTexts.{texts_of}
+use Rattle.sx_extension.specs.Stages.{IsSetRefusal, IsNoTable}
+
+-- the refusal of notation, which is that of an extension
+abbrev pub IsNotationRefusal : NotationError → ExtensionError → Type 0
+IsNotationRefusal notation.Memory x = x ≡ Memory
+IsNotationRefusal e x = x ≡ Notation e
+
+-- the rules before the extension, and then its own, are a rule set
+abbrev pub HaveRuleSet : Ground → Prepared → ReadTexts → Type 0
+HaveRuleSet g from x =
+    IsRuleSet (shapes_of from.grammar.parts) g.forms (g.rules ++ (texts_of x).rules)
+
+-- this is the table before the extension with its plain bodies
+abbrev pub HaveTable : Ground → Prepared → ReadTexts → PlainTable → Type 0
+HaveTable g from x t = IsTableMade g.base (shapes_of from.grammar.parts) (length g.shapes) g.table
+    (texts_of x).plains (Ok t)
+
+-- the rules are no rule set, and this is why, memory aside
+abbrev pub HaveNoRuleSet : Ground → Prepared → ReadTexts → ExtensionError → Type 0
+HaveNoRuleSet g from x Memory = Unit {0}
+HaveNoRuleSet g from x (Notation e) =
+    IsSetRefusal (shapes_of from.grammar.parts) g.forms (g.rules ++ (texts_of x).rules)
+    (map (λ l. l.name) from.rules.items) (texts_of x).names e
+HaveNoRuleSet g from x _ = ⊥
+
+-- the rules are no rule set, or else the plain bodies make no plain table
+abbrev pub AreUnchecked : Ground → Prepared → ReadTexts → ExtensionError → Type 0
+AreUnchecked g from x e =
+    HaveNoRuleSet g from x e
+    ⊎ (HaveRuleSet g from x × IsNoTable g from.grammar.parts (map plain_data from.plains.items)
+    (texts_of x).plains e)
