@@ -1,19 +1,17 @@
 -- The texts of an extension can be checked.
-use Rattle.std.proofs.Common.{◌≡◌, ℕ, ◌+◌, ◌-◌, ◌<◌, ◌^◌, inl, inr, List, [], ◌∷◌, ◌++◌, length, map, Ok, Err, refl, ap, ◌∙◌, sym, subst, arith}
+use Rattle.std.proofs.Common.{◌≡◌, ℕ, ◌<◌, ◌^◌, inl, inr, List, [], ◌∷◌, ◌++◌, length, map, Ok, Err, refl, ap, ◌∙◌, sym, subst, arith}
 use Rattle.std.specs.Prelude.{Result, IfOk, IfErr}
 use Rattle.std.specs.List.{AllByRecursion}
 use Rattle.std.proofs.lemmas.List.{map-append}
 use Rattle.sx_term.specs.Sorts.{Shape}
 use Rattle.sx_grammar.specs.Grammar.{Text}
-use Rattle.sx_grammar.specs.Parts.{Line, Parts, names, numbered, numbered_line}
-use Rattle.sx_grammar.specs.Tables.{GrammarData}
+use Rattle.sx_grammar.specs.Parts.{Line, Parts, names, numbered_line}
 use Rattle.sx_grammar.specs.Told.{shape_of, shapes_of}
 use Rattle.sx_grammar.specs.Extended.{extended}
 use Rattle.sx_rules.specs.declared.rule.Rule.{Rule}
 use Rattle.sx_rules.specs.Deep.{RulesAreShallow}
 use Rattle.sx_rules.specs.Good.{IsRuleSet}
 use Rattle.sx_rules.specs.Views.{FormData, named, rule}
-use Rattle.sx_language.specs.RuleLine.{Reader}
 use Rattle.sx_language.specs.States.{AreStems}
 use Rattle.sx_language.proofs.UsableRules.{rules_shallow}
 use Rattle.sx_outline.specs.declared.rule_lines.RuleLines.{RuleLines}
@@ -21,13 +19,12 @@ use Rattle.sx_outline.specs.Stages.{PlainData, plain_data, rule_data}
 use Rattle.sx_notation.specs.declared.notation_error.NotationError.{NotationError}
 use Rattle.sx_notation.specs.declared.notation_error.NotationError.TheVariants as notation
 use Rattle.sx_outline.specs.ExtensionOutlined.{extension_declares}
-use Rattle.sx_notation.specs.RuleParts.{rule_parts}
 use Rattle.sx_extension.specs.declared.extension_error.ExtensionError.{ExtensionError}
 use Rattle.sx_extension.specs.declared.prepared.Prepared.{Prepared}
 use Rattle.sx_extension.specs.declared.read_texts.ReadTexts.{ReadTexts}
 use Rattle.sx_extension.specs.Grounds.{Ground, IsBefore}
 use Rattle.sx_extension.specs.declared.plain_body.PlainBody.{PlainBody}
-use Rattle.sx_extension.specs.PlainBodies.{BodyData, body_data, IsBodyOf}
+use Rattle.sx_extension.specs.PlainBodies.{body_data, IsBodyOf}
 use Rattle.sx_extension.specs.Readings.{with_own, tables, ArePlainsRead}
 use Rattle.sx_extension.specs.Stages.{IsPrepared, IsSetRefusal, IsNoTable, reader_of}
 use Rattle.sx_extension.specs.Checks.{IsNotationRefusal, HaveRuleSet, HaveNoRuleSet, AreUnchecked}

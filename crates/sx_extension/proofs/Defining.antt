@@ -1,5 +1,5 @@
 -- What refusals of plain tables tell has names.
-use Rattle.std.proofs.Common.{◌≡◌, ℕ, zero, suc, ◌<◌, List, [], ◌∷◌, Bool, true, false, if◌then◌else◌, length, Option, Some, None, Err, refl, sym, ap, ◌∙◌, subst, arith}
+use Rattle.std.proofs.Common.{◌≡◌, ℕ, zero, suc, ◌<◌, List, [], ◌∷◌, Bool, true, false, if◌then◌else◌, length, Option, Some, None, Err, refl, ap, ◌∙◌, subst}
 use Rattle.std.specs.Prelude.{slice_get, nat_lt}
 use Rattle.std.specs.List.{AllByRecursion}
 use Rattle.std.proofs.lemmas.Option.{slice_get_within, none-some}
@@ -17,7 +17,7 @@ use Rattle.sx_outline.specs.Stages.{PlainData}
 use Rattle.sx_extension.specs.declared.table_error.TableError.{TableError}
 use Rattle.sx_extension.specs.declared.table_error.TableError.TheVariants as table
 use Rattle.sx_extension.specs.PlainBodies.{BodyData, IsBodyOf}
-use Rattle.sx_extension.specs.PlainTables.{IsFirstRefused, IsNotAdded, IsTableMade}
+use Rattle.sx_extension.specs.PlainTables.{IsFirstRefused, IsTableMade}
 use Rattle.sx_extension.specs.Defects.{CanName}
 use Rattle.sx_extension.specs.TableRefusals.{CanNameTable, HaveParts}
 

@@ -1,12 +1,12 @@
 -- The grammars of an extension, or why there are none.
-use Rattle.std.proofs.Common.{◌≡◌, ℕ, inl, inr, List, length, map, Ok, Err, refl, ap, ◌∙◌, sym, subst}
+use Rattle.std.proofs.Common.{◌≡◌, ℕ, inl, inr, List, length, Ok, Err, ap, ◌∙◌, sym, subst}
 use Rattle.std.specs.Prelude.{Result}
 use Rattle.std.proofs.lemmas.List.{length-map}
 use Rattle.sx_grammar.specs.declared.grammar_error.GrammarError.{GrammarError}
 use Rattle.sx_grammar.specs.declared.grammar_error.GrammarError.TheVariants as grammar
 use Rattle.sx_grammar.specs.Parts.{Line, Parts}
 use Rattle.sx_grammar.specs.Tables.{GrammarData, IsWithinLimits, IsMade}
-use Rattle.sx_grammar.specs.Made.{IsGrammar, IsRefused as IsNotMade}
+use Rattle.sx_grammar.specs.Made.{IsRefused as IsNotMade}
 use Rattle.sx_grammar.specs.Extended.{IsExtended}
 use Rattle.sx_directives.specs.declared.rows.FormLine.{FormLine}
 use Rattle.sx_notation.specs.declared.notation_error.NotationError.{NotationError}
@@ -14,7 +14,7 @@ use Rattle.sx_notation.specs.RuleParts.{rule_parts}
 use Rattle.sx_notation.specs.RuleLaws.{form_of}
 use Rattle.sx_language.specs.Prepared.{IsGrammarRefusal}
 use Rattle.sx_language.specs.States.{IsNoGrammar}
-use Rattle.sx_extension.specs.Grounds.{Ground, HasForms, IsBefore}
+use Rattle.sx_extension.specs.Grounds.{Ground, IsBefore}
 use Rattle.sx_extension.specs.Readings.{with_own, AreGrammars, AreNoGrammars}
 use Rattle.sx_extension.specs.Stages.{HasRoom, IsUngrammatical}
 

@@ -1,22 +1,19 @@
 -- What an extension adds leaves sorts, stems and forms as they are.
-use Rattle.std.proofs.Common.{◌≡◌, ℕ, zero, suc, ◌+◌, ◌<◌, ◌⊎◌, inl, inr, Bool, true, false, cond, List, [], ◌∷◌, ◌++◌, length, length-append, map, Some, None, Ok, Contains, refl, ap, ◌∙◌, sym, subst, arith}
-use Rattle.std.specs.Prelude.{slice_get, flat_map, option_map, Option}
+use Rattle.std.proofs.Common.{◌≡◌, ℕ, ◌<◌, inl, inr, Bool, true, false, cond, List, [], ◌∷◌, ◌++◌, length, length-append, map, Contains, refl, ap, ◌∙◌, sym, subst, arith}
+use Rattle.std.specs.Prelude.{slice_get, flat_map}
 use Rattle.std.specs.List.{AllByRecursion}
 use Rattle.std.proofs.lemmas.List.{length-map}
 use Rattle.std.proofs.lemmas.Option.{slice_get_within}
-use Rattle.std.proofs.lemmas.List.Elements.{Contains-append_cases}
 use Rattle.sx_term.specs.declared.sort.Sort.{Sort}
 use Rattle.sx_term.specs.declared.sort.Sort.TheVariants as TheSort
 use Rattle.sx_grammar.specs.Grammar.{Text}
-use Rattle.sx_grammar.specs.Parts.{Line, Parts, names, labels, number_of, numbered_line, sorts_named, symbol_sorts}
+use Rattle.sx_grammar.specs.Parts.{Line, Parts, names, number_of, numbered_line, symbol_sorts}
 use Rattle.sx_grammar.specs.Made.{IsGrammar}
 use Rattle.sx_grammar.specs.Told.{is_typed, sort_with, IsSortOf}
-use Rattle.sx_grammar.specs.Extended.{extended}
 use Rattle.sx_grammar.proofs.Finding.{at_contains, is_head, in_flat_map, mapped_at, named_at}
 use Rattle.sx_earley.specs.Completed.{IsSort}
 use Rattle.sx_earley.specs.Tokens.{Stems}
 use Rattle.sx_rules.specs.declared.rule.Place.{Place as PlaceOf}
-use Rattle.sx_rules.specs.Views.{FormData}
 use Rattle.sx_directives.specs.declared.rows.FormLine.{FormLine}
 use Rattle.sx_directives.specs.declared.rows.VarLine.{VarLine}
 use Rattle.sx_directives.specs.declared.spelled.SpelledSort.TheVariants.{Lex as Lexical, Named}

@@ -15,3 +15,4 @@ pub mod PlainSorts
 pub mod Prepares
 pub mod PlainsRead
 pub mod Checking
+pub mod BodiesRead

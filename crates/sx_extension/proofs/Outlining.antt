@@ -1,5 +1,5 @@
 -- The outline of an extension file fits what comes before it.
-use Rattle.std.proofs.Common.{◌≡◌, ℕ, zero, suc, ◌+◌, ◌<◌, ◌≤◌, ◌^◌, inl, inr, Bool, true, false, if◌then◌else◌, List, [], ◌∷◌, ◌++◌, length, length-append, map, Option, Some, None, Ok, Err, Contains, refl, ap, ◌∙◌, sym, subst, arith}
+use Rattle.std.proofs.Common.{◌≡◌, ℕ, ◌+◌, ◌≤◌, ◌^◌, Bool, true, false, if◌then◌else◌, List, [], ◌∷◌, ◌++◌, length, length-append, map, Option, Some, None, Ok, Err, Contains, refl, ap, ◌∙◌, sym, subst, arith}
 use Rattle.std.specs.Prelude.{IfSome}
 use Rattle.std.specs.List.{AllByRecursion, find}
 use Rattle.std.specs.Str.{bytes_eq}
@@ -8,10 +8,9 @@ use Rattle.std.proofs.lemmas.List.{map-append}
 use Rattle.std.proofs.lemmas.Option.{none-some}
 use Rattle.std.proofs.lemmas.List.Elements.{Contains-append_right}
 use Rattle.sx_grammar.specs.Grammar.{Text}
-use Rattle.sx_grammar.specs.Parts.{Line, Parts, names, labels, literals}
+use Rattle.sx_grammar.specs.Parts.{Line, Parts, labels, literals}
 use Rattle.sx_grammar.specs.Made.{IsGrammar}
 use Rattle.sx_grammar.specs.Tables.{IsWithinLimits, HasGoodLevels}
-use Rattle.sx_grammar.specs.Extended.{extended}
 use Rattle.sx_grammar.proofs.Finding.{is_head, past_head}
 use Rattle.sx_earley.specs.Completed.{IsSort}
 use Rattle.sx_directives.specs.declared.rows.FormLine.{FormLine}
@@ -20,18 +19,17 @@ use Rattle.sx_outline.specs.declared.extension_outline.ExtensionOutline.{Extensi
 use Rattle.sx_outline.specs.declared.outline_error.OutlineError.{OutlineError}
 use Rattle.sx_outline.specs.declared.outline_error.OutlineError.TheVariants as outline
 use Rattle.sx_outline.specs.declared.rule_lines.RuleLines.{RuleLines}
-use Rattle.sx_outline.specs.Fitting.{ArePartNames, IsKnownSort}
+use Rattle.sx_outline.specs.Fitting.{ArePartNames}
 use Rattle.sx_outline.specs.Sized.{HasShortLines}
 use Rattle.sx_outline.specs.Stages.{Numbered, PlainData, rule_data}
 use Rattle.sx_outline.specs.ExtensionOutlined.{ExtensionOutlineData, extension_outline, extension_declares, IsExtensionOutlined}
 use Rattle.sx_outline.specs.ExtensionSized.{IsExtensionSized, IsExtensionFit}
 use Rattle.sx_notation.specs.declared.notation_error.NotationError.{NotationError}
-use Rattle.sx_notation.specs.declared.notation_error.NotationError.TheVariants.{Memory, NotUtf8, Notation, Token, Grammar, Read, Rules}
 use Rattle.sx_notation.specs.ReadText.{ReaderData}
 use Rattle.sx_notation.specs.RuleParts.{rule_parts}
 use Rattle.sx_language.specs.States.{IsNameOfSort, AreStems}
-use Rattle.sx_extension.specs.Grounds.{Ground, HasForms, IsBefore}
-use Rattle.sx_extension.specs.Readings.{HasNoOutline, with_own}
+use Rattle.sx_extension.specs.Grounds.{Ground, IsBefore}
+use Rattle.sx_extension.specs.Readings.{with_own}
 use Rattle.sx_extension.specs.Stages.{HasRoom, IsUsable, IsOutlineRefusal, IsUnoutlined, CanReadPlain}
 use Rattle.sx_extension.proofs.Rooms.{has_fewer, room, rule_room}
 use Rattle.sx_extension.proofs.Grounding.{stems_named, all_append, sort_read}

@@ -1,7 +1,6 @@
 -- Terms of the grammar of rules whose sorts are those of a grammar are terms of this grammar.
-use Rattle.std.proofs.Common.{◌≡◌, ℕ, zero, suc, ◌+◌, ◌-◌, ◌<◌, ◌≤◌, ◌⊎◌, inl, inr, Bool, true, false, cond, List, [], ◌∷◌, ◌++◌, length, length-append, map, Some, None, Contains, refl, ap, ◌∙◌, sym, subst, arith}
-use Rattle.std.specs.Prelude.{slice_get, flat_map, option_map, unwrap_or, Option}
-use Rattle.std.specs.List.{AllByRecursion}
+use Rattle.std.proofs.Common.{◌≡◌, ℕ, zero, suc, ◌+◌, ◌-◌, ◌<◌, ◌≤◌, ◌⊎◌, inl, inr, Bool, true, false, cond, List, [], ◌∷◌, ◌++◌, length, map, Some, Contains, refl, ap, ◌∙◌, sym, subst, arith}
+use Rattle.std.specs.Prelude.{slice_get, flat_map, option_map, unwrap_or}
 use Rattle.std.proofs.lemmas.List.{length-map, map-append}
 use Rattle.std.proofs.lemmas.Bool.{cases_lt}
 use Rattle.std.proofs.lemmas.Option.{slice_get_within, slice_get-map, none-some}

@@ -1,9 +1,8 @@
 -- The plain bodies that are read are of the sorts of their productions.
-use Rattle.std.proofs.Common.{◌≡◌, ℕ, zero, suc, ◌+◌, ◌<◌, ◌≤◌, ◌⊎◌, inl, inr, Bool, true, false, if◌then◌else◌, cond, List, [], ◌∷◌, ◌++◌, length, map, Option, Some, None, Contains, refl, ap, ◌∙◌, sym, subst, arith}
+use Rattle.std.proofs.Common.{◌≡◌, ℕ, suc, ◌+◌, inl, inr, Bool, true, false, if◌then◌else◌, cond, List, [], ◌∷◌, ◌++◌, length, map, Option, Some, Contains, refl, ap, ◌∙◌, sym, subst, arith}
 use Rattle.std.specs.Prelude.{slice_get, flat_map, option_map}
 use Rattle.std.specs.List.{AllByRecursion, find}
 use Rattle.std.specs.Str.{bytes_eq}
-use Rattle.std.specs.Char.{is_ascii_digit}
 use Rattle.std.proofs.lemmas.Slice.Eq.{bytes_eq-Decides}
 use Rattle.std.proofs.lemmas.List.{length-map}
 use Rattle.std.proofs.lemmas.Option.{slice_get-map, none-some}
@@ -12,7 +11,6 @@ use Rattle.sx_term.specs.declared.lex_kind.LexKind.TheVariants.{Id, Num, Str}
 use Rattle.sx_term.specs.declared.sort.Sort.{Sort}
 use Rattle.sx_term.specs.declared.sort.Sort.TheVariants as TheSort
 use Rattle.sx_term.specs.Sorts.{Shape, HasSort}
-use Rattle.sx_term.specs.Tree.{Tree}
 use Rattle.sx_term.specs.Untyped.{IsUntypedSort}
 use Rattle.sx_grammar.specs.declared.symbol.Symbol as declared
 use Rattle.sx_grammar.specs.declared.symbol.Symbol.TheVariants as names_of
@@ -28,7 +26,7 @@ use Rattle.sx_directives.specs.declared.rows.FormLine.{FormLine}
 use Rattle.sx_directives.specs.declared.rows.VarLine.{VarLine}
 use Rattle.sx_outline.specs.Declarations.{Declared}
 use Rattle.sx_outline.specs.Variables.{kept_byte, stem_of}
-use Rattle.sx_outline.specs.Fitting.{Kid, of_kind, of_sort, kid_of, kids_of, kid_sort, IsVariableOf, NamesFit, IsPlain, ArePartNames}
+use Rattle.sx_outline.specs.Fitting.{kids_of, IsVariableOf, NamesFit, IsPlain, ArePartNames}
 use Rattle.sx_outline.specs.Stages.{PlainData}
 use Rattle.sx_notation.specs.ReadText.{ReaderData, IsRead}
 use Rattle.sx_notation.specs.RuleParts.{rule_parts}

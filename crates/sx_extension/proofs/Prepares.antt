@@ -1,15 +1,14 @@
 -- An extension file that is prepared, or why it is not.
-use Rattle.std.proofs.Common.{◌≡◌, ℕ, ◌-◌, ◌<◌, ◌^◌, inl, inr, List, [], ◌∷◌, ◌++◌, length, map, Ok, Err, refl, ap, ◌∙◌, sym, subst}
+use Rattle.std.proofs.Common.{◌≡◌, ◌-◌, ◌<◌, ◌^◌, List, length, map, refl, ap, ◌∙◌, sym, subst}
 use Rattle.std.specs.List.{AllByRecursion}
 use Rattle.sx_grammar.specs.Grammar.{Text}
-use Rattle.sx_grammar.specs.Parts.{Line, Parts}
+use Rattle.sx_grammar.specs.Parts.{Parts}
 use Rattle.sx_grammar.specs.Tables.{GrammarData}
 use Rattle.sx_grammar.specs.Made.{IsGrammar}
-use Rattle.sx_directives.specs.declared.rows.VarLine.{VarLine}
 use Rattle.sx_outline.specs.declared.extension_outline.ExtensionOutline.{ExtensionOutline}
 use Rattle.sx_outline.specs.declared.rule_lines.RuleLines.{RuleLines}
-use Rattle.sx_outline.specs.Stages.{PlainData, plain_data, RuleData, rule_data}
-use Rattle.sx_outline.specs.ExtensionOutlined.{ExtensionOutlineData, extension_outline}
+use Rattle.sx_outline.specs.Stages.{PlainData, plain_data, rule_data}
+use Rattle.sx_outline.specs.ExtensionOutlined.{extension_outline}
 use Rattle.sx_outline.specs.Sized.{HasShortLines}
 use Rattle.sx_notation.specs.declared.notation_error.NotationError.{NotationError}
 use Rattle.sx_notation.specs.declared.notation_error.NotationError.TheVariants.{Memory, NotUtf8, Notation, Token, Grammar, Read, Rules}
@@ -17,7 +16,7 @@ use Rattle.sx_notation.specs.RuleParts.{rule_parts}
 use Rattle.sx_language.specs.States.{IsNameOfSort, AreStems}
 use Rattle.sx_extension.specs.declared.prepared.Prepared.{Prepared}
 use Rattle.sx_extension.specs.Grounds.{Ground, IsBefore}
-use Rattle.sx_extension.specs.Readings.{HasOutline, with_own, AreGrammars, IsReadable, tables}
+use Rattle.sx_extension.specs.Readings.{HasOutline, with_own, AreGrammars, tables}
 use Rattle.sx_extension.specs.Stages.{IsUsable, IsUnoutlined, IsUngrammatical, IsUnprepared, IsPrepared, CanReadPlain, reader_of}
 use Rattle.sx_extension.proofs.Grounding.{names_kept, same_sorts, reads}
 use Rattle.sx_extension.proofs.Outlining.{pairs_read}

@@ -1,5 +1,5 @@
 -- The checks of an extension whose texts are read.
-use Rattle.std.specs.Prelude.{◌≡◌, ◌⊎◌, List, ◌++◌, Ok, map, length}
+use Rattle.std.specs.Prelude.{◌≡◌, ◌⊎◌, ◌++◌, Ok, map, length}
 use Rattle.sx_grammar.specs.Told.{shapes_of}
 use Rattle.sx_rules.specs.Good.{IsRuleSet}
 use Rattle.sx_plain.specs.declared.table.PlainTable.{PlainTable}

@@ -9,3 +9,4 @@ pub mod Readings
 pub mod Stages
 pub mod ReadTexts
 pub mod Checks
+pub mod BodyRefusals

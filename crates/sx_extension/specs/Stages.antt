@@ -1,12 +1,11 @@
 -- The stages in which an extension file is read.
 use Rattle.std.specs.Prelude.{◌≡◌, ℕ, ◌-◌, ◌<◌, ◌≤◌, ◌^◌, List}
-use Rattle.std.specs.Prelude.{[], ◌∷◌, map, length, Contains, Ok, Err}
+use Rattle.std.specs.Prelude.{map, length, Contains, Ok, Err}
 use Rattle.std.specs.List.{AllByRecursion}
 use Rattle.sx_term.specs.declared.sort.Sort.{Sort}
-use Rattle.sx_grammar.specs.declared.grammar_error.GrammarError.{GrammarError}
 use Rattle.sx_grammar.specs.Grammar.{Text}
 use Rattle.sx_grammar.specs.Parts.{Line, Parts, labels}
-use Rattle.sx_grammar.specs.Tables.{GrammarData, IsWithinLimits}
+use Rattle.sx_grammar.specs.Tables.{IsWithinLimits}
 use Rattle.sx_grammar.specs.Told.{IsSortOf, shapes_of}
 use Rattle.sx_earley.specs.Completed.{IsSort}
 use Rattle.sx_term.specs.Sorts.{Shape}

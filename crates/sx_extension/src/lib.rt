@@ -2,10 +2,12 @@
 //!
 //! So far an extension file is read up to its texts: its outline, its grammars, and what its texts
 //! are read by (`prepare`); its plain bodies and its rules (`read_texts`); its rules are checked
-//! after those before it (`check_rule_set`), and its plain table is made (`make_table`).
+//! after those before it, and its plain table is made (`check_texts`); and the bodies of its rules
+//! are checked (`check_bodies`).
 #![tactic(auto)]
 
 mod before;
+mod bodies_of_rules;
 mod body_checking;
 mod body_defect;
 mod defect_naming;
