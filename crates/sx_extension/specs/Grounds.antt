@@ -57,8 +57,8 @@ pub record HasForms (g : Ground) (lines : List FormLine) : Type 0 where
   pub known : HaveSortsOf g.language lines
 
 -- The grammar goes on from that of the language, whose productions are base, with one sort of
--- judgements and the forms of the language for its rules. The rules have its constructors and
--- the language's forms, and the plain table is for these constructors. There is room for one file more.
+-- judgements and the forms of the language for its rules. The rules have its constructors and the
+-- language's forms, and the plain table is for these constructors. There is room for one file more.
 pub record IsBefore (g : Ground) : Type 0 where
   pub more : List Line
   pub goes_on : g.grammar.parts ≡ extended g.language more

@@ -25,7 +25,7 @@ pub enum ExtensionError {
     /// The rule with this name has a subject in its conclusion, and no body.
     #[error("a rule without a body")]
     NoBody(Text),
-    /// The body of the rule with this name has not the sort of the subject.
+    /// The conclusion of the rule with this name has no subject, and a line states a body.
     #[error("a body of another sort")]
     BodySort(Text),
     /// The body of the rule with this name has typed syntax of the extension.

@@ -8,7 +8,8 @@ ghost use Rattle.sx_plain.specs.Views.{table_of};
 ghost use Rattle.sx_extension.specs.Grounds.{ground, IsBefore};
 ghost use Rattle.sx_extension.specs.Stages.{IsPrepared};
 ghost use Rattle.sx_extension.specs.ReadTexts.{AreTextsOf};
-ghost use Rattle.sx_extension.specs.Checks.{IsNotationRefusal, HaveRuleSet, HaveTable, AreUnchecked};
+ghost use Rattle.sx_extension.specs.Checks.{IsNotationRefusal, HaveRuleSet, HaveTable};
+ghost use Rattle.sx_extension.specs.Checks.{AreUnchecked};
 
 use crate::before::Before;
 use crate::extension_error::ExtensionError;
