@@ -10,3 +10,5 @@ pub mod Stages
 pub mod ReadTexts
 pub mod Checks
 pub mod BodyRefusals
+pub mod States
+pub mod Fitting
