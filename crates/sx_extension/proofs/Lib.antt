@@ -16,3 +16,7 @@ pub mod Prepares
 pub mod PlainsRead
 pub mod Checking
 pub mod BodiesRead
+pub mod Joined
+pub mod LineErrors
+pub mod Refusing
+pub mod Stating

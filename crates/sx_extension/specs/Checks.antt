@@ -3,13 +3,15 @@ use Rattle.std.specs.Prelude.{◌≡◌, ◌⊎◌, ◌++◌, Ok, map, length}
 use Rattle.sx_grammar.specs.Told.{shapes_of}
 use Rattle.sx_rules.specs.Good.{IsRuleSet}
 use Rattle.sx_plain.specs.declared.table.PlainTable.{PlainTable}
-use Rattle.sx_outline.specs.Stages.{plain_data}
+use Rattle.sx_outline.specs.Stages.{plain_data, rule_data}
 use Rattle.sx_notation.specs.declared.notation_error.NotationError.{NotationError}
 use Rattle.sx_notation.specs.declared.notation_error.NotationError.TheVariants as notation
 use Rattle.sx_extension.specs.declared.extension_error.ExtensionError.{ExtensionError}
 use Rattle.sx_extension.specs.declared.extension_error.ExtensionError.TheVariants.{Memory, Notation}
 use Rattle.sx_extension.specs.declared.prepared.Prepared.{Prepared}
 use Rattle.sx_extension.specs.declared.read_texts.ReadTexts.{ReadTexts}
+use Rattle.sx_extension.specs.Bodies.{AreBodied}
+use Rattle.sx_extension.specs.BodyRefusals.{HaveBadBody}
 use Rattle.sx_extension.specs.Grounds.{Ground}
 use Rattle.sx_extension.specs.PlainTables.{IsTableMade}
 use Rattle.sx_extension.specs.ReadTexts.{texts_of}
@@ -33,6 +35,7 @@ HaveTable g from x t = IsTableMade g.base (shapes_of from.grammar.parts) (length
 -- the rules are no rule set, and this is why, memory aside
 abbrev pub HaveNoRuleSet : Ground → Prepared → ReadTexts → ExtensionError → Type 0
 HaveNoRuleSet g from x Memory = Unit {0}
+HaveNoRuleSet g from x (Notation notation.Memory) = ⊥
 HaveNoRuleSet g from x (Notation e) =
     IsSetRefusal (shapes_of from.grammar.parts) g.forms (g.rules ++ (texts_of x).rules)
     (map (λ l. l.name) from.rules.items) (texts_of x).names e
@@ -44,3 +47,14 @@ AreUnchecked g from x e =
     HaveNoRuleSet g from x e
     ⊎ (HaveRuleSet g from x × IsNoTable g from.grammar.parts (map plain_data from.plains.items)
     (texts_of x).plains e)
+
+-- each rule has its body as it should
+abbrev pub HaveBodies : Ground → Prepared → ReadTexts → Type 0
+HaveBodies g from x = AreBodied g.forms (shapes_of from.grammar.parts) (length g.shapes)
+    (map rule_data from.rules.items) (texts_of x).rules (texts_of x).bodies
+
+-- the first rule whose body is not as it should be is refused so, or memory is lacking
+abbrev pub HaveBodyDefect : Ground → Prepared → ReadTexts → ExtensionError → Type 0
+HaveBodyDefect g from x Memory = Unit {0}
+HaveBodyDefect g from x e = HaveBadBody g.forms (shapes_of from.grammar.parts) (length g.shapes)
+    (map rule_data from.rules.items) (texts_of x).rules (texts_of x).bodies e

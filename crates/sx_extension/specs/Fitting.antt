@@ -17,7 +17,7 @@ use Rattle.sx_rewrite.specs.Extensions.{Fits}
 use Rattle.sx_rewrite.specs.ExtensionView.{ext_rule, named_rules}
 use Rattle.sx_rewrite.specs.Stored.{signature_of}
 use Rattle.sx_notation.specs.Language.{RuleHasLexemes}
-use Rattle.sx_extension.specs.declared.read_extension.ReadExtension.{ReadExtension}
+use Rattle.sx_extension.specs.declared.extension.ReadExtension.{ReadExtension}
 use Rattle.sx_extension.specs.Grounds.{Ground}
 
 -- the lexemes of the flat bodies are tokens, and none of the literals

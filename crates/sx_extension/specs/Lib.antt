@@ -11,4 +11,5 @@ pub mod ReadTexts
 pub mod Checks
 pub mod BodyRefusals
 pub mod States
+pub mod Checked
 pub mod Fitting

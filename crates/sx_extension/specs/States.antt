@@ -1,5 +1,5 @@
 -- What an extension file states, or why it is refused.
-use Rattle.std.specs.Prelude.{◌≡◌, ◌⊎◌, ◌++◌, List, Option, map, option_map, length, Ok}
+use Rattle.std.specs.Prelude.{◌≡◌, ◌⊎◌, ◌++◌, Option, map, option_map, length, Ok}
 use Rattle.sx_term.specs.Term.{tree}
 use Rattle.sx_grammar.specs.declared.grammar_error.GrammarError.{GrammarError}
 use Rattle.sx_grammar.specs.Grammar.{Text}
@@ -21,7 +21,7 @@ use Rattle.sx_language.specs.RuleLine.{Reader}
 use Rattle.sx_language.specs.States.{name_unbound}
 use Rattle.sx_extension.specs.declared.extension_error.ExtensionError.{ExtensionError}
 use Rattle.sx_extension.specs.declared.extension_error.ExtensionError.TheVariants as extension
-use Rattle.sx_extension.specs.declared.read_extension.ReadExtension.{ReadExtension}
+use Rattle.sx_extension.specs.declared.extension.ReadExtension.{ReadExtension}
 use Rattle.sx_extension.specs.Bodies.{AreBodied}
 use Rattle.sx_extension.specs.BodyRefusals.{HaveBadBody}
 use Rattle.sx_extension.specs.Grounds.{Ground}

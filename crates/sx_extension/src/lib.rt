@@ -1,17 +1,22 @@
 //! What extension files add.
 //!
-//! So far an extension file is read up to its texts: its outline, its grammars, and what its texts
-//! are read by (`prepare`); its plain bodies and its rules (`read_texts`); its rules are checked
-//! after those before it, and its plain table is made (`check_texts`); and the bodies of its rules
-//! are checked (`check_bodies`).
+//! `read_extension` reads an extension file after what stands before it: its outline, its grammars,
+//! and what its texts are read by (`prepare`); its plain bodies and its rules (`read_texts`); its
+//! rules are checked after those before it, and its plain table is made (`check_texts`); and the
+//! bodies of its rules are checked (`check_bodies`).
 #![tactic(auto)]
 
 mod before;
+mod bodied_rules;
 mod bodies_of_rules;
 mod body_checking;
 mod body_defect;
+mod checked_texts;
 mod defect_naming;
+mod extension;
+mod extension_checking;
 mod extension_error;
+mod extension_reading;
 mod grammars;
 mod layers;
 mod names;
@@ -22,7 +27,6 @@ mod plain_reading;
 mod plain_table;
 mod prepared;
 mod preparing;
-mod read_extension;
 mod read_texts;
 mod rule_set_checking;
 mod table_error;
@@ -32,6 +36,7 @@ mod texts_checking;
 mod texts_reading;
 
 pub use before::Before;
+pub use extension::ReadExtension;
 pub use extension_error::ExtensionError;
+pub use extension_reading::read_extension;
 pub use plain_defect::PlainDefect;
-pub use read_extension::ReadExtension;

@@ -23,7 +23,7 @@ use sx_plain::PlainTable;
 use sx_term::Shapes;
 
 /// The refusal of notation, as that of an extension.
-fn notation_error(error: NotationError) -> ExtensionError
+pub(crate) fn notation_error(error: NotationError) -> ExtensionError
     ensures { IsNotationRefusal error result }
 {
     match error {
