@@ -20,3 +20,11 @@ pub mod Joined
 pub mod LineErrors
 pub mod Refusing
 pub mod Stating
+pub mod Going
+pub mod OneGround
+pub mod OneAmong
+pub mod OnePlain
+pub mod OneTexts
+pub mod OneTable
+pub mod OneDefect
+pub mod OneExtension

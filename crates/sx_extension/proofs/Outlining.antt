@@ -58,15 +58,15 @@ module _ (g : Ground) (before : IsBefore g) (within : IsWithinLimits g.grammar.p
   has_room : (own : List Line) → length own + length (literals (record { sorts = []; productions = own })) ≤ 262144 → HasGoodLevels (record { sorts = []; productions = own }) → HasRoom g own
   has_room own few levels =
       let p = g.grammar.parts in
-      let productions = subst (λ (y : Parts). length y.productions + 262144 ≤ 2 ^ 31) before.forms.read_by before.productions in
-      let texts = subst (λ (y : Parts). length (literals y) + 262144 ≤ 2 ^ 31) before.forms.read_by before.literals in
+      let productions = subst (λ (y : Parts). length y.productions + 262144 ≤ 2 ^ 31) before.forms.read_by before.room.productions in
+      let texts = subst (λ (y : Parts). length (literals y) + 262144 ≤ 2 ^ 31) before.forms.read_by before.room.literals in
       record {
         few = omega (arith, productions, few, has_fewer p before.lines own few levels, length-append p.productions own);
         limits = room p before.lines own few levels within productions texts;
         rule_limits = λ lines has.
             rule_room p lines own few levels (subst (λ (y : Parts). IsWithinLimits y) has.read_by rules_within)
-            (subst (λ (y : Parts). length y.productions + 262144 ≤ 2 ^ 31) has.read_by before.productions)
-            (subst (λ (y : Parts). length (literals y) + 262144 ≤ 2 ^ 31) has.read_by before.literals);
+            (subst (λ (y : Parts). length y.productions + 262144 ≤ 2 ^ 31) has.read_by before.room.productions)
+            (subst (λ (y : Parts). length (literals y) + 262144 ≤ 2 ^ 31) has.read_by before.room.literals);
       }
 
   pub usable : (bytes : Text) (vars : List VarLine) (o : ExtensionOutline) → length bytes ≤ 262144 → AreStems g.language vars g.stems → IsExtensionOutlined g.language.sorts vars bytes (Ok o) →

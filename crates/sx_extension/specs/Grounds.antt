@@ -1,5 +1,5 @@
 -- What an extension file is read after, as plain data.
-use Rattle.std.specs.Prelude.{◌≡◌, ℕ, ◌+◌, ◌≤◌, ◌^◌, List, map, length}
+use Rattle.std.specs.Prelude.{◌≡◌, ℕ, ◌+◌, ◌*◌, ◌≤◌, ◌^◌, List, map, length}
 use Rattle.std.specs.List.{AllByRecursion}
 use Rattle.sx_term.specs.Sorts.{Shape}
 use Rattle.sx_grammar.specs.Parts.{Line, Parts, literals}
@@ -56,6 +56,12 @@ pub record HasForms (g : Ground) (lines : List FormLine) : Type 0 where
   pub forms : g.forms ≡ map (form_of g.language) lines
   pub known : HaveSortsOf g.language lines
 
+-- the grammar by which rules are read has room for the productions and literals of so many files
+-- more
+pub record HasRoomFor (g : Ground) (files : ℕ) : Type 0 where
+  pub productions : length g.by_rules.productions + 262144 * files ≤ 2 ^ 31
+  pub literals : length (literals g.by_rules) + 262144 * files ≤ 2 ^ 31
+
 -- The grammar goes on from that of the language, whose productions are base, with one sort of
 -- judgements and the forms of the language for its rules. The rules have its constructors and the
 -- language's forms, and the plain table is for these constructors. There is room for one file more.
@@ -72,5 +78,4 @@ pub record IsBefore (g : Ground) : Type 0 where
   pub rule_forms : g.rule_forms ≡ g.forms
   pub labels : g.base ≡ length g.language.productions
   pub desugars : Desugars (shapes_of g.language) (shapes_of g.grammar.parts) g.table
-  pub productions : length g.by_rules.productions + 262144 ≤ 2 ^ 31
-  pub literals : length (literals g.by_rules) + 262144 ≤ 2 ^ 31
+  pub room : HasRoomFor g 1

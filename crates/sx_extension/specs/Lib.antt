@@ -13,3 +13,4 @@ pub mod BodyRefusals
 pub mod States
 pub mod Checked
 pub mod Fitting
+pub mod Laws

@@ -4,6 +4,11 @@
 //! and what its texts are read by (`prepare`); its plain bodies and its rules (`read_texts`); its
 //! rules are checked after those before it, and its plain table is made (`check_texts`); and the
 //! bodies of its rules are checked (`check_bodies`).
+//!
+//! - `one_extension`: a text states one extension, or has one refusal, but for the two readings that
+//!   a refusal may show.
+//! - `languages_begin`, `extensions_go_on`: after a language, and after each extension that is read
+//!   and fits, the next one can be read.
 #![tactic(auto)]
 
 mod before;
@@ -18,6 +23,7 @@ mod extension_checking;
 mod extension_error;
 mod extension_reading;
 mod grammars;
+mod laws;
 mod layers;
 mod names;
 mod own_syntax;
@@ -39,4 +45,5 @@ pub use before::Before;
 pub use extension::ReadExtension;
 pub use extension_error::ExtensionError;
 pub use extension_reading::read_extension;
+pub use laws::{extensions_go_on, languages_begin, one_extension};
 pub use plain_defect::PlainDefect;
