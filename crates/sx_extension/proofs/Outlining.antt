@@ -30,7 +30,7 @@ use Rattle.sx_notation.specs.RuleParts.{rule_parts}
 use Rattle.sx_language.specs.States.{IsNameOfSort, AreStems}
 use Rattle.sx_extension.specs.Grounds.{Ground, IsBefore}
 use Rattle.sx_extension.specs.Readings.{with_own}
-use Rattle.sx_extension.specs.Stages.{HasRoom, IsUsable, IsOutlineRefusal, IsUnoutlined, CanReadPlain}
+use Rattle.sx_extension.specs.Stages.{HasRoom, HasFewProductions, IsUsable, IsOutlineRefusal, IsUnoutlined, CanReadPlain}
 use Rattle.sx_extension.proofs.Rooms.{has_fewer, room, rule_room}
 use Rattle.sx_extension.proofs.Grounding.{stems_named, all_append, sort_read}
 
@@ -76,7 +76,8 @@ module _ (g : Ground) (before : IsBefore g) (within : IsWithinLimits g.grammar.p
     stems = stems;
     outlined = outlined;
     fit = fit;
-    room = has_room (extension_outline o).productions (omega (arith, sized.many, low, many)) sized.levels;
+    few = few;
+    room = has_room (extension_outline o).productions (omega (arith, few)) sized.levels;
     sorts = subst (AllByRecursion (λ v. IsNameOfSort g.language v.sort)) (sym fit.vars_are)
         (all_append (λ v. IsNameOfSort g.language v.sort) vars fit.own (stems_named g.language vars g.stems stems) fit.sorts_known);
     plains = short_plains (length bytes) (extension_outline o).plains low sized.plains;
@@ -85,6 +86,9 @@ module _ (g : Ground) (before : IsBefore g) (within : IsWithinLimits g.grammar.p
     where
       many : length o.vars.items ≡ length vars + length fit.own
       many = ap length fit.vars_are ∙ length-append vars fit.own
+
+      few : HasFewProductions (extension_outline o)
+      few = omega (arith, sized.many, low, many)
 
 -- ---- no outline
 

@@ -76,6 +76,7 @@ module _ (g : Ground) (bytes : Text) where
           plains = ap (map plain_data) plains;
           rules = ap (map rule_data) rules;
           named = h.fit.plains;
+          few = h.few;
           can = record {
             few = subst (λ (y : Parts). length y.productions < 2 ^ 32 - 1) (sym parts) h.room.few;
             can = reads g before own made.lines made.has_forms made.is_grammar out.vars r are rule_is refl;

@@ -1,10 +1,10 @@
 -- The stages in which an extension file is read.
-use Rattle.std.specs.Prelude.{◌≡◌, ℕ, ◌-◌, ◌<◌, ◌≤◌, ◌^◌, List}
+use Rattle.std.specs.Prelude.{◌≡◌, ℕ, ◌+◌, ◌-◌, ◌<◌, ◌≤◌, ◌^◌, List}
 use Rattle.std.specs.Prelude.{map, length, Contains, Ok, Err}
 use Rattle.std.specs.List.{AllByRecursion}
 use Rattle.sx_term.specs.declared.sort.Sort.{Sort}
 use Rattle.sx_grammar.specs.Grammar.{Text}
-use Rattle.sx_grammar.specs.Parts.{Line, Parts, labels}
+use Rattle.sx_grammar.specs.Parts.{Line, Parts, labels, literals}
 use Rattle.sx_grammar.specs.Tables.{IsWithinLimits}
 use Rattle.sx_grammar.specs.Told.{IsSortOf, shapes_of}
 use Rattle.sx_earley.specs.Completed.{IsSort}
@@ -22,7 +22,7 @@ use Rattle.sx_outline.specs.Sized.{HasShortLines}
 use Rattle.sx_outline.specs.Stages.{PlainData, plain_data, rule_data}
 use Rattle.sx_outline.specs.ExtensionOutlined.{ExtensionOutlineData, extension_outline}
 use Rattle.sx_outline.specs.ExtensionOutlined.{IsExtensionAnswer, extension_declares}
-use Rattle.sx_outline.specs.ExtensionSized.{IsExtensionFit}
+use Rattle.sx_outline.specs.ExtensionSized.{own_parts, IsExtensionFit}
 use Rattle.sx_notation.specs.declared.notation_error.NotationError.{NotationError}
 use Rattle.sx_notation.specs.declared.notation_error.NotationError.TheVariants.{Memory, NotUtf8}
 use Rattle.sx_notation.specs.declared.notation_error.NotationError.TheVariants.{Notation, Grammar}
@@ -49,12 +49,18 @@ pub record HasRoom (g : Ground) (own : List Line) : Type 0 where
   pub rule_limits : (lines : List FormLine) → HasForms g lines →
       IsWithinLimits (rule_parts (with_own g own) lines)
 
--- the text has the outline, which fits the language, and lines of at most 262,144 bytes
+-- the extension has at most 262,144 productions and literals in all
+abbrev pub HasFewProductions : ExtensionOutlineData → Type 0
+HasFewProductions o = length o.productions + length (literals (own_parts o)) ≤ 262144
+
+-- the text has the outline, which fits the language, few productions, and lines of at most 262,144
+-- bytes
 pub record IsUsable (g : Ground) (bytes : Text) (o : ExtensionOutline) : Type 0 where
   pub before : List VarLine
   pub stems : AreStems g.language before g.stems
   pub outlined : IsExtensionAnswer g.language.sorts before bytes (Ok (extension_outline o))
   pub fit : IsExtensionFit g.language.sorts before (extension_outline o)
+  pub few : HasFewProductions (extension_outline o)
   pub room : HasRoom g (extension_outline o).productions
   pub sorts : AllByRecursion (λ v. IsNameOfSort g.language v.sort) o.vars.items
   pub plains : AllByRecursion (λ p. length p.body.text ≤ 262144) (extension_outline o).plains
@@ -109,8 +115,8 @@ pub record CanReadTexts (g : Ground) (x : Prepared) : Type 0 where
       (map plain_data x.plains.items)
   pub short : AllByRecursion (λ l. HasShortLines 262144 (rule_data l)) x.rules.items
 
--- the text has an outline with grammars, whose plain pairs have the names of their parts, and this
--- is made of it
+-- the text has an outline with grammars and few productions, whose plain pairs have the names of
+-- their parts, and this is made of it
 pub record IsPrepared (g : Ground) (bytes : Text) (x : Prepared) : Type 0 where
   pub from : ExtensionOutlineData
   pub readable : IsReadable g bytes from x.grammar x.rule_grammar (reader_of g x)
@@ -119,6 +125,7 @@ pub record IsPrepared (g : Ground) (bytes : Text) (x : Prepared) : Type 0 where
   pub rules : map rule_data x.rules.items ≡ from.rules
   pub named : AllByRecursion (λ p. ArePartNames (extension_declares g.language.sorts from) p.label
       p.names) from.plains
+  pub few : HasFewProductions from
   pub can : CanReadTexts g x
 
 -- this is the refusal of rules that are no rule set, whose last ones have these names and these
