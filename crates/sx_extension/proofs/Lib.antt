@@ -28,3 +28,11 @@ pub mod OneTexts
 pub mod OneTable
 pub mod OneDefect
 pub mod OneExtension
+pub mod FitShapes
+pub mod FitSubjects
+pub mod FitBodies
+pub mod FitRules
+pub mod FitFlats
+pub mod FitLexemes
+pub mod FitRooms
+pub mod Fitted

@@ -11,19 +11,19 @@ use Rattle.sx_grammar.specs.Extended.{extended}
 use Rattle.sx_directives.specs.declared.rows.FormLine.{FormLine}
 use Rattle.sx_notation.specs.RuleParts.{judgement_sort, form_line, apart_lines, rule_parts}
 
-abbrev L : List Line → List Text
+abbrev pub L : List Line → List Text
 L ls = flat_map (λ r. flat_map symbol_literals r.symbols) ls
 
-abbrev S : Parts → List Text
+abbrev pub S : Parts → List Text
 S p = flat_map (λ s. bracket_literals s.brackets) p.sorts
 
-abbrev own_of : List Line → Parts
+abbrev pub own_of : List Line → Parts
 own_of own = record { sorts = []; productions = own }
 
-parts_literals : (p : Parts) → length (literals p) ≡ length (S p) + length (L p.productions)
+pub parts_literals : (p : Parts) → length (literals p) ≡ length (S p) + length (L p.productions)
 parts_literals p = length-append (S p) (L p.productions)
 
-two : (xs ys : List Line) → length (L (xs ++ ys)) ≡ length (L xs) + length (L ys)
+pub two : (xs ys : List Line) → length (L (xs ++ ys)) ≡ length (L xs) + length (L ys)
 two xs ys = ap length (flat_map-append (λ r. flat_map symbol_literals r.symbols) xs ys) ∙ length-append (L xs) (L ys)
 
 -- parts that have the productions of some parts, and own ones, are within the limits

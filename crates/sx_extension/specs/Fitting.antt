@@ -1,7 +1,11 @@
 -- An extension that is read fits what it was read after.
-use Rattle.std.specs.Prelude.{◌≡◌, ℕ, ◌+◌, ◌≤◌, ◌<◌, ◌^◌, ◌++◌, List, IfSome, Some, map, length}
+use Rattle.std.specs.Prelude.{◌≡◌, ℕ, ◌+◌, ◌≤◌, ◌<◌, ◌^◌, ◌++◌, ◌⊎◌, false, List, IfSome, Some}
+use Rattle.std.specs.Prelude.{map, length}
 use Rattle.std.specs.List.{AllByRecursion}
-use Rattle.sx_term.specs.Tree.{depth_of}
+use Rattle.sx_term.specs.declared.lex_kind.LexKind.{LexKind}
+use Rattle.sx_term.specs.declared.mark.Mark.TheVariants.{Lex}
+use Rattle.sx_term.specs.Spaced.{IsTokenText}
+use Rattle.sx_term.specs.Tree.{Tree, Trees, node, lexeme, hole, none, ◌▹◌, depth_of}
 use Rattle.sx_grammar.specs.Grammar.{Text}
 use Rattle.sx_grammar.specs.Parts.{literals}
 use Rattle.sx_grammar.specs.Tables.{literals_of}
@@ -20,18 +24,39 @@ use Rattle.sx_notation.specs.Language.{RuleHasLexemes}
 use Rattle.sx_extension.specs.declared.extension.ReadExtension.{ReadExtension}
 use Rattle.sx_extension.specs.Grounds.{Ground}
 
+abbrev mutual
+  -- the lexeme stands in the term
+  pub LexemeStands : LexKind → Text → Tree → Type 0
+  LexemeStands kind text (node label kids) = LexemeStandsAmong kind text kids
+  LexemeStands kind text (lexeme k t) = (k ≡ kind) × (t ≡ text)
+  LexemeStands kind text (hole v) = ⊥
+
+  -- it stands in one of the terms
+  pub LexemeStandsAmong : LexKind → Text → Trees → Type 0
+  LexemeStandsAmong kind text none = ⊥
+  LexemeStandsAmong kind text (t ▹ ts) =
+      LexemeStands kind text t ⊎ LexemeStandsAmong kind text ts
+
+-- it stands in a flat body of the table
+abbrev pub IsLexemeOf : Table → LexKind → Text → Type 0
+IsLexemeOf table kind text =
+    (label : ℕ) × (body : Body) × (table label ≡ Some body) × LexemeStands kind text body.flat
+
 -- the lexemes of the flat bodies are tokens, and none of the literals
 abbrev pub TableHasLexemes : List Text → Table → Type 0
 TableHasLexemes literals table =
     (label : ℕ) (body : Body) → table label ≡ Some body → HasLexemes literals body.flat
 
 -- The lexemes of the rules and of their bodies are tokens, and none of the literals, and so are
--- those of the flat bodies, where those of the table before are.
+-- those of the flat bodies that stand in none of the table before. Where those of that table are
+-- such tokens too, all are.
 pub record ExtensionHasLexemes (literals : List Text) (before : Table) (x : ExtensionData) : Type 0
   where
     pub rules : AllByRecursion (RuleHasLexemes literals) (named_rules x)
     pub bodies : AllByRecursion (λ e. IfSome e.body (HasLexemes literals))
         (map ext_rule x.rules.items)
+    pub new : (kind : LexKind) (text : Text) → IsLexemeOf (table_of x.plain) kind text →
+        IsLexemeOf before kind text ⊎ IsTokenText literals false (Lex kind) text
     pub flat : TableHasLexemes literals before → TableHasLexemes literals (table_of x.plain)
 
 -- The terms of the rules and their bodies are at most 1,000 deep, and no rule has 2^32 premises.
@@ -42,8 +67,8 @@ pub record ExtensionIsUsable (x : ExtensionData) : Type 0 where
   pub few : AllByRecursion (λ e. length e.rule.premises.items < 2 ^ 32) x.rules.items
 
 -- The rules before and the extension's are a rule set, and the extension fits them and the plain
--- table before it. Its lexemes are tokens and no literals of the language. Neither grammar has
--- over 262,144 productions or literals more.
+-- table before it. Its lexemes are tokens and no literals of the language. The grammar of rules has
+-- at most 262,144 productions and as many literals more.
 pub record FitsAfter (g : Ground) (x : ReadExtension) : Type 0 where
   pub good : IsRuleSet (shapes_of x.grammar.parts) g.forms (g.rules ++ named_rules x.extension)
   pub usable : ExtensionIsUsable x.extension
