@@ -27,7 +27,7 @@ use Rattle.sx_language.specs.RuleLine.{Reader, CanRead}
 use Rattle.sx_language.specs.RuleTexts.{AreRules}
 use Rattle.sx_language.specs.States.{AreStems}
 use Rattle.sx_extension.specs.declared.prepared.Prepared.{Prepared}
-use Rattle.sx_extension.specs.declared.read_extension.ReadExtension.{ReadExtension}
+use Rattle.sx_extension.specs.declared.extension.ReadExtension.{ReadExtension}
 use Rattle.sx_extension.specs.Bodies.{AreBodied}
 use Rattle.sx_extension.specs.Fitting.{FitsAfter}
 use Rattle.sx_extension.specs.Grounds.{Ground, IsBefore}

@@ -19,10 +19,12 @@ use Rattle.sx_extension.specs.declared.checked_texts.CheckedTexts.{CheckedTexts}
 use Rattle.sx_extension.specs.declared.extension.ReadExtension.{ReadExtension}
 use Rattle.sx_extension.specs.declared.prepared.Prepared.{Prepared}
 use Rattle.sx_extension.specs.Checked.{AreChecked, IsExtensionOf, IsReadFrom}
-use Rattle.sx_extension.specs.Grounds.{Ground}
+use Rattle.sx_extension.specs.Fitting.{FitsAfter}
+use Rattle.sx_extension.specs.Grounds.{Ground, IsBefore}
 use Rattle.sx_extension.specs.ReadTexts.{texts_of, AreTextsOf}
 use Rattle.sx_extension.specs.Stages.{reader_of, IsPrepared}
 use Rattle.sx_extension.specs.States.{IsReadAs, HasTable, States}
+use Rattle.sx_extension.proofs.Fitted.{prepared_fits}
 use Rattle.sx_extension.proofs.Refusing.{read_as, rule_set, has_table, bodied}
 
 -- there are as many bodies as rules
@@ -49,8 +51,8 @@ module _ (g : Ground) (x : Prepared) (c : CheckedTexts) (read : AreTextsOf g x c
         length-map c.texts.rules.bodies.items (option_map tree),
       )
 
-  module _ (checked : AreChecked g x c.texts c.plain) (bytes : Text) (h : IsPrepared g bytes x)
-      (y : ReadExtension) (is : IsExtensionOf x c y) where
+  module _ (before : IsBefore g) (checked : AreChecked g x c.texts c.plain) (bytes : Text)
+      (h : IsPrepared g bytes x) (y : ReadExtension) (is : IsExtensionOf x c y) where
     grammars : IsReadAs g bytes h.from y.grammar y.rule_grammar (texts_of c.texts)
     grammars =
         subst (λ (b : GrammarData). IsReadAs g bytes h.from y.grammar b (texts_of c.texts))
@@ -73,16 +75,28 @@ module _ (g : Ground) (x : Prepared) (c : CheckedTexts) (read : AreTextsOf g x c
       bodied = bodied g bytes x h c.texts read checked.bodied;
     }
 
-    -- the extension is stated, with its plain table
+    -- its plain table has an entry for each plain constructor that the language has not, and
+    -- keeps those before it
+    desugars : Desugars (shapes_of g.language) (shapes_of y.grammar.parts)
+        (table_of y.extension.plain)
+    desugars =
+        subst (λ (b : GrammarData). Desugars (shapes_of g.language) (shapes_of b.parts)
+        (table_of y.extension.plain)) (sym is.grammar)
+        (subst (λ (t : PlainTable). Desugars (shapes_of g.language) (shapes_of x.grammar.parts)
+        (table_of t)) (sym is.plain) checked.desugars)
+
+    keeps : (label : ℕ) → label < length g.shapes →
+        g.table label ≡ table_of y.extension.plain label
+    keeps =
+        subst (λ (t : PlainTable). (label : ℕ) → label < length g.shapes →
+        g.table label ≡ table_of t label) (sym is.plain) checked.keeps
+
+    -- the extension is stated, and fits what it was read after
     pub read_from : IsReadFrom g bytes y
+    unfolding stated
     read_from = record {
       states = stated;
-      desugars = subst (λ (b : GrammarData). Desugars (shapes_of g.language) (shapes_of b.parts)
-          (table_of y.extension.plain)) (sym is.grammar)
-          (subst (λ (t : PlainTable). Desugars (shapes_of g.language) (shapes_of x.grammar.parts)
-          (table_of t)) (sym is.plain) checked.desugars);
-      keeps = subst (λ (t : PlainTable). (label : ℕ) → label < length g.shapes →
-          g.table label ≡ table_of t label) (sym is.plain) checked.keeps;
+      fits = prepared_fits g before bytes y stated x h refl desugars keeps;
     }
 
 -- what is read is stated
@@ -90,3 +104,9 @@ pub all_stated : (g : Ground) (bytes : Text) {E : Type 0} (r : Result ReadExtens
     IfOk r (IsReadFrom g bytes) → IfOk r (States g bytes)
 all_stated g bytes (Ok x) h = h.states
 all_stated g bytes (Err e) h = tt
+
+-- and fits
+pub all_fit : (g : Ground) (bytes : Text) {E : Type 0} (r : Result ReadExtension E) →
+    IfOk r (IsReadFrom g bytes) → IfOk r (FitsAfter g)
+all_fit g bytes (Ok x) h = h.fits
+all_fit g bytes (Err e) h = tt

@@ -12,6 +12,7 @@ use Rattle.sx_extension.specs.declared.extension.ReadExtension.{ReadExtension}
 use Rattle.sx_extension.specs.declared.prepared.Prepared.{Prepared}
 use Rattle.sx_extension.specs.declared.read_texts.ReadTexts.{ReadTexts}
 use Rattle.sx_extension.specs.Checks.{HaveRuleSet, HaveTable, HaveBodies}
+use Rattle.sx_extension.specs.Fitting.{FitsAfter}
 use Rattle.sx_extension.specs.Grounds.{Ground}
 use Rattle.sx_extension.specs.ReadTexts.{texts_of}
 use Rattle.sx_extension.specs.States.{States}
@@ -36,11 +37,7 @@ pub record IsExtensionOf (from : Prepared) (x : CheckedTexts) (y : ReadExtension
   pub names : y.names.items ≡ (texts_of x.texts).names
   pub plain : y.extension.plain ≡ x.plain
 
--- The text states the extension, whose plain table has an entry for each plain constructor that
--- the language has not, and keeps those before it.
+-- the text states the extension, which fits what it was read after
 pub record IsReadFrom (g : Ground) (bytes : Text) (x : ReadExtension) : Type 0 where
   pub states : States g bytes x
-  pub desugars : Desugars (shapes_of g.language) (shapes_of x.grammar.parts)
-      (table_of x.extension.plain)
-  pub keeps : (label : ℕ) → label < length g.shapes →
-      g.table label ≡ table_of x.extension.plain label
+  pub fits : FitsAfter g x

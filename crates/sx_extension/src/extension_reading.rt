@@ -5,6 +5,7 @@ ghost use Rattle.sx_extension.specs.Grounds.{ground, IsBefore};
 ghost use Rattle.sx_extension.specs.Stages.{IsPrepared};
 ghost use Rattle.sx_extension.specs.ReadTexts.{AreTextsOf};
 ghost use Rattle.sx_extension.specs.Checked.{AreChecked, IsExtensionOf, IsReadFrom};
+ghost use Rattle.sx_extension.specs.Fitting.{FitsAfter};
 ghost use Rattle.sx_extension.specs.States.{States, IsRefused};
 
 use crate::before::Before;
@@ -127,7 +128,9 @@ fn read_prepared(
 
 /// The extension that the text states, or why it states none: the refusals of its lines, of its
 /// grammars, of the first bad line of its plain bodies and its rules, of its rule set, of its plain
-/// table, and of the bodies of its rules, in this order.
+/// table, and of the bodies of its rules, in this order. What is read fits what it was read after:
+/// its rules are well sorted, moded and disciplined, its bodies have syntax before it, and its
+/// plain table has a body for each plain production.
 pub fn read_extension(
     alloc: Global,
     before: &Before,
@@ -136,6 +139,7 @@ pub fn read_extension(
     requires before { IsBefore (ground before.now) }
     requires short { length bytes.now ≤ 262144 }
     ensures stated { IfOk result (States (ground before.now) bytes.now) }
+    ensures fits { IfOk result (FitsAfter (ground before.now)) }
     ensures refused { IfErr result (IsRefused (ground before.now) bytes.now) }
 {
     match prepare(alloc, before, bytes) {
