@@ -1,0 +1,2 @@
+pub mod StuckGoals
+pub mod CanTell

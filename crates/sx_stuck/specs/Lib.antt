@@ -1,0 +1,3 @@
+pub mod StuckText
+pub mod StuckGoals
+pub mod ToldGoals
