@@ -1,45 +1,31 @@
--- Stuck goals can be shown, and are type errors of modules.
-use Rattle.std.proofs.Common.{◌≡◌, ℕ, zero, suc, ◌+◌, ◌≤◌, Bool, List, [], ◌∷◌, map, length, None, refl, sym, ap, ◌∙◌, subst, arith}
-use Rattle.std.specs.Prelude.{slice_get, slice_index_or, unwrap_or}
+-- Stuck goals can be told, and are type errors of modules.
+use Rattle.std.proofs.Common.{◌≡◌, ℕ, ◌+◌, ◌≤◌, Bool, List, [], ◌∷◌, length, None, sym, ap, ◌∙◌, subst, arith}
 use Rattle.std.specs.List.{AllByRecursion}
 use Rattle.sx_term.specs.Tree.{Tree}
-use Rattle.sx_term.specs.Sorts.{Shape}
-use Rattle.sx_term.specs.declared.sort.Sort.{Sort}
 use Rattle.sx_term.specs.Cutting.{Piece, Cuts, done, skip, piece}
 use Rattle.sx_token.specs.declared.token.Token.{Token}
 use Rattle.sx_token.specs.Tokens.{pieces}
 use Rattle.sx_grammar.specs.Grammar.{Text}
 use Rattle.sx_grammar.specs.Made.{IsGrammar}
-use Rattle.sx_grammar.specs.Parts.{Parts, numbered}
+use Rattle.sx_grammar.specs.Parts.{Parts}
 use Rattle.sx_grammar.specs.Told.{shapes_of}
-use Rattle.sx_rules.specs.Deep.{AreShallow}
-use Rattle.sx_rules.specs.Modes.{outputs}
 use Rattle.sx_rules.specs.Sets.{forms_in}
-use Rattle.sx_rules.specs.Views.{FormData, NamedRule, modes_of, sorts_of}
-use Rattle.sx_derive.specs.BlameTerms.{got_in, BlameIsShallow}
+use Rattle.sx_derive.specs.BlameTerms.{BlameIsShallow}
 use Rattle.sx_derive.specs.Search.{exhausted, walk}
-use Rattle.sx_derive.specs.Stuck.{Blame, Reason, no_rule, unequal, mismatch}
+use Rattle.sx_derive.specs.Stuck.{Blame}
 use Rattle.sx_notation.specs.declared.language.Language.{Language}
-use Rattle.sx_notation.specs.Forms.{HasForms, GoalFits}
-use Rattle.sx_notation.specs.Language.{IsLanguage}
-use Rattle.sx_notation.specs.RuleLaws.{MayHaveSorts}
-use Rattle.sx_notation.specs.RuleParts.{rule_parts}
+use Rattle.sx_notation.specs.Language.{IsLanguage, language_data}
 use Rattle.sx_notation.specs.WhyUnread.{place_in}
-use Rattle.sx_notation.proofs.RuleGrammars.{forms_follow, sorted_goals_fit}
+use Rattle.sx_stuck.specs.StuckText.{CanTell}
+use Rattle.sx_stuck.proofs.CanTell.{sorted_blames_can_be_told}
 use Rattle.sx_module.specs.declared.module_error.ModuleError.{ModuleError}
 use Rattle.sx_module.specs.Body.{IsCut}
-use Rattle.sx_module.specs.Outcomes.{GotIsSorted, IsBlameIn}
-use Rattle.sx_module.specs.Refused.{HasBody, IsStuckGoal, IsBadModule}
+use Rattle.sx_module.specs.Outcomes.{IsBlameIn}
+use Rattle.sx_module.specs.Refused.{HasBody, IsStuckGoal, IsBadModule, telling_in}
 use Rattle.sx_module.specs.Source.{Source, bytes_before}
 use Rattle.sx_module.specs.Spots.{line_at, column_at}
-use Rattle.sx_module.specs.TypeErrors.{shown_got, CanShow, IsTypeError}
+use Rattle.sx_module.specs.TypeErrors.{IsTypeError}
 use Rattle.sx_module.specs.Unit.{goal_events}
-
--- a rule that is not there has no name
-pub no_rule_name : (rules : List NamedRule) (n : ℕ) → slice_get rules n ≡ None → slice_index_or (map (λ r. r.name) rules) n [] ≡ []
-no_rule_name [] n e = refl
-no_rule_name (r ∷ rules) zero e = cc
-no_rule_name (r ∷ rules) (suc n) e = no_rule_name rules n e
 
 -- tokens begin within the text
 cuts_within : {literals : List Text} {metas : Bool} {size : ℕ} {text rest : Text} {ps : List Piece} → Cuts literals metas size text ps rest → AllByRecursion (λ p. p.from ≤ size) ps
@@ -54,34 +40,12 @@ all_pieces size (t ∷ ts) h = (h.0, all_pieces size ts h.1)
 pub tokens_within : (p : Parts) (text : Text) (ts : List Token) (size : ℕ) → IsCut p text ts → length text ≡ size → AllByRecursion (λ (t : Token). t.from ≤ size) ts
 tokens_within p text ts size cut same = subst (λ (n : ℕ). AllByRecursion (λ (t : Token). t.from ≤ n) ts) same (all_pieces (length text) ts (cuts_within cut.2))
 
--- the outputs that are shown are well sorted and no deeper than 1,000
-got_sorted : (shapes : List Shape) (vars : List Sort) (reason : Reason) (sorts : List Sort) → GotIsSorted shapes vars reason sorts → MayHaveSorts shapes vars (shown_got reason) sorts
-got_sorted shapes vars no_rule sorts h = tt
-got_sorted shapes vars (unequal rule premise) sorts h = tt
-got_sorted shapes vars (mismatch by got) sorts h = h
-
-got_shallow : (reason : Reason) → AreShallow (got_in reason) → AreShallow (unwrap_or (shown_got reason) [])
-got_shallow no_rule h = tt
-got_shallow (unequal rule premise) h = tt
-got_shallow (mismatch by got) h = h
-
--- a stuck goal that is well sorted can be shown
-pub can_show : (l : Language) (top : Tree) (blame : Blame) → IsLanguage l → IsGrammar l.grammar.parts → IsBlameIn (shapes_of l.grammar.parts) (forms_in l.rules) [] top blame → BlameIsShallow blame →
-    CanShow l.rule_grammar.parts (forms_in l.rules) blame.goal (shown_got blame.reason)
-can_show l top blame h grammar b shallow = record {
-  follow = subst (λ (q : Parts). HasForms q forms) (sym h.read_by) (subst (λ (known : List FormData). HasForms (rule_parts p h.lines) known) (sym h.forms) (forms_follow p h.lines h.known));
-  fits = subst (λ (q : Parts). GoalFits (numbered q) 0 forms blame.goal (shown_got blame.reason)) (sym h.read_by)
-      (sorted_goals_fit p h.lines forms b.form [] 0 blame.goal (shown_got blame.reason) grammar (omega arith) b.is b.sorted
-      (got_sorted (shapes_of p) [] blame.reason (outputs (modes_of forms blame.goal.form) (sorts_of forms blame.goal.form)) b.got));
-  inputs = shallow.0;
-  outputs = got_shallow blame.reason shallow.1;
-}
-  where
-    p : Parts
-    p = l.grammar.parts
-
-    forms : List FormData
-    forms = forms_in l.rules
+-- a stuck goal that is well sorted can be told
+pub can_tell : (l : Language) (top : Tree) (blame : Blame) → IsLanguage l → IsGrammar l.grammar.parts → IsBlameIn (shapes_of l.grammar.parts) (forms_in l.rules) [] top blame → BlameIsShallow blame →
+    CanTell (telling_in (language_data l)) blame
+can_tell l top blame h grammar b shallow =
+    sorted_blames_can_be_told l.grammar.parts (telling_in (language_data l)) [] blame grammar (record { lines = h.lines; known = h.known; read_by = h.read_by; forms = h.forms }) (omega arith)
+    (record { form = b.form; is = b.is; sorted = b.sorted; got = b.got }) shallow
 
 -- so the refusal is one of the module
 pub is_type_error : (s : Source) (tries before size : ℕ) (b : HasBody s) (blame : Blame) (e : ModuleError) →

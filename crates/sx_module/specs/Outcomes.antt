@@ -12,8 +12,9 @@ use Rattle.sx_rules.specs.Sorts.{GoalIsSorted}
 use Rattle.sx_rules.specs.Views.{FormData, NamedRule, modes_of, subjects_in, sorts_of}
 use Rattle.sx_rules.specs.Good.{IsRuleSet}
 use Rattle.sx_rules.specs.First.{Answer, DerivesGoal}
-use Rattle.sx_derive.specs.Stuck.{Reason, no_rule, unequal, mismatch, Blame, IsStuck}
+use Rattle.sx_derive.specs.Stuck.{Blame, IsStuck}
 use Rattle.sx_notation.specs.Language.{RuleHasLexemes}
+use Rattle.sx_stuck.specs.StuckGoals.{GotIsSorted}
 
 -- the rules without their names
 abbrev pub bare : List NamedRule → List Rule
@@ -52,12 +53,6 @@ goal_subjects forms goal =
 abbrev pub LeadsTo : List FormData → Tree → List ℕ → Goal → Type 0
 LeadsTo forms top path goal = (part : Tree) × (part_at top path ≡ Some part) ×
     ((goal_subjects forms goal ≡ []) ⊎ (goal_subjects forms goal ≡ part ∷ []))
-
--- the outputs that were got, where some were, have these sorts
-abbrev pub GotIsSorted : List Shape → List Sort → Reason → List Sort → Type 0
-GotIsSorted shapes vars no_rule sorts = Unit {0}
-GotIsSorted shapes vars (unequal rule premise) sorts = Unit {0}
-GotIsSorted shapes vars (mismatch by got) sorts = HaveSorts shapes vars got sorts
 
 -- the stuck goal is of one of the forms, it and the outputs got are well sorted, and its path leads
 -- to its subject in the term

@@ -1,6 +1,6 @@
 -- Why a module is not compiled.
 use Rattle.std.specs.Prelude.{◌≡◌, ◌⊎◌, ℕ, ◌+◌, ◌-◌, ◌^◌, ◌<◌, ◌≤◌, List, [], Some, None, Result}
-use Rattle.std.specs.Prelude.{Ok, Err, map, min, length, slice_index_or}
+use Rattle.std.specs.Prelude.{Ok, Err, min, length}
 use Rattle.sx_term.specs.declared.sort.Sort.{Sort}
 use Rattle.sx_term.specs.Tree.{Tree}
 use Rattle.sx_token.specs.declared.token.Token.{Token}
@@ -18,15 +18,14 @@ use Rattle.sx_rules.specs.Modes.{AllModed, Goal}
 use Rattle.sx_rules.specs.Views.{modes_of, subjects_in}
 use Rattle.sx_derive.specs.Walk.{depth_spent, too_deep as passes_depth, too_big as passes_size}
 use Rattle.sx_derive.specs.Search.{stopped, spent, exhausted, walk, tries_of}
-use Rattle.sx_derive.specs.Stuck.{Blame, Reason, no_rule, unequal, mismatch, IsStuck}
+use Rattle.sx_derive.specs.Stuck.{Blame, Reason, IsStuck}
 use Rattle.sx_notation.specs.declared.unread.Unread.{Unread}
 use Rattle.sx_notation.specs.declared.unread.Unread.TheVariants as unread
-use Rattle.sx_notation.specs.GoalText.{goal_text}
 use Rattle.sx_notation.specs.Language.{LanguageData}
 use Rattle.sx_notation.specs.WhyUnread.{IsUnreadAs, AreTwo, place_in}
+use Rattle.sx_stuck.specs.StuckText.{Telling, stuck_text as told_text}
 use Rattle.sx_module.specs.declared.compiled.Compiled.{Compiled}
 use Rattle.sx_words.specs.declared.goal_defect.GoalDefect.{GoalDefect}
-use Rattle.sx_words.specs.declared.goal_defect.GoalDefect.TheVariants as stuck
 use Rattle.sx_words.specs.declared.print_defect.PrintedPart.{PrintedPart}
 use Rattle.sx_words.specs.declared.print_defect.PrintedPart.TheVariants.{Body, Signature, Stated}
 use Rattle.sx_words.specs.declared.print_defect.PrintDefect.{PrintDefect}
@@ -65,17 +64,13 @@ unread_place _ = 0
 
 -- ---- the goal
 
+-- what a stuck goal is told by, which has no variables
+abbrev pub telling_in : LanguageData → Telling
+telling_in d = record { parts = d.rule_parts; forms = d.forms; names = []; rules = d.rules }
+
 -- the names of rules, and the texts of goals, as a type error shows them
 abbrev pub stuck_text : LanguageData → Goal → Reason → GoalDefect
-stuck_text d goal no_rule = stuck.NoRule (goal_text d.rule_parts [] d.forms goal None)
-stuck_text d goal (unequal rule premise) =
-    stuck.Equal (goal_text d.rule_parts [] d.forms goal None) (premise + 1)
-    (slice_index_or (map (λ r. r.name) d.rules) rule [])
-stuck_text d goal (mismatch (Some by) got) =
-    stuck.Mismatch (goal_text d.rule_parts [] d.forms goal (Some got)) (by.1 + 1)
-    (slice_index_or (map (λ r. r.name) d.rules) by.0 [])
-stuck_text d goal (mismatch None got) =
-    stuck.NotStated (goal_text d.rule_parts [] d.forms goal (Some got))
+stuck_text d goal reason = told_text (telling_in d) goal reason
 
 -- the stuck goal of the module's goal
 abbrev pub IsStuckGoal : Source → (subject : Tree) → Blame → Type 0

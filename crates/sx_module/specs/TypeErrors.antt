@@ -1,15 +1,9 @@
 -- Type errors, from stuck goals.
-use Rattle.std.specs.Prelude.{◌≡◌, ℕ, ◌+◌, List, [], Option, Some, None, unwrap_or}
-use Rattle.sx_term.specs.Tree.{Tree}
+use Rattle.std.specs.Prelude.{◌≡◌, ℕ, ◌+◌, List, Some}
 use Rattle.sx_token.specs.declared.token.Token.{Token}
-use Rattle.sx_grammar.specs.Parts.{Parts, numbered}
 use Rattle.sx_grammar.specs.Reading.{Reading}
 use Rattle.sx_forest.specs.Places.{place_at}
-use Rattle.sx_rules.specs.Deep.{AreShallow}
-use Rattle.sx_rules.specs.Modes.{Goal}
-use Rattle.sx_rules.specs.Views.{FormData}
-use Rattle.sx_derive.specs.Stuck.{Blame, Reason, no_rule, unequal, mismatch}
-use Rattle.sx_notation.specs.Forms.{HasForms, GoalFits}
+use Rattle.sx_derive.specs.Stuck.{Blame}
 use Rattle.sx_notation.specs.Language.{LanguageData}
 use Rattle.sx_notation.specs.WhyUnread.{place_in}
 use Rattle.sx_words.specs.declared.goal_defect.GoalDefect.{GoalDefect}
@@ -17,20 +11,6 @@ use Rattle.sx_module.specs.declared.module_error.ModuleError.{ModuleError}
 use Rattle.sx_module.specs.declared.module_error.ModuleError.TheVariants.{TypeError}
 use Rattle.sx_module.specs.Spots.{line_at, column_at}
 use Rattle.sx_module.specs.Refused.{stuck_text}
-
--- the outputs that are shown with the goal
-abbrev pub shown_got : Reason → Option (List Tree)
-shown_got no_rule = None
-shown_got (unequal rule premise) = None
-shown_got (mismatch by got) = Some got
-
--- the goal can be printed by the grammar of rules, with the outputs that were got, where some were
-pub record CanShow (p : Parts) (forms : List FormData) (goal : Goal)
-    (got : Option (List Tree)) : Type 0 where
-  pub follow : HasForms p forms
-  pub fits : GoalFits (numbered p) 0 forms goal got
-  pub inputs : AreShallow goal.terms
-  pub outputs : AreShallow (unwrap_or got [])
 
 -- where the part begins that the path leads to, in a text of so many bytes
 abbrev pub IsPlace : List Token → Reading → (path : List ℕ) → (size : ℕ) → ℕ → Type 0
