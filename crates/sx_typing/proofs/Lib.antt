@@ -1,0 +1,16 @@
+pub mod Bodies
+pub mod Lexemes
+pub mod Ways
+pub mod SortedGoals
+pub mod MainGoals
+pub mod Finding
+pub mod OneBody
+pub mod MainSorts
+pub mod MainForms
+pub mod ReadSorted
+pub mod TypeErrors
+pub mod TypedBodies
+pub mod Tries
+pub mod OneAnswer
+pub mod OneTyping
+pub mod Walks

@@ -1,0 +1,12 @@
+pub mod Dialects
+pub mod Source
+pub mod Spots
+pub mod Body
+pub mod Unread
+pub mod Outcomes
+pub mod MainGoals
+pub mod Searched
+pub mod Goals
+pub mod Refused
+pub mod TypeErrors
+pub mod Alike

@@ -1,0 +1,140 @@
+//! Reading texts without metavariables.
+
+ghost use Rattle.std.specs.Prelude.{◌≡◌, ◌≤◌, ℕ, List, [], length, IfOk, IfErr};
+ghost use Rattle.sx_term.specs.declared.sort.Sort.{Sort};
+ghost use Rattle.sx_term.specs.Term.{tree};
+ghost use Rattle.sx_grammar.specs.Parts.{numbered};
+ghost use Rattle.sx_grammar.specs.ReadOne.{IsAnswer, only};
+ghost use Rattle.sx_earley.specs.Tokens.{plain_tokens};
+ghost use Rattle.sx_earley.specs.Completed.{IsSort, number_of};
+ghost use Rattle.sx_forest.specs.Readings.{plain_reading};
+ghost use Rattle.sx_notation.specs.WhyUnread.{IsUnreadAs, IsReadError};
+ghost use Rattle.sx_typing.specs.Body.{IsCut, ReadsAs};
+ghost use Rattle.sx_typing.specs.Unread.{of_token_error, IsUnreadBody};
+
+use crate::body::Body;
+use crate::body_error::BodyError;
+use std::alloc::Global;
+use sx_earley::Metas;
+use sx_forest::{ReadError, Reading, read_one, strip};
+use sx_grammar::Grammar;
+use sx_notation::{Unread, why_unread};
+use sx_term::{NoMemory, Sort, Vars};
+use sx_token::{Token, TokenError, tokens};
+
+/// No metavariables have a sort.
+fn no_metas(alloc: Global) -> Metas
+    ensures { result.stems.items ≡ [] }
+{
+    Metas {
+        stems: Vec::new(alloc),
+    }
+}
+
+/// The refusal of a text that has this defect.
+fn token_error(error: TokenError) -> BodyError
+    ensures { result ≡ of_token_error error }
+{
+    match error {
+        TokenError::Memory => BodyError::Memory,
+        error => BodyError::Token(error),
+    }
+}
+
+/// The tokens of the text.
+fn cut_text(alloc: Global, grammar: &Grammar, text: &[u8]) -> Result<Vec<Token>, BodyError>
+    requires { length text.now ≤ 262144 }
+    ensures cut { IfOk result (λ ts. IsCut grammar.now.parts text.now ts.items) }
+    ensures refused { IfErr result (λ e. (sort : Sort) →
+        IsUnreadBody grammar.now.parts sort text.now e) }
+{
+    grammar.facts();
+    match tokens(alloc, text, grammar.literals(), false) {
+        Ok(tokens) => Ok(tokens),
+        Err(error) => Err(token_error(error)),
+    }
+}
+
+/// Why tokens of a text of so many bytes have not one reading.
+fn read_error(
+    alloc: Global,
+    grammar: &Grammar,
+    tokens: &[Token],
+    size: usize,
+    error: ReadError,
+) -> Result<Unread, NoMemory>
+    requires { (sort : Sort) × IsReadError grammar.now.parts [] sort tokens.now error }
+    ensures { IfOk result (λ u. (sort : Sort) →
+        IsReadError grammar.now.parts [] sort tokens.now error →
+        IsUnreadAs grammar.now.parts [] sort tokens.now size u) }
+{
+    why_unread(alloc, grammar, tokens, size, error)
+}
+
+/// The only reading of the tokens of a text of so many bytes.
+fn reading_of(
+    alloc: Global,
+    grammar: &Grammar,
+    sort: Sort,
+    tokens: &[Token],
+    size: usize,
+) -> Result<Reading, BodyError>
+    requires sort { IsSort grammar.now.parts sort }
+    requires cut { (text : List ℕ) × IsCut grammar.now.parts text tokens.now }
+    ensures only { IfOk result
+        (λ r. IsAnswer (numbered grammar.now.parts) (plain_tokens [] tokens.now) (number_of sort)
+        (only (plain_reading r))) }
+    ensures refused { IfErr result (λ e. (text : List ℕ) → IsCut grammar.now.parts text tokens.now →
+        length text ≡ size → IsUnreadBody grammar.now.parts sort text e) }
+{
+    let metas = no_metas(alloc);
+    match read_one(alloc, grammar, sort, &metas, tokens) {
+        Ok(reading) => Ok(reading),
+        Err(error) => {
+            let unread = read_error(alloc, grammar, tokens, size, error)?;
+            Err(BodyError::Read(unread))
+        }
+    }
+}
+
+/// Reads the text as the sort, without metavariables. It is refused where it has no tokens, and
+/// where these have not one reading.
+pub(crate) fn read_body(
+    alloc: Global,
+    grammar: &Grammar,
+    sort: Sort,
+    text: &[u8],
+) -> Result<Body, BodyError>
+    requires sort { IsSort grammar.now.parts sort }
+    requires short { length text.now ≤ 262144 }
+    ensures read { IfOk result
+        (λ b. ReadsAs grammar.now.parts sort text.now b.tokens.items (plain_reading b.reading)
+        (tree b.term)) }
+    ensures refused { IfErr result (IsUnreadBody grammar.now.parts sort text.now) }
+{
+    let tokens = cut_text(alloc, grammar, text)?;
+    let reading = match reading_of(alloc, grammar, sort, &tokens, text.len()) {
+        Ok(reading) => reading,
+        Err(error) => {
+            drop(tokens);
+            return Err(error);
+        }
+    };
+    let mut names = Vars::new(alloc);
+    match strip(alloc, &reading, &tokens, &mut names) {
+        Ok(term) => {
+            drop(names);
+            Ok(Body {
+                tokens,
+                reading,
+                term,
+            })
+        }
+        Err(_) => {
+            drop(names);
+            drop(reading);
+            drop(tokens);
+            Err(BodyError::Memory)
+        }
+    }
+}

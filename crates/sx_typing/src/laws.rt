@@ -1,0 +1,21 @@
+//! Laws of typing.
+
+ghost use Rattle.sx_typing.specs.Alike.{OneTyping};
+ghost use Rattle.sx_typing.specs.Goals.{TypingsAreFirst};
+ghost use Rattle.sx_typing.specs.Refused.{TypeErrorsAreFinal};
+
+/// What a walk finds is the first derivation of the source's goal.
+pub fn typings_are_first()
+    ensures { TypingsAreFirst }
+{}
+
+/// A type error comes only where the source's goal has no derivation at all.
+pub fn type_errors_are_final()
+    ensures { TypeErrorsAreFinal }
+{}
+
+/// What is read and typed is determined by the source, out of memory aside. Only of a text with
+/// more than two readings it is free which two a refusal shows.
+pub fn one_typing()
+    ensures { OneTyping }
+{}

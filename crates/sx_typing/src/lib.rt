@@ -1,0 +1,36 @@
+//! Bodies of modules that are read and typed, in a language with extensions in use.
+//!
+//! - `Dialect`: a language, the grammars with what extensions add, and what is accepted. A language
+//!   without extensions is one too: nothing is added, and its own rules are accepted.
+//! - `read_source`: the body becomes tokens, their only reading and its term, by the grammar of the
+//!   dialect. `type_source`: the first derivation of the main form's goal by the dialect's rules,
+//!   as a list, with its output; or the type error, with its place and text.
+//! - Laws: a body has one reading, and its goal one answer or one refusal; what is found is the
+//!   first derivation; a type error comes only where there is none at all.
+#![tactic(auto)]
+
+mod body;
+mod body_error;
+mod body_reading;
+mod dialect;
+mod goal_laws;
+mod laws;
+mod places;
+mod reading;
+mod searching;
+mod source;
+mod spots;
+mod type_error;
+mod typed;
+mod typing;
+mod typing_error;
+
+pub use body::Body;
+pub use dialect::Dialect;
+pub use goal_laws::{main_goals_fit, outputs_fit, searches_fit, stuck_goals_fit};
+pub use laws::{one_typing, type_errors_are_final, typings_are_first};
+pub use reading::read_source;
+pub use source::Source;
+pub use typed::Typed;
+pub use typing::type_source;
+pub use typing_error::TypingError;
