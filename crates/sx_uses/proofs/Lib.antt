@@ -6,3 +6,4 @@ pub mod Orders
 pub mod Agreeing
 pub mod Coming
 pub mod Lasting
+pub mod FewFiles

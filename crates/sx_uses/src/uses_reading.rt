@@ -1,6 +1,6 @@
 //! The step that reads the files of extensions along their `use` lines.
 
-ghost use Rattle.std.specs.Prelude.{◌≡◌, IfOk, IfSome, Ok, Some, map};
+ghost use Rattle.std.specs.Prelude.{◌≡◌, ◌≤◌, IfOk, IfSome, Ok, Some, length, map};
 ghost use Rattle.std.specs.List.{AllByRecursion};
 ghost use Rattle.sx_outside.specs.Told.{WhereTold};
 ghost use Rattle.sx_steps.specs.Stop.{Gives, OnlyReads};
@@ -76,6 +76,7 @@ pub fn read_uses<S: Shelf>(
     ensures step { WhereTold (S.content shelf.old) (λ files.
         Gives extensions_of (ReadsUses file.now language.now roots.items files) result) }
     ensures stated { IfOk result (λ xs. AllByRecursion IsStated (extensions_of xs)) }
+    ensures few { IfOk result (λ xs. length xs.items ≤ 256) }
     ensures reads { OnlyReads (S.content shelf.old) (S.content shelf.new)
         (S.read_faults shelf.old) (S.read_faults shelf.new)
         (S.write_faults shelf.old) (S.write_faults shelf.new) result }

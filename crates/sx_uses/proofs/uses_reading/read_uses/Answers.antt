@@ -4,6 +4,8 @@ use Rattle.sx_uses.specs.FileTable.{held_in}
 use Rattle.sx_uses.specs.Opened.{AreOnce, AreHeld}
 use Rattle.sx_uses.proofs.Visits.{begun_opened}
 use Rattle.sx_uses.proofs.Orders.{order_once, order_held, read_whole, whole_stated, read_stop}
+use Rattle.sx_uses.specs.Opened.{uses_for}
+use Rattle.sx_uses.proofs.FewFiles.{few_files}
 use Rattle.sx_uses.proofs.uses_reading.read_uses.Goals as goal
 
 pub walk_uses-requires : goal.walk_uses-requires
@@ -28,3 +30,9 @@ returns-in-Ok-clause-stated g c =
 pub returns-clause-step : goal.returns-clause-step
 returns-clause-step g c =
     read_stop (g.S.Shelf.content c.args.shelf.now) c.args.file.now c.args.language.now c.args.roots.items (held_in c.walk_uses.new.files) c.in-Err.e c.in-Err.ensures.step
+
+pub returns-in-Ok-clause-few : goal.returns-in-Ok-clause-few
+returns-in-Ok-clause-few g c =
+    let held = held_in c.walk_uses.new.files in
+    few_files (uses_for c.args.language.now held) c.args.roots.items c.in-Ok.order.items held c.in_ok-take_files-in-Ok.field-0.items c.in-Ok.ensures.step.1
+    (c.in_ok-take_files-in-Ok.ensures ∙ ap (λ (l : List Name). map held l) c.deref.ensures.value)

@@ -1,0 +1,41 @@
+-- A walk leaves no more names than it may visit.
+use Rattle.std.proofs.Common.{◌≡◌, ℕ, ◌+◌, ◌<◌, ◌≤◌, List, [], ◌∷◌, ◌++◌, map, length, sym, ap, ◌∙◌, length-append, arith}
+use Rattle.std.proofs.lemmas.List.{length-map}
+use Rattle.std.specs.Prelude.{Some, Ok, Err}
+use Rattle.sx_imports.specs.Walk.{Name, Imports, End, leaving, Meets, comes_round, was_left, is_missing, is_past, is_entered, Goes, all_met, stops, goes_on, Walks}
+use Rattle.sx_uses.specs.declared.extension_file.ExtensionFile.{ExtensionFile}
+use Rattle.sx_uses.specs.ExtensionFile.{Extension, extension_of}
+use Rattle.sx_uses.specs.Reached.{Found}
+
+-- the names of the path and those left are at most so many
+abbrev AreFew : ℕ → List Name → End → Type 0
+AreFew most path (Ok left) = length path + length left ≤ most
+AreFew most path (Err stop) = Unit {0}
+
+few_leaving : (most : ℕ) (path : List Name) (name : Name) (end : End) → AreFew most (path ++ name ∷ []) end → AreFew most path (leaving name end)
+few_leaving most path name (Ok left) h = omega (arith, length-append path (name ∷ []), length-append left (name ∷ []))
+few_leaving most path name (Err stop) h = tt
+
+few_below : (most : ℕ) (path left : List Name) (name : Name) → length path + length left < most → length (path ++ name ∷ []) + length left ≤ most
+few_below most path left name h = omega (arith, length-append path (name ∷ []))
+
+module _ (imports : Imports) (most : ℕ) where
+  mutual
+    few_met : {path left : List Name} {name : Name} {end : End} → Meets imports most path left name end → length path + length left ≤ most → AreFew most path end
+    few_met (comes_round h) few = tt
+    few_met (was_left off h) few = few
+    few_met (is_missing off new none) few = tt
+    few_met (is_past off new is full) few = tt
+    few_met {path} {left} {name} (is_entered {end = end} off new is room below) few = few_leaving most path name end (few_gone below (few_below most path left name room))
+
+    few_gone : {path left names : List Name} {end : End} → Goes imports most path left names end → length path + length left ≤ most → AreFew most path end
+    few_gone all_met few = few
+    few_gone (stops h) few = tt
+    few_gone (goes_on h more) few = few_gone more (few_met h few)
+
+-- the files of what a walk leaves are no more than it may visit
+pub few_files : (imports : Imports) (roots order : List Name) (held : Found Extension) (taken : List ExtensionFile) → Walks imports 256 roots (Ok order) → map Some (map extension_of taken) ≡ map held order → length taken ≤ 256
+few_files imports roots order held taken walks are =
+    let few : 0 + length order ≤ 256 = few_gone imports 256 walks (omega arith) in
+    let same = sym (length-map (map extension_of taken) (λ (x : Extension). Some x)) ∙ ap length are ∙ length-map order held in
+    omega (arith, few, same, length-map taken extension_of)
