@@ -1,0 +1,5 @@
+pub mod Standing
+pub mod Steps
+pub mod LoweredOrders
+pub mod Laws
+pub mod Listed

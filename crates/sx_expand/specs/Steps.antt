@@ -1,0 +1,13 @@
+-- Numbers that lead on to others.
+use Rattle.std.specs.Prelude.{◌≡◌, ℕ, ◌+◌, ◌<◌, ◌≤◌, List, [], ◌∷◌, length, get_or}
+
+-- at the number stands the one that is so much more, and so on from there
+abbrev pub AreSteps : List ℕ → ℕ → List ℕ → Type 0
+AreSteps ends i [] = Unit {0}
+AreSteps ends i (n ∷ ns) =
+    (i < length ends) × (get_or ends i 0 ≡ i + n) × AreSteps ends (i + n) ns
+
+-- none of the numbers is below the first
+abbrev pub AreFrom : ℕ → List ℕ → Type 0
+AreFrom first [] = Unit {0}
+AreFrom first (i ∷ is) = (first ≤ i) × AreFrom first is
