@@ -9,4 +9,5 @@ extension_of-requires c =
 pub returns-in-Ok-extension_of-clause-read : goal.returns-in-Ok-extension_of-clause-read
 returns-in-Ok-extension_of-clause-read c = λ bytes h.
     read_from (ground c.args.before.now) c.args.prepared c.in-Ok.checked c.in-Ok.ensures.read
-    c.requires.before c.in-Ok.ensures.checked bytes h c.in-Ok-extension_of.extension c.in-Ok-extension_of.ensures
+    c.requires.before c.in-Ok.ensures.checked bytes h c.in-Ok-extension_of.extension
+    c.in-Ok-extension_of.ensures
