@@ -1,5 +1,6 @@
 -- After a language, and after each extension, the next extension can be read.
-use Rattle.std.proofs.Common.{◌≡◌, ℕ, ◌+◌, ◌<◌, ◌≤◌, inl, List, [], ◌∷◌, ◌++◌, length, length-append, map, None, refl, ap, ◌∙◌, sym, subst, arith}
+use Rattle.std.proofs.Common.{◌≡◌, ℕ, ◌+◌, ◌<◌, ◌≤◌, inl, List, [], ◌∷◌, ◌++◌, length}
+use Rattle.std.proofs.Common.{length-append, map, None, refl, ap, ◌∙◌, sym, subst, arith}
 use Rattle.std.specs.Prelude.{Ok, flat_map}
 use Rattle.std.proofs.lemmas.Grind.{flat_map-append}
 use Rattle.std.proofs.lemmas.List.{length-map, append-nil, append_assoc}
@@ -20,7 +21,8 @@ use Rattle.sx_outline.specs.Outlined.{outline}
 use Rattle.sx_outline.specs.Sized.{IsSized}
 use Rattle.sx_outline.proofs.FitLaws.{sized_answer}
 use Rattle.sx_notation.specs.declared.language.Language.{Language}
-use Rattle.sx_notation.specs.RuleParts.{judgement_sort, symbol_for, form_line, apart_lines, rule_parts}
+use Rattle.sx_notation.specs.RuleParts.{judgement_sort, symbol_for, form_line, apart_lines}
+use Rattle.sx_notation.specs.RuleParts.{rule_parts}
 use Rattle.sx_notation.specs.Language.{IsLanguage}
 use Rattle.sx_language.specs.States.{AreStems, States as StatesLanguage}
 use Rattle.sx_extension.specs.declared.extension.ReadExtension.{ReadExtension}
@@ -28,11 +30,13 @@ use Rattle.sx_extension.specs.Fitting.{FitsAfter}
 use Rattle.sx_extension.specs.Grounds.{Ground, HasRoomFor, IsBefore}
 use Rattle.sx_extension.specs.Readings.{AreGrammars}
 use Rattle.sx_extension.specs.States.{States}
-use Rattle.sx_extension.specs.Laws.{SameExtension, first_ground, next_ground, LanguagesBegin, ExtensionsGoOn}
+use Rattle.sx_extension.specs.Laws.{SameExtension, first_ground, next_ground, LanguagesBegin}
+use Rattle.sx_extension.specs.Laws.{ExtensionsGoOn}
 
 -- ---- how much a language takes
 
-few_literals : (ss : List FormSymbol) → length (flat_map symbol_literals (map symbol_for ss)) ≤ length ss
+few_literals : (ss : List FormSymbol) → length (flat_map symbol_literals (map symbol_for ss)) ≤
+    length ss
 few_literals [] = omega arith
 few_literals (Lit text ∷ ss) = omega (arith, few_literals ss)
 few_literals (Place role (Lex kind) ∷ ss) = omega (arith, few_literals ss)
@@ -44,39 +48,59 @@ texts_in ls = flat_map (λ r. flat_map symbol_literals r.symbols) ls
 abbrev bracket_texts : Parts → List Text
 bracket_texts p = flat_map (λ s. bracket_literals s.brackets) p.sorts
 
-few_in_forms : (fs : List FormLine) → length (texts_in (map form_line fs)) ≤ length (flat_map (λ f. f.symbols) (map form fs))
+few_in_forms : (fs : List FormLine) → length (texts_in (map form_line fs)) ≤ length
+    (flat_map (λ f. f.symbols) (map form fs))
 few_in_forms [] = omega arith
 few_in_forms (f ∷ fs) = omega (
   arith,
   few_literals f.symbols.items,
   few_in_forms fs,
-  length-append (flat_map symbol_literals (map symbol_for f.symbols.items)) (texts_in (map form_line fs)),
+  length-append (flat_map symbol_literals (map symbol_for f.symbols.items))
+      (texts_in (map form_line fs)),
   length-append f.symbols.items (flat_map (λ g. g.symbols) (map form fs)),
 )
 
 module _ (p : Parts) (fs : List FormLine) where
   productions_many : length (rule_parts p fs).productions ≡ length p.productions + (length fs + 3)
   productions_many =
-      omega (arith, length-append p.productions (map form_line fs ++ apart_lines), length-append (map form_line fs) apart_lines, length-map fs form_line)
+      omega (
+        arith,
+        length-append p.productions (map form_line fs ++ apart_lines),
+        length-append
+            (map form_line fs) apart_lines,
+        length-map fs form_line,
+      )
 
-  texts_split : texts_in (rule_parts p fs).productions ≡ texts_in p.productions ++ texts_in (map form_line fs ++ apart_lines)
-  texts_split = flat_map-append (λ r. flat_map symbol_literals r.symbols) p.productions (map form_line fs ++ apart_lines)
+  texts_split : texts_in (rule_parts p fs).productions ≡ texts_in p.productions ++ texts_in
+      (map form_line fs ++ apart_lines)
+  texts_split = flat_map-append (λ r. flat_map symbol_literals r.symbols) p.productions
+      (map form_line fs ++ apart_lines)
 
-  own_split : texts_in (map form_line fs ++ apart_lines) ≡ texts_in (map form_line fs) ++ texts_in apart_lines
-  own_split = flat_map-append (λ r. flat_map symbol_literals r.symbols) (map form_line fs) apart_lines
+  own_split : texts_in (map form_line fs ++ apart_lines) ≡ texts_in (map form_line fs) ++ texts_in
+      apart_lines
+  own_split = flat_map-append (λ r. flat_map symbol_literals r.symbols) (map form_line fs)
+      apart_lines
 
-  literals_few : length (literals (rule_parts p fs)) ≤ length (literals p) + (length (flat_map (λ f. f.symbols) (map form fs)) + 3)
+  literals_few : length (literals (rule_parts p fs)) ≤ length (literals p) +
+      (length (flat_map (λ f. f.symbols) (map form fs)) + 3)
   literals_few =
       let q = rule_parts p fs in
       let brackets : length (bracket_texts q) ≡ length (bracket_texts p) + 0 =
-      ap length (flat_map-append (λ s. bracket_literals s.brackets) p.sorts (judgement_sort ∷ [])) ∙ length-append (bracket_texts p) [] in
-      let lines : length (texts_in q.productions) ≡ length (texts_in p.productions) + (length (texts_in (map form_line fs)) + 3) =
+      ap length (flat_map-append (λ s. bracket_literals s.brackets) p.sorts (judgement_sort ∷ []))
+      ∙ length-append (bracket_texts p) [] in
+      let lines : length (texts_in q.productions) ≡ length (texts_in p.productions) +
+      (length (texts_in (map form_line fs)) + 3) =
       ap length (texts_split ∙ ap (λ (x : List Text). texts_in p.productions ++ x) own_split)
-      ∙ length-append (texts_in p.productions) (texts_in (map form_line fs) ++ texts_in apart_lines)
-      ∙ ap (λ (n : ℕ). length (texts_in p.productions) + n) (length-append (texts_in (map form_line fs)) (texts_in apart_lines)) in
-      let all : length (literals q) ≡ length (bracket_texts q) + length (texts_in q.productions) = length-append (bracket_texts q) (texts_in q.productions) in
-      let base : length (literals p) ≡ length (bracket_texts p) + length (texts_in p.productions) = length-append (bracket_texts p) (texts_in p.productions) in
-      let forms : length (texts_in (map form_line fs)) ≤ length (flat_map (λ f. f.symbols) (map form fs)) = few_in_forms fs in
+      ∙ length-append (texts_in p.productions)
+      (texts_in (map form_line fs) ++ texts_in apart_lines)
+      ∙ ap (λ (n : ℕ). length (texts_in p.productions) + n)
+      (length-append (texts_in (map form_line fs)) (texts_in apart_lines)) in
+      let all : length (literals q) ≡ length (bracket_texts q) + length (texts_in q.productions) =
+      length-append (bracket_texts q) (texts_in q.productions) in
+      let base : length (literals p) ≡ length (bracket_texts p) + length (texts_in p.productions) =
+      length-append (bracket_texts p) (texts_in p.productions) in
+      let forms : length (texts_in (map form_line fs)) ≤ length
+      (flat_map (λ f. f.symbols) (map form fs)) = few_in_forms fs in
       omega (arith, brackets, lines, all, base, forms)
 
 -- ---- the first extension of a language
@@ -84,7 +108,11 @@ module _ (p : Parts) (fs : List FormLine) where
 -- no constructor that is not base is there, and none has a body
 none_desugars : (shapes : List Shape) → Desugars shapes shapes (λ label. None)
 none_desugars shapes = record {
-  is_table = record { keeps_base = λ label low. refl; flat = λ label body is. absurd (none-some body is) };
+  is_table = record {
+    keeps_base = λ label low. refl;
+    flat = λ label body is. absurd
+        (none-some body is);
+  };
   bodies = λ label body is. absurd (none-some body is);
   every = λ label shape is plain. inl (slice_get_within shapes label shape is);
 }
@@ -102,22 +130,46 @@ module _ (name bytes : Text) (l : Language) (s : StatesLanguage name bytes l) wh
   has_room : (files : ℕ) → length bytes ≤ 262144 → files ≤ 8190 → HasRoomFor (first_ground l) files
   has_room files low few =
       let fs = s.outline.forms.items in
-      let sized : IsSized (length bytes) (outline s.outline) = sized_answer name bytes (Ok s.outline) s.readable.outlined in
+      let sized : IsSized (length bytes) (outline s.outline) = sized_answer name bytes
+      (Ok s.outline) s.readable.outlined in
       record {
-        productions = omega (arith, low, few, sized.many, length-map fs form, productions_many its_parts fs, ap (λ (y : Parts). length y.productions) rule_parts_are);
-        literals = omega (arith, low, few, sized.many, length-map fs form, literals_few its_parts fs, ap (λ (y : Parts). length (literals y)) rule_parts_are);
+        productions = omega (
+          arith,
+          low,
+          few,
+          sized.many,
+          length-map fs form,
+          productions_many
+              its_parts fs,
+          ap (λ (y : Parts). length y.productions) rule_parts_are,
+        );
+        literals = omega (
+          arith,
+          low,
+          few,
+          sized.many,
+          length-map fs form,
+          literals_few its_parts
+              fs,
+          ap (λ (y : Parts). length (literals y)) rule_parts_are,
+        );
       }
 
   begins : IsLanguage l → length bytes ≤ 262144 → IsBefore (first_ground l)
   begins is low = record {
     more = [];
-    goes_on = λ i. record { sorts = l.grammar.parts.sorts; productions = sym (append-nil l.grammar.parts.productions) i };
+    goes_on = λ i. record {
+      sorts = l.grammar.parts.sorts;
+      productions = sym
+          (append-nil l.grammar.parts.productions) i;
+    };
     base = is.base;
     lines = is.lines;
     forms = record { read_by = is.read_by; forms = is.forms; known = is.known };
     fit = is.fit;
     vars = s.outline.vars.items;
-    stems = subst (λ (p : Parts). AreStems p s.outline.vars.items l.metas.stems.items) (sym parts_are)
+    stems = subst (λ (p : Parts). AreStems p s.outline.vars.items l.metas.stems.items)
+        (sym parts_are)
         (subst (AreStems its_parts s.outline.vars.items) (sym s.metas) s.readable.stems);
     shapes = is.shapes;
     rule_forms = refl;
@@ -135,7 +187,8 @@ languages_begin = record {
 -- ---- the next extension
 
 module _ (g : Ground) (x : ReadExtension) (fits : FitsAfter g x) where
-  room_left : (files more : ℕ) → files < more → HasRoomFor g more → HasRoomFor (next_ground g x) files
+  room_left : (files more : ℕ) → files < more → HasRoomFor g more →
+      HasRoomFor (next_ground g x) files
   room_left files more low room = record {
     productions = omega (arith, low, fits.productions, room.productions);
     literals = omega (arith, low, fits.literals, room.literals);
@@ -148,8 +201,13 @@ module _ (g : Ground) (x : ReadExtension) (fits : FitsAfter g x) where
     extends : x.grammar.parts ≡ extended g.language (is.more ++ s.outline.productions)
     extends =
         let own = s.outline.productions in
-        let grouped : extended (extended g.language is.more) own ≡ extended g.language (is.more ++ own) =
-        λ i. record { sorts = g.language.sorts; productions = append_assoc g.language.productions is.more own i } in
+        let grouped : extended (extended g.language is.more) own ≡ extended g.language
+        (is.more ++ own) =
+        λ i. record {
+          sorts = g.language.sorts;
+          productions = append_assoc g.language.productions
+              is.more own i;
+        } in
         made.parts ∙ ap (λ (p : Parts). extended p own) is.goes_on ∙ grouped
 
     goes_on : HasRoomFor (next_ground g x) 1 → IsBefore (next_ground g x)
@@ -173,7 +231,8 @@ module _ (g : Ground) (x : ReadExtension) (fits : FitsAfter g x) where
       room = room;
     }
 
-same_next : (g : Ground) (x y : ReadExtension) → SameExtension x y → next_ground g x ≡ next_ground g y
+same_next : (g : Ground) (x y : ReadExtension) → SameExtension x y →
+    next_ground g x ≡ next_ground g y
 same_next g x y same = λ i. record {
   language = g.language;
   stems = g.stems;

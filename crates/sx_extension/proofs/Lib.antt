@@ -27,6 +27,7 @@ pub mod OnePlain
 pub mod OneTexts
 pub mod OneTable
 pub mod OneDefect
+pub mod OneStated
 pub mod OneExtension
 pub mod FitShapes
 pub mod FitSubjects

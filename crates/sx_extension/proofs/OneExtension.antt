@@ -1,5 +1,5 @@
 -- A text states one extension, or has one refusal, but for the two readings that it may show.
-use Rattle.std.proofs.Common.{◌≡◌, ◌≢◌, ◌++◌, ◌⊎◌, inl, inr, length, map, refl, ap, ◌∙◌, sym, subst}
+use Rattle.std.proofs.Common.{◌≡◌, ◌≢◌, ◌++◌, ◌⊎◌, inl, inr, length, map, refl, ap, ◌∙◌, sym}
 use Rattle.std.specs.Prelude.{Option}
 use Rattle.sx_grammar.specs.declared.grammar_error.GrammarError.{GrammarError}
 use Rattle.sx_grammar.specs.Grammar.{Text}
@@ -8,8 +8,6 @@ use Rattle.sx_grammar.specs.Told.{shapes_of}
 use Rattle.sx_plain.specs.declared.table.PlainTable.{PlainTable}
 use Rattle.sx_plain.specs.Views.{table_of}
 use Rattle.sx_rules.specs.declared.error.RuleError.{RuleError}
-use Rattle.sx_rules.specs.declared.error.RuleError.TheVariants as rules
-use Rattle.sx_rules.specs.Good.{IsRefused as IsNoRuleSet}
 use Rattle.sx_rules.proofs.Refusals.{one_refusal, not_refused}
 use Rattle.sx_outline.specs.declared.outline_error.OutlineError.{OutlineError}
 use Rattle.sx_outline.specs.declared.outline_error.OutlineError.TheVariants as outlines
@@ -21,55 +19,42 @@ use Rattle.sx_language.specs.States.{name_unbound}
 use Rattle.sx_language.proofs.OneLine.{Alike}
 use Rattle.sx_language.proofs.Stepwise.{AreAlike, Step, step_alike, step_none}
 use Rattle.sx_extension.specs.declared.extension_error.ExtensionError.{ExtensionError}
-use Rattle.sx_extension.specs.declared.extension_error.ExtensionError.TheVariants.{Memory, Notation, Plain, NoPlain, NoBody, BodySort, BodyExtended}
+use Rattle.sx_extension.specs.declared.extension_error.ExtensionError.TheVariants.{Memory}
+use Rattle.sx_extension.specs.declared.extension_error.ExtensionError.TheVariants.{Notation, Plain}
+use Rattle.sx_extension.specs.declared.extension_error.ExtensionError.TheVariants.{NoPlain, NoBody}
+use Rattle.sx_extension.specs.declared.extension_error.ExtensionError.TheVariants.{BodySort}
+use Rattle.sx_extension.specs.declared.extension_error.ExtensionError.TheVariants.{BodyExtended}
 use Rattle.sx_extension.specs.declared.extension.ReadExtension.{ReadExtension}
-use Rattle.sx_extension.specs.BodyRefusals.{HaveBadBody}
 use Rattle.sx_extension.specs.Grounds.{Ground}
-use Rattle.sx_extension.specs.Readings.{HasOutline, HasNoOutline, with_own, AreNoGrammars, IsReadable, Texts, AreRead, IsBadText}
-use Rattle.sx_extension.specs.Stages.{IsNoTable}
-use Rattle.sx_extension.specs.States.{HasRuleSet, HasTable, States, HasBadText, HasNoGrammars, HasTexts, IsNoRules, HasNoRuleSet, HasNoTable, HasBodyDefect, IsBadNotation, IsRefused}
+use Rattle.sx_extension.specs.Readings.{HasOutline, HasNoOutline, with_own}
+use Rattle.sx_extension.specs.Readings.{IsReadable, Texts}
+use Rattle.sx_extension.specs.States.{HasRuleSet, HasTable, States, HasBadText, HasNoGrammars}
+use Rattle.sx_extension.specs.States.{HasTexts, HasNoRuleSet, HasNoTable, HasBodyDefect}
+use Rattle.sx_extension.specs.States.{IsBadNotation, IsRefused}
 use Rattle.sx_extension.specs.Laws.{SameExtension, ShowOtherReadings, OneExtension}
-use Rattle.sx_extension.proofs.OneDefect.{table_refusal_one, table_or_refusal, bad_body_one, bodied_or_bad}
-use Rattle.sx_extension.proofs.OneGround.{outline_one, defect_one, outline_or_defect, no_grammars_one, grammars_or_not}
+use Rattle.sx_extension.proofs.OneDefect.{table_refusal_one, table_or_refusal, bad_body_one}
+use Rattle.sx_extension.proofs.OneDefect.{bodied_or_bad}
+use Rattle.sx_extension.proofs.OneGround.{defect_one, outline_or_defect}
+use Rattle.sx_extension.proofs.OneGround.{no_grammars_one, grammars_or_not}
+use Rattle.sx_extension.proofs.OneStated.{no_rules, no_grammars_there, bad_there, no_rules_there}
+use Rattle.sx_extension.proofs.OneStated.{no_table_there, bad_body_there, texts_outline}
+use Rattle.sx_extension.proofs.OneStated.{texts_same}
+use Rattle.sx_extension.proofs.OneStated.{moved}
 use Rattle.sx_extension.proofs.OneTable.{table_one}
-use Rattle.sx_extension.proofs.OneTexts.{readable_outline, readable_grammar, readable_rules, reader_one, texts_one, bad_text_one, texts_or_bad}
+use Rattle.sx_extension.proofs.OneTexts.{readable_grammar, readable_rules}
+use Rattle.sx_extension.proofs.OneTexts.{bad_text_one, texts_or_bad}
 
 -- the same refusal, but for the two readings that it shows
 abbrev Same : ExtensionError → ExtensionError → Type 0
 Same e d = (e ≡ d) ⊎ ShowOtherReadings e d
 
-same_notation : (e d : ExtensionError) (x y : NotationError) → e ≡ Notation x → d ≡ Notation y → Alike x y → Same e d
+same_notation : (e d : ExtensionError) (x y : NotationError) → e ≡ Notation x → d ≡ Notation y →
+    Alike x y → Same e d
 same_notation e d x y h k (inl same) = inl (h ∙ ap Notation same ∙ sym k)
-same_notation e d x y h k (inr two) = inr (record { one = x; other = y; first = h; second = k; shown = two })
-
--- the refusal of rules, which is not want of memory
-no_rules : (g : Ground) (o : ExtensionOutlineData) (x : Texts) (e : RuleError) → IsNoRules g o x e → IsNoRuleSet (shapes_of (with_own g o.productions)) g.forms (g.rules ++ x.rules) e × (e ≢ rules.Memory)
-no_rules g o x rules.Memory h = absurd h
-no_rules g o x rules.TooManyRules h = (h, λ e. cc)
-no_rules g o x (rules.TooManyVars name) h = (h, λ e. cc)
-no_rules g o x (rules.SameRule name) h = (h, λ e. cc)
-no_rules g o x (rules.SortDiffers name) h = (h, λ e. cc)
-no_rules g o x (rules.Discipline name part premise) h = (h, λ e. cc)
-no_rules g o x (rules.NotModed name variable) h = (h, λ e. cc)
+same_notation e d x y h k (inr two) = inr (record
+    { one = x; other = y; first = h; second = k; shown = two })
 
 module _ (g : Ground) (bytes : Text) where
-  -- ---- what is read is one
-
-  module _ (o q : ExtensionOutlineData) (x y : Texts) (h : HasTexts g bytes o x) (k : HasTexts g bytes q y) where
-    texts_outline : o ≡ q
-    texts_outline = readable_outline g bytes o q h.grammar h.by_rules k.grammar k.by_rules h.read.reader k.read.reader h.read.readable k.read.readable
-
-    texts_same : x ≡ y
-    texts_same =
-        let p = with_own g q.productions in
-        let reader = reader_one g bytes o q h.grammar h.by_rules k.grammar k.by_rules h.read.reader k.read.reader h.read.readable k.read.readable in
-        let here = subst (λ (o : ExtensionOutlineData). AreRead (with_own g o.productions) h.read.reader o x) texts_outline h.read.read in
-        texts_one p k.read.readable.grammars.is_grammar k.read.reader q x y (subst (λ (r : Reader). AreRead p r q x) reader here) k.read.read
-
-    -- what is said of the outline and of the texts of one is said of those of the other
-    moved : (P : ExtensionOutlineData → Texts → Type 0) → P o x → P q y
-    moved P holds = subst (λ (z : Texts). P q z) texts_same (subst (λ (o : ExtensionOutlineData). P o x) texts_outline holds)
-
   -- ---- the refusals in order
 
   -- the refusal of lines that state no outline
@@ -79,7 +64,8 @@ module _ (g : Ground) (bytes : Text) where
   told (outlines.Notation line kind) = notation.Notation line kind
 
   abbrev ByLines : ExtensionError → Type 0
-  ByLines e = (x : OutlineError) × (x ≢ outlines.Memory) × HasNoOutline g bytes x × (e ≡ Notation (told x))
+  ByLines e = (x : OutlineError) × (x ≢ outlines.Memory) × HasNoOutline g bytes x ×
+      (e ≡ Notation (told x))
 
   abbrev ByGrammars : ExtensionError → Type 0
   ByGrammars e = (x : GrammarError) × (e ≡ Notation (notation.Grammar x)) × HasNoGrammars g bytes x
@@ -88,7 +74,8 @@ module _ (g : Ground) (bytes : Text) where
   ByTexts e = (x : NotationError) × (x ≢ notation.Memory) × (e ≡ Notation x) × HasBadText g bytes x
 
   abbrev ByRules : ExtensionError → Type 0
-  ByRules e = (x : RuleError) × (unbound : Option Text) × (e ≡ Notation (notation.Rules x unbound)) × HasNoRuleSet g bytes x unbound
+  ByRules e = (x : RuleError) × (unbound : Option Text) × (e ≡ Notation (notation.Rules x unbound))
+      × HasNoRuleSet g bytes x unbound
 
   abbrev ByTable : ExtensionError → Type 0
   ByTable e = (e ≢ Memory) × HasNoTable g bytes e
@@ -146,41 +133,77 @@ module _ (g : Ground) (bytes : Text) where
   outlined_by o x h = (o, h.read.readable.outlined)
 
   reader_by : (o : ExtensionOutlineData) (x : Texts) → HasTexts g bytes o x → HasReader
-  reader_by o x h = record { outline = o; grammar = h.grammar; by_rules = h.by_rules; reader = h.read.reader; readable = h.read.readable }
+  reader_by o x h = record {
+    outline = o;
+    grammar = h.grammar;
+    by_rules = h.by_rules;
+    reader = h.read.reader;
+    readable = h.read.readable;
+  }
 
   -- a refusal after the texts are read
-  after_texts : (e : ExtensionError) (o : ExtensionOutlineData) (x : Texts) → HasTexts g bytes o x → AfterTexts e → IsDue e
-  after_texts e o x h due = inr (outlined_by o x h, inr (reader_by o x h, inr (record { outline = o; texts = x; read = h }, due)))
+  after_texts : (e : ExtensionError) (o : ExtensionOutlineData) (x : Texts) →
+      HasTexts g bytes o x → AfterTexts e → IsDue e
+  after_texts e o x h due = inr (
+    outlined_by o x h,
+    inr (reader_by o x h, inr (record { outline = o; texts = x; read = h }, due)),
+  )
 
-  by_lines : (x : OutlineError) → (x ≢ outlines.Memory) → HasNoOutline g bytes x → IsDue (Notation (told x))
+  by_lines : (x : OutlineError) → (x ≢ outlines.Memory) → HasNoOutline g bytes x →
+      IsDue (Notation (told x))
   by_lines x n h = inl (x, n, h, refl)
 
   by_texts : (x : NotationError) → x ≢ notation.Memory → HasBadText g bytes x → IsDue (Notation x)
   by_texts x n h = inr (
     (h.outline, h.readable.outlined),
-    inr (record { outline = h.outline; grammar = h.grammar; by_rules = h.by_rules; reader = h.reader; readable = h.readable }, inl (x, n, refl, h)),
+    inr (
+      record {
+        outline = h.outline;
+        grammar = h.grammar;
+        by_rules = h.by_rules;
+        reader = h.reader;
+        readable = h.readable;
+      },
+      inl (x, n, refl, h),
+    ),
   )
 
   by_table : (e : ExtensionError) → e ≢ Memory → HasNoTable g bytes e → IsDue e
   by_table e n h =
-      after_texts e h.outline h.texts h.read (inr (record { outline = h.outline; texts = h.texts; read = h.read; rule_set = h.rule_set }, inl (n, h)))
+      after_texts e h.outline h.texts h.read (inr (
+        record { outline = h.outline; texts = h.texts; read = h.read; rule_set = h.rule_set },
+        inl (n, h),
+      ))
 
   by_bodies : (e : ExtensionError) → e ≢ Memory → HasBodyDefect g bytes e → IsDue e
   by_bodies e n h =
       after_texts e h.outline h.texts h.read
       (inr (
         record { outline = h.outline; texts = h.texts; read = h.read; rule_set = h.rule_set },
-        inr (record { outline = h.outline; texts = h.texts; read = h.read; table = h.table; has_table = h.has_table }, (n, h)),
+        inr (
+          record {
+            outline = h.outline;
+            texts = h.texts;
+            read = h.read;
+            table = h.table;
+            has_table = h.has_table;
+          },
+          (n, h),
+        ),
       ))
 
-  by_rules : (x : RuleError) (unbound : Option Text) → HasNoRuleSet g bytes x unbound → IsDue (Notation (notation.Rules x unbound))
-  by_rules x unbound h = after_texts (Notation (notation.Rules x unbound)) h.outline h.texts h.read (inl (x, unbound, refl, h))
+  by_rules : (x : RuleError) (unbound : Option Text) → HasNoRuleSet g bytes x unbound →
+      IsDue (Notation (notation.Rules x unbound))
+  by_rules x unbound h = after_texts (Notation (notation.Rules x unbound)) h.outline h.texts h.read
+      (inl (x, unbound, refl, h))
 
   by_notation : (x : NotationError) → IsBadNotation g bytes x → IsDue (Notation x)
   by_notation notation.Memory h = absurd h
   by_notation (notation.NotUtf8 place) h = by_lines (outlines.NotUtf8 place) (λ e. cc) h
-  by_notation (notation.Notation line kind) (inl h) = by_lines (outlines.Notation line kind) (λ e. cc) h
-  by_notation (notation.Notation line kind) (inr h) = by_texts (notation.Notation line kind) (λ e. cc) h
+  by_notation (notation.Notation line kind) (inl h) = by_lines (outlines.Notation line kind)
+      (λ e. cc) h
+  by_notation (notation.Notation line kind) (inr h) = by_texts (notation.Notation line kind)
+      (λ e. cc) h
   by_notation (notation.Token line x) h = by_texts (notation.Token line x) (λ e. cc) h
   by_notation (notation.Grammar x) h = inr ((h.outline, h.outlined), inl (x, refl, h))
   by_notation (notation.Read line x) h = by_texts (notation.Read line x) (λ e. cc) h
@@ -208,57 +231,42 @@ module _ (g : Ground) (bytes : Text) where
   not_lines : (e : ExtensionError) → ByLines e → IsOutlined → ⊥
   not_lines e h o = outline_or_defect g bytes o.0 h.0 h.1 o.1 h.2
 
-  no_grammars_there : (x : GrammarError) (h : HasNoGrammars g bytes x) (o : ExtensionOutlineData) → HasOutline g bytes o → AreNoGrammars g o.productions x
-  no_grammars_there x h o k =
-      subst (λ (q : ExtensionOutlineData). AreNoGrammars g q.productions x) (outline_one g bytes h.outline o h.outlined k) h.refused
-
   not_grammars : (e : ExtensionError) → ByGrammars e → HasReader → ⊥
   not_grammars e h k =
-      grammars_or_not g k.outline.productions k.grammar k.by_rules h.0 k.readable.grammars (no_grammars_there h.0 h.2 k.outline k.readable.outlined)
-
-  bad_there : (x : NotationError) (h : HasBadText g bytes x) (o : ExtensionOutlineData) (a b : GrammarData) (r : Reader) → IsReadable g bytes o a b r → IsBadText (with_own g o.productions) r o x
-  bad_there x h o a b r k =
-      subst (λ (s : Reader). IsBadText (with_own g o.productions) s o x) (reader_one g bytes h.outline o h.grammar h.by_rules a b h.reader r h.readable k)
-      (subst (λ (q : ExtensionOutlineData). IsBadText (with_own g q.productions) h.reader q x) (readable_outline g bytes h.outline o h.grammar h.by_rules a b h.reader r h.readable k) h.refused)
+      grammars_or_not g k.outline.productions k.grammar k.by_rules h.0 k.readable.grammars
+      (no_grammars_there g bytes h.0 h.2 k.outline k.readable.outlined)
 
   not_texts : (e : ExtensionError) → ByTexts e → IsRead → ⊥
   not_texts e h k =
       let r = k.read in
-      texts_or_bad (with_own g k.outline.productions) r.read.readable.grammars.is_grammar r.read.reader k.outline k.texts h.0 h.1 r.read.read
-      (bad_there h.0 h.3 k.outline r.grammar r.by_rules r.read.reader r.read.readable)
-
-  no_rules_there : (x : RuleError) (unbound : Option Text) (h : HasNoRuleSet g bytes x unbound) (o : ExtensionOutlineData) (y : Texts) → HasTexts g bytes o y →
-      IsNoRuleSet (shapes_of (with_own g o.productions)) g.forms (g.rules ++ y.rules) x
-  no_rules_there x unbound h o y k =
-      moved h.outline o h.texts y h.read k (λ o y. IsNoRuleSet (shapes_of (with_own g o.productions)) g.forms (g.rules ++ y.rules) x) (no_rules g h.outline h.texts x h.refused).0
+      texts_or_bad (with_own g k.outline.productions) r.read.readable.grammars.is_grammar
+      r.read.reader k.outline k.texts h.0 h.1 r.read.read
+      (bad_there g bytes h.0 h.3 k.outline r.grammar r.by_rules r.read.reader r.read.readable)
 
   not_rules : (e : ExtensionError) → ByRules e → HasSet → ⊥
   not_rules e h k =
       let a : HasNoRuleSet g bytes h.0 h.1 = h.3 in
       (no_rules g a.outline a.texts h.0 a.refused).1
-      (not_refused (shapes_of (with_own g k.outline.productions)) g.forms (g.rules ++ k.texts.rules) h.0 k.rule_set (no_rules_there h.0 h.1 a k.outline k.texts k.read))
-
-  no_table_there : (e : ExtensionError) (h : HasNoTable g bytes e) (o : ExtensionOutlineData) (y : Texts) → HasTexts g bytes o y → IsNoTable g (with_own g o.productions) o.plains y.plains e
-  no_table_there e h o y k = moved h.outline o h.texts y h.read k (λ o y. IsNoTable g (with_own g o.productions) o.plains y.plains e) h.refused
+      (not_refused (shapes_of (with_own g k.outline.productions)) g.forms
+      (g.rules ++ k.texts.rules) h.0 k.rule_set
+      (no_rules_there g bytes h.0 h.1 a k.outline k.texts k.read))
 
   not_table : (e : ExtensionError) → ByTable e → IsTabled → ⊥
   not_table e h k =
-      table_or_refusal g (with_own g k.outline.productions) k.outline.plains k.texts.plains k.table e h.0 k.has_table (no_table_there e h.1 k.outline k.texts k.read)
-
-  bad_body_there : (e : ExtensionError) (h : HasBodyDefect g bytes e) (o : ExtensionOutlineData) (y : Texts) → HasTexts g bytes o y →
-      HaveBadBody g.forms (shapes_of (with_own g o.productions)) (length g.shapes) o.rules y.rules y.bodies e
-  bad_body_there e h o y k =
-      moved h.outline o h.texts y h.read k (λ o y. HaveBadBody g.forms (shapes_of (with_own g o.productions)) (length g.shapes) o.rules y.rules y.bodies e) h.refused
+      table_or_refusal g (with_own g k.outline.productions) k.outline.plains k.texts.plains k.table
+      e h.0 k.has_table (no_table_there g bytes e h.1 k.outline k.texts k.read)
 
   -- ---- each is one
 
   lines_one : AreAlike Same ByLines
-  lines_one e d h k = inl (h.3 ∙ ap (λ (x : OutlineError). Notation (told x)) (defect_one g bytes h.0 k.0 h.1 k.1 h.2 k.2) ∙ sym k.3)
+  lines_one e d h k = inl (h.3 ∙ ap (λ (x : OutlineError). Notation (told x))
+      (defect_one g bytes h.0 k.0 h.1 k.1 h.2 k.2) ∙ sym k.3)
 
   grammars_one : AreAlike Same ByGrammars
   grammars_one e d h k =
       let b : HasNoGrammars g bytes k.0 = k.2 in
-      let same = no_grammars_one g b.outline.productions h.0 k.0 (no_grammars_there h.0 h.2 b.outline b.outlined) b.refused in
+      let same = no_grammars_one g b.outline.productions h.0 k.0
+      (no_grammars_there g bytes h.0 h.2 b.outline b.outlined) b.refused in
       inl (h.1 ∙ ap (λ (x : GrammarError). Notation (notation.Grammar x)) same ∙ sym k.1)
 
   bad_texts_one : AreAlike Same ByTexts
@@ -266,7 +274,8 @@ module _ (g : Ground) (bytes : Text) where
       let b : HasBadText g bytes k.0 = k.3 in
       let p = with_own g b.outline.productions in
       same_notation e d h.0 k.0 h.2 k.2
-      (bad_text_one p b.readable.grammars.is_grammar b.reader b.outline h.0 k.0 h.1 k.1 (bad_there h.0 h.3 b.outline b.grammar b.by_rules b.reader b.readable) b.refused)
+      (bad_text_one p b.readable.grammars.is_grammar b.reader b.outline h.0 k.0 h.1 k.1
+      (bad_there g bytes h.0 h.3 b.outline b.grammar b.by_rules b.reader b.readable) b.refused)
 
   rules_one : AreAlike Same ByRules
   rules_one e d h k = inl (h.2 ∙ (λ i. Notation (notation.Rules (why i) (unbound i))) ∙ sym k.2)
@@ -280,33 +289,39 @@ module _ (g : Ground) (bytes : Text) where
       why : h.0 ≡ k.0
       why =
           let other = no_rules g b.outline b.texts k.0 b.refused in
-          one_refusal (shapes_of (with_own g b.outline.productions)) g.forms (g.rules ++ b.texts.rules) h.0 k.0 (no_rules_there h.0 h.1 a b.outline b.texts b.read) other.0
+          one_refusal (shapes_of (with_own g b.outline.productions)) g.forms
+          (g.rules ++ b.texts.rules) h.0 k.0
+          (no_rules_there g bytes h.0 h.1 a b.outline b.texts b.read) other.0
           (no_rules g a.outline a.texts h.0 a.refused).1 other.1
 
       texts : a.texts ≡ b.texts
-      texts = texts_same a.outline b.outline a.texts b.texts a.read b.read
+      texts = texts_same g bytes a.outline b.outline a.texts b.texts a.read b.read
 
       unbound : h.1 ≡ k.1
-      unbound = a.named ∙ (λ i. name_unbound (map (λ q. q.name) ((texts i).rules)) ((texts i).names) (why i)) ∙ sym b.named
+      unbound = a.named ∙ (λ i. name_unbound (map (λ q. q.name) ((texts i).rules))
+          ((texts i).names) (why i)) ∙ sym b.named
 
   table_refusals_one : AreAlike Same ByTable
   table_refusals_one e d h k =
       let b : HasNoTable g bytes d = k.1 in
-      inl (table_refusal_one g (with_own g b.outline.productions) b.outline.plains b.texts.plains e d h.0 k.0 (no_table_there e h.1 b.outline b.texts b.read) b.refused)
+      inl (table_refusal_one g (with_own g b.outline.productions) b.outline.plains b.texts.plains e
+      d h.0 k.0 (no_table_there g bytes e h.1 b.outline b.texts b.read) b.refused)
 
   bodies_one : AreAlike Same ByBodies
   bodies_one e d h k =
       let b : HasBodyDefect g bytes d = k.1 in
       inl
-      (bad_body_one g.forms (shapes_of (with_own g b.outline.productions)) (length g.shapes) b.outline.rules b.texts.rules b.texts.bodies e d h.0 k.0
-      (bad_body_there e h.1 b.outline b.texts b.read) b.refused)
+      (bad_body_one g.forms (shapes_of (with_own g b.outline.productions)) (length g.shapes)
+      b.outline.rules b.texts.rules b.texts.bodies e d h.0 k.0
+      (bad_body_there g bytes e h.1 b.outline b.texts b.read) b.refused)
 
   due_one : AreAlike Same IsDue
   due_one =
       step_alike ByLines IsOutlined AfterLines not_lines Same lines_one
       (step_alike ByGrammars HasReader AfterGrammars not_grammars Same grammars_one
       (step_alike ByTexts IsRead AfterTexts not_texts Same bad_texts_one
-      (step_alike ByRules HasSet AfterSet not_rules Same rules_one (step_alike ByTable IsTabled ByBodies not_table Same table_refusals_one bodies_one))))
+      (step_alike ByRules HasSet AfterSet not_rules Same rules_one
+      (step_alike ByTable IsTabled ByBodies not_table Same table_refusals_one bodies_one))))
 
   -- ---- extensions
 
@@ -319,23 +334,36 @@ module _ (g : Ground) (bytes : Text) where
       let read = texts_of x s in
       step_none ByLines IsOutlined AfterLines not_lines (outlined_by s.outline s.texts read)
       (step_none ByGrammars HasReader AfterGrammars not_grammars (reader_by s.outline s.texts read)
-      (step_none ByTexts IsRead AfterTexts not_texts (record { outline = s.outline; texts = s.texts; read = read })
-      (step_none ByRules HasSet AfterSet not_rules (record { outline = s.outline; texts = s.texts; read = read; rule_set = s.rule_set })
-      (step_none ByTable IsTabled ByBodies not_table (record { outline = s.outline; texts = s.texts; read = read; table = x.extension.plain; has_table = s.table }) not_bodies))))
+      (step_none ByTexts IsRead AfterTexts not_texts
+      (record { outline = s.outline; texts = s.texts; read = read })
+      (step_none ByRules HasSet AfterSet not_rules
+      (record { outline = s.outline; texts = s.texts; read = read; rule_set = s.rule_set })
+      (step_none ByTable IsTabled ByBodies not_table
+      (record {
+        outline = s.outline;
+        texts = s.texts;
+        read = read;
+        table = x.extension.plain;
+        has_table = s.table;
+      }) not_bodies))))
     where
       not_bodies : (e : ExtensionError) → ByBodies e → ⊥
       not_bodies e h =
-          bodied_or_bad g.forms (shapes_of (with_own g s.outline.productions)) (length g.shapes) s.outline.rules s.texts.rules s.texts.bodies e s.bodied
-          (bad_body_there e h.1 s.outline s.texts (texts_of x s))
+          bodied_or_bad g.forms (shapes_of (with_own g s.outline.productions)) (length g.shapes)
+          s.outline.rules s.texts.rules s.texts.bodies e s.bodied
+          (bad_body_there g bytes e h.1 s.outline s.texts (texts_of x s))
 
-  memory_alone : (x : ReadExtension) (e : ExtensionError) → States g bytes x → (e ≡ Memory) ⊎ IsDue e → e ≡ Memory
+  memory_alone : (x : ReadExtension) (e : ExtensionError) → States g bytes x →
+      (e ≡ Memory) ⊎ IsDue e → e ≡ Memory
   memory_alone x e s (inl h) = h
   memory_alone x e s (inr h) = absurd (none_due x s e h)
 
   found : (x y : ReadExtension) → States g bytes x → States g bytes y → SameExtension x y
   found x y s t = record {
-    grammar = readable_grammar g bytes s.outline t.outline x.grammar x.rule_grammar y.grammar y.rule_grammar s.read.reader t.read.reader s.read.readable t.read.readable;
-    rule_grammar = readable_rules g bytes s.outline t.outline x.grammar x.rule_grammar y.grammar y.rule_grammar s.read.reader t.read.reader s.read.readable t.read.readable;
+    grammar = readable_grammar g bytes s.outline t.outline x.grammar x.rule_grammar y.grammar
+        y.rule_grammar s.read.reader t.read.reader s.read.readable t.read.readable;
+    rule_grammar = readable_rules g bytes s.outline t.outline x.grammar x.rule_grammar y.grammar
+        y.rule_grammar s.read.reader t.read.reader s.read.readable t.read.readable;
     name = s.name ∙ ap (λ (o : ExtensionOutlineData). o.header.name) outline ∙ sym t.name;
     rules = s.rules ∙ ap (λ (z : Texts). z.rules) texts ∙ sym t.rules;
     bodies = s.bodies ∙ ap (λ (z : Texts). z.bodies) texts ∙ sym t.bodies;
@@ -345,15 +373,19 @@ module _ (g : Ground) (bytes : Text) where
   }
     where
       outline : s.outline ≡ t.outline
-      outline = texts_outline s.outline t.outline s.texts t.texts (texts_of x s) (texts_of y t)
+      outline = texts_outline g bytes s.outline t.outline s.texts t.texts (texts_of x s)
+          (texts_of y t)
 
       texts : s.texts ≡ t.texts
-      texts = texts_same s.outline t.outline s.texts t.texts (texts_of x s) (texts_of y t)
+      texts = texts_same g bytes s.outline t.outline s.texts t.texts (texts_of x s) (texts_of y t)
 
-      table : (x.extension.plain.base ≡ y.extension.plain.base) × (table_of x.extension.plain ≡ table_of y.extension.plain)
+      table : (x.extension.plain.base ≡ y.extension.plain.base) ×
+          (table_of x.extension.plain ≡ table_of y.extension.plain)
       table =
-          table_one g.base (shapes_of (with_own g t.outline.productions)) (length g.shapes) g.table t.texts.plains x.extension.plain y.extension.plain
-          (moved s.outline t.outline s.texts t.texts (texts_of x s) (texts_of y t) (λ o z. HasTable g o z x.extension.plain) s.table) t.table
+          table_one g.base (shapes_of (with_own g t.outline.productions)) (length g.shapes) g.table
+          t.texts.plains x.extension.plain y.extension.plain
+          (moved g bytes s.outline t.outline s.texts t.texts (texts_of x s) (texts_of y t)
+          (λ o z. HasTable g o z x.extension.plain) s.table) t.table
 
 pub one_extension : OneExtension
 one_extension = record {

@@ -18,12 +18,14 @@ use Rattle.sx_extension.proofs.OnePlain.{plains_one, first_bad_plain_one, plains
 
 -- ---- readers
 
-module _ (g : Ground) (bytes : Text) (o q : ExtensionOutlineData) (a b c d : GrammarData) (r s : Reader) (h : IsReadable g bytes o a b r) (k : IsReadable g bytes q c d s) where
+module _ (g : Ground) (bytes : Text) (o q : ExtensionOutlineData) (a b c d : GrammarData)
+    (r s : Reader) (h : IsReadable g bytes o a b r) (k : IsReadable g bytes q c d s) where
   pub readable_outline : o ≡ q
   readable_outline = outline_one g bytes o q h.outlined k.outlined
 
   grammars : AreGrammars g q.productions a b
-  grammars = subst (λ (x : ExtensionOutlineData). AreGrammars g x.productions a b) readable_outline h.grammars
+  grammars = subst (λ (x : ExtensionOutlineData). AreGrammars g x.productions a b) readable_outline
+      h.grammars
 
   pub readable_grammar : a ≡ c
   readable_grammar = grammar_one g q.productions a b c d grammars k.grammars
@@ -34,7 +36,9 @@ module _ (g : Ground) (bytes : Text) (o q : ExtensionOutlineData) (a b c d : Gra
   stems : r.stems ≡ s.stems
   stems =
       stems_one c.parts q.vars r.stems s.stems
-      (subst (λ (x : GrammarData). AreStems x.parts q.vars r.stems) readable_grammar (subst (λ (x : ExtensionOutlineData). AreStems a.parts x.vars r.stems) readable_outline h.stems)) k.stems
+      (subst (λ (x : GrammarData). AreStems x.parts q.vars r.stems) readable_grammar
+      (subst (λ (x : ExtensionOutlineData). AreStems a.parts x.vars r.stems) readable_outline
+      h.stems)) k.stems
 
   pub reader_one : r ≡ s
   reader_one =
@@ -48,15 +52,20 @@ module _ (p : Parts) (is : IsGrammar p) (r : Reader) (o : ExtensionOutlineData) 
   pub texts_one : (x y : Texts) → AreRead p r o x → AreRead p r o y → x ≡ y
   texts_one x y h k =
       let plains = plains_one p is (tables r) o.plains x.plains y.plains h.plains k.plains in
-      let rules = rules_one r o.rules x.names y.names x.rules y.rules x.bodies y.bodies h.rules k.rules in
+      let rules = rules_one r o.rules x.names y.names x.rules y.rules x.bodies y.bodies h.rules
+      k.rules in
       λ i. record { plains = plains i; rules = rules.1 i; names = rules.0 i; bodies = rules.2 i }
 
-  pub bad_text_one : (e d : NotationError) → e ≢ Memory → d ≢ Memory → IsBadText p r o e → IsBadText p r o d → Alike e d
+  pub bad_text_one : (e d : NotationError) → e ≢ Memory → d ≢ Memory → IsBadText p r o e →
+      IsBadText p r o d → Alike e d
   bad_text_one e d n m (inl h) (inl k) = first_bad_plain_one p is (tables r) o.plains e d n m h k
-  bad_text_one e d n m (inl h) (inr k) = absurd (plains_or_bad p is (tables r) o.plains k.0 e n k.1 h)
-  bad_text_one e d n m (inr h) (inl k) = absurd (plains_or_bad p is (tables r) o.plains h.0 d m h.1 k)
+  bad_text_one e d n m (inl h) (inr k) = absurd
+      (plains_or_bad p is (tables r) o.plains k.0 e n k.1 h)
+  bad_text_one e d n m (inr h) (inl k) = absurd
+      (plains_or_bad p is (tables r) o.plains h.0 d m h.1 k)
   bad_text_one e d n m (inr h) (inr k) = first_bad_one r o.rules e d n m h.2 k.2
 
-  pub texts_or_bad : (x : Texts) (e : NotationError) → e ≢ Memory → AreRead p r o x → IsBadText p r o e → ⊥
+  pub texts_or_bad : (x : Texts) (e : NotationError) → e ≢ Memory → AreRead p r o x →
+      IsBadText p r o e → ⊥
   texts_or_bad x e n h (inl k) = plains_or_bad p is (tables r) o.plains x.plains e n h.plains k
   texts_or_bad x e n h (inr k) = rules_or_bad r o.rules x.names x.rules x.bodies e n h.rules k.2

@@ -5,8 +5,8 @@
 //! rules are checked after those before it, and its plain table is made (`check_texts`); and the
 //! bodies of its rules are checked (`check_bodies`).
 //!
-//! - `one_extension`: a text states one extension, or has one refusal, but for the two readings that
-//!   a refusal may show.
+//! - `one_extension`: a text states one extension, or has one refusal, but for the two readings
+//!   that a refusal may show.
 //! - `languages_begin`, `extensions_go_on`: after a language, and after each extension that is read
 //!   and fits, the next one can be read.
 #![tactic(auto)]
