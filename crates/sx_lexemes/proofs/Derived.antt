@@ -6,7 +6,7 @@ use Rattle.sx_term.specs.declared.lex_kind.LexKind.{LexKind}
 use Rattle.sx_term.specs.Instances.{instance, StandsAmong, bound_by}
 use Rattle.sx_term.specs.Tree.{Tree}
 use Rattle.sx_rules.specs.Derivations.{Proof, Proofs, by, given, no_more, ◌⊳◌, Derives, DeriveEach}
-use Rattle.sx_rules.specs.Modes.{Modes, inputs, outputs, inputs_of, outputs_of, AreModed, IsModed, AllModed}
+use Rattle.sx_rules.specs.Modes.{Modes, inputs, outputs, inputs_of, AreModed, IsModed, AllModed}
 use Rattle.sx_rules.specs.Rules.{Judgement, Premise, holds, apart, Rule, Hypotheses, judgement_instance, judgements_of}
 use Rattle.sx_rules.proofs.Moded.{inputs-map, outputs-map, moded-at}
 use Rattle.sx_lexemes.specs.Laws.{DerivedKeepLexemes}

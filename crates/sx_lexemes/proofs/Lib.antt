@@ -1,3 +1,4 @@
 pub mod Terms
 pub mod Derived
 pub mod Lowered
+pub mod Grown

@@ -11,13 +11,13 @@ use Rattle.sx_rules.specs.Discipline.{IsSubjectIn}
 use Rattle.sx_rules.specs.Modes.{Modes, outputs}
 use Rattle.sx_rules.specs.Rules.{Judgement, Premise, holds, apart, Rule, Hypotheses, judgements_of}
 use Rattle.sx_rules.specs.Typed.{IsUntyped}
-use Rattle.sx_plain.specs.Plain.{Table, image}
+use Rattle.sx_plain.specs.Plain.{Table}
 use Rattle.sx_rewrite.specs.Accepted.{Checked, flat_conclusion, Known, basic, checked, rule_in, Accepted, known_of, rules_of, Signature, IsAccepted}
 use Rattle.sx_rewrite.specs.Flat.{flat_places}
 use Rattle.sx_rewrite.specs.Lowers.{SubjectsAreLowered, AreLoweredBinds, LowersTo, Lowers, LowersEach}
 use Rattle.sx_rewrite.proofs.Known.{rule-at, accepted-typed}
 use Rattle.sx_lexemes.specs.Laws.{LoweredKeepLexemes}
-use Rattle.sx_lexemes.specs.Lexemes.{IsToken, LexemesAre, AllLexemesAre, JudgementLexemesAre, RuleLexemesAre, TableLexemesAre, BodyLexemesAre, SetLexemesAre}
+use Rattle.sx_lexemes.specs.Lexemes.{IsToken, LexemesAre, AllLexemesAre, JudgementLexemesAre, TableLexemesAre, BodyLexemesAre, SetLexemesAre}
 use Rattle.sx_lexemes.proofs.Derived.{BindsAre, AllBindsAre, rule_at, given_at, kept}
 use Rattle.sx_lexemes.proofs.Terms.{bound_lexemes, all_bound, judgement_lexemes, outputs_lexemes, image_lexemes, all_image_lexemes}
 
@@ -44,7 +44,7 @@ module _ (P : LexKind → List ℕ → Type 0) where
   subject_lexemes (Some u) t h k = h
 
   module _ (table : Table) (have : TableLexemesAre P table) (subject : Option Tree) (subject_has : IfSome subject (LexemesAre P)) where
-    flat_lexemes : (bs : List Bool) (ts : List Tree) → AllLexemesAre P ts → AllLexemesAre P (flat_places table subject bs ts)
+    pub flat_lexemes : (bs : List Bool) (ts : List Tree) → AllLexemesAre P ts → AllLexemesAre P (flat_places table subject bs ts)
     flat_lexemes [] ts h = all_image_lexemes P table have ts h
     flat_lexemes (b ∷ bs) [] h = tt
     flat_lexemes (true ∷ bs) (t ∷ ts) h = (subject_lexemes subject t subject_has h.0, flat_lexemes bs ts h.1)

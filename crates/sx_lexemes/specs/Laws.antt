@@ -8,9 +8,12 @@ use Rattle.sx_rules.specs.Modes.{Modes, inputs_of, AllModed}
 use Rattle.sx_rules.specs.Rules.{Judgement, Rule, Hypotheses}
 use Rattle.sx_plain.specs.Plain.{Table, image}
 use Rattle.sx_rewrite.specs.Accepted.{Accepted, Signature, IsAccepted, rules_of}
+use Rattle.sx_rewrite.specs.Extensions.{Extension, Fits, extended, with_table}
 use Rattle.sx_rewrite.specs.Lowers.{Lowers}
+use Rattle.sx_rewrite.specs.Sound.{AreSoundBy}
 use Rattle.sx_lexemes.specs.Lexemes.{IsToken, LexemesAre, AllLexemesAre, JudgementLexemesAre}
-use Rattle.sx_lexemes.specs.Lexemes.{RuleLexemesAre, TableLexemesAre, SetLexemesAre}
+use Rattle.sx_lexemes.specs.Lexemes.{RuleLexemesAre, ExtLexemesAre, TableLexemesAre}
+use Rattle.sx_lexemes.specs.Lexemes.{SetLexemesAre}
 
 -- each lexeme of a plain image stands in the term or in a flat body
 abbrev pub ImagesKeepLexemes : Type 0
@@ -40,3 +43,16 @@ LoweredKeepLexemes =
     AllLexemesAre (IsToken literals) (inputs_of sig.modes j) →
     Lowers a sig.subjects hyps p q k →
     JudgementLexemesAre (IsToken literals) k
+
+-- so it is of what an accepted set has when it grows by an extension that is sound after it, where
+-- the lexemes of the extension's rules, of their bodies and of the plain table are tokens
+abbrev pub GrownSetsKeepLexemes : Type 0
+GrownSetsKeepLexemes =
+    (literals : List (List ℕ)) (sig : Signature) (base shapes all : List Shape) (a : Accepted)
+    (e : Extension) → IsAccepted sig base shapes a →
+    Fits sig base shapes all a.table e.table e.rules →
+    AreSoundBy sig.subjects (length base) (with_table a e.table) e.rules e.stored →
+    SetLexemesAre (IsToken literals) a →
+    AllByRecursion (ExtLexemesAre (IsToken literals)) e.rules →
+    TableLexemesAre (IsToken literals) e.table →
+    SetLexemesAre (IsToken literals) (extended a e)

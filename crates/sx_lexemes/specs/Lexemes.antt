@@ -7,7 +7,7 @@ use Rattle.sx_term.specs.Spaced.{IsTokenText}
 use Rattle.sx_term.specs.Tree.{Tree, Trees, node, lexeme, hole, none, ◌▹◌}
 use Rattle.sx_rules.specs.Rules.{Judgement, Premise, holds, apart, Rule}
 use Rattle.sx_plain.specs.Plain.{Body, Table}
-use Rattle.sx_rewrite.specs.Accepted.{Checked, Accepted, rules_of}
+use Rattle.sx_rewrite.specs.Accepted.{ExtRule, Checked, Accepted, rules_of}
 
 -- the text is a token of the kind, and none of the literals
 abbrev pub IsToken : (literals : List (List ℕ)) → LexKind → List ℕ → Type 0
@@ -42,6 +42,11 @@ PremiseLexemesAre P (apart t u) = LexemesAre P t × LexemesAre P u
 pub record RuleLexemesAre (P : LexKind → List ℕ → Type 0) (rule : Rule) : Type 0 where
   pub premises : AllByRecursion (PremiseLexemesAre P) rule.premises
   pub conclusion : JudgementLexemesAre P rule.conclusion
+
+-- and of those of an extension rule, with its body where it has one
+pub record ExtLexemesAre (P : LexKind → List ℕ → Type 0) (e : ExtRule) : Type 0 where
+  pub rule : RuleLexemesAre P e.rule
+  pub body : IfSome e.body (LexemesAre P)
 
 -- and of the flat bodies of a table
 abbrev pub TableLexemesAre : (LexKind → List ℕ → Type 0) → Table → Type 0

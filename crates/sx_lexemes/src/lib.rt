@@ -8,4 +8,6 @@
 
 mod laws;
 
-pub use laws::{derived_keep_lexemes, images_keep_lexemes, lowered_keep_lexemes};
+pub use laws::{
+    derived_keep_lexemes, grown_sets_keep_lexemes, images_keep_lexemes, lowered_keep_lexemes,
+};

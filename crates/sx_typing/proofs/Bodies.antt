@@ -1,5 +1,6 @@
 -- Texts without metavariables.
-use Rattle.std.proofs.Common.{◌≡◌, ℕ, zero, suc, ◌≤◌, true, false, List, [], ◌∷◌, ◌++◌, slice_get, Contains, length, refl, ap, ◌∙◌, sym, subst, arith}
+use Rattle.std.proofs.Common.{◌≡◌, ℕ, zero, suc, ◌≤◌, true, false, List, [], ◌∷◌, ◌++◌, slice_get}
+use Rattle.std.proofs.Common.{Contains, length, refl, ap, ◌∙◌, sym, subst, arith}
 use Rattle.std.specs.List.{AllByRecursion}
 use Rattle.std.proofs.lemmas.List.{append-nil}
 use Rattle.sx_term.specs.declared.mark.Mark.{Mark}
@@ -12,7 +13,8 @@ use Rattle.sx_token.specs.Tokens.{pieces}
 use Rattle.sx_grammar.specs.Grammar.{Text}
 use Rattle.sx_grammar.specs.Parts.{Parts, numbered}
 use Rattle.sx_grammar.specs.Tables.{literals_of}
-use Rattle.sx_grammar.specs.Reading.{Reading, Readings, branch, bracket, leaf, variable, done as no_readings, ◌▸◌}
+use Rattle.sx_grammar.specs.Reading.{Reading, Readings, branch, bracket, leaf, variable}
+use Rattle.sx_grammar.specs.Reading.{done as no_readings, ◌▸◌}
 use Rattle.sx_grammar.specs.ReadOne.{IsAnswer, only}
 use Rattle.sx_grammar.specs.Print.{term_of}
 use Rattle.sx_earley.specs.Tokens.{plain_tokens, AreKnown}
@@ -25,7 +27,8 @@ use Rattle.sx_notation.proofs.TextReading.{as_many_tokens}
 use Rattle.sx_typing.specs.Body.{IsCut, ReadsAs}
 
 -- no metavariable stands where none may
-no_meta : (literals : List Text) (m : Mark) (text rest : Text) → Stands literals false m text rest → m ≡ Meta → ⊥
+no_meta : (literals : List Text) (m : Mark) (text rest : Text) → Stands literals false m text rest →
+    m ≡ Meta → ⊥
 no_meta literals (Lit n) text rest h e = cc
 no_meta literals (Lex kind) text rest h e = cc
 no_meta literals Meta text rest h e = let impossible : false ≡ true = h.0 in cc
@@ -33,12 +36,15 @@ no_meta literals Meta text rest h e = let impossible : false ≡ true = h.0 in c
 abbrev pub IsPlain : Token → Type 0
 IsPlain t = t.mark ≡ Meta → ⊥
 
-plain_pieces : {literals : List Text} {size : ℕ} {text rest : Text} {ps : List Piece} → Cuts literals false size text ps rest → AllByRecursion (λ p. p.mark ≡ Meta → ⊥) ps
+plain_pieces : {literals : List Text} {size : ℕ} {text rest : Text} {ps : List Piece} →
+    Cuts literals false size text ps rest → AllByRecursion (λ p. p.mark ≡ Meta → ⊥) ps
 plain_pieces done = tt
 plain_pieces (skip blank more) = plain_pieces more
-plain_pieces {literals = literals} (piece {more = more} {t = t} at rest) = (no_meta literals t.mark t.text more at.stands, plain_pieces rest)
+plain_pieces {literals = literals} (piece {more = more} {t = t} at rest) =
+    (no_meta literals t.mark t.text more at.stands, plain_pieces rest)
 
-plain_all : (ts : List Token) → AllByRecursion (λ p. p.mark ≡ Meta → ⊥) (pieces ts) → AllByRecursion IsPlain ts
+plain_all : (ts : List Token) → AllByRecursion (λ p. p.mark ≡ Meta → ⊥) (pieces ts) →
+    AllByRecursion IsPlain ts
 plain_all [] h = tt
 plain_all (t ∷ ts) h = (h.0, plain_all ts h.1)
 
@@ -51,7 +57,8 @@ plain_at [] t all h = absurd (omega (arith, h.1))
 plain_at (u ∷ us) t all (zero, h, e) = subst IsPlain e all.0
 plain_at (u ∷ us) t all (suc k, h, e) = plain_at us t all.1 (k, omega (arith, h), e)
 
-no_variable : (ts : List Token) (n : ℕ) → AllByRecursion IsPlain ts → IsMetavariable (slice_get ts n) → ⊥
+no_variable : (ts : List Token) (n : ℕ) → AllByRecursion IsPlain ts →
+    IsMetavariable (slice_get ts n) → ⊥
 no_variable [] n all h = h
 no_variable (t ∷ ts) zero all h = all.0 h.1
 no_variable (t ∷ ts) (suc n) all h = no_variable ts n all.1 h
@@ -66,7 +73,8 @@ module _ (ts : List Token) (all : AllByRecursion IsPlain ts) where
 
     no_names_of : (ks : Readings) → AreMarked ts ks → names_of ts ks ≡ []
     no_names_of no_readings h = refl
-    no_names_of (kid ▸ kids) h = ap (λ l. l ++ names_of ts kids) (no_names kid h.0) ∙ no_names_of kids h.1
+    no_names_of (kid ▸ kids) h = ap (λ l. l ++ names_of ts kids) (no_names kid h.0) ∙ no_names_of
+        kids h.1
 
 nothing_added : (names new : List Text) → names ≡ [] → AddsEach [] names new → new ≡ []
 nothing_added names new e h = subst (λ l. AddsEach [] l new → new ≡ []) (sym e) (λ same. same) h
@@ -81,16 +89,20 @@ module _ (p : Parts) (text : Text) (ts : List Token) (cut : IsCut p text ts) whe
   pub known_tokens : AreKnown (literals_of p) [] ts
   known_tokens = cut_known [] ts cut.2 (λ t there e. absurd (plain_at ts t plain there e))
 
-  module _ (sort : Sort) (r : Reading) (answer : IsAnswer (numbered p) (plain_tokens [] ts) (number_of sort) (only r)) where
+  module _ (sort : Sort) (r : Reading)
+      (answer : IsAnswer (numbered p) (plain_tokens [] ts) (number_of sort) (only r)) where
     pub is_marked : IsMarked ts r
-    is_marked = readings_marked (numbered p) [] ts (number_of sort) 0 0 (length (plain_tokens [] ts)) r (named_plain ts plain) answer.1.0
+    is_marked = readings_marked (numbered p) [] ts (number_of sort) 0 0
+        (length (plain_tokens [] ts)) r (named_plain ts plain) answer.1.0
 
     pub has_no_names : names_in ts r ≡ []
     has_no_names = no_names ts plain r is_marked
 
-    pub reads_as : (new : List Text) (t : Tree) → AddsEach [] (names_in ts r) new → t ≡ term_of (plain_tokens [] ts) (new ++ []) r → ReadsAs p sort text ts r t
+    pub reads_as : (new : List Text) (t : Tree) → AddsEach [] (names_in ts r) new →
+        t ≡ term_of (plain_tokens [] ts) (new ++ []) r → ReadsAs p sort text ts r t
     reads_as new t names is = record {
       cut = cut;
       answer = answer;
-      term = is ∙ ap (λ l. term_of (plain_tokens [] ts) l r) (append-nil new ∙ nothing_added (names_in ts r) new has_no_names names);
+      term = is ∙ ap (λ l. term_of (plain_tokens [] ts) l r)
+          (append-nil new ∙ nothing_added (names_in ts r) new has_no_names names);
     }

@@ -1,5 +1,6 @@
 -- What a search tells, where no hypotheses are given.
-use Rattle.std.proofs.Common.{◌≡◌, ◌≤◌, ℕ, zero, suc, Bool, true, false, List, [], ◌∷◌, map, Option, None, subst, arith}
+use Rattle.std.proofs.Common.{◌≡◌, ◌≤◌, ℕ, zero, suc, Bool, true, false, List, [], ◌∷◌, map, Option}
+use Rattle.std.proofs.Common.{None, subst, arith}
 use Rattle.sx_term.specs.declared.sort.Sort.{Sort}
 use Rattle.sx_term.specs.Sorts.{Shape}
 use Rattle.sx_term.specs.Tree.{Tree}
@@ -8,7 +9,8 @@ use Rattle.sx_rules.specs.declared.rule.Hyps.{Hyps}
 use Rattle.sx_rules.specs.Derivations.{height_of, HasShallowBinds}
 use Rattle.sx_rules.specs.First.{Answer}
 use Rattle.sx_rules.specs.Modes.{Goal}
-use Rattle.sx_rules.specs.Views.{FormData, NamedRule, judgement, pair, hypotheses, modes_of, subjects_in}
+use Rattle.sx_rules.specs.Views.{FormData, NamedRule, judgement, pair, hypotheses, modes_of}
+use Rattle.sx_rules.specs.Views.{subjects_in}
 use Rattle.sx_rules.proofs.Refusals.{good_moded}
 use Rattle.sx_derive.specs.Walk.{Event, try, give, stop, events}
 use Rattle.sx_derive.specs.Search.{EachGiven, Ending, found, are_wanted, found_when, walk}
@@ -22,31 +24,44 @@ use Rattle.sx_typing.proofs.Lexemes.{outputs_have_lexemes}
 use Rattle.sx_typing.proofs.SortedGoals.{outputs_are_sorted, stuck_goals_fit}
 
 -- hypotheses without entries
-pub none_given : (given : Hyps) → given.holds.items ≡ [] → given.apart.items ≡ [] → hypotheses given ≡ no_hypotheses
-none_given given holds apart = λ i. record { judgements = map judgement (holds i); pairs = map pair (apart i) }
+pub none_given : (given : Hyps) → given.holds.items ≡ [] → given.apart.items ≡ [] →
+    hypotheses given ≡ no_hypotheses
+none_given given holds apart =
+    λ i. record { judgements = map judgement (holds i); pairs = map pair (apart i) }
 
 -- what holds of all that is given holds of what is found
 module _ (P : Answer → Type 0) (wanted : Option (List Tree)) where
-  found_one : (b : Bool) (x a : Answer) (rest : Ending) → P x → (rest ≡ found a → P a) → found_when b x rest ≡ found a → P a
+  found_one : (b : Bool) (x a : Answer) (rest : Ending) → P x → (rest ≡ found a → P a) →
+      found_when b x rest ≡ found a → P a
   found_one true x a rest p later e = let same : x ≡ a = cc in subst P same p
   found_one false x a rest p later e = later e
 
-  found_each : (budget : ℕ) (es : List (Event Answer)) (a : Answer) → EachGiven P es → walk wanted budget es ≡ found a → P a
+  found_each : (budget : ℕ) (es : List (Event Answer)) (a : Answer) → EachGiven P es →
+      walk wanted budget es ≡ found a → P a
   found_each budget [] a each e = cc
   found_each zero (try ∷ es) a each e = cc
   found_each (suc budget) (try ∷ es) a each e = found_each budget es a each e
   found_each zero (stop c ∷ es) a each e = cc
   found_each (suc budget) (stop c ∷ es) a each e = cc
-  found_each zero (give x ∷ es) a each e = found_one (are_wanted wanted x.1) x a (walk wanted zero es) each.0 (found_each zero es a each.1) e
-  found_each (suc budget) (give x ∷ es) a each e = found_one (are_wanted wanted x.1) x a (walk wanted (suc budget) es) each.0 (found_each (suc budget) es a each.1) e
+  found_each zero (give x ∷ es) a each e =
+      found_one (are_wanted wanted x.1) x a (walk wanted zero es) each.0
+      (found_each zero es a each.1) e
+  found_each (suc budget) (give x ∷ es) a each e =
+      found_one (are_wanted wanted x.1) x a (walk wanted (suc budget) es) each.0
+      (found_each (suc budget) es a each.1) e
 
 pub found_outputs_fit : FoundOutputsFit
 found_outputs_fit literals shapes forms rules set have vars top goal good wanted budget a e =
-    let first = found_is_first (modes_of forms) (bare rules) no_hypotheses (good_moded shapes forms [] rules set.1) goal wanted budget 1 a e in
-    let bounds = found_each _ wanted budget (events (modes_of forms) (bare rules) no_hypotheses goal 1) a (answers_are_bounded (modes_of forms) (bare rules) no_hypotheses tt goal 1 good.shallow) e in
+    let first = found_is_first (modes_of forms) (bare rules) no_hypotheses
+        (good_moded shapes forms [] rules set.1) goal wanted budget 1 a e in
+    let bounds = found_each _ wanted budget
+        (events (modes_of forms) (bare rules) no_hypotheses goal 1) a
+        (answers_are_bounded (modes_of forms) (bare rules) no_hypotheses tt goal 1 good.shallow)
+        e in
     record {
       sorted = outputs_are_sorted shapes forms rules set vars goal a good.sorted first.derives;
-      lexemes = outputs_have_lexemes literals shapes forms rules set have goal a good.lexemes first.derives;
+      lexemes = outputs_have_lexemes literals shapes forms rules set have goal a good.lexemes
+          first.derives;
       shallow = bounds.2;
     }
 
@@ -64,7 +79,10 @@ found_is_bounded literals shapes forms rules vars top goal good budget a e =
 
 pub exhausted_goals_fit : ExhaustedGoalsFit
 exhausted_goals_fit literals shapes forms rules set vars top goal good wanted budget blame e s = (
-  stuck_goals_fit shapes forms rules set vars top 3000 goal good.form [] blame good.is good.sorted good.leads s,
-  stuck_goal_is_shallow (modes_of forms) (subjects_in forms) (bare rules) no_hypotheses (good_moded shapes forms [] rules set.1) tt 1 goal [] blame good.shallow
-      (exhausted_has_no_stop wanted budget (events (modes_of forms) (bare rules) no_hypotheses goal 1) e) s,
+  stuck_goals_fit shapes forms rules set vars top 3000 goal good.form [] blame good.is good.sorted
+      good.leads s,
+  stuck_goal_is_shallow (modes_of forms) (subjects_in forms) (bare rules) no_hypotheses
+      (good_moded shapes forms [] rules set.1) tt 1 goal [] blame good.shallow
+      (exhausted_has_no_stop wanted budget
+          (events (modes_of forms) (bare rules) no_hypotheses goal 1) e) s,
 )

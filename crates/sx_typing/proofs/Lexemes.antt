@@ -3,7 +3,8 @@ use Rattle.std.proofs.Common.{List, [], ◌∷◌, ◌++◌, ◌⊎◌, inl, inr
 use Rattle.std.specs.Prelude.{flat_map}
 use Rattle.std.specs.List.{AllByRecursion}
 use Rattle.std.proofs.lemmas.Grind.{flat_map-append}
-use Rattle.std.proofs.lemmas.List.Elements.{Contains-append_left, Contains-append_right, Contains-append_cases}
+use Rattle.std.proofs.lemmas.List.Elements.{Contains-append_left, Contains-append_right}
+use Rattle.std.proofs.lemmas.List.Elements.{Contains-append_cases}
 use Rattle.sx_term.specs.declared.lex_kind.LexKind.TheVariants.{Id, Num, Str}
 use Rattle.sx_term.specs.Tree.{Tree, Trees, node, lexeme, hole, none, ◌▹◌}
 use Rattle.sx_grammar.specs.Grammar.{Text}
@@ -16,7 +17,8 @@ use Rattle.sx_rules.specs.Modes.{Goal}
 use Rattle.sx_rules.specs.Rules.{Premise, holds, apart}
 use Rattle.sx_rules.specs.Views.{NamedRule, modes_of}
 use Rattle.sx_rules.proofs.Refusals.{good_moded}
-use Rattle.sx_lexemes.specs.Lexemes.{IsToken, LexemesAre, KidsLexemesAre, AllLexemesAre, PremiseLexemesAre, RuleLexemesAre}
+use Rattle.sx_lexemes.specs.Lexemes.{IsToken, LexemesAre, KidsLexemesAre, AllLexemesAre}
+use Rattle.sx_lexemes.specs.Lexemes.{PremiseLexemesAre, RuleLexemesAre}
 use Rattle.sx_lexemes.proofs.Derived.{derived_keep_lexemes}
 use Rattle.sx_lexemes.proofs.Terms.{outputs_lexemes}
 use Rattle.sx_notation.specs.Language.{PremiseHasLexemes, RuleHasLexemes}
@@ -45,36 +47,49 @@ module _ (literals : List Text) where
     from_kids_tokens none h = tt
     from_kids_tokens (t ▹ ts) h = (from_tokens t h.0, from_kids_tokens ts h.1)
 
-  pub all_to_tokens : (ts : List Tree) → AllByRecursion (HasLexemes literals) ts → AllLexemesAre (IsToken literals) ts
+  pub all_to_tokens : (ts : List Tree) → AllByRecursion (HasLexemes literals) ts →
+      AllLexemesAre (IsToken literals) ts
   all_to_tokens [] h = tt
   all_to_tokens (t ∷ ts) h = (to_tokens t h.0, all_to_tokens ts h.1)
 
-  pub all_from_tokens : (ts : List Tree) → AllLexemesAre (IsToken literals) ts → AllByRecursion (HasLexemes literals) ts
+  pub all_from_tokens : (ts : List Tree) → AllLexemesAre (IsToken literals) ts →
+      AllByRecursion (HasLexemes literals) ts
   all_from_tokens [] h = tt
   all_from_tokens (t ∷ ts) h = (from_tokens t h.0, all_from_tokens ts h.1)
 
-  premises_to_tokens : (ps : List Premise) → AllByRecursion (PremiseHasLexemes literals) ps → AllByRecursion (PremiseLexemesAre (IsToken literals)) ps
+  premises_to_tokens : (ps : List Premise) → AllByRecursion (PremiseHasLexemes literals) ps →
+      AllByRecursion (PremiseLexemesAre (IsToken literals)) ps
   premises_to_tokens [] h = tt
   premises_to_tokens (holds j ∷ ps) h = (all_to_tokens j.places h.0, premises_to_tokens ps h.1)
-  premises_to_tokens (apart t u ∷ ps) h = ((to_tokens t h.0.0, to_tokens u h.0.1), premises_to_tokens ps h.1)
+  premises_to_tokens (apart t u ∷ ps) h =
+      ((to_tokens t h.0.0, to_tokens u h.0.1), premises_to_tokens ps h.1)
 
-  premises_from_tokens : (ps : List Premise) → AllByRecursion (PremiseLexemesAre (IsToken literals)) ps → AllByRecursion (PremiseHasLexemes literals) ps
+  premises_from_tokens : (ps : List Premise) →
+      AllByRecursion (PremiseLexemesAre (IsToken literals)) ps →
+      AllByRecursion (PremiseHasLexemes literals) ps
   premises_from_tokens [] h = tt
-  premises_from_tokens (holds j ∷ ps) h = (all_from_tokens j.places h.0, premises_from_tokens ps h.1)
-  premises_from_tokens (apart t u ∷ ps) h = ((from_tokens t h.0.0, from_tokens u h.0.1), premises_from_tokens ps h.1)
+  premises_from_tokens (holds j ∷ ps) h =
+      (all_from_tokens j.places h.0, premises_from_tokens ps h.1)
+  premises_from_tokens (apart t u ∷ ps) h =
+      ((from_tokens t h.0.0, from_tokens u h.0.1), premises_from_tokens ps h.1)
 
-  pub rules_to_tokens : (rules : List NamedRule) → AllByRecursion (RuleHasLexemes literals) rules → AllByRecursion (RuleLexemesAre (IsToken literals)) (bare rules)
+  pub rules_to_tokens : (rules : List NamedRule) → AllByRecursion (RuleHasLexemes literals) rules →
+      AllByRecursion (RuleLexemesAre (IsToken literals)) (bare rules)
   rules_to_tokens [] h = tt
   rules_to_tokens (r ∷ rules) h = (
-    record { premises = premises_to_tokens r.rule.premises h.0.premises; conclusion = all_to_tokens r.rule.conclusion.places h.0.conclusion },
+    record { premises = premises_to_tokens r.rule.premises h.0.premises; conclusion =
+        all_to_tokens r.rule.conclusion.places h.0.conclusion },
     rules_to_tokens rules h.1,
   )
 
   -- rules whose lexemes are tokens, with their names
-  pub rules_from_tokens : (rules : List NamedRule) → AllByRecursion (RuleLexemesAre (IsToken literals)) (bare rules) → AllByRecursion (RuleHasLexemes literals) rules
+  pub rules_from_tokens : (rules : List NamedRule) →
+      AllByRecursion (RuleLexemesAre (IsToken literals)) (bare rules) →
+      AllByRecursion (RuleHasLexemes literals) rules
   rules_from_tokens [] h = tt
   rules_from_tokens (r ∷ rules) h = (
-    record { premises = premises_from_tokens r.rule.premises h.0.premises; conclusion = all_from_tokens r.rule.conclusion.places h.0.conclusion },
+    record { premises = premises_from_tokens r.rule.premises h.0.premises; conclusion =
+        all_from_tokens r.rule.conclusion.places h.0.conclusion },
     rules_from_tokens rules h.1,
   )
 
@@ -83,16 +98,21 @@ module _ (literals : List Text) where
 pub outputs_have_lexemes : OutputsHaveLexemes
 outputs_have_lexemes literals shapes forms rules set have goal a g (j, is_goal, is_outs, d) =
     let modes = modes_of forms in
-    let ins = subst (λ (x : Goal). AllLexemesAre (IsToken literals) x.terms) (sym is_goal) (all_to_tokens literals goal.terms g) in
+    let ins = subst (λ (x : Goal). AllLexemesAre (IsToken literals) x.terms) (sym is_goal)
+        (all_to_tokens literals goal.terms g) in
     let all =
-    derived_keep_lexemes literals modes (bare rules) no_hypotheses (good_moded shapes forms [] rules set.1) (rules_to_tokens literals rules have) tt a.0 j d ins in
+    derived_keep_lexemes literals modes (bare rules) no_hypotheses
+        (good_moded shapes forms [] rules set.1) (rules_to_tokens literals rules have) tt a.0 j d
+        ins in
     let outs = outputs_lexemes (IsToken literals) (modes j.form) j.places all in
-    all_from_tokens literals a.1 (subst (λ (ts : List Tree). AllLexemesAre (IsToken literals) ts) is_outs outs)
+    all_from_tokens literals a.1 (subst (λ (ts : List Tree). AllLexemesAre (IsToken literals) ts)
+        is_outs outs)
 
 -- ---- fewer literals
 
 -- tokens that are none of the literals are none of fewer literals
-module _ (many few : List Text) (inside : (text : Text) → Contains few text → ¬ (¬ (Contains many text))) where
+module _ (many few : List Text)
+    (inside : (text : Text) → Contains few text → ¬ (¬ (Contains many text))) where
   mutual
     fewer : (t : Tree) → HasLexemes many t → HasLexemes few t
     fewer (node label kids) h = fewer_kids kids h
@@ -113,18 +133,23 @@ module _ (p : Parts) (more : List Line) where
   in_lines ls = flat_map (λ r. flat_map symbol_literals r.symbols) ls
 
   -- literals stay where productions are added
-  literal_stays : (text : Text) → Contains (literals p) text → Contains (literals (extended p more)) text
+  literal_stays : (text : Text) → Contains (literals p) text →
+      Contains (literals (extended p more)) text
   literal_stays text h = by (Contains-append_cases in_sorts (in_lines p.productions) text h)
     where
-      by : Contains in_sorts text ⊎ Contains (in_lines p.productions) text → Contains (literals (extended p more)) text
+      by : Contains in_sorts text ⊎ Contains (in_lines p.productions) text →
+          Contains (literals (extended p more)) text
       by (inl k) = Contains-append_left in_sorts (in_lines (p.productions ++ more)) text k
       by (inr k) =
           Contains-append_right in_sorts (in_lines (p.productions ++ more)) text
-          (subst (λ (ts : List Text). Contains ts text) (sym (flat_map-append (λ r. flat_map symbol_literals r.symbols) p.productions more))
+          (subst (λ (ts : List Text). Contains ts text)
+              (sym (flat_map-append (λ r. flat_map symbol_literals r.symbols) p.productions more))
           (Contains-append_left (in_lines p.productions) (in_lines more) text k))
 
   -- what has no literals of a grammar with more productions as lexemes has none of the grammar's
-  pub without_more : (t : Tree) → HasLexemes (literals_of (extended p more)) t → HasLexemes (literals_of p) t
+  pub without_more : (t : Tree) → HasLexemes (literals_of (extended p more)) t →
+      HasLexemes (literals_of p) t
   without_more t h =
       fewer (literals_of (extended p more)) (literals_of p)
-      (λ text has. distinct_has (literals (extended p more)) text (literal_stays text (distinct_from (literals p) text has))) t h
+      (λ text has. distinct_has (literals (extended p more)) text
+          (literal_stays text (distinct_from (literals p) text has))) t h

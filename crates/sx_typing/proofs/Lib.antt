@@ -14,3 +14,4 @@ pub mod Tries
 pub mod OneAnswer
 pub mod OneTyping
 pub mod Walks
+pub mod Grown

@@ -2,7 +2,8 @@
 use Rattle.std.proofs.Common.{◌≡◌, ℕ, false, List, [], ◌⊎◌, inl, inr, refl, sym, ap, ◌∙◌, subst}
 use Rattle.std.specs.Prelude.{Option, Some, None}
 use Rattle.sx_term.specs.declared.sort.Sort.{Sort}
-use Rattle.sx_term.specs.Cutting.{Outcome, IsOutcome, tokens, not_utf8, bad_token, too_many, open_string}
+use Rattle.sx_term.specs.Cutting.{Outcome, IsOutcome, tokens, not_utf8, bad_token, too_many}
+use Rattle.sx_term.specs.Cutting.{open_string}
 use Rattle.sx_term.specs.Tree.{Tree}
 use Rattle.sx_term.proofs.CutLaws.{IsOutcome-same}
 use Rattle.sx_token.specs.declared.token.Token.{Token}
@@ -36,7 +37,8 @@ defect_of (Some too_many) = token.TooManyTokens
 defect_of (Some (open_string place)) = token.OpenString place
 
 module _ (p : Parts) (text : Text) where
-  outcome_one : (a b : Outcome) → IsOutcome (literals_of p) false text a → IsOutcome (literals_of p) false text b → a ≡ b
+  outcome_one : (a b : Outcome) → IsOutcome (literals_of p) false text a →
+      IsOutcome (literals_of p) false text b → a ≡ b
   outcome_one = IsOutcome-same (literals_of p) false text (distinct_are (literals p))
 
   -- a defect is an outcome
@@ -56,22 +58,26 @@ module _ (p : Parts) (text : Text) where
   defect_one e d h k =
       let a = told e h in
       let b = told d k in
-      a.is ∙ ap (λ o. defect_of (Some o)) (outcome_one a.outcome b.outcome a.holds b.holds) ∙ sym b.is
+      a.is ∙ ap (λ o. defect_of (Some o)) (outcome_one a.outcome b.outcome a.holds b.holds) ∙ sym
+          b.is
 
 module _ (p : Parts) (sort : Sort) (text : Text) where
   abbrev Answers : List Token → ReadAnswer → Type 0
   Answers ts a = IsAnswer (numbered p) (plain_tokens [] ts) (number_of sort) a
 
-  pub answer_one : (ts us : List Token) (a b : ReadAnswer) → IsCut p text ts → IsCut p text us → Answers ts a → Answers us b → SameAnswer a b
+  pub answer_one : (ts us : List Token) (a b : ReadAnswer) → IsCut p text ts → IsCut p text us →
+      Answers ts a → Answers us b → SameAnswer a b
   answer_one ts us a b cut other h k =
-      answers_agree (numbered p) (plain_tokens [] us) (number_of sort) a b (subst (λ (l : List Token). Answers l a) (one_cut p text ts us cut other) h) k
+      answers_agree (numbered p) (plain_tokens [] us) (number_of sort) a b
+          (subst (λ (l : List Token). Answers l a) (one_cut p text ts us cut other) h) k
 
   pub record SameBody (ts us : List Token) (r q : Reading) (t u : Tree) : Type 0 where
     pub tokens_same : ts ≡ us
     pub reading_same : r ≡ q
     pub term_same : t ≡ u
 
-  pub body_one : (ts us : List Token) (r q : Reading) (t u : Tree) → ReadsAs p sort text ts r t → ReadsAs p sort text us q u → SameBody ts us r q t u
+  pub body_one : (ts us : List Token) (r q : Reading) (t u : Tree) → ReadsAs p sort text ts r t →
+      ReadsAs p sort text us q u → SameBody ts us r q t u
   body_one ts us r q t u h k =
       let cut = one_cut p text ts us h.cut k.cut in
       let answer = answer_one ts us (only r) (only q) h.cut k.cut h.answer k.answer in
@@ -83,11 +89,16 @@ module _ (p : Parts) (sort : Sort) (text : Text) where
       }
 
   -- why tokens have not one reading
-  pub unread_one : (size : ℕ) (ts us : List Token) (u v : Unread) → IsCut p text ts → IsCut p text us → IsUnreadAs p [] sort ts size u → IsUnreadAs p [] sort us size v →
+  pub unread_one : (size : ℕ) (ts us : List Token) (u v : Unread) → IsCut p text ts →
+      IsCut p text us → IsUnreadAs p [] sort ts size u → IsUnreadAs p [] sort us size v →
       (u ≡ v) ⊎ (ShowTwo u v × HasThree p sort text)
   unread_one size ts us u v cut other h k =
-      in_text us u v other (one_reason p [] sort us size u v (subst (λ (l : List Token). IsUnreadAs p [] sort l size u) (one_cut p text ts us cut other) h) k)
+      in_text us u v other (one_reason p [] sort us size u v
+          (subst (λ (l : List Token). IsUnreadAs p [] sort l size u)
+          (one_cut p text ts us cut other) h) k)
     where
-      in_text : (us : List Token) (u v : Unread) → IsCut p text us → (u ≡ v) ⊎ (ShowTwo u v × HaveThree p [] sort us) → (u ≡ v) ⊎ (ShowTwo u v × HasThree p sort text)
+      in_text : (us : List Token) (u v : Unread) → IsCut p text us →
+          (u ≡ v) ⊎ (ShowTwo u v × HaveThree p [] sort us) →
+          (u ≡ v) ⊎ (ShowTwo u v × HasThree p sort text)
       in_text us u v other (inl same) = inl same
       in_text us u v other (inr two) = inr (two.0, (us, other, two.1))

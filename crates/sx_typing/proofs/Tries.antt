@@ -10,7 +10,8 @@ use Rattle.sx_typing.specs.declared.typing_error.TypingError.{TypingError}
 use Rattle.sx_typing.specs.declared.typing_error.TypingError.TheVariants as typing_error
 use Rattle.sx_typing.specs.Goals.{IsTried}
 
-exact : (made first last : ℕ) (r : TypingError) → last ≡ first + made → IsTried {X = Typed} made first last (Err r)
+exact : (made first last : ℕ) (r : TypingError) → last ≡ first + made →
+    IsTried {X = Typed} made first last (Err r)
 exact made first last typing_error.Memory h = (omega (arith, h), omega (arith, h))
 exact made first last (typing_error.Token line column e) h = h
 exact made first last (typing_error.Read line column e) h = h
@@ -21,9 +22,12 @@ exact made first last (typing_error.TooDeep n) h = h
 exact made first last (typing_error.TooBig n) h = h
 
 -- the tries of a search that finds nothing are those of the refusal
-pub tried : (made first last : ℕ) (e : DeriveError) (r : TypingError) → AreCounted {X = Listed} made first last (Err e) →
-    (e ≡ derive_error.Memory → r ≡ typing_error.Memory) → IsTried {X = Typed} made first last (Err r)
-tried made first last derive_error.Memory r h k = subst (λ (x : TypingError). IsTried {X = Typed} made first last (Err x)) (sym (k refl)) h
+pub tried : (made first last : ℕ) (e : DeriveError) (r : TypingError) →
+    AreCounted {X = Listed} made first last (Err e) →
+    (e ≡ derive_error.Memory → r ≡ typing_error.Memory) →
+        IsTried {X = Typed} made first last (Err r)
+tried made first last derive_error.Memory r h k =
+    subst (λ (x : TypingError). IsTried {X = Typed} made first last (Err x)) (sym (k refl)) h
 tried made first last (derive_error.Underivable b) r h k = exact made first last r h
 tried made first last (derive_error.BudgetSpent n) r h k = exact made first last r h
 tried made first last (derive_error.DepthSpent n) r h k = exact made first last r h
@@ -31,7 +35,8 @@ tried made first last (derive_error.TooDeep n) r h k = exact made first last r h
 tried made first last (derive_error.TooBig n) r h k = exact made first last r h
 
 -- they are no more than those that may be made
-pub counted_most : (made first last tries : ℕ) (r : Result Listed DeriveError) → made ≤ tries → AreCounted made first last r → last ≤ first + tries
+pub counted_most : (made first last tries : ℕ) (r : Result Listed DeriveError) → made ≤ tries →
+    AreCounted made first last r → last ≤ first + tries
 counted_most made first last tries (Ok l) few h = omega (arith, few, h)
 counted_most made first last tries (Err derive_error.Memory) few h = omega (arith, few, h.1)
 counted_most made first last tries (Err (derive_error.Underivable b)) few h = omega (arith, few, h)

@@ -1,5 +1,6 @@
 -- Stuck goals can be told, and are type errors of sources.
-use Rattle.std.proofs.Common.{◌≡◌, ℕ, ◌+◌, ◌≤◌, Bool, List, [], ◌∷◌, map, length, None, sym, ap, ◌∙◌, subst, arith}
+use Rattle.std.proofs.Common.{◌≡◌, ℕ, ◌+◌, ◌≤◌, Bool, List, [], ◌∷◌, map, length, None, sym, ap}
+use Rattle.std.proofs.Common.{◌∙◌, subst, arith}
 use Rattle.std.specs.List.{AllByRecursion}
 use Rattle.sx_term.specs.Tree.{Tree}
 use Rattle.sx_term.specs.Cutting.{Piece, Cuts, done, skip, piece}
@@ -28,17 +29,24 @@ use Rattle.sx_typing.specs.TypeErrors.{IsTypeError}
 use Rattle.sx_typing.specs.Goals.{goal_events}
 
 -- tokens begin within the text
-cuts_within : {literals : List Text} {metas : Bool} {size : ℕ} {text rest : Text} {ps : List Piece} → Cuts literals metas size text ps rest → AllByRecursion (λ p. p.from ≤ size) ps
+cuts_within : {literals : List Text} {metas : Bool} {size : ℕ} {text rest : Text}
+    {ps : List Piece} → Cuts literals metas size text ps rest →
+    AllByRecursion (λ p. p.from ≤ size) ps
 cuts_within done = tt
 cuts_within (skip blank more) = cuts_within more
-cuts_within {size = size} (piece {text = text} {t = t} at more) = (let h = at.from in omega (arith, h), cuts_within more)
+cuts_within {size = size} (piece {text = text} {t = t} at more) =
+    (let h = at.from in omega (arith, h), cuts_within more)
 
-all_pieces : (size : ℕ) (ts : List Token) → AllByRecursion (λ p. p.from ≤ size) (pieces ts) → AllByRecursion (λ (t : Token). t.from ≤ size) ts
+all_pieces : (size : ℕ) (ts : List Token) → AllByRecursion (λ p. p.from ≤ size) (pieces ts) →
+    AllByRecursion (λ (t : Token). t.from ≤ size) ts
 all_pieces size [] h = tt
 all_pieces size (t ∷ ts) h = (h.0, all_pieces size ts h.1)
 
-pub tokens_within : (p : Parts) (text : Text) (ts : List Token) (size : ℕ) → IsCut p text ts → length text ≡ size → AllByRecursion (λ (t : Token). t.from ≤ size) ts
-tokens_within p text ts size cut same = subst (λ (n : ℕ). AllByRecursion (λ (t : Token). t.from ≤ n) ts) same (all_pieces (length text) ts (cuts_within cut.2))
+pub tokens_within : (p : Parts) (text : Text) (ts : List Token) (size : ℕ) → IsCut p text ts →
+    length text ≡ size → AllByRecursion (λ (t : Token). t.from ≤ size) ts
+tokens_within p text ts size cut same =
+    subst (λ (n : ℕ). AllByRecursion (λ (t : Token). t.from ≤ n) ts) same
+    (all_pieces (length text) ts (cuts_within cut.2))
 
 -- the grammar by which the dialect's rules are read has the language's forms
 read_by : (d : DialectData) → IsDialect d → IsReadBy d.parts (telling_in d)
@@ -46,7 +54,8 @@ read_by d is = record {
   lines = is.lines;
   known = subst (λ (p : Parts). HaveSortsOf p is.lines) (sym is.goes_on) is.known;
   read_by = is.rules_read_by;
-  forms = subst (λ (p : Parts). d.language.forms ≡ map (form_of p) is.lines) (sym is.goes_on) is.forms;
+  forms = subst (λ (p : Parts). d.language.forms ≡ map (form_of p) is.lines) (sym is.goes_on)
+      is.forms;
 }
 
 -- a stuck goal that is well sorted can be told
@@ -58,8 +67,10 @@ can_tell d top blame is grammar b shallow =
     (record { form = b.form; is = b.is; sorted = b.sorted; got = b.got }) shallow
 
 -- so the refusal is one of the source
-pub is_type_error : (s : Source) (tries before size : ℕ) (b : HasBody s) (blame : Blame) (e : TypingError) →
-    before ≡ bytes_before s → size ≡ length s.header.body → walk None tries (goal_events s b.subject) ≡ exhausted → IsStuckGoal s b.subject blame →
+pub is_type_error : (s : Source) (tries before size : ℕ) (b : HasBody s) (blame : Blame)
+    (e : TypingError) →
+    before ≡ bytes_before s → size ≡ length s.header.body →
+        walk None tries (goal_events s b.subject) ≡ exhausted → IsStuckGoal s b.subject blame →
     IsTypeError s.dialect s.bytes before size b.tokens b.reading blame e → IsBadSource s tries e
 is_type_error s tries before size b blame e at many ends stuck t =
     subst (IsBadSource s tries) (sym t.is) (
@@ -71,7 +82,8 @@ is_type_error s tries before size b blame e at many ends stuck t =
         (
           t.at.0,
           t.at.1,
-          (t.line_is ∙ (λ i. line_at s.bytes (at i + place i)), t.column_is ∙ (λ i. column_at s.bytes (at i + place i))),
+          (t.line_is ∙ (λ i. line_at s.bytes (at i + place i)),
+              t.column_is ∙ (λ i. column_at s.bytes (at i + place i))),
         ),
         t.text_is,
       ),

@@ -10,3 +10,4 @@ pub mod Goals
 pub mod Refused
 pub mod TypeErrors
 pub mod Alike
+pub mod Growing

@@ -2,6 +2,7 @@
 
 ghost use Rattle.sx_typing.specs.Alike.{OneTyping};
 ghost use Rattle.sx_typing.specs.Goals.{TypingsAreFirst};
+ghost use Rattle.sx_typing.specs.Growing.{LanguagesAreDialects, DialectsGrow};
 ghost use Rattle.sx_typing.specs.Refused.{TypeErrorsAreFinal};
 
 /// What a walk finds is the first derivation of the source's goal.
@@ -18,4 +19,11 @@ pub fn type_errors_are_final()
 /// more than two readings it is free which two a refusal shows.
 pub fn one_typing()
     ensures { OneTyping }
+{}
+
+/// A language without extensions is a dialect, and a dialect stays one with an extension that fits
+/// it and is sound after it.
+pub fn dialects_grow()
+    ensures first { LanguagesAreDialects }
+    ensures next { DialectsGrow }
 {}

@@ -1,4 +1,5 @@
-use Rattle.sx_typing.proofs.MainGoals.{main_goals_fit, main_goals_have_lexemes, main_goals_are_shallow, parts_have_places}
+use Rattle.sx_typing.proofs.MainGoals.{main_goals_fit, main_goals_have_lexemes}
+use Rattle.sx_typing.proofs.MainGoals.{main_goals_are_shallow, parts_have_places}
 use Rattle.sx_typing.proofs.goal_laws.main_goals_fit.Goals as goal
 
 pub returns-clause-fit : goal.returns-clause-fit

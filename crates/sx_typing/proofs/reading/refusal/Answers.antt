@@ -24,7 +24,8 @@ pub returns-in-Token-clause-none : goal.returns-in-Token-clause-none
 returns-in-Token-clause-none c =
     let s = source_of c.args.source.now in
     let p = s.dialect.parts in
-    let h = subst (IsUnreadBody p (main_sort s.dialect.language Sub) s.header.body) c.in-Token.is c.requires in
+    let h = subst (IsUnreadBody p (main_sort s.dialect.language Sub) s.header.body) c.in-Token.is
+        c.requires in
     inr (λ b. defect_or_cut p s.header.body c.in-Token.error b.tokens h b.read.cut)
 
 pub returns-in-Read-clause-none : goal.returns-in-Read-clause-none
@@ -36,4 +37,5 @@ returns-in-Read-clause-none c =
     inr (λ b.
     let same : b.tokens ≡ h.0 = one_cut p s.header.body b.tokens h.0 b.read.cut h.1 in
     unread_or_read p [] sort h.0 (length s.header.body) c.in-Read.error b.reading h.2
-    (subst (λ (ts : List Token). IsAnswer (numbered p) (plain_tokens [] ts) (number_of sort) (only b.reading)) same b.read.answer))
+    (subst (λ (ts : List Token). IsAnswer (numbered p) (plain_tokens [] ts) (number_of sort)
+        (only b.reading)) same b.read.answer))

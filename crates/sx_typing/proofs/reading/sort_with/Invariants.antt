@@ -4,4 +4,5 @@ use Rattle.sx_typing.specs.Source.{only_sort}
 use Rattle.sx_typing.proofs.reading.sort_with.Given as goal
 
 abbrev pub invariant-loop-i : goal.invariant-loop-i
-invariant-loop-i l = only_sort (sorts_with l.role (drop l.i l.places)) ≡ only_sort (sorts_with l.role l.places)
+invariant-loop-i l = only_sort (sorts_with l.role (drop l.i l.places)) ≡ only_sort
+    (sorts_with l.role l.places)

@@ -17,10 +17,12 @@ returns-clause-answer g c =
     let d = c.args.source.now.dialect in
     let result = c.find_derivation.result in
     by_rules
-    (λ fs rules x. IsListed (modes_of fs) (subjects_in fs) (bare rules) no_hypotheses x None c.args.tries result)
+    (λ fs rules x. IsListed (modes_of fs) (subjects_in fs) (bare rules) no_hypotheses x None
+        c.args.tries result)
     c.rules-rules.result.now d.accepted.now.rules (forms_in d.language.now.rules)
     (goal_of c.args.goal.now) (goal_for (source_of c.args.source.now) (tree c.args.body.now.term))
-    c.rules-rules.ensures c.requires.can.dialect.forms c.requires.goal c.find_derivation.ensures.answer
+    c.rules-rules.ensures c.requires.can.dialect.forms c.requires.goal
+        c.find_derivation.ensures.answer
 
 pub returns-clause-steps : goal.returns-clause-steps
 returns-clause-steps g c =
@@ -31,4 +33,5 @@ returns-clause-steps g c =
     c.args.steps.now c.find_derivation.new.steps c.find_derivation.result)
     c.rules-rules.result.now d.accepted.now.rules (forms_in d.language.now.rules)
     (goal_of c.args.goal.now) (goal_for (source_of c.args.source.now) (tree c.args.body.now.term))
-    c.rules-rules.ensures c.requires.can.dialect.forms c.requires.goal c.find_derivation.ensures.steps
+    c.rules-rules.ensures c.requires.can.dialect.forms c.requires.goal
+        c.find_derivation.ensures.steps
