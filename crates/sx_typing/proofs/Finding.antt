@@ -53,11 +53,11 @@ module _ (P : Answer → Type 0) (wanted : Option (List Tree)) where
 pub found_outputs_fit : FoundOutputsFit
 found_outputs_fit literals shapes forms rules set have vars top goal good wanted budget a e =
     let first = found_is_first (modes_of forms) (bare rules) no_hypotheses
-        (good_moded shapes forms [] rules set.1) goal wanted budget 1 a e in
+    (good_moded shapes forms [] rules set.1) goal wanted budget 1 a e in
     let bounds = found_each _ wanted budget
-        (events (modes_of forms) (bare rules) no_hypotheses goal 1) a
-        (answers_are_bounded (modes_of forms) (bare rules) no_hypotheses tt goal 1 good.shallow)
-        e in
+    (events (modes_of forms) (bare rules) no_hypotheses goal 1) a
+    (answers_are_bounded (modes_of forms) (bare rules) no_hypotheses tt goal 1 good.shallow)
+    e in
     record {
       sorted = outputs_are_sorted shapes forms rules set vars goal a good.sorted first.derives;
       lexemes = outputs_have_lexemes literals shapes forms rules set have goal a good.lexemes
@@ -84,5 +84,5 @@ exhausted_goals_fit literals shapes forms rules set vars top goal good wanted bu
   stuck_goal_is_shallow (modes_of forms) (subjects_in forms) (bare rules) no_hypotheses
       (good_moded shapes forms [] rules set.1) tt 1 goal [] blame good.shallow
       (exhausted_has_no_stop wanted budget
-          (events (modes_of forms) (bare rules) no_hypotheses goal 1) e) s,
+      (events (modes_of forms) (bare rules) no_hypotheses goal 1) e) s,
 )

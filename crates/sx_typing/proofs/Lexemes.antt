@@ -77,8 +77,11 @@ module _ (literals : List Text) where
       AllByRecursion (RuleLexemesAre (IsToken literals)) (bare rules)
   rules_to_tokens [] h = tt
   rules_to_tokens (r ∷ rules) h = (
-    record { premises = premises_to_tokens r.rule.premises h.0.premises; conclusion =
-        all_to_tokens r.rule.conclusion.places h.0.conclusion },
+    record {
+      premises = premises_to_tokens r.rule.premises h.0.premises;
+      conclusion =
+          all_to_tokens r.rule.conclusion.places h.0.conclusion;
+    },
     rules_to_tokens rules h.1,
   )
 
@@ -88,8 +91,11 @@ module _ (literals : List Text) where
       AllByRecursion (RuleHasLexemes literals) rules
   rules_from_tokens [] h = tt
   rules_from_tokens (r ∷ rules) h = (
-    record { premises = premises_from_tokens r.rule.premises h.0.premises; conclusion =
-        all_from_tokens r.rule.conclusion.places h.0.conclusion },
+    record {
+      premises = premises_from_tokens r.rule.premises h.0.premises;
+      conclusion =
+          all_from_tokens r.rule.conclusion.places h.0.conclusion;
+    },
     rules_from_tokens rules h.1,
   )
 
@@ -99,14 +105,14 @@ pub outputs_have_lexemes : OutputsHaveLexemes
 outputs_have_lexemes literals shapes forms rules set have goal a g (j, is_goal, is_outs, d) =
     let modes = modes_of forms in
     let ins = subst (λ (x : Goal). AllLexemesAre (IsToken literals) x.terms) (sym is_goal)
-        (all_to_tokens literals goal.terms g) in
+    (all_to_tokens literals goal.terms g) in
     let all =
     derived_keep_lexemes literals modes (bare rules) no_hypotheses
-        (good_moded shapes forms [] rules set.1) (rules_to_tokens literals rules have) tt a.0 j d
-        ins in
+    (good_moded shapes forms [] rules set.1) (rules_to_tokens literals rules have) tt a.0 j d
+    ins in
     let outs = outputs_lexemes (IsToken literals) (modes j.form) j.places all in
     all_from_tokens literals a.1 (subst (λ (ts : List Tree). AllLexemesAre (IsToken literals) ts)
-        is_outs outs)
+    is_outs outs)
 
 -- ---- fewer literals
 
@@ -143,7 +149,7 @@ module _ (p : Parts) (more : List Line) where
       by (inr k) =
           Contains-append_right in_sorts (in_lines (p.productions ++ more)) text
           (subst (λ (ts : List Text). Contains ts text)
-              (sym (flat_map-append (λ r. flat_map symbol_literals r.symbols) p.productions more))
+          (sym (flat_map-append (λ r. flat_map symbol_literals r.symbols) p.productions more))
           (Contains-append_left (in_lines p.productions) (in_lines more) text k))
 
   -- what has no literals of a grammar with more productions as lexemes has none of the grammar's
@@ -152,4 +158,4 @@ module _ (p : Parts) (more : List Line) where
   without_more t h =
       fewer (literals_of (extended p more)) (literals_of p)
       (λ text has. distinct_has (literals (extended p more)) text
-          (literal_stays text (distinct_from (literals p) text has))) t h
+      (literal_stays text (distinct_from (literals p) text has))) t h

@@ -15,3 +15,4 @@ pub mod OneAnswer
 pub mod OneTyping
 pub mod Walks
 pub mod Grown
+pub mod GoodTypings

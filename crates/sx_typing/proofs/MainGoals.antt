@@ -49,11 +49,11 @@ module _ (shapes : List Shape) (vars : List Sort) (environment subject : Tree) w
   sorted_place : (role : Role) (sort : Sort) (ins subs : List Sort) (bs : List Bool)
       (sorts : List Sort) (ts : List Tree) →
       EachHas environment (sort_when In role sort ++ ins) →
-          EachHas subject (sort_when Sub role sort ++ subs) →
+      EachHas subject (sort_when Sub role sort ++ subs) →
       (EachHas environment ins → EachHas subject subs → HaveSorts shapes vars ts (inputs bs sorts))
-          →
+      →
       HaveSorts shapes vars (input_at environment subject role ++ ts)
-          (inputs (is_out role ∷ bs) (sort ∷ sorts))
+      (inputs (is_out role ∷ bs) (sort ∷ sorts))
   sorted_place In sort ins subs bs sorts ts h k more = (h.0, more h.1 k)
   sorted_place Sub sort ins subs bs sorts ts h k more = (k.0, more h k.1)
   sorted_place Out sort ins subs bs sorts ts h k more = more h k
@@ -61,17 +61,17 @@ module _ (shapes : List Shape) (vars : List Sort) (environment subject : Tree) w
   terms_sorted : (places : List Place) → EachHas environment (sorts_with In places) →
       EachHas subject (sorts_with Sub places) →
       HaveSorts shapes vars (main_terms places environment subject)
-          (inputs (outs_of places) (map (λ p. p.sort) places))
+      (inputs (outs_of places) (map (λ p. p.sort) places))
   terms_sorted [] h k = tt
   terms_sorted (p ∷ ps) h k =
       sorted_place p.role p.sort (sorts_with In ps) (sorts_with Sub ps) (outs_of ps)
-          (map (λ q. q.sort) ps) (main_terms ps environment subject) h k (terms_sorted ps)
+      (map (λ q. q.sort) ps) (main_terms ps environment subject) h k (terms_sorted ps)
 
   subject_place : (role : Role) (sort : Sort) (outs subs : List Bool) (ts : List Tree)
       (sorts : List Sort) → outputs (inputs outs subs) ts ≡ map (λ s. subject) sorts →
       outputs (inputs (is_out role ∷ outs) (is_sub role ∷ subs))
-          (input_at environment subject role ++ ts) ≡ map (λ s. subject)
-          (sort_when Sub role sort ++ sorts)
+      (input_at environment subject role ++ ts) ≡ map (λ s. subject)
+      (sort_when Sub role sort ++ sorts)
   subject_place In sort outs subs ts sorts e = e
   subject_place Sub sort outs subs ts sorts e = ap (λ (us : List Tree). subject ∷ us) e
   subject_place Out sort outs subs ts sorts e = e
@@ -112,15 +112,15 @@ module _ (shapes : List Shape) (forms : List FormData) (vars : List Sort) (numbe
       sorts_with In form.places ≡ input ∷ [] → sorts_with Sub form.places ≡ sort ∷ [] →
       HasSort shapes vars environment input → HasSort shapes vars subject sort →
       GoalIsSorted shapes (sorts_of forms) (modes_of forms) vars
-          (main_goal forms number environment subject)
+      (main_goal forms number environment subject)
   main_goal_sorted input sort environment subject ins subs h k =
       subst (λ (places : List Place). HaveSorts shapes vars (main_terms places environment subject)
-          (inputs (outs_of places) (map (λ p. p.sort) places))) (sym same_places)
+      (inputs (outs_of places) (map (λ p. p.sort) places))) (sym same_places)
       (terms_sorted shapes vars environment subject form.places
       (subst (λ (sorts : List Sort). AllByRecursion (HasSort shapes vars environment) sorts)
-          (sym ins) (h, tt))
+      (sym ins) (h, tt))
       (subst (λ (sorts : List Sort). AllByRecursion (HasSort shapes vars subject) sorts) (sym subs)
-          (k, tt)))
+      (k, tt)))
 
   main_goal_leads : (sort : Sort) (environment subject : Tree) →
       sorts_with Sub form.places ≡ sort ∷ [] →
@@ -136,19 +136,19 @@ module _ (shapes : List Shape) (forms : List FormData) (vars : List Sort) (numbe
   main_output_sorted : (output : Sort) → sorts_with Out form.places ≡ output ∷ [] →
       (outs : List Tree) →
       HaveSorts shapes vars outs (outputs (modes_of forms number) (sorts_of forms number)) →
-          (t : Tree) × (outs ≡ t ∷ []) × HasSort shapes vars t output
+      (t : Tree) × (outs ≡ t ∷ []) × HasSort shapes vars t output
   main_output_sorted output is_output outs h =
       one_sorted shapes vars output outs
       (subst (λ (sorts : List Sort). HaveSorts shapes vars outs sorts)
-          (main_outputs (places_at forms number) ∙ ap (sorts_with Out) same_places ∙ is_output) h)
+      (main_outputs (places_at forms number) ∙ ap (sorts_with Out) same_places ∙ is_output) h)
 
 pub main_goals_fit : MainGoalsFit
 main_goals_fit shapes forms vars number form input sort output environment subject is ins subs outs
     h k = (
-  main_goal_sorted shapes forms vars number form is input sort environment subject ins subs h k,
-  main_goal_leads shapes forms vars number form is sort environment subject subs,
-  main_output_sorted shapes forms vars number form is output outs,
-)
+      main_goal_sorted shapes forms vars number form is input sort environment subject ins subs h k,
+      main_goal_leads shapes forms vars number form is sort environment subject subs,
+      main_output_sorted shapes forms vars number form is output outs,
+    )
 
 has_place : (P : Tree → Type 0) (role : Role) (environment subject : Tree) (ts : List Tree) →
     P environment → P subject → AllByRecursion P ts →
@@ -175,7 +175,7 @@ all_shallow (t ∷ ts) h = (h.0, all_shallow ts h.1)
 pub main_goals_are_shallow : MainGoalsAreShallow
 main_goals_are_shallow places environment subject h k =
     all_shallow (main_terms places environment subject)
-        (main_goals_have (λ t. depth_of t ≤ 1000) places environment subject h k)
+    (main_goals_have (λ t. depth_of t ≤ 1000) places environment subject h k)
 
 pub parts_have_places : PartsHavePlaces
 parts_have_places tokens names r path part at = go (place_at r path) refl

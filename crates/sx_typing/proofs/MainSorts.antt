@@ -44,8 +44,8 @@ module _ (p : Parts) where
       place_among (names p) name < length p.sorts
   name_within name has =
       let within : place_among (names p) name < length (names p) =
-          slice_get_within (names p) (place_among (names p) name) name
-          (named_at (names p) name (λ not. not has)) in
+      slice_get_within (names p) (place_among (names p) name) name
+      (named_at (names p) name (λ not. not has)) in
       omega (arith, within, length-map p.sorts (λ s. s.name))
 
   places_known : (symbols : List FormSymbol) → AllByRecursion (HasSortOf p) symbols →
@@ -63,7 +63,7 @@ module _ (p : Parts) where
   form_known (f ∷ lines) zero form all at =
       let same : form_of p f ≡ form = cc in
       subst (λ (g : FormData). AllByRecursion (λ (q : PlaceOf). IsKnown p q.sort) g.places) same
-          (places_known f.symbols.items all.0)
+      (places_known f.symbols.items all.0)
   form_known (f ∷ lines) (suc n) form all at = form_known lines n form all.1 at
 
   one_known : (role other : Role) (sort : Sort) (rest : List Sort) → IsKnown p sort →
@@ -92,10 +92,10 @@ module _ (p : Parts) where
       → sorts_with role form.places ≡ sort ∷ [] → IsKnown p sort
   only_known lines forms n form role sort known are at is =
       let there : slice_get (map (form_of p) lines) n ≡ Some form =
-          subst (λ (fs : List FormData). slice_get fs n ≡ Some form) are at in
+      subst (λ (fs : List FormData). slice_get fs n ≡ Some form) are at in
       let all : AllByRecursion (IsKnown p) (sort ∷ []) =
-          subst (λ (sorts : List Sort). AllByRecursion (IsKnown p) sorts) is
-          (sorts_known role form.places (form_known lines n form known there)) in
+      subst (λ (sorts : List Sort). AllByRecursion (IsKnown p) sorts) is
+      (sorts_known role form.places (form_known lines n form known there)) in
       all.0
 
 pub main_sort_is : (forms : List FormData) (n : ℕ) (form : FormData) (role : Role) (sort : Sort) →
@@ -111,10 +111,10 @@ subject_is_sort d is =
     let m = is.main in
     let known =
     only_known l.parts is.lines l.forms l.main.form m.form Sub (Typed m.subject) is.known is.forms
-        m.is
+    m.is
     m.typed in
     let there : IsSort l.parts (main_sort l Sub) =
     subst (IsSort l.parts) (sym (main_sort_is l.forms l.main.form m.form Sub (Typed m.subject) m.is
-        m.typed))
+    m.typed))
     known in
     subst (λ (p : Parts). IsSort p (main_sort l Sub)) (sym is.goes_on) there

@@ -59,7 +59,7 @@ module _ (p : Parts) (text : Text) where
       let a = told e h in
       let b = told d k in
       a.is ∙ ap (λ o. defect_of (Some o)) (outcome_one a.outcome b.outcome a.holds b.holds) ∙ sym
-          b.is
+      b.is
 
 module _ (p : Parts) (sort : Sort) (text : Text) where
   abbrev Answers : List Token → ReadAnswer → Type 0
@@ -69,7 +69,7 @@ module _ (p : Parts) (sort : Sort) (text : Text) where
       Answers ts a → Answers us b → SameAnswer a b
   answer_one ts us a b cut other h k =
       answers_agree (numbered p) (plain_tokens [] us) (number_of sort) a b
-          (subst (λ (l : List Token). Answers l a) (one_cut p text ts us cut other) h) k
+      (subst (λ (l : List Token). Answers l a) (one_cut p text ts us cut other) h) k
 
   pub record SameBody (ts us : List Token) (r q : Reading) (t u : Tree) : Type 0 where
     pub tokens_same : ts ≡ us
@@ -94,8 +94,8 @@ module _ (p : Parts) (sort : Sort) (text : Text) where
       (u ≡ v) ⊎ (ShowTwo u v × HasThree p sort text)
   unread_one size ts us u v cut other h k =
       in_text us u v other (one_reason p [] sort us size u v
-          (subst (λ (l : List Token). IsUnreadAs p [] sort l size u)
-          (one_cut p text ts us cut other) h) k)
+      (subst (λ (l : List Token). IsUnreadAs p [] sort l size u)
+      (one_cut p text ts us cut other) h) k)
     where
       in_text : (us : List Token) (u v : Unread) → IsCut p text us →
           (u ≡ v) ⊎ (ShowTwo u v × HaveThree p [] sort us) →

@@ -73,7 +73,7 @@ module _ (s : Source) where
       let same = defect_one s.dialect.parts s.header.body h.defect k.defect h.has k.has in
       let there = subst (λ (x : TokenError). IsSpot s (defect_place x) h.line h.column) same h.at in
       inl (h.is ∙ (λ i. BadTokens ((there.0 ∙ sym k.at.0) i) ((there.1 ∙ sym k.at.1) i) (same i))
-          ∙ sym k.is)
+      ∙ sym k.is)
 
   uncut_unread : (e d : TypingError) → IsUncut e → IsUnread d → ⊥
   uncut_unread e d h k = defect_or_cut s.dialect.parts s.header.body h.defect k.tokens h.has k.cut
@@ -82,7 +82,7 @@ module _ (s : Source) where
       e ≡ Read line column u → d ≡ Read row place v →
       IsSpot s (unread_place u) line column → IsSpot s (unread_place v) row place →
       (u ≡ v) ⊎ (ShowTwo u v × HasThree s.dialect.parts (main_sort s.dialect.language Sub)
-          s.header.body) → AreAlike s e d
+      s.header.body) → AreAlike s e d
   reads_alike u v e d line column row place h k at other (inl same) =
       let there = subst (λ (x : Unread). IsSpot s (unread_place x) line column) same at in
       inl (h ∙ (λ i. Read ((there.0 ∙ sym other.0) i) ((there.1 ∙ sym other.1) i) (same i)) ∙ sym k)
@@ -106,13 +106,13 @@ module _ (s : Source) where
   unreads_one e d h k =
       reads_alike h.why k.why e d h.line h.column k.line k.column h.is k.is h.at k.at
       (unread_one s.dialect.parts (main_sort s.dialect.language Sub) s.header.body
-          (length s.header.body) h.tokens k.tokens h.why k.why h.cut k.cut h.unread k.unread)
+      (length s.header.body) h.tokens k.tokens h.why k.why h.cut k.cut h.unread k.unread)
 
   pub same_body : (b c : HasBody s) → SameBody s b c
   same_body b c =
       let same =
       body_one s.dialect.parts (main_sort s.dialect.language Sub) s.header.body b.tokens c.tokens
-          b.reading c.reading b.subject c.subject b.read c.read in
+      b.reading c.reading b.subject c.subject b.read c.read in
       record { tokens = same.tokens_same; reading = same.reading_same; subject = same.term_same }
 
   abbrev IsUnbodied : TypingError → Type 0
@@ -129,24 +129,24 @@ module _ (s : Source) where
       b.read.cut
   unbodied_none e (inr h) b =
       let there = subst (λ (ts : List Token). IsUnreadAs s.dialect.parts []
-          (main_sort s.dialect.language Sub) ts (length s.header.body) h.why)
+      (main_sort s.dialect.language Sub) ts (length s.header.body) h.why)
       (one_cut s.dialect.parts s.header.body h.tokens b.tokens h.cut b.read.cut) h.unread in
       unread_or_read s.dialect.parts [] (main_sort s.dialect.language Sub) b.tokens
-          (length s.header.body) h.why b.reading there b.read.answer
+      (length s.header.body) h.why b.reading there b.read.answer
 
   -- ---- the walk
 
   -- the stuck goal, and its text
   record IsMistyped (ts : List Token) (r : Reading) (subject : Tree) (e : TypingError) : Type 0
-      where
-    line : ℕ
-    column : ℕ
-    text : GoalDefect
-    is : e ≡ TypeError line column text
-    blame : Blame
-    stuck : IsStuckGoal s subject blame
-    at : IsStuckAt ts r blame s line column
-    told : text ≡ stuck_text s.dialect blame.goal blame.reason
+    where
+      line : ℕ
+      column : ℕ
+      text : GoalDefect
+      is : e ≡ TypeError line column text
+      blame : Blame
+      stuck : IsStuckGoal s subject blame
+      at : IsStuckAt ts r blame s line column
+      told : text ≡ stuck_text s.dialect blame.goal blame.reason
 
   module _ (tries : ℕ) where
     -- the refusal where the walk ends so
@@ -165,15 +165,15 @@ module _ (s : Source) where
           let forms = s.dialect.language.forms in
           let same =
           stuck_goal_is_unique (modes_of forms) (subjects_in forms) (rules_of s.dialect)
-              no_hypotheses moded (goal s subject) [] 3000 3000 h.blame k.blame h.stuck k.stuck in
+          no_hypotheses moded (goal s subject) [] 3000 3000 h.blame k.blame h.stuck k.stuck in
           let there = subst (λ (b : Blame). IsStuckAt ts r b s h.line h.column) same h.at in
           let number = some_same there.0 k.at.0 (sym there.1 ∙ k.at.1) in
           let spot = subst (λ (n : ℕ). IsSpot s (place_in ts (length s.header.body) n) h.line
-              h.column) number there.2 in
+          h.column) number there.2 in
           let text = h.told ∙ (λ i. stuck_text s.dialect (same i).goal (same i).reason) ∙ sym
-              k.told in
+          k.told in
           h.is ∙ (λ i. TypeError ((spot.0 ∙ sym k.at.2.0) i) ((spot.1 ∙ sym k.at.2.1) i) (text i))
-              ∙ sym k.is
+          ∙ sym k.is
 
       tells_one : (ts : List Token) (r : Reading) (subject : Tree) (x : Ending)
           (e d : TypingError) → Tells ts r subject x e → Tells ts r subject x d → e ≡ d
@@ -196,21 +196,49 @@ module _ (s : Source) where
         walk None tries (goal_events s b.subject) ≡ x → Tells b.tokens b.reading b.subject x e →
         (e ≡ Memory) ⊎ IsUnbodied e ⊎ IsRefused e
     told_by e b x ends h =
-        inr (inr (record { body = b; tells =
-            subst (λ (y : Ending). Tells b.tokens b.reading b.subject y e) (sym ends) h }))
+        inr (inr (record {
+          body = b;
+          tells =
+              subst (λ (y : Ending). Tells b.tokens b.reading b.subject y e) (sym ends) h;
+        }))
 
     refusals : (e : TypingError) → IsBadSource s tries e → (e ≡ Memory) ⊎ IsUnbodied e ⊎ IsRefused e
     refusals Memory h = inl refl
     refusals (BadTokens line column defect) h =
-        inr (inl (inl (record { line = line; column = column; defect = defect; is = refl; has =
-        h.0; at = h.1 })))
+        inr (inl (inl (record {
+          line = line;
+          column = column;
+          defect = defect;
+          is = refl;
+          has =
+              h.0;
+          at = h.1;
+        })))
     refusals (Read line column why) h =
-        inr (inl (inr (record { line = line; column = column; why = why; is = refl; tokens =
-            h.0.0; cut = h.0.1; unread = h.0.2; at = h.1 })))
+        inr (inl (inr (record {
+          line = line;
+          column = column;
+          why = why;
+          is = refl;
+          tokens =
+              h.0.0;
+          cut = h.0.1;
+          unread = h.0.2;
+          at = h.1;
+        })))
     refusals (TypeError line column text) (b, ends, why) =
         told_by (TypeError line column text) b exhausted ends
-        (record { line = line; column = column; text = text; is = refl; blame = why.0; stuck =
-            why.1; at = why.2; told = why.3 })
+        (record {
+          line = line;
+          column = column;
+          text = text;
+          is = refl;
+          blame = why.0;
+          stuck =
+              why.1;
+          at = why.2;
+          told = why.3;
+        })
     refusals (BudgetSpent n) (b, ends, is) =
         told_by (BudgetSpent n) b spent ends (ap BudgetSpent is)
     refusals DepthSpent (b, ends) = told_by DepthSpent b (stopped depth_spent) ends refl
@@ -228,7 +256,7 @@ module _ (s : Source) where
         let same = same_body b c in
         subst (λ (t : Tree). TellsOf c.tokens c.reading t e) same.subject
         (subst (λ (r : Reading). TellsOf c.tokens r b.subject e) same.reading
-            (subst (λ (ts : List Token). TellsOf ts b.reading b.subject e) same.tokens h))
+        (subst (λ (ts : List Token). TellsOf ts b.reading b.subject e) same.tokens h))
 
     refused_one : AllModed (modes_of s.dialect.language.forms) (rules_of s.dialect) →
         (e d : TypingError) → (e ≡ Memory) ⊎ IsUnbodied e ⊎ IsRefused e →
@@ -241,8 +269,8 @@ module _ (s : Source) where
     refused_one moded e d (inr (inr h)) (inr (inl k)) n m = absurd (unbodied_none d k h.body)
     refused_one moded e d (inr (inr h)) (inr (inr k)) n m =
         inl (tells_one moded k.body.tokens k.body.reading k.body.subject
-            (walk None tries (goal_events s k.body.subject)) e d
-            (tells_there e h.body k.body h.tells) k.tells)
+        (walk None tries (goal_events s k.body.subject)) e d
+        (tells_there e h.body k.body h.tells) k.tells)
 
     either_one : (t : HasTyping s tries) (e : TypingError) →
         (e ≡ Memory) ⊎ IsUnbodied e ⊎ IsRefused e → e ≡ Memory
@@ -251,7 +279,7 @@ module _ (s : Source) where
     either_one t e (inr (inr h)) =
         let tells = tells_there e h.body t.body h.tells in
         absurd (subst (λ (x : Ending). Tells t.body.tokens t.body.reading t.body.subject x e)
-            t.typed.finds tells)
+        t.typed.finds tells)
 
     found_one : (t u : HasTyping s tries) → SameTyping s tries t u
     found_one t u =

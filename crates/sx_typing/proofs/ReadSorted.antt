@@ -79,7 +79,7 @@ module _ (p : Parts) (ts : List Token) (all : AllByRecursion IsPlain ts) where
     all_sorted : {symbols : List Symbol} {from to : ℕ} {kids : Readings} →
         ReadsAll (numbered p) (plain_tokens [] ts) symbols from to kids →
         KidsHaveSorts (shapes_of p) [] (terms_of (plain_tokens [] ts) [] kids)
-            (flat_map (kid_sorts p.sorts) symbols)
+        (flat_map (kid_sorts p.sorts) symbols)
     all_sorted all_read = tt
     all_sorted (by_literal is rest) = all_sorted rest
     all_sorted (by_lexeme {kind = kind} {from = from} marked rest) =
@@ -100,13 +100,13 @@ read_good p sort text ts r t is_sort read =
     let all = plain_tokens_all p text ts read.cut in
     let tokens = plain_tokens [] ts in
     let sorted = subst (HasSort (shapes_of p) [] (term_of tokens [] r)) (sort_is p sort is_sort)
-        (reads_sorted p ts all read.answer.1.0) in
+    (reads_sorted p ts all read.answer.1.0) in
     let depth : depth_of (term_of tokens [] r) ≤ 1000 =
-        omega (arith, term_depth tokens [] r, read.answer.2) in
+    omega (arith, term_depth tokens [] r, read.answer.2) in
     let lexemes = term_lexemes (literals_of p) [] ts
-        (cut_lexed (literals_of p) false (length text) text ts read.cut.2) [] r in
+    (cut_lexed (literals_of p) false (length text) text ts read.cut.2) [] r in
     subst (IsGoodTerm (literals_of p) (shapes_of p) sort) (sym read.term)
-        (record { sorted = sorted; depth = depth; lexemes = lexemes })
+    (record { sorted = sorted; depth = depth; lexemes = lexemes })
 
 -- so the term of a body is one for the subject of the main form
 pub body_is_term : (s : Source) → IsDialect s.dialect → (ts : List Token) (r : Reading) (t : Tree) →

@@ -13,8 +13,8 @@ pub stuck_goals_fit : StuckGoalsFit
 stuck_goals_fit shapes forms rules set vars top levels goal form path blame is sorted leads s =
     let b =
     stuck_in shapes forms vars rules set no_hypotheses tt
-        (λ (g : Goal) (way : List ℕ). LeadsTo forms top way g)
+    (λ (g : Goal) (way : List ℕ). LeadsTo forms top way g)
     (λ put rule g way j before of_form terms only here. premise_leads forms put top rule g way j
-        before of_form terms only here)
+    before of_form terms only here)
     levels goal path blame (record { form = form; is = is; sorted = sorted; leads = leads }) s in
     record { form = b.0.form; is = b.0.is; sorted = b.0.sorted; got = b.0.got; leads = b.1 }

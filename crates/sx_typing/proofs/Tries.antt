@@ -25,7 +25,7 @@ exact made first last (typing_error.TooBig n) h = h
 pub tried : (made first last : ℕ) (e : DeriveError) (r : TypingError) →
     AreCounted {X = Listed} made first last (Err e) →
     (e ≡ derive_error.Memory → r ≡ typing_error.Memory) →
-        IsTried {X = Typed} made first last (Err r)
+    IsTried {X = Typed} made first last (Err r)
 tried made first last derive_error.Memory r h k =
     subst (λ (x : TypingError). IsTried {X = Typed} made first last (Err x)) (sym (k refl)) h
 tried made first last (derive_error.Underivable b) r h k = exact made first last r h

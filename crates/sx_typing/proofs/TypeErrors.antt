@@ -70,7 +70,7 @@ can_tell d top blame is grammar b shallow =
 pub is_type_error : (s : Source) (tries before size : ℕ) (b : HasBody s) (blame : Blame)
     (e : TypingError) →
     before ≡ bytes_before s → size ≡ length s.header.body →
-        walk None tries (goal_events s b.subject) ≡ exhausted → IsStuckGoal s b.subject blame →
+    walk None tries (goal_events s b.subject) ≡ exhausted → IsStuckGoal s b.subject blame →
     IsTypeError s.dialect s.bytes before size b.tokens b.reading blame e → IsBadSource s tries e
 is_type_error s tries before size b blame e at many ends stuck t =
     subst (IsBadSource s tries) (sym t.is) (
@@ -82,8 +82,10 @@ is_type_error s tries before size b blame e at many ends stuck t =
         (
           t.at.0,
           t.at.1,
-          (t.line_is ∙ (λ i. line_at s.bytes (at i + place i)),
-              t.column_is ∙ (λ i. column_at s.bytes (at i + place i))),
+          (
+            t.line_is ∙ (λ i. line_at s.bytes (at i + place i)),
+            t.column_is ∙ (λ i. column_at s.bytes (at i + place i)),
+          ),
         ),
         t.text_is,
       ),

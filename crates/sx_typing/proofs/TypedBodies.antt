@@ -62,7 +62,7 @@ pub by_rules : (P : List FormData → List NamedRule → Goal → Type 0) (x y :
 by_rules P x y forms g h same of_forms asked p =
     subst (λ (k : Goal). P forms (rules_in y) k) asked
     (subst (λ (fs : List FormData). P fs (rules_in y) g) of_forms
-        (subst (λ (z : RuleSet). P (forms_in z) (rules_in z) g) same p))
+    (subst (λ (z : RuleSet). P (forms_in z) (rules_in z) g) same p))
 
 -- how many bytes the body has
 pub size_is : (bytes body : List ℕ) (k : ℕ) → body ≡ drop k bytes →
@@ -91,14 +91,14 @@ module _ (d : DialectData) (is : IsDialect d) where
   rules_have =
       rules_from_tokens literals d.rules
       (subst (λ (rs : List Rule). AllByRecursion (RuleLexemesAre (IsToken literals)) rs)
-          (sym is.rules_are) is.lexemes.rules)
+      (sym is.rules_are) is.lexemes.rules)
 
   module _ (environment subject : Tree) (he : IsTermFor d In environment)
       (hs : IsTermFor d Sub subject) where
     environment_sorted : HasSort shapes [] environment (sorts.Plain m.environment)
     environment_sorted =
         subst (HasSort shapes [] environment)
-            (main_sort_is forms number m.form In (sorts.Plain m.environment) m.is m.input) he.sorted
+        (main_sort_is forms number m.form In (sorts.Plain m.environment) m.is m.input) he.sorted
 
     subject_sorted : HasSort shapes [] subject (sorts.Typed m.subject)
     subject_sorted = subst (HasSort shapes [] subject)
@@ -109,7 +109,7 @@ module _ (d : DialectData) (is : IsDialect d) where
     goal_for =
         let fits =
         main_goals_fit shapes forms [] number m.form (sorts.Plain m.environment)
-            (sorts.Typed m.subject) (sorts.Plain m.signature) environment subject m.is
+        (sorts.Typed m.subject) (sorts.Plain m.signature) environment subject m.is
         m.input m.typed m.output environment_sorted subject_sorted in
         record {
           form = m.form;
@@ -129,11 +129,11 @@ module _ (d : DialectData) (is : IsDialect d) where
     one_output outs h =
         let fits =
         main_goals_fit shapes forms [] number m.form (sorts.Plain m.environment)
-            (sorts.Typed m.subject) (sorts.Plain m.signature) environment subject m.is
+        (sorts.Typed m.subject) (sorts.Plain m.signature) environment subject m.is
         m.input m.typed m.output environment_sorted subject_sorted in
         let one = fits.2 outs h.sorted in
         let lexemes = subst (λ (ts : List Tree). AllByRecursion (HasLexemes literals) ts) one.1
-            h.lexemes in
+        h.lexemes in
         let shallow = subst AreShallow one.1 h.shallow in (
           one.0,
           one.1,
@@ -180,22 +180,22 @@ module _ (s : Source) (is : IsDialect s.dialect) (subject : Tree)
       one =
           one_output d is s.environment subject he hs a.1
           (found_outputs_fit (literals_of d.language.parts) (shapes_of d.parts) d.language.forms
-              d.rules is.rule_set (rules_have d is) [] subject (goal s subject)
+          d.rules is.rule_set (rules_have d is) [] subject (goal s subject)
           source_goal None tries a finds)
 
       derives : DerivesGoal (modes_of d.language.forms) (accepted_rules d.set) no_hypotheses
           (goal s subject) a
       derives =
           subst (λ (rs : List Rule). DerivesGoal (modes_of d.language.forms) rs no_hypotheses
-              (goal s subject) a) is.rules_are
+          (goal s subject) a) is.rules_are
           (found_is_first (modes_of d.language.forms) (bare d.rules) no_hypotheses
-              (good_moded (shapes_of d.parts) d.language.forms [] d.rules is.rule_set.1)
+          (good_moded (shapes_of d.parts) d.language.forms [] d.rules is.rule_set.1)
           (goal s subject) None tries 1 a finds).derives
 
       bounds : (height_of a.0 ≤ 3000) × HasShallowBinds a.0
       bounds =
           found_is_bounded (literals_of d.language.parts) (shapes_of d.parts) d.language.forms
-              d.rules [] subject (goal s subject) source_goal tries a
+          d.rules [] subject (goal s subject) source_goal tries a
           finds
 
 one_length : (items : List Term) (ts : List Tree) (t : Tree) → map tree items ≡ ts → ts ≡ t ∷ [] →
@@ -203,7 +203,7 @@ one_length : (items : List Term) (ts : List Tree) (t : Tree) → map tree items 
 one_length items ts t e f = let a = length-map items tree in let b : length (map tree items) ≡ 1 =
     ap length (e ∙ f) in omega (arith, a, b)
 
-head_same : (t u : Tree) → t ∷ [] ≡ u ∷ [] → t ≡ u
+pub head_same : (t u : Tree) → t ∷ [] ≡ u ∷ [] → t ≡ u
 head_same t u e = cc
 
 -- a list with its outputs has one
@@ -214,7 +214,7 @@ one_listed l a t lists one = one_length l.outputs.items a.1 t lists.outputs one
 pub typed_by : (s : Source) (tries : ℕ) (subject : Tree) (l : Listed) (a : Answer) (t : Typed) →
     walk None tries (goal_events s subject) ≡ found a → Lists l a →
     goal_of t.goal ≡ goal s subject → t.list ≡ l.entries → l.outputs.items ≡ t.output ∷ [] →
-        IsGoodAnswer s subject a → IsTypedBy s tries subject t
+    IsGoodAnswer s subject a → IsTypedBy s tries subject t
 typed_by s tries subject l a t finds lists asked same outputs good =
     let output : a.1 ≡ tree t.output ∷ [] = sym lists.outputs ∙ ap (map tree) outputs in
     record {

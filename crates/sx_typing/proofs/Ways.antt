@@ -33,7 +33,7 @@ part_at-append t part [] more e = let q : t ≡ part = cc in ap (λ x. part_at x
 part_at-append t part (i ∷ path) more e =
     let k = and_then_parts (slice_get (kids_of t) i) (λ kid. part_at kid path) part e in
     ap (option_and_then (λ kid. part_at kid (path ++ more))) k.1 ∙ part_at-append k.0 part path more
-        k.2
+    k.2
 
 listed-instances : (s : ℕ → Tree) (ts : Trees) →
     listed (instances s ts) ≡ map (instance s) (listed ts)
@@ -44,7 +44,7 @@ kid_of-instance : (s : ℕ → Tree) (t kid : Tree) (i : ℕ) → slice_get (kid
     slice_get (kids_of (instance s t)) i ≡ Some (instance s kid)
 kid_of-instance s (node label ts) kid i e =
     ap (λ (us : List Tree). slice_get us i) (listed-instances s ts) ∙ slice_get-map (instance s)
-        (listed ts) i ∙ ap (option_map (instance s)) e
+    (listed ts) i ∙ ap (option_map (instance s)) e
 kid_of-instance s (lexeme kind text) kid i e = cc
 kid_of-instance s (hole v) kid i e = cc
 
@@ -55,7 +55,7 @@ part_at-instance s t part [] e = let q : t ≡ part = cc in ap (λ x. Some (inst
 part_at-instance s t part (i ∷ path) e =
     let k = and_then_parts (slice_get (kids_of t) i) (λ kid. part_at kid path) part e in
     ap (option_and_then (λ kid. part_at kid path)) (kid_of-instance s t k.0 i k.1)
-        ∙ part_at-instance s k.0 part path k.2
+    ∙ part_at-instance s k.0 part path k.2
 
 -- ---- places of variables
 
@@ -66,7 +66,7 @@ IsAmongAt v i ts place = (n : ℕ) × (rest : List ℕ) × (place ≡ (i + n) �
 
 at_first : (v i : ℕ) (t : Tree) (ts : Trees) (place : List ℕ) (o : Option (List ℕ)) →
     ((rest : List ℕ) → o ≡ Some rest → part_at t rest ≡ Some (hole v)) →
-        (place_in_kids v (suc i) ts ≡ Some place → IsAmongAt v (suc i) ts place) →
+    (place_in_kids v (suc i) ts ≡ Some place → IsAmongAt v (suc i) ts place) →
     first_place i o (place_in_kids v (suc i) ts) ≡ Some place → IsAmongAt v i (t ▹ ts) place
 at_first v i t ts place None here later e = let x = later e in
     (suc x.0, x.1, x.2 ∙ ap (λ n. n ∷ x.1) (omega arith), x.3)
@@ -79,7 +79,7 @@ at_hole : (v w : ℕ) (place : List ℕ) (b : Bool) → nat_eq v w ≡ b → her
 at_hole v w place true same e =
     let q : [] ≡ place = cc in
     subst (λ (p : List ℕ). part_at (hole w) p ≡ Some (hole v)) q
-        (ap (λ n. Some (hole n)) (sym (nat_same v w same)))
+    (ap (λ n. Some (hole n)) (sym (nat_same v w same)))
 at_hole v w place false same e = cc
 
 mutual
@@ -88,7 +88,7 @@ mutual
   at_place v (node label ts) place e =
       let x = at_place_among v 0 ts place e in
       subst (λ (p : List ℕ). part_at (node label ts) p ≡ Some (hole v))
-          (sym (x.2 ∙ ap (λ n. n ∷ x.1) (omega arith))) x.3
+      (sym (x.2 ∙ ap (λ n. n ∷ x.1) (omega arith))) x.3
   at_place v (lexeme kind text) place e = cc
   at_place v (hole w) place e = at_hole v w place (nat_eq v w) refl e
 
@@ -141,7 +141,7 @@ outputs-none (b ∷ bs) = refl
 one_subject : (role : Role) (outs subs : List Bool) (t : Tree) (ts : List Tree) →
     outputs (inputs outs subs) (inputs outs ts) ≡ outputs subs ts →
     outputs (inputs (is_out role ∷ outs) (is_sub role ∷ subs))
-        (inputs (is_out role ∷ outs) (t ∷ ts)) ≡ outputs (is_sub role ∷ subs) (t ∷ ts)
+    (inputs (is_out role ∷ outs) (t ∷ ts)) ≡ outputs (is_sub role ∷ subs) (t ∷ ts)
 one_subject In outs subs t ts e = e
 one_subject Sub outs subs t ts e = ap (λ (us : List Tree). t ∷ us) e
 one_subject Out outs subs t ts e = e
@@ -149,7 +149,7 @@ one_subject Out outs subs t ts e = e
 -- what stands at the subjects among the inputs is what stands at the subjects
 subjects_of_inputs : (ps : List Place) (ts : List Tree) →
     outputs (inputs (map (λ p. is_out p.role) ps) (map (λ p. is_sub p.role) ps))
-        (inputs (map (λ p. is_out p.role) ps) ts) ≡ outputs (map (λ p. is_sub p.role) ps) ts
+    (inputs (map (λ p. is_out p.role) ps) ts) ≡ outputs (map (λ p. is_sub p.role) ps) ts
 subjects_of_inputs [] ts = refl
 subjects_of_inputs (p ∷ ps) [] =
     outputs-none (inputs (map (λ q. is_out q.role) (p ∷ ps)) (map (λ q. is_sub q.role) (p ∷ ps)))
@@ -164,7 +164,7 @@ module _ (forms : List FormData) (s : ℕ → Tree) where
       (outputs_of (subjects_in forms) j)
   instance_subjects j =
       subjects_of_inputs (places_at forms j.form) (map (instance s) j.places) ∙ outputs-map s
-          (subjects_in forms j.form) j.places
+      (subjects_in forms j.form) j.places
 
   -- those of a goal whose terms are the instance of a conclusion's inputs
   matched_subjects : (conclusion : Judgement) (goal : Goal) → conclusion.form ≡ goal.form →
@@ -172,8 +172,11 @@ module _ (forms : List FormData) (s : ℕ → Tree) where
       goal_subjects forms goal ≡ map (instance s) (outputs_of (subjects_in forms) conclusion)
   matched_subjects conclusion goal of_form terms =
       let same : goal_of (modes_of forms) (judgement_instance s conclusion) ≡ goal =
-      λ i. record { form = of_form i; terms =
-          (inputs-map s (modes_of forms conclusion.form) conclusion.places ∙ terms) i } in
+      λ i. record {
+        form = of_form i;
+        terms =
+            (inputs-map s (modes_of forms conclusion.form) conclusion.places ∙ terms) i;
+      } in
       sym (ap (goal_subjects forms) same) ∙ instance_subjects conclusion
 
   module _ (top : Tree) (rule : Rule) (goal : Goal) (path : List ℕ) (j : Judgement) where
@@ -181,10 +184,10 @@ module _ (forms : List FormData) (s : ℕ → Tree) where
     bare_leads : (v : ℕ) (cs : List Tree) → outputs_of (subjects_in forms) rule.conclusion ≡ cs →
         goal_subjects forms goal ≡ map (instance s) cs → times_among v cs ≡ 1 →
         outputs_of (subjects_in forms) j ≡ hole v ∷ [] → (part : Tree) →
-            part_at top path ≡ Some part →
-            (goal_subjects forms goal ≡ []) ⊎ (goal_subjects forms goal ≡ part ∷ []) →
+        part_at top path ≡ Some part →
+        (goal_subjects forms goal ≡ []) ⊎ (goal_subjects forms goal ≡ part ∷ []) →
         LeadsTo forms top (path_of (subjects_in forms) path rule j)
-            (goal_of (modes_of forms) (judgement_instance s j))
+        (goal_of (modes_of forms) (judgement_instance s j))
     bare_leads v [] is same once var part at some = absurd (omega arith)
     bare_leads v (t ∷ u ∷ us) is same once var part at (inl e) =
         let q : instance s t ∷ map (instance s) (u ∷ us) ≡ [] = sym same ∙ e in cc
@@ -198,7 +201,7 @@ module _ (forms : List FormData) (s : ℕ → Tree) where
         let way = some_place v t (omega arith) in
         let longer : path_of (subjects_in forms) path rule j ≡ path ++ way.0 =
         ap (λ (us : List Tree). path_on path us (outputs_of (subjects_in forms) rule.conclusion))
-            var ∙ ap (path_on path (hole v ∷ [])) is ∙ ap (longer_path path) way.1 in (
+        var ∙ ap (path_on path (hole v ∷ [])) is ∙ ap (longer_path path) way.1 in (
           s v,
           ap (part_at top) longer ∙ part_at-append top part path way.0 at ∙ ap
               (λ x. part_at x way.0) (sym whole) ∙ part_at-instance s t (hole v) way.0 way.2,
@@ -209,7 +212,7 @@ module _ (forms : List FormData) (s : ℕ → Tree) where
         map (instance s) (inputs_of (modes_of forms) rule.conclusion) ≡ goal.terms →
         IsBareSubject (subjects_in forms) rule.conclusion before j → LeadsTo forms top path goal →
         LeadsTo forms top (path_of (subjects_in forms) path rule j)
-            (goal_of (modes_of forms) (judgement_instance s j))
+        (goal_of (modes_of forms) (judgement_instance s j))
     premise_leads before of_form terms (inl no_subject) (part, at, some) = (
       part,
       ap (λ (us : List Tree). part_at top
@@ -218,4 +221,4 @@ module _ (forms : List FormData) (s : ℕ → Tree) where
     )
     premise_leads before of_form terms (inr (v, var, once, fresh)) (part, at, some) =
         bare_leads v (outputs_of (subjects_in forms) rule.conclusion) refl
-            (matched_subjects rule.conclusion goal of_form terms) once var part at some
+        (matched_subjects rule.conclusion goal of_form terms) once var part at some

@@ -11,3 +11,4 @@ pub mod Refused
 pub mod TypeErrors
 pub mod Alike
 pub mod Growing
+pub mod GoodTypings

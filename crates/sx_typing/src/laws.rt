@@ -2,12 +2,19 @@
 
 ghost use Rattle.sx_typing.specs.Alike.{OneTyping};
 ghost use Rattle.sx_typing.specs.Goals.{TypingsAreFirst};
+ghost use Rattle.sx_typing.specs.GoodTypings.{TypingsAreGood};
 ghost use Rattle.sx_typing.specs.Growing.{LanguagesAreDialects, DialectsGrow};
 ghost use Rattle.sx_typing.specs.Refused.{TypeErrorsAreFinal};
 
 /// What a walk finds is the first derivation of the source's goal.
 pub fn typings_are_first()
     ensures { TypingsAreFirst }
+{}
+
+/// The subject and the output of a typing are terms of the dialect, and its derivation can be
+/// rewritten; what it is lowered to has no literals of the language as names.
+pub fn typings_are_good()
+    ensures { TypingsAreGood }
 {}
 
 /// A type error comes only where the source's goal has no derivation at all.

@@ -18,7 +18,7 @@ pub returns-in_err-tokens-clause-refused : goal.returns-in_err-tokens-clause-ref
 returns-in_err-tokens-clause-refused c =
     let P = IsUnreadBody c.args.grammar.now.parts c.args.sort c.args.text.now in
     err_if c.from_residual.result _ P c.from_residual.ensures.1
-        (λ e is. subst P (sym is) (c.in_err-tokens.ensures.refused c.args.sort))
+    (λ e is. subst P (sym is) (c.in_err-tokens.ensures.refused c.args.sort))
 
 pub strip-requires-clause-marked : goal.strip-requires-clause-marked
 strip-requires-clause-marked c =
@@ -26,9 +26,9 @@ strip-requires-clause-marked c =
     let r = plain_reading c.in-Ok.reading in
     let ts = c.in_ok-tokens.tokens.items in
     let answer = subst (λ (l : List Token). IsAnswer (numbered p) (plain_tokens [] l)
-        (number_of c.args.sort) (only r)) c.deref.ensures.value c.in-Ok.ensures.only in
+    (number_of c.args.sort) (only r)) c.deref.ensures.value c.in-Ok.ensures.only in
     subst (λ (l : List Token). IsMarked l r) (sym c.deref-2.ensures.value)
-        (is_marked p c.args.text.now ts c.in_ok-tokens.ensures.cut c.args.sort r answer)
+    (is_marked p c.args.text.now ts c.in_ok-tokens.ensures.cut c.args.sort r answer)
 
 pub strip-requires-clause-room : goal.strip-requires-clause-room
 strip-requires-clause-room c =
@@ -36,12 +36,12 @@ strip-requires-clause-room c =
     let r = plain_reading c.in-Ok.reading in
     let ts = c.in_ok-tokens.tokens.items in
     let answer = subst (λ (l : List Token). IsAnswer (numbered p) (plain_tokens [] l)
-        (number_of c.args.sort) (only r)) c.deref.ensures.value c.in-Ok.ensures.only in
+    (number_of c.args.sort) (only r)) c.deref.ensures.value c.in-Ok.ensures.only in
     let none : length (names_in ts r) ≡ 0 =
-        ap length (has_no_names p c.args.text.now ts c.in_ok-tokens.ensures.cut c.args.sort r
-        answer) in
+    ap length (has_no_names p c.args.text.now ts c.in_ok-tokens.ensures.cut c.args.sort r
+    answer) in
     let here : length (names_in c.deref-2.result.now r) ≡ 0 =
-        subst (λ (l : List Token). length (names_in l r) ≡ 0) (sym c.deref-2.ensures.value) none in
+    subst (λ (l : List Token). length (names_in l r) ≡ 0) (sym c.deref-2.ensures.value) none in
     let new : length c.new-names.result ≡ 0 = ap length c.new-names.ensures in
     omega (arith, here, new)
 
@@ -51,12 +51,12 @@ returns-in-Ok-strip-clause-read c =
     let r = plain_reading c.in-Ok.reading in
     let ts = c.in_ok-tokens.tokens.items in
     let answer = subst (λ (l : List Token). IsAnswer (numbered p) (plain_tokens [] l)
-        (number_of c.args.sort) (only r)) c.deref.ensures.value c.in-Ok.ensures.only in
+    (number_of c.args.sort) (only r)) c.deref.ensures.value c.in-Ok.ensures.only in
     let names = subst (λ (l : List Token). AddsEach c.new-names.result (names_in l r)
-        c.strip.new.vars) c.deref-2.ensures.value c.in-Ok-strip.ensures.names in
+    c.strip.new.vars) c.deref-2.ensures.value c.in-Ok-strip.ensures.names in
     let fresh = subst (λ (l : List Text). AddsEach l (names_in ts r) c.strip.new.vars)
-        c.new-names.ensures names in
+    c.new-names.ensures names in
     reads_as p c.args.text.now ts c.in_ok-tokens.ensures.cut c.args.sort r answer c.strip.new.vars
-        (tree c.in-Ok-strip.term) fresh
+    (tree c.in-Ok-strip.term) fresh
     (subst (λ (l : List Token). tree c.in-Ok-strip.term ≡ term_of (plain_tokens [] l)
-        (c.strip.new.vars ++ []) r) c.deref-2.ensures.value (c.in-Ok-strip.ensures.term [] []))
+    (c.strip.new.vars ++ []) r) c.deref-2.ensures.value (c.in-Ok-strip.ensures.term [] []))

@@ -14,28 +14,34 @@ read_one-requires-clause-known c =
     let p = c.args.grammar.now.parts in
     let ts = c.args.tokens.now in
     subst (λ (l : Stems). AreKnown (literals_of p) l ts) (sym c.no_metas-metas.ensures)
-        (known_tokens p c.requires.cut.0 ts c.requires.cut.1)
+    (known_tokens p c.requires.cut.0 ts c.requires.cut.1)
 
 pub returns-in-Ok-clause-only : goal.returns-in-Ok-clause-only
 returns-in-Ok-clause-only c =
     let p = c.args.grammar.now.parts in
     let ts = c.args.tokens.now in
     subst (λ (l : Stems). IsAnswer (numbered p) (plain_tokens l ts) (number_of c.args.sort)
-        (only (plain_reading c.in-Ok.reading))) c.no_metas-metas.ensures c.in-Ok.ensures.only
+    (only (plain_reading c.in-Ok.reading))) c.no_metas-metas.ensures c.in-Ok.ensures.only
 
 pub read_error-requires : goal.read_error-requires
 read_error-requires c =
     let p = c.args.grammar.now.parts in
-    let ts = c.args.tokens.now in
-    (c.args.sort, subst (λ (l : Stems). IsReadError p l c.args.sort ts c.in-Err.error)
-        c.no_metas-metas.ensures c.in-Err.ensures.refused)
+    let ts = c.args.tokens.now in (
+      c.args.sort,
+      subst (λ (l : Stems). IsReadError p l c.args.sort ts c.in-Err.error)
+          c.no_metas-metas.ensures c.in-Err.ensures.refused,
+    )
 
 pub returns-clause-refused : goal.returns-clause-refused
 returns-clause-refused c =
     let p = c.args.grammar.now.parts in
     let ts = c.args.tokens.now in
     let refused = subst (λ (l : Stems). IsReadError p l c.args.sort ts c.in-Err.error)
-        c.no_metas-metas.ensures c.in-Err.ensures.refused in
+    c.no_metas-metas.ensures c.in-Err.ensures.refused in
     let told = c.in_ok-unread-in-Err.ensures c.args.sort refused in
-    λ text cut same. (ts, cut, subst
-        (λ n. IsUnreadAs p [] c.args.sort ts n c.in_ok-unread-in-Err.unread) (sym same) told)
+    λ text cut same. (
+      ts,
+      cut,
+      subst
+          (λ n. IsUnreadAs p [] c.args.sort ts n c.in_ok-unread-in-Err.unread) (sym same) told,
+    )

@@ -25,7 +25,7 @@ returns-in-Token-clause-none c =
     let s = source_of c.args.source.now in
     let p = s.dialect.parts in
     let h = subst (IsUnreadBody p (main_sort s.dialect.language Sub) s.header.body) c.in-Token.is
-        c.requires in
+    c.requires in
     inr (λ b. defect_or_cut p s.header.body c.in-Token.error b.tokens h b.read.cut)
 
 pub returns-in-Read-clause-none : goal.returns-in-Read-clause-none
@@ -38,4 +38,4 @@ returns-in-Read-clause-none c =
     let same : b.tokens ≡ h.0 = one_cut p s.header.body b.tokens h.0 b.read.cut h.1 in
     unread_or_read p [] sort h.0 (length s.header.body) c.in-Read.error b.reading h.2
     (subst (λ (ts : List Token). IsAnswer (numbered p) (plain_tokens [] ts) (number_of sort)
-        (only b.reading)) same b.read.answer))
+    (only b.reading)) same b.read.answer))

@@ -19,11 +19,11 @@ returns-clause-answer g c =
     let subjects = subjects_in (forms_in set) in
     let given = c.nothing_given-given.result in
     subst (λ (rs : List Rule). IsListed modes subjects rs no_hypotheses (goal_of c.args.goal.now)
-        None c.args.tries c.derive_list.result) (sym (bare_is set))
+    None c.args.tries c.derive_list.result) (sym (bare_is set))
     (subst (λ (h : Hypotheses). IsListed modes subjects (rules_of set) h (goal_of c.args.goal.now)
-        None c.args.tries c.derive_list.result)
+    None c.args.tries c.derive_list.result)
     (none_given given c.nothing_given-given.ensures.holds c.nothing_given-given.ensures.apart)
-        c.derive_list.ensures.answer)
+    c.derive_list.ensures.answer)
 
 pub returns-clause-steps : goal.returns-clause-steps
 returns-clause-steps g c =
@@ -31,10 +31,10 @@ returns-clause-steps g c =
     let modes = modes_of (forms_in set) in
     let given = c.nothing_given-given.result in
     subst (λ (rs : List Rule). AreCounted
-        (tries_of None c.args.tries (events modes rs no_hypotheses (goal_of c.args.goal.now) 1))
-        c.args.steps.now c.derive_list.new.steps c.derive_list.result) (sym (bare_is set))
+    (tries_of None c.args.tries (events modes rs no_hypotheses (goal_of c.args.goal.now) 1))
+    c.args.steps.now c.derive_list.new.steps c.derive_list.result) (sym (bare_is set))
     (subst (λ (h : Hypotheses). AreCounted
-        (tries_of None c.args.tries (events modes (rules_of set) h (goal_of c.args.goal.now) 1))
-        c.args.steps.now c.derive_list.new.steps c.derive_list.result)
+    (tries_of None c.args.tries (events modes (rules_of set) h (goal_of c.args.goal.now) 1))
+    c.args.steps.now c.derive_list.new.steps c.derive_list.result)
     (none_given given c.nothing_given-given.ensures.holds c.nothing_given-given.ensures.apart)
-        c.derive_list.ensures.steps)
+    c.derive_list.ensures.steps)

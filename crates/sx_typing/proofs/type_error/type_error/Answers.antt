@@ -14,7 +14,7 @@ pub stuck_text-requires : goal.stuck_text-requires
 stuck_text-requires c =
     let tokens = plain_tokens [] c.args.body.now.tokens.items in
     can_tell (dialect_of c.args.dialect.now)
-        (term_of tokens [] (plain_reading c.args.body.now.reading))
+    (term_of tokens [] (plain_reading c.args.body.now.reading))
     (blame_of c.args.blame.now) c.requires.dialect.is c.facts.ensures.grammar c.requires.blame
     c.requires.shallow
 
@@ -31,5 +31,5 @@ part_place-place-requires-clause-tokens c =
     subst (λ (ts : List Token). AllByRecursion (λ (t : Token). t.from ≤ size) ts)
     (sym c.deref.ensures.value)
     (tokens_within c.args.dialect.now.grammar.now.parts cut.0 c.args.body.now.tokens.items size
-        cut.1
+    cut.1
     cut.2)

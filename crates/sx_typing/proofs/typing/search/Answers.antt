@@ -18,11 +18,11 @@ returns-clause-answer g c =
     let result = c.find_derivation.result in
     by_rules
     (λ fs rules x. IsListed (modes_of fs) (subjects_in fs) (bare rules) no_hypotheses x None
-        c.args.tries result)
+    c.args.tries result)
     c.rules-rules.result.now d.accepted.now.rules (forms_in d.language.now.rules)
     (goal_of c.args.goal.now) (goal_for (source_of c.args.source.now) (tree c.args.body.now.term))
     c.rules-rules.ensures c.requires.can.dialect.forms c.requires.goal
-        c.find_derivation.ensures.answer
+    c.find_derivation.ensures.answer
 
 pub returns-clause-steps : goal.returns-clause-steps
 returns-clause-steps g c =
@@ -34,4 +34,4 @@ returns-clause-steps g c =
     c.rules-rules.result.now d.accepted.now.rules (forms_in d.language.now.rules)
     (goal_of c.args.goal.now) (goal_for (source_of c.args.source.now) (tree c.args.body.now.term))
     c.rules-rules.ensures c.requires.can.dialect.forms c.requires.goal
-        c.find_derivation.ensures.steps
+    c.find_derivation.ensures.steps

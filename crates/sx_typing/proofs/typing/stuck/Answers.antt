@@ -29,7 +29,7 @@ type_error-requires-clause-blame c =
     is.rule_set [] subject (goal_for s subject) good None c.requires.blame.0
     (blame_of c.args.blame.now) c.requires.blame.1.0 c.requires.blame.1.1 in
     subst (λ (t : Tree). IsBlameIn (shapes_of d.parts) d.language.forms [] t
-        (blame_of c.args.blame.now))
+    (blame_of c.args.blame.now))
     c.requires.body.term fits.0
 
 pub type_error-requires-clause-shallow : goal.type_error-requires-clause-shallow
@@ -52,13 +52,18 @@ returns c =
     let r = plain_reading c.args.body.now.reading in
     let ts = c.args.body.now.tokens.items in
     let blame = blame_of c.args.blame.now in
-    let b : HasBody s = record { tokens = ts; reading = r; subject = subject; read =
-        c.requires.body } in
+    let b : HasBody s = record {
+      tokens = ts;
+      reading = r;
+      subject = subject;
+      read =
+          c.requires.body;
+    } in
     let before = length s.bytes - length c.body_of.result.now in
     ok_if c.type_error.result (IsTypeError s.dialect s.bytes before (length s.bytes - before) ts r
-        blame)
+    blame)
     (λ e. (tries : ℕ) → IsFoundBy s tries subject (Err (Underivable c.args.blame.now)) →
-        IsBadSource s tries e)
+    IsBadSource s tries e)
     c.type_error.ensures
     (λ e told tries found. is_type_error s tries before (length s.bytes - before) b blame e
     (ap (λ (bytes : List ℕ). length s.bytes - length bytes) c.body_of.ensures)
