@@ -25,8 +25,8 @@ typings_are_good s is he tries t =
     let literals = literals_of d.language.parts in
     record {
       subject = hs;
-      output = subst (IsTermFor d Out) (head_same good.output t.output (sym good.one ∙ t.typed.gives))
-          good.good;
+      output = subst (IsTermFor d Out)
+          (head_same good.output t.output (sym good.one ∙ t.typed.gives)) good.good;
       sorted = asked.sorted;
       derives = good.derives;
       rewritable = good.rewritable;
@@ -36,7 +36,7 @@ typings_are_good s is he tries t =
           subst (λ (g : Goal). AllLexemesAre (IsToken literals) g.terms) (sym good.derives.1)
           (all_to_tokens literals (goal s b.subject).terms asked.lexemes) in
           all_from_tokens literals k.places
-          (lowered_keep_lexemes literals (signature_of d.language.forms) (shapes_of d.language.parts)
-          (shapes_of d.parts) d.set is.accepted is.lexemes no_hypotheses tt t.answer.0 q j k
-          good.derives.3 ins low);
+          (lowered_keep_lexemes literals (signature_of d.language.forms)
+          (shapes_of d.language.parts) (shapes_of d.parts) d.set is.accepted is.lexemes
+          no_hypotheses tt t.answer.0 q j k good.derives.3 ins low);
     }
