@@ -6,3 +6,4 @@ pub mod EndsAt
 pub mod Rows
 pub mod Placing
 pub mod Emitting
+pub mod ListTallies

@@ -6,7 +6,8 @@ ghost use Rattle.sx_rules.specs.Derivations.{nodes_of_all};
 ghost use Rattle.sx_rules.specs.EntryView.{entries};
 ghost use Rattle.sx_rules.specs.ProofView as view;
 ghost use Rattle.sx_expand.specs.Listed.{HasEnds, StandsIn, StandInRow, StandInEach, set_in};
-ghost use Rattle.sx_expand.specs.LoweredOrders.{lowered_order, lowered_orders, grafted_order, all_entries};
+ghost use Rattle.sx_expand.specs.LoweredOrders.{lowered_order, lowered_orders};
+ghost use Rattle.sx_expand.specs.LoweredOrders.{grafted_order, all_entries};
 
 use crate::ends::{entry_at, number_at};
 use crate::kid_places::kid_places;

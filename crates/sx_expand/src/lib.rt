@@ -1,7 +1,7 @@
 //! Derivations that are rewritten as lists of entries, without a derivation in boxes.
 //!
-//! - `lowered_list` writes the entries of what a derivation is lowered to, by the entries of the
-//!   derivation and no term. What is written is written once and in order.
+//! - `lower_list` writes the entries of what a derivation is lowered to, by the entries of the
+//!   derivation and no term. Its nodes are counted first, and each entry is written once.
 //! - Law: what a derivation is lowered to has the order that its own order determines.
 #![tactic(auto)]
 
@@ -11,6 +11,9 @@ mod kid_places;
 mod laws;
 mod list_lowering;
 mod listing;
+mod lowered_list;
+mod tallying;
 
 pub use laws::orders_are_lowered;
-pub use list_lowering::lowered_list;
+pub use list_lowering::lower_list;
+pub use lowered_list::LoweredList;

@@ -1,29 +1,38 @@
 //! Lists of derivations, lowered.
 
-ghost use Rattle.std.specs.Prelude.{◌≡◌, IfOk};
+ghost use Rattle.std.specs.Prelude.{◌≡◌, ◌≤◌};
 ghost use Rattle.sx_rules.specs.Derivations as spec;
+ghost use Rattle.sx_rules.specs.Derivations.{height_of};
 ghost use Rattle.sx_rules.specs.EntryView.{entries};
-ghost use Rattle.sx_rules.specs.Orders.{order_of};
 ghost use Rattle.sx_rewrite.specs.AcceptedView.{accepted};
-ghost use Rattle.sx_rewrite.specs.LoweredSizes.{HasFitKids};
-ghost use Rattle.sx_expand.specs.LoweredOrders.{lowered_order};
+ghost use Rattle.sx_expand.specs.Listed.{HasEnds, StandsIn, set_in};
+ghost use Rattle.sx_expand.specs.LoweredLists.{IsListLowered};
+ghost use Rattle.sx_expand.specs.Standing.{IsListOf};
 
 use crate::emission::emit;
 use crate::ends::ends_of;
 use crate::listing::Listing;
+use crate::lowered_list::LoweredList;
+use crate::tallying::listed_size;
 use std::alloc::Global;
-use sx_rewrite::Accepted;
+use sx_rewrite::{Accepted, RewriteError};
 use sx_rules::Entry;
-use sx_term::NoMemory;
 
-/// The entries, in preorder, of what the derivation with these entries is lowered to. Each node of
-/// it has a kid for each judgement among the premises of its rule, as a derivation has.
-pub fn lowered_list(alloc: Global, set: &Accepted, list: &[Entry]) -> Result<Vec<Entry>, NoMemory>
-    requires { (p : spec.Proof) × HasFitKids (accepted set.now) p
-        × (entries list.now ≡ order_of p) }
-    ensures { IfOk result (λ x. (p : spec.Proof) → HasFitKids (accepted set.now) p →
-        entries list.now ≡ order_of p →
-        entries x.items ≡ lowered_order (accepted set.now) p) }
+/// How deep a derivation may be.
+const MOST_HEIGHT: u64 = 3000;
+
+/// The list of what the derivation with this list is lowered to, without a look at its terms.
+/// Where that has more nodes than the budget or is deeper than 3,000, the first of these
+/// is refused, in this order, before anything is written.
+pub fn lower_list(
+    alloc: Global,
+    set: &Accepted,
+    list: &[Entry],
+    budget: u64,
+) -> Result<LoweredList, RewriteError>
+    requires { (p : spec.Proof) × IsListOf (accepted set.now) (entries list.now) p }
+    ensures { (p : spec.Proof) → IsListOf (accepted set.now) (entries list.now) p →
+        IsListLowered (accepted set.now) p budget result }
 {
     let ends = ends_of(alloc, set, list)?;
     let listing = Listing {
@@ -31,7 +40,28 @@ pub fn lowered_list(alloc: Global, set: &Accepted, list: &[Entry]) -> Result<Vec
         list,
         ends: &ends,
     };
-    let mut into = Vec::new(alloc);
-    emit(alloc, &listing, 0, &mut into)?;
-    Ok(into)
+    lower_listing(alloc, &listing, budget)
+}
+
+/// The list of what the derivation is lowered to that the listing begins with.
+fn lower_listing(alloc: Global, listing: &Listing, budget: u64) -> Result<LoweredList, RewriteError>
+    requires ends { HasEnds listing.now }
+    requires stands { (p : spec.Proof) × StandsIn listing.now 0 p × (height_of p ≤ 3000) }
+    ensures { (p : spec.Proof) → StandsIn listing.now 0 p →
+        IsListLowered (set_in listing.now) p budget result }
+{
+    match listed_size(listing, budget) {
+        None => Err(RewriteError::RewriteSpent(budget)),
+        Some(size) => {
+            if size.height > MOST_HEIGHT {
+                return Err(RewriteError::RewriteDeep);
+            }
+            let mut into = Vec::new(alloc);
+            emit(alloc, listing, 0, &mut into)?;
+            Ok(LoweredList {
+                entries: into,
+                copied: size.copied,
+            })
+        }
+    }
 }

@@ -73,7 +73,7 @@ pub record IsNodeBy (o : Option Known) (size : CertificateSize) (ns hs cs : List
   pub height : max size.height (used_most size.uses.items hs) ≡ height_at o hs
   pub copied : in_u64 (used_copies size.uses.items ns cs) ≡ in_u64 (copied_at o ns cs)
 
-node-by : (a : Accepted) (o : Option Known) (size : CertificateSize) (ps : Proofs) → IsSizeIn (stored_in o) size → UsesPremises (stored_in o) → FitKids o ps →
+pub node-by : (a : Accepted) (o : Option Known) (size : CertificateSize) (ps : Proofs) → IsSizeIn (stored_in o) size → UsesPremises (stored_in o) → FitKids o ps →
     IsNodeBy o size (lowered_nodes_of a ps) (lowered_heights_of a ps) (copied_of a ps)
 node-by a None size ps is only fit = absurd is
 node-by a (Some (basic rule)) size ps is only fit = absurd is
@@ -106,7 +106,7 @@ pub record IsBaseNode (o : Option Known) (ns hs cs : List ℕ) : Type 0 where
   pub height : greatest hs + 1 ≡ height_at o hs
   pub copied : total cs ≡ copied_at o ns cs
 
-base-node : (o : Option Known) (ps : Proofs) (ns hs cs : List ℕ) → stored_in o ≡ None → FitKids o ps → IsBaseNode o ns hs cs
+pub base-node : (o : Option Known) (ps : Proofs) (ns hs cs : List ℕ) → stored_in o ≡ None → FitKids o ps → IsBaseNode o ns hs cs
 base-node None ps ns hs cs e fit = absurd fit
 base-node (Some (basic rule)) ps ns hs cs e fit = record { nodes = refl; height = refl; copied = refl }
 base-node (Some (checked c)) ps ns hs cs e fit = absurd (some-none c e)

@@ -6,7 +6,7 @@ use crate::given_use::GivenUse;
 /// it: its own nodes and its own height, its givens not counted, and what it does with the given
 /// of each premise. The number of nodes stays at the greatest u128 where it would pass it.
 #[derive(Drop)]
-pub(crate) struct CertificateSize {
+pub struct CertificateSize {
     pub nodes: u128,
     pub height: u32,
     pub uses: Vec<GivenUse>,

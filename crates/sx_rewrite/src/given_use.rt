@@ -4,7 +4,7 @@
 /// stand above its deepest place, or 0 where it does not stand. The number of
 /// times stays at the greatest u128 where it would pass it.
 #[derive(Clone, Copy)]
-pub(crate) struct GivenUse {
+pub struct GivenUse {
     pub times: u128,
     pub above: u32,
 }

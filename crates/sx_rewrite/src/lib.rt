@@ -75,6 +75,7 @@ pub use accept_laws::{
     growth_goes_on, rejected_is_unsound, sound_rules_are_sorted, stored_is_sound,
 };
 pub use accepted::Accepted;
+pub use certificate_size::CertificateSize;
 pub use check_laws::{
     checks_are_rewritten_alike, checks_are_sound, checks_have_fit_terms, flat_goals_stay,
     flat_premises_are_base, found_checks_can_be_rewritten, longer_tables_are_accepted,
@@ -85,10 +86,12 @@ pub use ext_rule::ExtRule;
 pub use extension_data::ExtensionData;
 pub use fit_laws::{derivations_have_fit_terms, found_can_be_rewritten};
 pub use flat::Flat;
+pub use given_use::GivenUse;
 pub use grafting::graft;
 pub use laws::{lowered_are_derivations, lowered_are_sorted, lowering_exists, lowering_is_unique};
 pub use limits::check_measure;
 pub use lowered::Lowered;
+pub use lowered_size::LoweredSize;
 pub use lowered_subject::{is_subject, places_of, subject_of};
 pub use measured_laws::{measured_are_all, measuring_is_unique, terms_are_measured};
 pub use plain_laws::{plain_rules_are_accepted, plain_rules_lower_alike};
@@ -99,4 +102,5 @@ pub use rewriting_laws::{rewriting_answers, rewriting_is_good, rewriting_is_uniq
 pub use rule_set_laws::good_rules_are_disciplined;
 pub use samples::sample_is_lowered;
 pub use size_laws::{derivations_fit, plain_rules_count_alike};
+pub use tally::Tally;
 pub use used_laws::{lowered_are_counted, typed_variables_are_used, unused_kids_are_free};

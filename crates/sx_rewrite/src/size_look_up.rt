@@ -13,7 +13,7 @@ use crate::sizing::use_at;
 impl Accepted {
     /// The size of the rule's certificate, or None exactly where the number is not of an
     /// extension rule. A certificate uses the givens of its rule's premises alone.
-    pub(crate) fn certificate_size(&self, rule: u32) -> Option<&CertificateSize>
+    pub fn certificate_size(&self, rule: u32) -> Option<&CertificateSize>
         ensures value { MatchOption result (stored_at (accepted self.now) rule ≡ None)
             (λ size. IsSizeIn (stored_at (accepted self.now) rule) size.now) }
         ensures small { IfSome result (λ size. IsSmall size.now) }
@@ -32,7 +32,7 @@ impl Accepted {
 
     /// Whether a node by the rule needs its kid with this number: a base rule needs
     /// all, an extension rule those whose givens its certificate uses.
-    pub(crate) fn is_needed(&self, rule: u32, kid: usize) -> bool
+    pub fn is_needed(&self, rule: u32, kid: usize) -> bool
         ensures { result ≡ needed (certificate_at (accepted self.now) rule) kid }
     {
         match self.certificate_size(rule) {

@@ -4,7 +4,7 @@
 /// are copied for it. The numbers of nodes stay at the greatest u128 where
 /// they would pass it, which is more than every budget.
 #[derive(Clone, Copy)]
-pub(crate) struct Tally {
+pub struct Tally {
     pub nodes: u128,
     pub height: u64,
     pub copied: u128,

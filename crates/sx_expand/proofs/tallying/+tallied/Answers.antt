@@ -1,0 +1,198 @@
+use Rattle.std.proofs.Common.{rules, arith, ◌≡◌, ℕ, ◌+◌, ◌-◌, ◌<◌, List, length, get_or, max, ap, sym, refl, subst, ◌∙◌}
+use Rattle.std.proofs.lemmas.List.{length-map, get_or_default}
+use Rattle.sx_rules.specs.Derivations.{height_of, most_height}
+use Rattle.sx_rules.specs.EntryView.{entry}
+use Rattle.sx_rewrite.specs.declared.given_use.GivenUse.{GivenUse}
+use Rattle.sx_rewrite.specs.Sizes.{in_u128}
+use Rattle.sx_rewrite.proofs.SizeLaws.{near-at}
+use Rattle.sx_expand.specs.Listed.{set_in, entries_in}
+use Rattle.sx_expand.proofs.Standing.{given-stands}
+use Rattle.sx_expand.proofs.EndsAt.{listed-within}
+use Rattle.sx_expand.proofs.Rows.{head-is}
+use Rattle.sx_expand.proofs.Emitting.{rule-at}
+use Rattle.sx_expand.proofs.ListTallies.{Sizing, Basing, sized-many, by-height, sized-tally, base-tally, given-tally, next-kid, some-left, sizing-more, sizing-last, basing-more, basing-last, with-used}
+use Rattle.sx_expand.proofs.tallying.+tallied.Goals as goal
+
+pub tally-entry_at-requires : goal.tally-entry_at-requires
+tally-entry_at-requires t c = listed-within (set_in c.args.listing.now) c.args.listing.now.list.now c.args.at c.requires.stands.0 c.requires.stands.1
+
+pub tally-number_at-end-requires : goal.tally-number_at-end-requires
+tally-number_at-end-requires t c =
+    let w = listed-within (set_in c.args.listing.now) c.args.listing.now.list.now c.args.at c.requires.stands.0 c.requires.stands.1 in
+    let m = c.requires.ends.many in
+    let k = length-map c.args.listing.now.list.now entry in omega (arith, w, m, k)
+
+pub tally-overflow_add-at : goal.tally-overflow_add-at
+tally-overflow_add-at t c =
+    let w = listed-within (set_in c.args.listing.now) c.args.listing.now.list.now c.args.at c.requires.stands.0 c.requires.stands.1 in omega arith
+
+pub tally-overflow_add-at-in-None : goal.tally-overflow_add-at-in-None
+tally-overflow_add-at-in-None t c =
+    let w = listed-within (set_in c.args.listing.now) c.args.listing.now.list.now c.args.at c.requires.stands.0 c.requires.stands.1 in omega arith
+
+pub tally-certificate_tally-requires : goal.tally-certificate_tally-requires
+tally-certificate_tally-requires t c =
+    let a = set_in c.args.listing.now in
+    let r = c.requires.stands in
+    let w = listed-within a c.args.listing.now.list.now c.args.at r.0 r.1 in
+    let s = rule-at a c.args.listing.now.list.now c.args.listing.now.ends.now c.requires.ends c.args.at c.entry_at.result c.entry_at.ensures c.in-Rule.number c.in-Rule.is r.0 r.1 in
+    let m = sized-many a c.in-Rule.number c.in-Some.size.now s.kids c.in-Some.ensures.value s.fit in
+    let h = by-height a r.0 c.in-Rule.number s.binds s.kids s.is in
+    let l = r.2 in
+    (search rules, (c.requires.ends, ((s.kids, s.up.row, m, omega (arith, h, l)), c.in-Some.ensures.small)))
+
+pub tally-base_tally-requires : goal.tally-base_tally-requires
+tally-base_tally-requires t c =
+    let a = set_in c.args.listing.now in
+    let r = c.requires.stands in
+    let w = listed-within a c.args.listing.now.list.now c.args.at r.0 r.1 in
+    let s = rule-at a c.args.listing.now.list.now c.args.listing.now.ends.now c.requires.ends c.args.at c.entry_at.result c.entry_at.ensures c.in-Rule.number c.in-Rule.is r.0 r.1 in
+    let h = by-height a r.0 c.in-Rule.number s.binds s.kids s.is in
+    let l = r.2 in
+    (search rules, (c.requires.ends, (s.kids, s.up.row, s.up.sum ∙ sym c.number_at-end.ensures, omega (arith, h, l))))
+
+pub tally-returns-in-Some : goal.tally-returns-in-Some
+tally-returns-in-Some t c = λ p q.
+    let a = set_in c.args.listing.now in
+    let s = rule-at a c.args.listing.now.list.now c.args.listing.now.ends.now c.requires.ends c.args.at c.entry_at.result c.entry_at.ensures c.in-Rule.number c.in-Rule.is p q in
+    let m = sized-many a c.in-Rule.number c.in-Some.size.now s.kids c.in-Some.ensures.value s.fit in
+    sized-tally a p c.in-Rule.number s.binds s.kids s.is c.in-Some.size.now c.in-Some.ensures.value c.in-Some.ensures.only s.fit c.certificate_tally.result (c.certificate_tally.ensures s.kids s.up.row m)
+
+pub tally-returns-in-None : goal.tally-returns-in-None
+tally-returns-in-None t c = λ p q.
+    let a = set_in c.args.listing.now in
+    let s = rule-at a c.args.listing.now.list.now c.args.listing.now.ends.now c.requires.ends c.args.at c.entry_at.result c.entry_at.ensures c.in-Rule.number c.in-Rule.is p q in
+    base-tally a p c.in-Rule.number s.binds s.kids s.is c.in-None.ensures.value s.fit c.base_tally.result (c.base_tally.ensures s.kids s.up.row (s.up.sum ∙ sym c.number_at-end.ensures))
+
+pub tally-returns-in-Given : goal.tally-returns-in-Given
+tally-returns-in-Given t c = λ p q.
+    given-tally (set_in c.args.listing.now) p _ _ (given-stands c.args.listing.now.list.now c.args.at c.entry_at.result _ p (listed-within (set_in c.args.listing.now) c.args.listing.now.list.now c.args.at p q) c.entry_at.ensures c.in-Given.is q.stands) refl
+
+pub certificate_tally-with_kid-all-requires : goal.certificate_tally-with_kid-all-requires
+certificate_tally-with_kid-all-requires t c =
+    let a = set_in c.args.listing.now in
+    let list = entries_in c.args.listing.now in
+    let ends = c.args.listing.now.ends.now in
+    let size = c.args.size.now in
+    let i = c.loop-given.given-index in
+    let v = c.deref-given-items.ensures.value in
+    let lv = ap length v in
+    let b = c.loop-given-test.true in
+    let l : i < length size.uses.items = omega (arith, lv, b) in
+    let r = c.requires.stand in
+    let s = c.loop-given.invariant.sizing r.0 r.1 r.2 in
+    let k = next-kid a list ends c.loop-given.at s.left (most_height s.left) c.requires.ends (some-left a list size c.loop-given.at i c.loop-given.all r.0 l s) (omega arith) s.row in
+    let none : GivenUse = record { times = 0; above = 0 } in
+    let u = get_or c.deref-given-items.result.now i none in
+    let e : u ≡ get_or size.uses.items i u = ap (λ (xs : List GivenUse). get_or xs i none) v ∙ get_or_default size.uses.items i none u l in
+    let o = c.loop-given.invariant.on in
+    let w = k.low in
+    let m = s.low in
+    let h = r.3 in
+    let inside = k.within in
+    (search rules, (c.requires.ends, ((k.first, k.listed, omega (arith, w, m, h)), near-at size.uses.items i u l e c.requires.small.2)))
+
+pub certificate_tally-number_at-at-requires : goal.certificate_tally-number_at-at-requires
+certificate_tally-number_at-at-requires t c =
+    let a = set_in c.args.listing.now in
+    let list = entries_in c.args.listing.now in
+    let ends = c.args.listing.now.ends.now in
+    let size = c.args.size.now in
+    let i = c.loop-given.given-index in
+    let v = c.deref-given-items.ensures.value in
+    let lv = ap length v in
+    let b = c.loop-given-test.true in
+    let l : i < length size.uses.items = omega (arith, lv, b) in
+    let r = c.requires.stand in
+    let s = c.loop-given.invariant.sizing r.0 r.1 r.2 in
+    let k = next-kid a list ends c.loop-given.at s.left (most_height s.left) c.requires.ends (some-left a list size c.loop-given.at i c.loop-given.all r.0 l s) (omega arith) s.row in
+    k.within
+
+pub certificate_tally-loop-given-preserved : goal.certificate_tally-loop-given-preserved
+certificate_tally-loop-given-preserved t c =
+    let a = set_in c.args.listing.now in
+    let list = entries_in c.args.listing.now in
+    let ends = c.args.listing.now.ends.now in
+    let size = c.args.size.now in
+    let i = c.loop-given.given-index in
+    let v = c.deref-given-items.ensures.value in
+    let lv = ap length v in
+    let b = c.loop-given-test.true in
+    let l : i < length size.uses.items = omega (arith, lv, b) in
+    let r = c.requires.stand in
+    let s = c.loop-given.invariant.sizing r.0 r.1 r.2 in
+    let k = next-kid a list ends c.loop-given.at s.left (most_height s.left) c.requires.ends (some-left a list size c.loop-given.at i c.loop-given.all r.0 l s) (omega arith) s.row in
+    let none : GivenUse = record { times = 0; above = 0 } in
+    let u = get_or c.deref-given-items.result.now i none in
+    let e : u ≡ get_or size.uses.items i u = ap (λ (xs : List GivenUse). get_or xs i none) v ∙ get_or_default size.uses.items i none u l in
+    let on = c.number_at-at.ensures in
+    let m = k.more in
+    let o = c.loop-given.invariant.on in
+    record {
+      sizing = subst (λ (n : ℕ). Sizing a list size c.args.first n (i + 1) c.with_kid-all.result) (sym on)
+          (sizing-more a list ends size c.args.first c.loop-given.at i c.loop-given.all c.with_kid-all.result u c.requires.ends l e c.with_kid-all.ensures c.loop-given.invariant.sizing);
+      on = omega (arith, on, m, o);
+    }
+
+pub base_tally-with_kid-all-requires : goal.base_tally-with_kid-all-requires
+base_tally-with_kid-all-requires t c =
+    let r = c.requires.stand in
+    let s = c.loop-at.invariant.basing r.0 (record { row = r.1; sum = r.2 }) in
+    let k = head-is (set_in c.args.listing.now) (entries_in c.args.listing.now) c.args.listing.now.ends.now c.loop-at.at c.args.end s.left c.requires.ends c.loop-at-test.true s.up in
+    let o = c.loop-at.invariant.on in
+    let e : most_height s.left ≡ max (height_of k.first) (most_height k.rest) = ap most_height k.is in
+    let l = s.low in
+    let h = r.3 in
+    (search rules, (c.requires.ends, ((k.first, k.listed, omega (arith, e, l, h)), omega arith)))
+
+pub base_tally-number_at-at-requires : goal.base_tally-number_at-at-requires
+base_tally-number_at-at-requires t c =
+    let r = c.requires.stand in
+    let s = c.loop-at.invariant.basing r.0 (record { row = r.1; sum = r.2 }) in
+    (head-is (set_in c.args.listing.now) (entries_in c.args.listing.now) c.args.listing.now.ends.now c.loop-at.at c.args.end s.left c.requires.ends c.loop-at-test.true s.up).within
+
+pub base_tally-loop-at-smaller : goal.base_tally-loop-at-smaller
+base_tally-loop-at-smaller t c =
+    let r = c.requires.stand in
+    let s = c.loop-at.invariant.basing r.0 (record { row = r.1; sum = r.2 }) in
+    let k = head-is (set_in c.args.listing.now) (entries_in c.args.listing.now) c.args.listing.now.ends.now c.loop-at.at c.args.end s.left c.requires.ends c.loop-at-test.true s.up in
+    let e = c.number_at-at.ensures in
+    let l : c.args.end - c.number_at-at.result < c.args.end - c.loop-at.at = (let m = k.more in let b = c.loop-at-test.true in omega (arith, e, m, b)) in l
+
+pub base_tally-loop-at-preserved : goal.base_tally-loop-at-preserved
+base_tally-loop-at-preserved t c =
+    let a = set_in c.args.listing.now in
+    let list = entries_in c.args.listing.now in
+    let ends = c.args.listing.now.ends.now in
+    let r = c.requires.stand in
+    let s = c.loop-at.invariant.basing r.0 (record { row = r.1; sum = r.2 }) in
+    let m = (head-is a list ends c.loop-at.at c.args.end s.left c.requires.ends c.loop-at-test.true s.up).more in
+    let e = c.number_at-at.ensures in
+    let o = c.loop-at.invariant.on in
+    record {
+      basing = subst (λ (n : ℕ). Basing a list c.args.first c.args.end n c.with_kid-all.result) (sym e)
+          (basing-more a list ends c.args.first c.args.end c.loop-at.at c.loop-at.all c.with_kid-all.result c.requires.ends c.loop-at-test.true c.with_kid-all.ensures c.loop-at.invariant.basing);
+      on = omega (arith, e, m, o);
+    }
+
+pub base_tally-returns : goal.base_tally-returns
+base_tally-returns t c = λ ps row sum.
+    basing-last (set_in c.args.listing.now) (entries_in c.args.listing.now) c.args.first c.args.end c.loop-at.at c.loop-at.all c.loop-at-test.false c.loop-at.invariant.basing ps (record { row = row; sum = sum })
+
+pub certificate_tally-returns : goal.certificate_tally-returns
+certificate_tally-returns t c = λ ps row many.
+    let v = ap length c.deref-given-items.ensures.value in
+    let b = c.loop-given-test.false in
+    sizing-last (set_in c.args.listing.now) (entries_in c.args.listing.now) c.args.size.now c.args.first c.loop-given.at c.loop-given.given-index c.loop-given.all (omega (arith, v, b)) c.loop-given.invariant.sizing ps row many
+
+pub with_kid-returns : goal.with_kid-returns
+with_kid-returns t c = λ p h.
+    let q = c.if-given-eq0.false in
+    let f = c.from.ensures in
+    let e = c.max.ensures in
+    let so = c.args.so_far in
+    let size = c.tally-size.result in
+    let high : c.max.result ≡ max so.height (c.args.given.above + size.height) = omega arith in
+    with-used (set_in c.args.listing.now) c.args.given p so size _ (omega (arith, q)) (c.tally-size.ensures p h)
+    (c.saturating_add.ensures ∙ ap (λ (x : ℕ). in_u128 (so.nodes + x)) c.saturating_mul-nodes.ensures) high c.requires.near
+    (c.saturating_add-3.ensures ∙ ap (λ (x : ℕ). in_u128 (x + size.copied)) (c.saturating_add-2.ensures ∙ ap (λ (x : ℕ). in_u128 (so.copied + x)) c.saturating_mul-more.ensures))
