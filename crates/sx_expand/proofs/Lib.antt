@@ -7,3 +7,4 @@ pub mod Rows
 pub mod Placing
 pub mod Emitting
 pub mod ListTallies
+pub mod NodeTerms

@@ -2,6 +2,8 @@
 //!
 //! - `lower_list` writes the entries of what a derivation is lowered to, by the entries of the
 //!   derivation and no term. Its nodes are counted first, and each entry is written once.
+//! - `check_node` measures the terms of a lowered node by how deep and how big the terms are that
+//!   are put for the variables of its rule. No term is made.
 //! - Law: what a derivation is lowered to has the order that its own order determines.
 #![tactic(auto)]
 
@@ -12,8 +14,10 @@ mod laws;
 mod list_lowering;
 mod listing;
 mod lowered_list;
+mod node_limits;
 mod tallying;
 
 pub use laws::orders_are_lowered;
 pub use list_lowering::lower_list;
 pub use lowered_list::LoweredList;
+pub use node_limits::check_node;

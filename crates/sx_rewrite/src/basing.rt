@@ -33,7 +33,7 @@ pub(crate) fn based(base: &RuleSet, rule: u32, puts: PutTerms) -> Result<Vec<Ter
 }
 
 /// Refuses the first of the measures that passes a limit.
-fn check_measures(measures: &[Measure]) -> Result<(), RewriteError>
+pub fn check_measures(measures: &[Measure]) -> Result<(), RewriteError>
     ensures { (ts : List Tree) → AreMeasuresOf ts measures.now →
         Answers (first_over ts) (λ _. Unit {0}) result }
 {

@@ -35,7 +35,7 @@ mod grafting;
 mod grown;
 mod image_terms;
 mod instance_made;
-mod instance_measure;
+mod instance_measuring;
 mod joining;
 mod laws;
 mod limits;
@@ -75,6 +75,7 @@ pub use accept_laws::{
     growth_goes_on, rejected_is_unsound, sound_rules_are_sorted, stored_is_sound,
 };
 pub use accepted::Accepted;
+pub use basing::check_measures;
 pub use certificate_size::CertificateSize;
 pub use check_laws::{
     checks_are_rewritten_alike, checks_are_sound, checks_have_fit_terms, flat_goals_stay,
@@ -88,12 +89,14 @@ pub use fit_laws::{derivations_have_fit_terms, found_can_be_rewritten};
 pub use flat::Flat;
 pub use given_use::GivenUse;
 pub use grafting::graft;
+pub use instance_measuring::instance_measure;
 pub use laws::{lowered_are_derivations, lowered_are_sorted, lowering_exists, lowering_is_unique};
 pub use limits::check_measure;
 pub use lowered::Lowered;
 pub use lowered_size::LoweredSize;
 pub use lowered_subject::{is_subject, places_of, subject_of};
 pub use measured_laws::{measured_are_all, measuring_is_unique, terms_are_measured};
+pub use node_instance::check_conclusion;
 pub use plain_laws::{plain_rules_are_accepted, plain_rules_lower_alike};
 pub use plain_rule::{plain_judgement, plain_term};
 pub use rewrite_calls::{rewrite, rewrite_open};

@@ -13,7 +13,7 @@ ghost use Rattle.sx_rewrite.specs.Puts.{AreMeasuresOf, Answers};
 ghost use Rattle.sx_rewrite.specs.Put.{ArePut, IsMadeOf, conclusion_terms};
 
 use crate::instance_made::instance_made;
-use crate::instance_measure::instance_measure;
+use crate::instance_measuring::instance_measure;
 use crate::limits::check_measure;
 use crate::put_terms::PutTerms;
 use crate::rewrite_error::RewriteError;
@@ -73,11 +73,7 @@ fn instances(alloc: Global, terms: &[Term], puts: &PutTerms) -> Result<PutTerms,
 
 /// Refuses the first place of the conclusion of the rule with this number that passes a limit
 /// under terms of these measures. Nothing is made. A number without a rule has no places.
-pub(crate) fn check_conclusion(
-    base: &RuleSet,
-    rule: u32,
-    measures: &[Measure],
-) -> Result<(), RewriteError>
+pub fn check_conclusion(base: &RuleSet, rule: u32, measures: &[Measure]) -> Result<(), RewriteError>
     requires { greatest (depths_of measures.now) ≤ 1001000 }
     ensures { (binds : List Tree) → AreMeasuresOf binds measures.now →
         Answers (first_over (conclusion_terms (slice_get (bare_rules_in base.now) rule) binds))

@@ -3,7 +3,7 @@ use Rattle.sx_term.specs.Tree.{greatest_depth}
 use Rattle.sx_term.proofs.Kids.{trees}
 use Rattle.sx_plain.specs.Measures.{greatest_with, total_with}
 use Rattle.sx_plain.specs.PartMeasures.{depths_of, sizes_of}
-use Rattle.sx_rewrite.proofs.instance_measure.+instance_measure.Given as goal
+use Rattle.sx_rewrite.proofs.instance_measuring.+instance_measure.Given as goal
 
 abbrev pub invariant-loop-kid : goal.invariant-loop-kid
 invariant-loop-kid l = record {

@@ -12,7 +12,7 @@ use sx_term::Term;
 /// The depth and the size of the instance of the term, by those of what is put
 /// for its variables. The size stays at the greatest u64. Each node of
 /// the term is looked at once, and nothing that is put.
-pub(crate) fn instance_measure(term: &Term, parts: &[Measure]) -> Measure
+pub fn instance_measure(term: &Term, parts: &[Measure]) -> Measure
     requires shallow { depth_of (tree term.now) ≤ 1000 }
     requires parts { greatest (depths_of parts.now) ≤ 1001000 }
     ensures depth { result.depth ≡ depth_with (depths_of parts.now) (tree term.now) }

@@ -1,6 +1,6 @@
 use Rattle.std.proofs.Common.{arith}
 use Rattle.sx_rewrite.proofs.Puts.{within-greatest}
-use Rattle.sx_rewrite.proofs.instance_measure.part_measure.Goals as goal
+use Rattle.sx_rewrite.proofs.instance_measuring.part_measure.Goals as goal
 
 pub returns-then-place-parts-clause-small : goal.returns-then-place-parts-clause-small
 returns-then-place-parts-clause-small c =

@@ -4,7 +4,7 @@ use Rattle.sx_term.specs.declared.term.Term.TheViews.{the_lemmas}
 use Rattle.sx_term.proofs.Kids.{trees, tree-at_node, trees-drop, trees-drop_all, depth_of-kid, greatest_depth-at, greatest_depth-kids}
 use Rattle.sx_plain.specs.Measures.{depth_with, greatest_with, size_with, total_with}
 use Rattle.sx_plain.specs.PartMeasures.{depths_of, sizes_of}
-use Rattle.sx_rewrite.proofs.instance_measure.+instance_measure.Goals as goal
+use Rattle.sx_rewrite.proofs.instance_measuring.+instance_measure.Goals as goal
 
 pub instance_measure-measure-requires : goal.instance_measure-measure-requires
 instance_measure-measure-requires t c =
