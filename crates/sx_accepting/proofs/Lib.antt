@@ -1,0 +1,14 @@
+pub mod NamedVars
+pub mod Rejected
+pub mod CanTell
+pub mod OneStop
+pub mod Stating
+pub mod Begun
+pub mod Lasting
+pub mod Accepting
+pub mod QuietStops
+pub mod InOrder
+pub mod SameRefusals
+pub mod OneLanguageFile
+pub mod OneChecked
+pub mod OneExtended

@@ -1,0 +1,5 @@
+use Rattle.sx_accepting.proofs.OneExtended.{extended_is_accepted}
+use Rattle.sx_accepting.proofs.laws.extended_is_accepted.Goals as goal
+
+pub returns : goal.returns
+returns c = extended_is_accepted

@@ -1,0 +1,9 @@
+pub mod LanguageFiles
+pub mod LanguageStops
+pub mod ExtensionStops
+pub mod AcceptanceStops
+pub mod Refusals
+pub mod ExtendedLanguages
+pub mod ReadLanguage
+pub mod Extending
+pub mod Laws
