@@ -20,11 +20,14 @@ use Rattle.sx_steps.specs.Held.{Held, most_bytes}
 use Rattle.sx_steps.specs.Agree.{IsNoReadFault, AreReadings, Agree, AnswersBy}
 use Rattle.sx_steps.specs.Steps.{NoTries, Trying, Untried}
 use Rattle.sx_steps.proofs.Ones.{IsOne, IsNearlyOne, IsOneBy, nearly, then_one, then_nearly, and_then_by, as_answer, trying_by, trying_same, trying_nearly, no_tries_one, held_one, ok_same, some_same, none_some}
-use Rattle.sx_build.specs.ModuleFiles.{module_file, language_file}
+use Rattle.sx_accepting.specs.LanguageFiles.{language_file}
+use Rattle.sx_build.specs.ModuleFiles.{module_file}
 use Rattle.sx_build.specs.ReadModule.{Module, HasHeader, StatesModule, ReadsModule, StandsAlone, IsAlone, bad_header}
-use Rattle.sx_build.specs.LanguageStops.{unread_line, language_stop}
+use Rattle.sx_accepting.proofs.Begun.{bare_named}
+use Rattle.sx_accepting.proofs.SameRefusals.{not_lacking, same_refusal, readings_as}
+use Rattle.sx_accepting.proofs.OneLanguageFile.{reads_language_nearly}
 use Rattle.sx_build.specs.ModuleStops.{unread_body, module_stop}
-use Rattle.sx_build.specs.ReadLanguage.{Stated, IsStated, StatesLanguage, ReadsLanguage}
+use Rattle.sx_accepting.specs.ReadLanguage.{Stated, IsStated, ReadsLanguage}
 use Rattle.sx_build.specs.CompileModule.{source_of, Compiles, CompilingTries}
 use Rattle.sx_build.specs.BuildModule.{unit_plan, BuildsUnit, BuildsOver, BuildsRead}
 use Rattle.sx_rules.proofs.Facts.{kept_moded}
@@ -34,8 +37,6 @@ use Rattle.sx_rules.specs.Modes.{AllModed}
 use Rattle.sx_rules.specs.Views.{modes_of, named, rule}
 use Rattle.sx_rules.specs.Sets.{shapes_in, forms_in}
 use Rattle.sx_steps.proofs.StepsOn.{went}
-use Rattle.sx_language.specs.Alike.{ShowOthers}
-use Rattle.sx_language.proofs.OneLanguage.{one_language}
 use Rattle.sx_build.specs.Laws.{IsFollowed, ShowsOfThree, SameButShown, BuildsAgree}
 use Rattle.sx_module.specs.Alike.{AreAlike}
 use Rattle.sx_module.specs.Source.{Source}
@@ -81,53 +82,7 @@ alone_one file header (Ok a) (Err t) h k f g = absurd (k.0 h)
 alone_one file header (Err s) (Ok b) h k f g = absurd (h.0 k)
 alone_one file header (Err s) (Err t) h k f g = ap Err (h.1 ∙ sym k.1)
 
--- ---- refusals
-
--- both refusals have stops
-module _ {E : Type 0} (stop_of : E → Option Stop) (memory : E) (none : stop_of memory ≡ None) where
-  not_lacking : (e : E) (stop : Stop) → stop_of e ≡ Some stop → e ≢ memory
-  not_lacking e stop is same = none_some stop (sym none ∙ ap stop_of (sym same) ∙ is)
-
-  same_refusal : (e d : E) (s t : Stop) → e ≡ d → stop_of e ≡ Some s → stop_of d ≡ Some t → s ≡ t
-  same_refusal e d s t same h k = some_same s t (sym h ∙ ap stop_of same ∙ k)
-
-readings_as : (a b s t : Stop) → AreReadings a b → Some a ≡ Some s → Some b ≡ Some t → AreReadings s t
-readings_as a b s t are h k = subst (λ (x : Stop). AreReadings x t) (some_same a s h) (subst (λ (x : Stop). AreReadings a x) (some_same b t k) are)
-
--- the stops of two refusals of a language that show other readings
-line_readings : (file : List ℕ) (e d : NotationError) (s t : Stop) → ShowOthers e d → language_stop file e ≡ Some s → language_stop file d ≡ Some t → AreReadings s t
-line_readings file e d s t show h k =
-    readings_as (unread_line file show.line (unread.Ambiguous show.one show.other)) (unread_line file show.line (unread.Ambiguous show.some show.more)) s t (record { file = refl; place = refl; shown = tt })
-    (sym (ap (language_stop file) show.first) ∙ h) (sym (ap (language_stop file) show.second) ∙ k)
-
-agree_alike : {A : Type 0} (file : List ℕ) (e d : NotationError) (s t : Stop) → (e ≡ d) ⊎ ShowOthers e d → language_stop file e ≡ Some s → language_stop file d ≡ Some t → Agree {A = A} (Err s) (Err t)
-agree_alike file e d s t (inl same) h k = inl (ap Err (same_refusal (language_stop file) notation_error.Memory refl e d s t same h k))
-agree_alike file e d s t (inr show) h k = inr (line_readings file e d s t show h k)
-
 -- ---- the language's file
-
-bare_named : (rs : List RuleOf) → map rule rs ≡ map (λ r. r.rule) (map named rs)
-bare_named [] = refl
-bare_named (r ∷ rs) = ap (λ (l : List Rule). rule r ∷ l) (bare_named rs)
-
-stated_same : (name bytes : List ℕ) (l k : Stated) → IsStated name bytes l → IsStated name bytes k → l ≡ k
-stated_same name bytes l k s t = λ i. record { language = (s.language ∙ (one_language.found name bytes s.whole t.whole s.states t.states).content ∙ sym t.language) i; digest = (s.digest ∙ sym t.digest) i }
-
-module _ (name bytes : List ℕ) where
-  lacks : (stop : Stop) (e : NotationError) → language_stop (language_file name) e ≡ Some stop → e ≢ notation_error.Memory
-  lacks stop e is = not_lacking (language_stop (language_file name)) notation_error.Memory refl e stop is
-
-  language_nearly : IsNearlyOne (StatesLanguage name bytes)
-  language_nearly (Ok l) (Ok k) s t f g = inl (ap Ok (stated_same name bytes l k s t))
-  language_nearly (Ok l) (Err t) s r f g = absurd (lacks t r.error r.is (one_language.either name bytes s.whole r.error s.states r.refused))
-  language_nearly (Err s) (Ok k) r t f g = absurd (lacks s r.error r.is (one_language.either name bytes t.whole r.error t.states r.refused))
-  language_nearly (Err s) (Err t) r q f g =
-      agree_alike (language_file name) r.error q.error s t (one_language.refused name bytes r.error q.error r.refused q.refused (lacks s r.error r.is) (lacks t q.error q.is)) r.is q.is
-
-reads_language_nearly : (name : List ℕ) (files : Files) → IsNearlyOne (ReadsLanguage name files)
-reads_language_nearly name files =
-    then_nearly (Held most_bytes (language_file name) files) (StatesLanguage name) (nearly (Held most_bytes (language_file name) files) (held_one most_bytes (language_file name) files))
-    (λ bytes held. language_nearly name bytes)
 
 -- the rules of a language that a text states can be followed, as those of each rule set
 stated_followed : (name bytes : List ℕ) (l : Stated) → IsStated name bytes l → IsFollowed l.language

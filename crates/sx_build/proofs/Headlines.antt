@@ -22,7 +22,7 @@ use Rattle.sx_module.proofs.OneBody.{one_cut}
 use Rattle.sx_build.specs.CompileModule.{source_of}
 use Rattle.sx_build.specs.Headline.{ReadsOneWay, Headline}
 use Rattle.sx_build.specs.ReadModule.{Module}
-use Rattle.sx_build.specs.ReadLanguage.{Stated}
+use Rattle.sx_accepting.specs.ReadLanguage.{Stated}
 use Rattle.sx_build.proofs.BaseHeaders.{base_header, base_states}
 
 -- a text with only one reading is read in exactly one way
@@ -44,7 +44,7 @@ one_way p sort text t only =
 pub headline : Headline
 headline name old new lines is_a_name built =
     let read : Module = record { bytes = built.bytes; header = built.header } in
-    let over : Stated = record { language = language_data built.language; digest = sha256 built.language_bytes } in
+    let over : Stated = record { language = language_data built.language; stems = built.language.metas.stems.items; digest = sha256 built.language_bytes } in
     let s = source_of read over in
     let unit = built.compiled in
     let w = unit.written in

@@ -4,7 +4,6 @@ mod FirstLines
 pub mod Agreeing
 pub mod Promise
 mod Counted
-mod Stating
 pub mod TypeErrors
 mod BaseHeaders
 mod Headlines

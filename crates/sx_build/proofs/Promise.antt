@@ -11,14 +11,14 @@ use Rattle.sx_steps.proofs.Ones.{ok_same}
 use Rattle.sx_steps.proofs.StepsOn.{went, went_on}
 use Rattle.sx_steps.proofs.Units.{written}
 use Rattle.sx_build.specs.ReadModule.{Module, HasHeader}
-use Rattle.sx_build.specs.ReadLanguage.{Stated, IsStated}
+use Rattle.sx_accepting.specs.ReadLanguage.{Stated, IsStated}
 use Rattle.sx_build.specs.CompileModule.{source_of}
 use Rattle.sx_build.specs.BuildModule.{unit_plan, BuildsModule, BuiltModule}
 
 -- what is compiled, by the bytes of the two files
 source_is : (name language bytes texts : List ℕ) (m : Module) (l : Stated) (h : HasHeader name bytes m) (s : IsStated language texts l)
-    → source_of m l ≡ source_of (let n : Module = record { bytes = bytes; header = m.header } in n) (let k : Stated = record { language = language_data s.whole; digest = sha256 texts } in k)
-source_is name language bytes texts m l h s = λ i. source_of (record { bytes = h.same i; header = m.header }) (record { language = s.language i; digest = s.digest i })
+    → source_of m l ≡ source_of (let n : Module = record { bytes = bytes; header = m.header } in n) (let k : Stated = record { language = language_data s.whole; stems = s.whole.metas.stems.items; digest = sha256 texts } in k)
+source_is name language bytes texts m l h s = λ i. source_of (record { bytes = h.same i; header = m.header }) (record { language = s.language i; stems = s.stems i; digest = s.digest i })
 
 pub build_promise : (name : List ℕ) (budget : ℕ) (old new : Files) (plan : Plan) (tries : ℕ) → BuildsModule name budget old (Ok plan) tries → new ≡ after plan.files old → BuiltModule name old new plan.lines
 build_promise name budget old new plan tries built files_are =

@@ -24,11 +24,12 @@ use Rattle.sx_steps.specs.declared.step_error.StepError.TheVariants as errors
 use Rattle.sx_steps.specs.Steps.{Then, Goes, NoTries, Trying, Untried, GoesOn, AndThen}
 use Rattle.sx_steps.specs.Stops.{not_utf8, too_long, bad_rules}
 use Rattle.sx_steps.proofs.Ones.{err_same, ok_no_err}
-use Rattle.sx_build.specs.ModuleFiles.{module_file, language_file}
+use Rattle.sx_accepting.specs.LanguageFiles.{language_file}
+use Rattle.sx_build.specs.ModuleFiles.{module_file}
 use Rattle.sx_build.specs.ReadModule.{Module, StatesModule, ReadsModule, IsAlone, StandsAlone, bad_header, not_yet}
-use Rattle.sx_build.specs.LanguageStops.{uncut_line, unread_line, bad_grammar, grammar_defect_of, metavariable, language_stop}
+use Rattle.sx_accepting.specs.LanguageStops.{uncut_line, unread_line, bad_grammar, grammar_defect_of, metavariable, language_stop}
 use Rattle.sx_build.specs.ModuleStops.{uncut_body, unread_body, module_stop}
-use Rattle.sx_build.specs.ReadLanguage.{Stated, StatesLanguage, ReadsLanguage}
+use Rattle.sx_accepting.specs.ReadLanguage.{Stated, StatesLanguage, ReadsLanguage}
 use Rattle.sx_build.specs.CompileModule.{source_of, Compiles, CompilingTries}
 use Rattle.sx_build.specs.BuildModule.{unit_plan, BuildsUnit, BuildsOver, BuildsRead}
 use Rattle.sx_build.specs.Laws.{IsFollowed, IsTypeError, HasNoType, TypeErrorsAreFinal}

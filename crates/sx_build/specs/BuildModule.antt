@@ -14,9 +14,10 @@ use Rattle.sx_steps.specs.declared.step_error.StepError.{StepError}
 use Rattle.sx_steps.specs.Steps.{Trying, Untried, AndThen}
 use Rattle.sx_steps.specs.Unit.{base_file, list_file, interface_file, built_line, built_plan}
 use Rattle.sx_steps.specs.Work.{Plan}
-use Rattle.sx_build.specs.ModuleFiles.{module_file, language_file}
+use Rattle.sx_accepting.specs.LanguageFiles.{language_file}
+use Rattle.sx_build.specs.ModuleFiles.{module_file}
 use Rattle.sx_build.specs.ReadModule.{Module, ReadsModule, IsAlone, StandsAlone}
-use Rattle.sx_build.specs.ReadLanguage.{Stated, ReadsLanguage}
+use Rattle.sx_accepting.specs.ReadLanguage.{Stated, ReadsLanguage}
 use Rattle.sx_build.specs.CompileModule.{source_of, Compiles, CompilingTries}
 
 -- the three files and the line
@@ -59,7 +60,11 @@ pub record BuiltModule (name : List ℕ) (old new : Files) (lines : List ℕ) : 
   pub language_held : old (language_file header.language) ≡ Some language_bytes
   pub stated : States header.language language_bytes language
   pub compiled : IsUnit (source_of (record { bytes = bytes; header = header })
-      (record { language = language_data language; digest = sha256 language_bytes })) unit
+      (record {
+        language = language_data language;
+        stems = language.metas.stems.items;
+        digest = sha256 language_bytes;
+      })) unit
   pub base : new (base_file name) ≡ Some unit.base
   pub list : new (list_file name) ≡ Some unit.derivation
   pub interface : new (interface_file name) ≡ Some unit.interface

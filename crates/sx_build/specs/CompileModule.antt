@@ -9,7 +9,7 @@ use Rattle.sx_module.specs.Refused.{IsBadModule, HasWalked}
 use Rattle.sx_steps.specs.declared.stop.Stop.{Stop}
 use Rattle.sx_build.specs.ModuleStops.{module_stop}
 use Rattle.sx_build.specs.ReadModule.{Module}
-use Rattle.sx_build.specs.ReadLanguage.{Stated}
+use Rattle.sx_accepting.specs.ReadLanguage.{Stated}
 
 -- the language's empty environment
 abbrev pub empty_environment : LanguageData → Tree

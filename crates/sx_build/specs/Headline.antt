@@ -34,7 +34,8 @@ use Rattle.sx_outside.specs.Files.{Files}
 use Rattle.sx_steps.specs.Unit.{base_file, list_file, interface_file}
 use Rattle.sx_build.specs.BuildModule.{BuiltModule}
 use Rattle.sx_build.specs.CompileModule.{empty_environment}
-use Rattle.sx_build.specs.ModuleFiles.{module_file, language_file}
+use Rattle.sx_accepting.specs.LanguageFiles.{language_file}
+use Rattle.sx_build.specs.ModuleFiles.{module_file}
 
 -- the tokens that the text is cut into are read as the sort by the reading
 pub record ReadsBy (p : Parts) (sort : Sort) (text : Text) (tokens : List Token)

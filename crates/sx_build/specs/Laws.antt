@@ -19,7 +19,7 @@ use Rattle.sx_steps.specs.Agree.{AreReadings, IsSure, AnswersBy}
 use Rattle.sx_steps.specs.Work.{Plan}
 use Rattle.sx_build.specs.ModuleFiles.{module_file}
 use Rattle.sx_build.specs.ReadModule.{Module, ReadsModule, StandsAlone}
-use Rattle.sx_build.specs.ReadLanguage.{Stated, ReadsLanguage}
+use Rattle.sx_accepting.specs.ReadLanguage.{Stated, ReadsLanguage}
 use Rattle.sx_build.specs.CompileModule.{source_of, CompilingTries}
 use Rattle.sx_build.specs.BuildModule.{BuildsModule}
 

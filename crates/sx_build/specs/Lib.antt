@@ -1,7 +1,5 @@
 pub mod ModuleFiles
 pub mod ReadModule
-pub mod LanguageStops
-pub mod ReadLanguage
 pub mod ModuleStops
 pub mod CompileModule
 pub mod BuildModule

@@ -10,17 +10,17 @@ ghost use Rattle.sx_steps.specs.Stop.{Gives, OnlyReads, IsNoFault, Counts, Rises
 ghost use Rattle.sx_steps.specs.Work.{plan_of};
 ghost use Rattle.sx_build.specs.ModuleFiles.{module_file};
 ghost use Rattle.sx_build.specs.ReadModule.{module_of, IsHeaded};
-ghost use Rattle.sx_build.specs.ReadLanguage.{stated_of};
+ghost use Rattle.sx_accepting.specs.ReadLanguage.{stated_of};
 ghost use Rattle.sx_build.specs.CompileModule as spec;
 ghost use Rattle.sx_build.specs.CompileModule.{Compiles, CompilingTries};
 ghost use Rattle.sx_build.specs.BuildModule.{unit_plan, BuildsUnit, BuildsOver, BuildsRead};
 ghost use Rattle.sx_build.specs.BuildModule.{BuildsModule};
 
 use crate::module_stops::bad_module;
-use crate::read_language::{LanguageFile, read_language_file};
 use crate::read_module::{ModuleFile, check_alone, read_module};
 use std::alloc::Global;
 use std::sync::ledger::Ledger;
+use sx_accepting::{LanguageFile, read_language_file};
 use sx_module::{Compiled, compile};
 use sx_notation::Language;
 use sx_outside::Shelf;

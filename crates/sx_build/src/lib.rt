@@ -12,10 +12,8 @@
 #![tactic(auto)]
 
 mod build_module;
-mod language_stops;
 mod laws;
 mod module_stops;
-mod read_language;
 mod read_module;
 
 pub use build_module::plan_build_module;

@@ -9,7 +9,7 @@ use Rattle.sx_steps.specs.Work.{Plan, plan_of}
 use Rattle.sx_steps.proofs.StepsOn.{goes_from, stops_at, untried, trying_by_view}
 use Rattle.sx_build.specs.ModuleFiles.{module_file}
 use Rattle.sx_build.specs.ReadModule.{module_of}
-use Rattle.sx_build.specs.ReadLanguage.{stated_of}
+use Rattle.sx_accepting.specs.ReadLanguage.{stated_of}
 use Rattle.sx_build.specs.CompileModule.{Compiles, CompilingTries}
 use Rattle.sx_build.specs.BuildModule.{unit_plan}
 use Rattle.sx_build.proofs.build_module.build_unit.Goals as goal

@@ -3,7 +3,7 @@ use Rattle.std.specs.Prelude.{Ok, Err}
 use Rattle.sx_module.specs.Source.{Source}
 use Rattle.sx_module.specs.Refused.{IsBadModule, IsCounted}
 use Rattle.sx_build.specs.ReadModule.{module_of}
-use Rattle.sx_build.specs.ReadLanguage.{stated_of}
+use Rattle.sx_accepting.specs.ReadLanguage.{stated_of}
 use Rattle.sx_build.specs.CompileModule.{source_of}
 use Rattle.sx_build.proofs.Counted.{counted_short, counted_unit, counted_stop, uncompiled}
 use Rattle.sx_build.proofs.Sources.{source_same}
