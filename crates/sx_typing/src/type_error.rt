@@ -41,7 +41,7 @@ fn stuck_text(alloc: Global, dialect: &Dialect, blame: &Blame) -> Result<GoalDef
         language: dialect.language,
         grammar: dialect.rule_grammar,
         vars: &vars,
-        rules: dialect.accepted.rules(),
+        rules: dialect.rules(),
     };
     sx_stuck::stuck_text(alloc, &telling, blame)
 }

@@ -113,7 +113,7 @@ fn search<L: Ledger>(
         (tries_of None tries (goal_events (source_of source.now) (tree body.now.term)))
         steps.old steps.new result }
 {
-    let rules = source.dialect.accepted.rules();
+    let rules = source.dialect.rules();
     find_derivation(alloc, rules, goal, tries, steps)
 }
 
