@@ -1,5 +1,6 @@
 -- The language without extensions.
-use Rattle.std.proofs.Common.{◌≡◌, ℕ, suc, ◌≤◌, false, true, List, [], ◌∷◌, map, length, refl, sym, ap, ◌∙◌, subst, arith}
+use Rattle.std.proofs.Common.{◌≡◌, ℕ, suc, ◌≤◌, false, true, List, [], ◌∷◌, map, length, refl, sym}
+use Rattle.std.proofs.Common.{ap, ◌∙◌, subst, arith}
 use Rattle.std.proofs.lemmas.List.{length-map}
 use Rattle.std.specs.Prelude.{Some, None}
 use Rattle.std.specs.List.{AllByRecursion}
@@ -26,7 +27,8 @@ use Rattle.sx_notation.specs.Language.{PlaceFits, FormFits, IsLanguage, language
 use Rattle.sx_language.specs.States.{States}
 use Rattle.sx_extension.specs.Grounds.{Ground, HasRoomFor, IsBefore}
 use Rattle.sx_extension.specs.Laws.{first_ground, LanguagesBegin}
-use Rattle.sx_accepting.specs.ExtendedLanguages.{base_of, extended_data, unextended, ground_of, CanExtend}
+use Rattle.sx_accepting.specs.ExtendedLanguages.{base_of, extended_data, unextended, ground_of}
+use Rattle.sx_accepting.specs.ExtendedLanguages.{CanExtend}
 
 -- ---- the sorts of forms
 
@@ -45,7 +47,8 @@ sort_for In s e = untyped s e
 sort_for Sub s e = typed s e
 sort_for Out s e = untyped s e
 
-places_for : (ps : List Place) → AllByRecursion PlaceFits ps → AllByRecursion (λ p. IsSortFor p.role p.sort) ps
+places_for : (ps : List Place) → AllByRecursion PlaceFits ps →
+    AllByRecursion (λ p. IsSortFor p.role p.sort) ps
 places_for [] h = tt
 places_for (p ∷ ps) h = (sort_for p.role p.sort h.0, places_for ps h.1)
 
@@ -62,16 +65,24 @@ bare_named (r ∷ rs) = ap (λ (l : List Rule). rule r ∷ l) (bare_named rs)
 
 -- there are as many shapes as productions
 pub many_shapes : (p : Parts) → length (shapes_of p) ≡ length p.productions
-many_shapes p = length-map (numbered p).productions (shape_of p.sorts) ∙ length-map p.productions (numbered_line (names p))
+many_shapes p = length-map (numbered p).productions (shape_of p.sorts) ∙
+    length-map p.productions (numbered_line (names p))
 
 module _ (l : Language) (is : IsLanguage l) where
-  grammar_is : l.grammar ≡ (let g : GrammarData = record { parts = l.grammar.parts; base = length l.grammar.parts.productions } in g)
+  grammar_is : l.grammar ≡ (let g : GrammarData = record {
+    parts = l.grammar.parts;
+    base = length
+        l.grammar.parts.productions;
+  } in g)
   grammar_is = λ i. record { parts = l.grammar.parts; base = is.base i }
 
   -- the set of the language's rules, and its grammars, are the language without extensions
-  pub begins : (a : AcceptedOf) → accepted a ≡ without_extensions (bare_rules_in l.rules) → rules_in a.base ≡ rules_in l.rules → rules_in a.rules ≡ rules_in l.rules →
-      shapes_in a.base ≡ shapes_in l.rules → shapes_in a.rules ≡ shapes_in l.rules → forms_in a.base ≡ forms_in l.rules →
-      extended_data l (record { grammars = None; accepted = a; last = 0 }) ≡ unextended (language_data l)
+  pub begins : (a : AcceptedOf) → accepted a ≡ without_extensions (bare_rules_in l.rules) →
+      rules_in a.base ≡ rules_in l.rules → rules_in a.rules ≡ rules_in l.rules →
+      shapes_in a.base ≡ shapes_in l.rules → shapes_in a.rules ≡ shapes_in l.rules →
+      forms_in a.base ≡ forms_in l.rules →
+      extended_data l (record { grammars = None; accepted = a; last = 0 }) ≡ unextended
+      (language_data l)
   begins a kept base_rules rules base_shapes shapes forms = λ i. record {
     grammar = grammar_is i;
     by_rules = l.rule_grammar.parts;
@@ -102,10 +113,13 @@ module _ (l : Language) (is : IsLanguage l) where
   }
 
   -- the language can be extended
-  pub first_can : LanguagesBegin → (name bytes : List ℕ) → States name bytes l → length bytes ≤ 262144 → (files : ℕ) → files ≤ 8189 → CanExtend (base_of l) (unextended (language_data l)) files
+  pub first_can : LanguagesBegin → (name bytes : List ℕ) → States name bytes l →
+      length bytes ≤ 262144 → (files : ℕ) → files ≤ 8189 →
+      CanExtend (base_of l) (unextended (language_data l)) files
   first_can law name bytes states short files few = record {
     rules = refl;
     shapes = refl;
     before = subst IsBefore first_is (law.before name bytes l states is short);
-    room = subst (λ (g : Ground). HasRoomFor g (suc files)) first_is (law.room name bytes l (suc files) states short (omega arith));
+    room = subst (λ (g : Ground). HasRoomFor g (suc files)) first_is
+        (law.room name bytes l (suc files) states short (omega arith));
   }

@@ -25,15 +25,19 @@ use Rattle.sx_extension.specs.Grounds.{Ground, HasRoomFor, IsBefore}
 use Rattle.sx_extension.specs.Laws.{next_ground, ExtensionsGoOn}
 use Rattle.sx_extension.specs.States.{States}
 use Rattle.sx_accepting.specs.declared.extended.Extended.{Extended}
-use Rattle.sx_accepting.specs.ExtendedLanguages.{BaseLanguage, ExtendedData, ground_of, ground_after, CanExtend}
+use Rattle.sx_accepting.specs.ExtendedLanguages.{BaseLanguage, ExtendedData, ground_of}
+use Rattle.sx_accepting.specs.ExtendedLanguages.{ground_after, CanExtend}
 use Rattle.sx_accepting.specs.Extending.{read_data, with_extension}
 use Rattle.sx_accepting.specs.Refusals.{IsKept, CanAccept}
 
 -- ---- more can be read
 
-module _ (law : ExtensionsGoOn) (l : BaseLanguage) (x : ExtendedData) (read : ReadExtension) (bytes : Text) (states : States (ground_of l x) bytes read) (fits : FitsAfter (ground_of l x) read)
+module _ (law : ExtensionsGoOn) (l : BaseLanguage) (x : ExtendedData) (read : ReadExtension)
+    (bytes : Text) (states : States (ground_of l x) bytes read)
+    (fits : FitsAfter (ground_of l x) read)
     (stored : List Checked) where
-  next_is : x.set.forms ≡ l.content.forms → next_ground (ground_of l x) read ≡ ground_of l (with_extension x (read_data read) stored)
+  next_is : x.set.forms ≡ l.content.forms →
+      next_ground (ground_of l x) read ≡ ground_of l (with_extension x (read_data read) stored)
   next_is forms = λ i. record {
     language = l.content.parts;
     stems = l.stems;
@@ -48,15 +52,18 @@ module _ (law : ExtensionsGoOn) (l : BaseLanguage) (x : ExtendedData) (read : Re
   }
 
   -- with the extension the language can be extended by one file less
-  pub lasts : (files : ℕ) → CanExtend l x (suc files) → CanExtend l (with_extension x (read_data read) stored) files
+  pub lasts : (files : ℕ) → CanExtend l x (suc files) →
+      CanExtend l (with_extension x (read_data read) stored) files
   lasts files can =
       let g = ground_of l x in
       let one = law.room g read 1 (suc (suc files)) fits (omega arith) can.room in
       record {
         rules = can.rules;
         shapes = can.shapes;
-        before = subst IsBefore (next_is can.before.rule_forms) (law.before g bytes read can.before states fits one);
-        room = subst (λ (y : Ground). HasRoomFor y (suc files)) (next_is can.before.rule_forms) (law.room g read (suc files) (suc (suc files)) fits (omega arith) can.room);
+        before = subst IsBefore (next_is can.before.rule_forms)
+            (law.before g bytes read can.before states fits one);
+        room = subst (λ (y : Ground). HasRoomFor y (suc files)) (next_is can.before.rule_forms)
+            (law.room g read (suc files) (suc (suc files)) fits (omega arith) can.room);
       }
 
 -- ---- the extension fits
@@ -65,23 +72,32 @@ body_shallow : (b : Option Tree) → IfSome b (λ t. depth_of t ≤ 1000) → Ar
 body_shallow None h = tt
 body_shallow (Some t) h = (h, tt)
 
-bodies_shallow : (es : List ExtRuleOf) → AllByRecursion (λ e. IfSome e.body (λ t. depth_of t ≤ 1000)) (map ext_rule es) → AllByRecursion (λ e. AreShallow (listed_term (option_map tree e.body))) es
+bodies_shallow : (es : List ExtRuleOf) → AllByRecursion
+    (λ e. IfSome e.body (λ t. depth_of t ≤ 1000)) (map ext_rule es) →
+    AllByRecursion (λ e. AreShallow (listed_term (option_map tree e.body))) es
 bodies_shallow [] h = tt
 bodies_shallow (e ∷ es) h = (body_shallow (option_map tree e.body) h.0, bodies_shallow es h.1)
 
 -- the extension can be accepted after the set
-pub can_accept : (l : Language) (s : Extended) (read : ReadExtension) → IsKept s.accepted → IsBefore (ground_after l s) → shapes_in s.accepted.base ≡ shapes_of l.grammar.parts →
-    FitsAfter (ground_after l s) read → CanAccept s.accepted (shapes_of read.grammar.parts) read.extension
+pub can_accept : (l : Language) (s : Extended) (read : ReadExtension) → IsKept s.accepted →
+    IsBefore (ground_after l s) → shapes_in s.accepted.base ≡ shapes_of l.grammar.parts →
+    FitsAfter (ground_after l s) read → CanAccept s.accepted (shapes_of read.grammar.parts)
+    read.extension
 can_accept l s read k before base fits =
     let set = s.accepted in
     let all = shapes_of read.grammar.parts in
     let rules = rules_in set.rules ++ named_rules read.extension in
     record {
-      good = subst (λ (fs : List FormData). IsRuleSet all fs rules) (sym (k.forms ∙ before.rule_forms)) fits.good;
+      good = subst (λ (fs : List FormData). IsRuleSet all fs rules)
+          (sym (k.forms ∙ before.rule_forms)) fits.good;
       shallow = fits.usable.shallow;
       bodies = bodies_shallow read.extension.rules.items fits.usable.bodies;
       few = fits.usable.few;
       labels = fits.labels ∙ sym k.labels;
-      fits = subst (λ (fs : List FormData). Fits (signature_of fs) (shapes_in set.base) (shapes_in set.rules) all (table_of set.plain) (table_of read.extension.plain) (map ext_rule read.extension.rules.items)) (sym before.rule_forms)
-          (subst (λ (ss : List Shape). Fits (signature_of (forms_in l.rules)) ss (shapes_in set.rules) all (table_of set.plain) (table_of read.extension.plain) (map ext_rule read.extension.rules.items)) (sym base) fits.fits);
+      fits = subst (λ (fs : List FormData). Fits (signature_of fs) (shapes_in set.base)
+          (shapes_in set.rules) all (table_of set.plain) (table_of read.extension.plain)
+          (map ext_rule read.extension.rules.items)) (sym before.rule_forms)
+          (subst (λ (ss : List Shape). Fits (signature_of (forms_in l.rules)) ss
+          (shapes_in set.rules) all (table_of set.plain) (table_of read.extension.plain)
+          (map ext_rule read.extension.rules.items)) (sym base) fits.fits);
     }

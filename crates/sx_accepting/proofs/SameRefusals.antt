@@ -15,18 +15,28 @@ module _ {E : Type 0} (stop_of : E → Option Stop) (memory : E) (none : stop_of
   pub not_lacking : (e : E) (stop : Stop) → stop_of e ≡ Some stop → e ≢ memory
   not_lacking e stop is same = none_some stop (sym none ∙ ap stop_of (sym same) ∙ is)
 
-  pub same_refusal : (e d : E) (s t : Stop) → e ≡ d → stop_of e ≡ Some s → stop_of d ≡ Some t → s ≡ t
+  pub same_refusal : (e d : E) (s t : Stop) → e ≡ d → stop_of e ≡ Some s → stop_of d ≡ Some t →
+      s ≡ t
   same_refusal e d s t same h k = some_same s t (sym h ∙ ap stop_of same ∙ k)
 
-pub readings_as : (a b s t : Stop) → AreReadings a b → Some a ≡ Some s → Some b ≡ Some t → AreReadings s t
-readings_as a b s t are h k = subst (λ (x : Stop). AreReadings x t) (some_same a s h) (subst (λ (x : Stop). AreReadings a x) (some_same b t k) are)
+pub readings_as : (a b s t : Stop) → AreReadings a b → Some a ≡ Some s → Some b ≡ Some t →
+    AreReadings s t
+readings_as a b s t are h k =
+    subst (λ (x : Stop). AreReadings x t) (some_same a s h)
+    (subst (λ (x : Stop). AreReadings a x) (some_same b t k) are)
 
 -- the stops of two refusals of a language that show other readings
-pub line_readings : (file : List ℕ) (e d : NotationError) (s t : Stop) → ShowOthers e d → language_stop file e ≡ Some s → language_stop file d ≡ Some t → AreReadings s t
+pub line_readings : (file : List ℕ) (e d : NotationError) (s t : Stop) → ShowOthers e d →
+    language_stop file e ≡ Some s → language_stop file d ≡ Some t → AreReadings s t
 line_readings file e d s t show h k =
-    readings_as (unread_line file show.line (unread.Ambiguous show.one show.other)) (unread_line file show.line (unread.Ambiguous show.some show.more)) s t (record { file = refl; place = refl; shown = tt })
+    readings_as (unread_line file show.line (unread.Ambiguous show.one show.other))
+    (unread_line file show.line (unread.Ambiguous show.some show.more)) s t
+    (record { file = refl; place = refl; shown = tt })
     (sym (ap (language_stop file) show.first) ∙ h) (sym (ap (language_stop file) show.second) ∙ k)
 
-pub agree_alike : {A : Type 0} (file : List ℕ) (e d : NotationError) (s t : Stop) → (e ≡ d) ⊎ ShowOthers e d → language_stop file e ≡ Some s → language_stop file d ≡ Some t → Agree {A = A} (Err s) (Err t)
-agree_alike file e d s t (inl same) h k = inl (ap Err (same_refusal (language_stop file) notation_error.Memory refl e d s t same h k))
+pub agree_alike : {A : Type 0} (file : List ℕ) (e d : NotationError) (s t : Stop) →
+    (e ≡ d) ⊎ ShowOthers e d → language_stop file e ≡ Some s → language_stop file d ≡ Some t →
+    Agree {A = A} (Err s) (Err t)
+agree_alike file e d s t (inl same) h k =
+    inl (ap Err (same_refusal (language_stop file) notation_error.Memory refl e d s t same h k))
 agree_alike file e d s t (inr show) h k = inr (line_readings file e d s t show h k)

@@ -12,8 +12,28 @@ use Rattle.sx_accepting.specs.LanguageFiles.{language_file}
 use Rattle.sx_accepting.specs.LanguageStops.{language_stop}
 use Rattle.sx_accepting.specs.ReadLanguage.{Stated, IsStated, IsStopped}
 
-pub stated : (name bytes : List ℕ) (l : Language) (d : Digest) → States name bytes l → IsLanguage l → d.bytes ≡ sha256 bytes → IsStated name bytes (let s : Stated = record { language = language_data l; stems = l.metas.stems.items; digest = d.bytes } in s)
-stated name bytes l d states fit digest = record { whole = l; states = states; fit = fit; language = refl; stems = refl; digest = digest }
+pub stated : (name bytes : List ℕ) (l : Language) (d : Digest) → States name bytes l →
+    IsLanguage l → d.bytes ≡ sha256 bytes →
+    IsStated name bytes (let s : Stated =
+    record { language = language_data l; stems = l.metas.stems.items; digest = d.bytes } in s)
+stated name bytes l d states fit digest =
+    record {
+      whole = l;
+      states = states;
+      fit = fit;
+      language = refl;
+      stems = refl;
+      digest =
+          digest;
+    }
 
-pub stopped : (file name bytes : List ℕ) (e : NotationError) (stop : Stop) → file ≡ language_file name → IsRefused name bytes e → language_stop file e ≡ Some stop → IsStopped name bytes stop
-stopped file name bytes e stop same refused is = record { error = e; refused = refused; is = subst (λ (f : List ℕ). language_stop f e ≡ Some stop) same is }
+pub stopped : (file name bytes : List ℕ) (e : NotationError) (stop : Stop) →
+    file ≡ language_file name → IsRefused name bytes e → language_stop file e ≡ Some stop →
+    IsStopped name bytes stop
+stopped file name bytes e stop same refused is =
+    record {
+      error = e;
+      refused = refused;
+      is =
+          subst (λ (f : List ℕ). language_stop f e ≡ Some stop) same is;
+    }

@@ -54,7 +54,7 @@ set_data a = record {
 
 -- ---- languages with extensions
 
--- The grammar, and the sorts and productions by which rules are read, both with what the extensions
+-- The grammar, and the sorts and productions by which rules are read, both with what extensions
 -- add; the rules that are accepted; and how many of these are of the last extension.
 pub record ExtendedData : Type 0 where
   pub grammar : GrammarData

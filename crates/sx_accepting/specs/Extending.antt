@@ -41,8 +41,8 @@ use Rattle.sx_accepting.specs.ExtensionStops.{extension_stop}
 
 -- ---- an extension is read
 
--- What an extension states: the grammars with its productions, its rules with their names, the body
--- and the names of the variables of each, and the table of plain constructors.
+-- What an extension states: the grammars with its productions, its rules with their names, the
+-- body and the names of the variables of each, and the table of plain constructors.
 pub record ReadData : Type 0 where
   pub grammar : GrammarData
   pub rule_grammar : GrammarData

@@ -53,8 +53,8 @@ fn refusal(
     }
 }
 
-/// The language with the extension that was read, where its rules, with these shapes and names, are
-/// accepted.
+/// The language with the extension that was read, where its rules, with these shapes and names,
+/// are accepted.
 fn accept_told<L: Ledger>(
     given: &Given,
     name: &Text,

@@ -1,8 +1,8 @@
 //! Extensions that are read and accepted, one after the other.
 //!
 //! - `read_language_file`: the language in its file.
-//! - `extend_language`: a language with extensions, which are read and accepted in order, each after
-//!   all before it; or the first refusal. `Extended` is what the language becomes.
+//! - `extend_language`: a language with extensions, which are read and accepted in order, each
+//!   after all before it; or the first refusal. `Extended` is what the language becomes.
 #![tactic(auto)]
 
 mod acceptance_stops;

@@ -30,9 +30,13 @@ returns-in-Ok-clause-step g c =
     let budgets = c.args.given.now.budgets in
     let steps = c.args.steps.now in
     let read = read_data c.in-Ok.read in
-    goes_from (extended_data l) (Untried (ReadsAfter (base_of l) so_far file)) (Accepts (base_of l) budgets (extension_file file.header.name) so_far) read c.accept_next.result steps steps c.accept_next.new.steps
+    goes_from (extended_data l) (Untried (ReadsAfter (base_of l) so_far file))
+    (Accepts (base_of l) budgets (extension_file file.header.name) so_far) read
+    c.accept_next.result steps steps c.accept_next.new.steps
     (0, (c.in-Ok.ensures.step, refl), omega arith)
-    (subst (λ (name : List ℕ). Does (extended_data l) (Accepts (base_of l) budgets name so_far read) c.accept_next.result steps c.accept_next.new.steps) c.requires.name c.accept_next.ensures.step)
+    (subst (λ (name : List ℕ). Does (extended_data l)
+    (Accepts (base_of l) budgets name so_far read) c.accept_next.result steps
+    c.accept_next.new.steps) c.requires.name c.accept_next.ensures.step)
 
 pub returns-in-Err-clause-step : goal.returns-in-Err-clause-step
 returns-in-Err-clause-step g c =
@@ -40,5 +44,8 @@ returns-in-Err-clause-step g c =
     let so_far = extended_data l c.args.so_far in
     let file = extension_of c.args.file.now in
     let steps = c.args.steps.now in
-    stops_at read_data (extended_data l) (Untried (ReadsAfter (base_of l) so_far file)) (Accepts (base_of l) c.args.given.now.budgets (extension_file file.header.name) so_far) c.in-Err.e steps steps
-    (untried read_data (ReadsAfter (base_of l) so_far file) (Err c.in-Err.e) steps c.in-Err.ensures.step)
+    stops_at read_data (extended_data l) (Untried (ReadsAfter (base_of l) so_far file))
+    (Accepts (base_of l) c.args.given.now.budgets (extension_file file.header.name) so_far)
+    c.in-Err.e steps steps
+    (untried read_data (ReadsAfter (base_of l) so_far file) (Err c.in-Err.e) steps
+    c.in-Err.ensures.step)

@@ -10,11 +10,17 @@ use Rattle.sx_accepting.proofs.read_language.read_language_file.Goals as goal
 
 pub returns-in-Ok-clause-step : goal.returns-in-Ok-clause-step
 returns-in-Ok-clause-step g c = λ files told.
-    goes_next stated_of (Held most_bytes (language_file c.args.name.now) files) (StatesLanguage c.args.name.now) c.in-Ok.bytes.items c.state_language.result
-    (subst (λ (file : List ℕ). Held most_bytes file files (Ok c.in-Ok.bytes.items)) c.in_ok-file.ensures (c.in-Ok.ensures.step files told))
-    (subst (λ (bytes : List ℕ). Gives stated_of (StatesLanguage c.args.name.now bytes) c.state_language.result) c.deref.ensures.value c.state_language.ensures.step)
+    goes_next stated_of (Held most_bytes (language_file c.args.name.now) files)
+    (StatesLanguage c.args.name.now) c.in-Ok.bytes.items c.state_language.result
+    (subst (λ (file : List ℕ). Held most_bytes file files (Ok c.in-Ok.bytes.items))
+    c.in_ok-file.ensures (c.in-Ok.ensures.step files told))
+    (subst (λ (bytes : List ℕ). Gives stated_of (StatesLanguage c.args.name.now bytes)
+    c.state_language.result) c.deref.ensures.value c.state_language.ensures.step)
 
 pub returns-clause-step : goal.returns-clause-step
 returns-clause-step g c = λ files told.
-    stops_first (λ (bytes : Vec ℕ). bytes.items) stated_of (Held most_bytes (language_file c.args.name.now) files) (StatesLanguage c.args.name.now) c.in-Err.e
-    (subst (λ (file : List ℕ). Gives (λ (bytes : Vec ℕ). bytes.items) (Held most_bytes file files) (Err c.in-Err.e)) c.in_ok-file.ensures (c.in-Err.ensures.step files told))
+    stops_first (λ (bytes : Vec ℕ). bytes.items) stated_of
+    (Held most_bytes (language_file c.args.name.now) files) (StatesLanguage c.args.name.now)
+    c.in-Err.e
+    (subst (λ (file : List ℕ). Gives (λ (bytes : Vec ℕ). bytes.items) (Held most_bytes file files)
+    (Err c.in-Err.e)) c.in_ok-file.ensures (c.in-Err.ensures.step files told))

@@ -11,10 +11,14 @@ returns-in-Ok-clause-step c =
     let at = ground c.before-before.result in
     record {
       whole = read;
-      states = subst (λ (g : Ground). States g c.args.file.now.bytes.items read) c.before-before.ensures (subst (λ (bytes : List ℕ). States at bytes read) c.deref.ensures.value c.in-Ok.ensures.stated);
+      states = subst (λ (g : Ground). States g c.args.file.now.bytes.items read)
+          c.before-before.ensures (subst (λ (bytes : List ℕ). States at bytes read)
+          c.deref.ensures.value c.in-Ok.ensures.stated);
       fits = subst (λ (g : Ground). FitsAfter g read) c.before-before.ensures c.in-Ok.ensures.fits;
       is = refl;
     }
 
 pub returns-in-Ok-bad_extension-clause-no_fault : goal.returns-in-Ok-bad_extension-clause-no_fault
-returns-in-Ok-bad_extension-clause-no_fault c = extension_quiet (Unit {0}) c.args.name.now c.in-Err.error c.in-Ok-bad_extension.stop c.in-Ok-bad_extension.ensures
+returns-in-Ok-bad_extension-clause-no_fault c =
+    extension_quiet (Unit {0}) c.args.name.now c.in-Err.error c.in-Ok-bad_extension.stop
+    c.in-Ok-bad_extension.ensures
