@@ -1,6 +1,6 @@
 -- `build NAME` has one result, but for read faults and for readings that a stop shows of a text with more than two.
-use Rattle.std.proofs.Common.{◌≡◌, ◌≢◌, ℕ, List, [], ◌∷◌, map, refl, sym, ap, ◌∙◌, subst, inl, inr, ◌⊎◌}
-use Rattle.std.specs.Prelude.{Result, Ok, Err, Option, Some, None}
+use Rattle.std.proofs.Common.{◌≡◌, ◌≢◌, ℕ, List, refl, sym, ap, ◌∙◌, subst, inl, inr, ◌⊎◌}
+use Rattle.std.specs.Prelude.{Result, Ok, Err, Some}
 use Rattle.sx_lines.specs.Lines.{lines_from}
 use Rattle.sx_lines.specs.Reading.{kept}
 use Rattle.sx_interface.specs.Headers.{HeaderParts}
@@ -8,8 +8,6 @@ use Rattle.sx_interface.specs.StatedHeader.{StatesHeader}
 use Rattle.sx_interface.proofs.HeaderStated.{header_again}
 use Rattle.sx_outside.specs.Files.{Files}
 use Rattle.sx_notation.specs.declared.unread.Unread.TheVariants as unread
-use Rattle.sx_notation.specs.declared.notation_error.NotationError.{NotationError}
-use Rattle.sx_notation.specs.declared.notation_error.NotationError.TheVariants as notation_error
 use Rattle.sx_module.specs.declared.module_error.ModuleError.{ModuleError}
 use Rattle.sx_module.specs.declared.module_error.ModuleError.TheVariants as module_error
 use Rattle.sx_words.specs.declared.print_defect.PrintDefect.TheVariants as print_defect
@@ -17,10 +15,9 @@ use Rattle.sx_words.specs.declared.refusal.Defect.TheVariants as defect
 use Rattle.sx_steps.specs.Refusal.{about}
 use Rattle.sx_steps.specs.declared.stop.Stop.{Stop}
 use Rattle.sx_steps.specs.Held.{Held, most_bytes}
-use Rattle.sx_steps.specs.Agree.{IsNoReadFault, AreReadings, Agree, AnswersBy}
+use Rattle.sx_steps.specs.Agree.{IsNoReadFault, AreReadings, AnswersBy}
 use Rattle.sx_steps.specs.Steps.{NoTries, Trying, Untried}
-use Rattle.sx_steps.proofs.Ones.{IsOne, IsNearlyOne, IsOneBy, nearly, then_one, then_nearly, and_then_by, as_answer, trying_by, trying_same, trying_nearly, no_tries_one, held_one, ok_same, some_same, none_some}
-use Rattle.sx_accepting.specs.LanguageFiles.{language_file}
+use Rattle.sx_steps.proofs.Ones.{IsOne, IsOneBy, then_one, and_then_by, as_answer, trying_by, trying_same, trying_nearly, no_tries_one, held_one, ok_same, some_same}
 use Rattle.sx_build.specs.ModuleFiles.{module_file}
 use Rattle.sx_build.specs.ReadModule.{Module, HasHeader, StatesModule, ReadsModule, StandsAlone, IsAlone, bad_header}
 use Rattle.sx_accepting.proofs.Begun.{bare_named}
@@ -31,10 +28,9 @@ use Rattle.sx_accepting.specs.ReadLanguage.{Stated, IsStated, ReadsLanguage}
 use Rattle.sx_build.specs.CompileModule.{source_of, Compiles, CompilingTries}
 use Rattle.sx_build.specs.BuildModule.{unit_plan, BuildsUnit, BuildsOver, BuildsRead}
 use Rattle.sx_rules.proofs.Facts.{kept_moded}
-use Rattle.sx_rules.specs.declared.rule.Rule.{Rule as RuleOf}
 use Rattle.sx_rules.specs.Rules.{Rule}
 use Rattle.sx_rules.specs.Modes.{AllModed}
-use Rattle.sx_rules.specs.Views.{modes_of, named, rule}
+use Rattle.sx_rules.specs.Views.{modes_of}
 use Rattle.sx_rules.specs.Sets.{shapes_in, forms_in}
 use Rattle.sx_steps.proofs.StepsOn.{went}
 use Rattle.sx_build.specs.Laws.{IsFollowed, ShowsOfThree, SameButShown, BuildsAgree}
