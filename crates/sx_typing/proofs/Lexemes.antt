@@ -1,6 +1,6 @@
 -- Lexemes of the outputs of derivations, and of what is accepted.
-use Rattle.std.proofs.Common.{List, [], ◌∷◌, ◌++◌, ◌⊎◌, inl, inr, Contains, sym, subst}
-use Rattle.std.specs.Prelude.{flat_map}
+use Rattle.std.proofs.Common.{◌≡◌, ℕ, List, [], ◌∷◌, ◌++◌, ◌⊎◌, inl, inr, Contains, map, sym, subst}
+use Rattle.std.specs.Prelude.{flat_map, IfSome, None, Option, Some}
 use Rattle.std.specs.List.{AllByRecursion}
 use Rattle.std.proofs.lemmas.Grind.{flat_map-append}
 use Rattle.std.proofs.lemmas.List.Elements.{Contains-append_left, Contains-append_right}
@@ -14,9 +14,12 @@ use Rattle.sx_grammar.specs.Tables.{literals_of}
 use Rattle.sx_grammar.proofs.DistinctLaws.{distinct_has, distinct_from}
 use Rattle.sx_print.specs.Cut.{HasLexemes, HaveLexemes}
 use Rattle.sx_rules.specs.Modes.{Goal}
-use Rattle.sx_rules.specs.Rules.{Premise, holds, apart}
+use Rattle.sx_rules.specs.Rules.{Premise, holds, apart, Rule}
 use Rattle.sx_rules.specs.Views.{NamedRule, modes_of}
 use Rattle.sx_rules.proofs.Refusals.{good_moded}
+use Rattle.sx_plain.specs.Plain.{Body, Table}
+use Rattle.sx_rewrite.specs.Accepted.{ExtRule}
+use Rattle.sx_lexemes.specs.Lexemes.{ExtLexemesAre, TableLexemesAre}
 use Rattle.sx_lexemes.specs.Lexemes.{IsToken, LexemesAre, KidsLexemesAre, AllLexemesAre}
 use Rattle.sx_lexemes.specs.Lexemes.{PremiseLexemesAre, RuleLexemesAre}
 use Rattle.sx_lexemes.proofs.Derived.{derived_keep_lexemes}
@@ -98,6 +101,35 @@ module _ (literals : List Text) where
     },
     rules_from_tokens rules h.1,
   )
+
+  may_to_tokens : (body : Option Tree) → IfSome body (HasLexemes literals) →
+      IfSome body (LexemesAre (IsToken literals))
+  may_to_tokens None h = tt
+  may_to_tokens (Some t) h = to_tokens t h
+
+  with_bodies : (es : List ExtRule) →
+      AllByRecursion (RuleLexemesAre (IsToken literals)) (map (λ e. e.rule) es) →
+      AllByRecursion (λ e. IfSome e.body (HasLexemes literals)) es →
+      AllByRecursion (ExtLexemesAre (IsToken literals)) es
+  with_bodies [] h k = tt
+  with_bodies (e ∷ es) h k =
+      (record { rule = h.0; body = may_to_tokens e.body k.0 }, with_bodies es h.1 k.1)
+
+  -- extension rules with their bodies, where they are the rules with these names
+  pub extension_to_tokens : (rules : List NamedRule) (es : List ExtRule) →
+      bare rules ≡ map (λ e. e.rule) es → AllByRecursion (RuleHasLexemes literals) rules →
+      AllByRecursion (λ e. IfSome e.body (HasLexemes literals)) es →
+      AllByRecursion (ExtLexemesAre (IsToken literals)) es
+  extension_to_tokens rules es same h k =
+      with_bodies es
+      (subst (λ (rs : List Rule). AllByRecursion (RuleLexemesAre (IsToken literals)) rs) same
+      (rules_to_tokens rules h)) k
+
+  -- and a plain table
+  pub table_to_tokens : (table : Table) →
+      ((label : ℕ) (body : Body) → table label ≡ Some body → HasLexemes literals body.flat) →
+      TableLexemesAre (IsToken literals) table
+  table_to_tokens table h = λ label body e. to_tokens body.flat (h label body e)
 
 -- ---- outputs
 

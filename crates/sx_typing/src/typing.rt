@@ -13,7 +13,7 @@ ghost use Rattle.sx_forest.specs.Readings.{plain_reading};
 ghost use Rattle.sx_typing.specs.declared.typing_error.TypingError.TheVariants.{Memory};
 ghost use Rattle.sx_typing.specs.Goals as known;
 ghost use Rattle.sx_typing.specs.Goals.{goal_events, IsBody, IsFoundBy, IsTried, IsTypedBy};
-ghost use Rattle.sx_typing.specs.Refused.{IsBadSource};
+ghost use Rattle.sx_typing.specs.Refused.{IsBadSource, IsFinal};
 ghost use Rattle.sx_typing.specs.Source.{source_of, CanType, IsTermFor};
 
 use crate::body::Body;
@@ -137,6 +137,8 @@ pub fn type_source<L: Ledger>(
     ensures typed { IfOk result (IsTypedBy (source_of source.now) tries (tree body.now.term)) }
     // The refusal is the one that is due.
     ensures refused { IfErr result (IsBadSource (source_of source.now) tries) }
+    // A type error comes only where the goal has no derivation at all.
+    ensures untyped { IfErr result (IsFinal (source_of source.now)) }
     // The steps rise by the tries of the goal's walk.
     ensures tries { IsTried (tries_of None tries
         (goal_events (source_of source.now) (tree body.now.term))) steps.old steps.new result }

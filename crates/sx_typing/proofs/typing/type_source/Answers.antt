@@ -1,9 +1,11 @@
-use Rattle.std.proofs.Common.{None, ap, ◌∙◌, sym, subst}
+use Rattle.std.proofs.Common.{[], None, ap, ◌∙◌, sym, subst}
 use Rattle.std.specs.Prelude.{Ok, Err}
 use Rattle.sx_term.specs.Term.{tree}
+use Rattle.sx_grammar.specs.Told.{shapes_of}
 use Rattle.sx_rules.specs.Deep.{AreShallow}
 use Rattle.sx_rules.specs.Modes.{Goal}
 use Rattle.sx_rules.specs.Views.{goal as goal_of}
+use Rattle.sx_rules.proofs.Refusals.{good_moded}
 use Rattle.sx_derive.specs.Search.{tries_of}
 use Rattle.sx_derive.proofs.FewNodes.{tries_within}
 use Rattle.sx_typing.specs.Goals.{goal_events}
@@ -11,6 +13,7 @@ use Rattle.sx_typing.specs.Source.{source_of}
 use Rattle.sx_typing.proofs.MainForms.{main_form_within}
 use Rattle.sx_typing.proofs.TypedBodies.{source_goal, found_good, one_listed, typed_by}
 use Rattle.sx_typing.proofs.Tries.{tried, counted_most}
+use Rattle.sx_typing.proofs.Walks.{final_if}
 use Rattle.sx_typing.proofs.typing.type_source.Goals as goal
 
 pub main_goal-requires-clause-form : goal.main_goal-requires-clause-form
@@ -57,6 +60,15 @@ no_derivation-requires-clause-error g c = (c.args.tries, c.in-Err.ensures.answer
 pub returns-in-Err-clause-refused : goal.returns-in-Err-clause-refused
 returns-in-Err-clause-refused g c =
     c.no_derivation.ensures.bad c.args.tries c.in-Err.ensures.answer
+
+pub returns-in-Err-clause-untyped : goal.returns-in-Err-clause-untyped
+returns-in-Err-clause-untyped g c =
+    let s = source_of c.args.source.now in
+    let is = c.requires.can.dialect.is in
+    final_if s c.args.tries c.no_derivation.result
+    (good_moded (shapes_of s.dialect.parts) s.dialect.language.forms [] s.dialect.rules
+    is.rule_set.1)
+    (c.no_derivation.ensures.bad c.args.tries c.in-Err.ensures.answer)
 
 pub returns-in-Err-clause-tries : goal.returns-in-Err-clause-tries
 returns-in-Err-clause-tries g c =
