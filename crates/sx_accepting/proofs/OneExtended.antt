@@ -291,10 +291,10 @@ module _ (l : BaseLanguage) (x : ExtendedData) (file : Extension) where
 module _ (l : BaseLanguage) (budgets : Budgets) (file : List ℕ) (x : ExtendedData)
     (over : IsAcceptedOver l x) (bytes : List ℕ) (d : ReadData)
     (stated : IsStated (ground_of l x) bytes d) where
-  abbrev with_these : Check
+  abbrev pub with_these : Check
   with_these = check_after x.set d.table budgets
 
-  set_is : IsAccepted with_these.sig x.set.base_shapes (shapes_of d.grammar.parts) with_these.set
+  pub set_is : IsAccepted with_these.sig x.set.base_shapes (shapes_of d.grammar.parts) with_these.set
   set_is = subst (λ (y : ReadData). IsAccepted (signature_of x.set.forms) x.set.base_shapes
       (shapes_of y.grammar.parts) (with_table x.set.kept y.table)) (sym stated.is)
       (longer_set l x over bytes d stated)

@@ -46,11 +46,11 @@ module _ (Q : Type 0) where
   OnTypeError None = Unit {0}
   OnTypeError (Some stop) = IsTypeError stop → Q
 
-  on_stop : (x : Option Stop) (stop : Stop) → OnTypeError x → x ≡ Some stop → IsTypeError stop → Q
+  pub on_stop : (x : Option Stop) (stop : Stop) → OnTypeError x → x ≡ Some stop → IsTypeError stop → Q
   on_stop x stop h is = subst OnTypeError is h
 
   -- no other stop is one
-  no_type_error : (x stop : Stop) → (IsTypeError x → ⊥) → stop ≡ x → IsTypeError stop → Q
+  pub no_type_error : (x stop : Stop) → (IsTypeError x → ⊥) → stop ≡ x → IsTypeError stop → Q
   no_type_error x stop none is error = absurd (none (subst IsTypeError is error))
 
   line_uncut : (file : List ℕ) (line : ℕ) (e : TokenError) → OnTypeError (uncut_line file line e)
@@ -79,7 +79,7 @@ module _ (Q : Type 0) where
   no_rules file told (rule_error.Discipline name part premise) = λ h. absurd h
   no_rules file told (rule_error.NotModed name variable) = λ h. absurd h
 
-  no_language : (file : List ℕ) (e : NotationError) → OnTypeError (language_stop file e)
+  pub no_language : (file : List ℕ) (e : NotationError) → OnTypeError (language_stop file e)
   no_language file notation_error.Memory = tt
   no_language file (notation_error.NotUtf8 before) = λ h. absurd h
   no_language file (notation_error.Notation line what) = λ h. absurd h
@@ -160,7 +160,7 @@ module _ (Q : Type 0) where
   language_final : (name bytes : List ℕ) → Final (StatesLanguage name bytes)
   language_final name bytes stop h = on_stop (language_stop (language_file name) h.error) stop (no_language (language_file name) h.error) h.is
 
-  reads_language_final : (name : List ℕ) (files : Files) → Final (ReadsLanguage name files)
+  pub reads_language_final : (name : List ℕ) (files : Files) → Final (ReadsLanguage name files)
   reads_language_final name files =
       then_final (Held most_bytes (language_file name) files) (StatesLanguage name) (held_final most_bytes (language_file name) files) (λ bytes held. language_final name bytes)
 
