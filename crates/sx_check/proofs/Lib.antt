@@ -1,1 +1,5 @@
 pub mod RuleLines
+pub mod LastRules
+pub mod Promise
+pub mod Agreeing
+pub mod TypeErrors

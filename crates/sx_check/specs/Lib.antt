@@ -1,2 +1,5 @@
 pub mod CertificateText
 pub mod CheckText
+pub mod CheckExtension
+pub mod CheckedExtension
+pub mod Laws

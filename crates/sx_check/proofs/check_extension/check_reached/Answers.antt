@@ -1,0 +1,37 @@
+use Rattle.std.proofs.Common.{◌≡◌, ◌∷◌, [], ℕ, List, map, refl, subst, arith}
+use Rattle.std.specs.Prelude.{Result, Ok, Err}
+use Rattle.sx_outside.specs.Files.{Files}
+use Rattle.sx_steps.specs.Steps.{Untried}
+use Rattle.sx_steps.specs.Stop.{Gives, Does}
+use Rattle.sx_steps.specs.Work.{plan_of}
+use Rattle.sx_steps.proofs.StepsOn.{goes_from, stops_at, untried, reads_on}
+use Rattle.sx_uses.specs.ExtensionFile.{extension_of, extension_file, extensions_of}
+use Rattle.sx_uses.specs.ReadUses.{ReadsUses}
+use Rattle.sx_uses.specs.declared.extension_file.ExtensionFile.{ExtensionFile}
+use Rattle.sx_accepting.specs.ExtendedLanguages.{base_of}
+use Rattle.sx_check.specs.CheckExtension.{ChecksAll}
+use Rattle.sx_check.proofs.check_extension.check_reached.Goals as goal
+
+pub returns-in-Ok-clause-step : goal.returns-in-Ok-clause-step
+returns-in-Ok-clause-step g c = λ files told.
+    let name = c.args.asked.now.name.now in
+    let language = c.args.sought.language in
+    let xs = extensions_of c.in-Ok.files in
+    let read = subst (λ (roots : List (List ℕ)). ReadsUses (extension_file name) language roots files (Ok xs)) c.requires.roots
+    (subst (λ (file : List ℕ). ReadsUses file language c.args.sought.roots.items files (Ok xs)) c.requires.file (c.in-Ok.ensures.step files told)) in
+    goes_from plan_of (Untried (ReadsUses (extension_file name) language (name ∷ []) files)) (ChecksAll name c.args.asked.now.budgets (base_of c.args.language.now)) xs c.check_all-work.result
+    c.args.steps.now c.args.steps.now c.check_all-work.new.steps (0, (read, refl), omega arith)
+    (subst (λ (ys : List ExtensionFile). Does plan_of (ChecksAll name c.args.asked.now.budgets (base_of c.args.language.now) (map extension_of ys)) c.check_all-work.result c.args.steps.now c.check_all-work.new.steps)
+    c.deref.ensures.value c.check_all-work.ensures.step)
+
+pub returns-in-Ok-clause-reads : goal.returns-in-Ok-clause-reads
+returns-in-Ok-clause-reads g c = reads_on _ _ _ _ _ _ _ c.check_all-work.result c.in-Ok.ensures.reads c.check_all-work.ensures.no_fault
+
+pub returns-in-Err-clause-step : goal.returns-in-Err-clause-step
+returns-in-Err-clause-step g c = λ files told.
+    let name = c.args.asked.now.name.now in
+    let language = c.args.sought.language in
+    stops_at extensions_of plan_of (Untried (ReadsUses (extension_file name) language (name ∷ []) files)) (ChecksAll name c.args.asked.now.budgets (base_of c.args.language.now)) c.in-Err.e c.args.steps.now c.args.steps.now
+    (untried extensions_of (ReadsUses (extension_file name) language (name ∷ []) files) (Err c.in-Err.e) c.args.steps.now
+    (subst (λ (roots : List (List ℕ)). Gives extensions_of (ReadsUses (extension_file name) language roots files) (Err c.in-Err.e)) c.requires.roots
+    (subst (λ (file : List ℕ). Gives extensions_of (ReadsUses file language c.args.sought.roots.items files) (Err c.in-Err.e)) c.requires.file (c.in-Err.ensures.step files told))))

@@ -1,0 +1,97 @@
+-- What is proved of `check NAME`.
+use Rattle.std.specs.Prelude.{◌≡◌, ◌⊎◌, ℕ, List, [], ◌∷◌, ◌++◌, map, Result}
+use Rattle.std.specs.Prelude.{Ok, Err}
+use Rattle.sx_rules.specs.Views.{named}
+use Rattle.sx_rewrite.specs.declared.ext_rule.ExtRule.{ExtRule}
+use Rattle.sx_extcheck.specs.Accepts.{HasUnsound}
+use Rattle.sx_extcheck.specs.declared.budgets.Budgets.{Budgets}
+use Rattle.sx_outside.specs.Files.{Files}
+use Rattle.sx_steps.specs.declared.stop.Stop.{Stop}
+use Rattle.sx_steps.specs.declared.step_error.StepError.{StepError}
+use Rattle.sx_steps.specs.declared.step_error.StepError.TheVariants as errors
+use Rattle.sx_steps.specs.Agree.{AreReadings, IsSure, AnswersBy}
+use Rattle.sx_steps.specs.Work.{Plan}
+use Rattle.sx_uses.specs.ExtensionFile.{Extension, extension_file}
+use Rattle.sx_uses.specs.Laws.{AnswerAlike}
+use Rattle.sx_uses.specs.ReadExtension.{ReadsFile}
+use Rattle.sx_uses.specs.ReadUses.{ReadsUses}
+use Rattle.sx_accepting.specs.ExtendedLanguages.{ExtendedData, unextended}
+use Rattle.sx_accepting.specs.Extending.{ReadData, bodies_in, ReadsAfter, check_after, Extends}
+use Rattle.sx_accepting.specs.ReadLanguage.{Stated, ReadsLanguage, base_in}
+use Rattle.sx_build.specs.Laws.{IsTypeError}
+use Rattle.sx_check.specs.CheckExtension.{ChecksExtension}
+
+-- ---- one result
+
+-- the stop is that of the file of the language
+pub record IsOfLanguage (name : List ℕ) (files : Files) (stop : Stop) : Type 0 where
+  pub read : Extension
+  pub reads : ReadsFile files name (Ok read)
+  pub stops : ReadsLanguage read.header.language files (Err stop)
+
+-- the extensions that are reached from the one with this name, and the language of all of them
+pub record IsReached (name : List ℕ) (files : Files) : Type 0 where
+  pub read : Extension
+  pub reads : ReadsFile files name (Ok read)
+  pub language : Stated
+  pub states : ReadsLanguage read.header.language files (Ok language)
+  pub extensions : List Extension
+  pub reached : ReadsUses (extension_file name) read.header.language (name ∷ []) files
+      (Ok extensions)
+
+-- these are read and accepted with this answer, and so many tries
+abbrev pub ExtendsReached : (name : List ℕ) (budgets : Budgets) (files : Files) →
+    IsReached name files → Result ExtendedData StepError → ℕ → Type 0
+ExtendsReached name budgets files r answer tries =
+    Extends (base_in r.language) budgets r.extensions (unextended r.language.language) answer tries
+
+-- the stop is that of one of the extensions, which is read or accepted after those before it
+pub record IsOfExtension (name : List ℕ) (budgets : Budgets) (files : Files) (stop : Stop) : Type 0
+  where
+    pub from : IsReached name files
+    pub tries : ℕ
+    pub stops : ExtendsReached name budgets files from (Err (errors.Stopped stop)) tries
+
+-- The stops give the same status and the same line, but for the two readings that they show of a
+-- line of the language's file or of an extension's, where it is free which two these are.
+abbrev pub SameButLines : (name : List ℕ) → Budgets → Files → Stop → Stop → Type 0
+SameButLines name budgets files s t =
+    AnswerAlike s t
+    ⊎ (AreReadings s t × (IsOfLanguage name files s ⊎ IsOfExtension name budgets files s))
+
+-- by the name and the files there is one result and one number of tries, but for read faults, out
+-- of memory and such readings
+abbrev pub ChecksAgree : Type 0
+ChecksAgree =
+    (name : List ℕ) (budgets : Budgets) (files : Files) (a b : Result Plan StepError) (m n : ℕ) →
+    ChecksExtension name budgets files a m → ChecksExtension name budgets files b n →
+    IsSure a → IsSure b → AnswersBy (SameButLines name budgets files) a b × (m ≡ n)
+
+-- ---- rules that are not sound
+
+-- One of the extensions that are reached, which is read after those before it, has a rule that is
+-- sound by nothing.
+pub record HasUnsoundRule (name : List ℕ) (budgets : Budgets) (files : Files) : Type 0 where
+  pub from : IsReached name files
+  pub before : List Extension
+  pub this : Extension
+  pub after : List Extension
+  pub parts : from.extensions ≡ before ++ this ∷ after
+  pub so_far : ExtendedData
+  pub tries : ℕ
+  pub extends : Extends (base_in from.language) budgets before
+      (unextended from.language.language) (Ok so_far) tries
+  pub read : ReadData
+  pub reads : ReadsAfter (base_in from.language) so_far this (Ok read)
+  pub rules : List ExtRule
+  pub rules_are : map (λ e. named e.rule) rules ≡ read.rules
+  pub bodies_are : bodies_in rules ≡ read.bodies
+  pub rule : List ℕ
+  pub unsound : HasUnsound (check_after so_far.set read.table budgets) rules rule
+
+-- a check stops with a type error only where a rule is not sound
+abbrev pub UnsoundIsFinal : Type 0
+UnsoundIsFinal =
+    (name : List ℕ) (budgets : Budgets) (files : Files) (stop : Stop) (tries : ℕ) →
+    ChecksExtension name budgets files (Err (errors.Stopped stop)) tries → IsTypeError stop →
+    HasUnsoundRule name budgets files
