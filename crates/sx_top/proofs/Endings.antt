@@ -16,7 +16,7 @@ use Rattle.sx_steps.specs.Work.{Plan, plan_of}
 use Rattle.sx_steps.specs.Stop.{OnlyReads, Does}
 use Rattle.sx_top.specs.Commands.{by_now, Spelled}
 use Rattle.sx_top.specs.Course.{Seen, seen, Course, lacking, stopped, short, failed, written, answered, status_after, Begins, Leaves}
-use Rattle.sx_top.specs.Outcome.{Outcome, Runs, Promises}
+use Rattle.sx_top.specs.Outcome.{budgets_of, Outcome, Runs, Promises}
 use Rattle.sx_top.specs.Performing.{Performs}
 use Rattle.sx_top.specs.Telling.{IsTold}
 use Rattle.sx_steps.specs.declared.stop.Stop.{Stop}
@@ -29,6 +29,7 @@ use Rattle.sx_steps.specs.declared.step_error.StepError.TheVariants as errors
 use Rattle.sx_steps.specs.declared.work.Work.{Work}
 use Rattle.sx_steps.proofs.StepsOn.{went_on}
 use Rattle.sx_build.proofs.Promise.{build_promise as build_module_promise}
+use Rattle.sx_check.proofs.Promise.{check_promise}
 use Rattle.sx_top.proofs.BuildPromise.{build_promise}
 use Rattle.sx_top.proofs.VerifyPromise.{verify_promise}
 use Rattle.sx_top.proofs.VerifySteps.{replayed_derives}
@@ -127,7 +128,7 @@ kept : (command : Meant) (plan : Plan) (old new : Files) (made : ℕ) → Runs c
 kept (builds true name tries nodes audits) plan old new made runs is = build_promise name tries old new plan made runs is
 kept (builds false name tries nodes audits) plan old new made runs is = build_module_promise name tries old new plan made runs is
 kept (compiles name tries nodes audits) plan old new made runs is = absurd runs
-kept (checks name tries nodes) plan old new made runs is = absurd runs
+kept (checks name tries nodes) plan old new made runs is = check_promise name (budgets_of tries nodes) old new plan made runs is
 kept (verifies true name) plan old new made runs is = verify_promise replayed_derives name old new plan runs.0 is
 kept (verifies false name) plan old new made runs is = absurd runs
 kept (samples number) plan old new made runs is = absurd runs

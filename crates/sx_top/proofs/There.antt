@@ -16,7 +16,8 @@ pub spelled_there : (words : List (List ℕ)) (command : Meant) → Spelled word
 spelled_there words command spelled =
     elim (there_by_now words command spelled) [
       | inl built ↦ subst IsThere (sym built.is) (subst HasFew built.is (spelled_few by_now words command spelled))
-      | inr verified ↦ subst IsThere (sym verified.is) tt
+      | inr (inl verified) ↦ subst IsThere (sym verified.is) tt
+      | inr (inr checked) ↦ subst IsThere (sym checked.is) tt
     ]
 
 -- a command to verify that is there verifies a core file

@@ -29,6 +29,7 @@ use Rattle.sx_steps.proofs.Ones.{err_same, ok_no_err}
 use Rattle.sx_steps.proofs.StepsOn.{went}
 use Rattle.sx_build.specs.Laws.{IsTypeError}
 use Rattle.sx_build.proofs.TypeErrors.{OnTypeError, Final, FinalTrying, then_final, trying_final, and_then_final, held_final, type_errors_are_final as module_errors_are_final}
+use Rattle.sx_check.proofs.TypeErrors.{check_errors_are_final}
 use Rattle.sx_top.specs.BuildCore.{core_plan, BuildsGoal, BuildsWhole}
 use Rattle.sx_top.specs.Commands.{Commands, Spelled}
 use Rattle.sx_top.specs.CoreStops.{variable_name, bad_entry, differs}
@@ -36,7 +37,7 @@ use Rattle.sx_top.specs.CoreTexts.{subject_text, term_lines}
 use Rattle.sx_top.specs.FindFirst.{no_hypotheses, rules_of}
 use Rattle.sx_top.specs.Laws.{HasNoDerivation, IsUntyped, TypeErrorsAreFinal}
 use Rattle.sx_top.specs.LowerStops.{core_stop, replay_stop}
-use Rattle.sx_top.specs.Outcome.{Runs, Outcome}
+use Rattle.sx_top.specs.Outcome.{budgets_of, Runs, Outcome}
 use Rattle.sx_top.specs.ReadCore.{core_file, rule_names, Reads}
 use Rattle.sx_steps.specs.Steps.{NoTries, Trying, Untried}
 use Rattle.sx_top.specs.Search.{goal_events, passed, ComesTo, Searches, HasWalked}
@@ -170,7 +171,7 @@ runs_final : (command : Meant) (files : Files) → FinalTrying (IsUntyped comman
 runs_final (builds true name tries nodes audits) files stop made h error = builds_final name tries files stop made h error
 runs_final (builds false name tries nodes audits) files stop made h error = module_errors_are_final name tries files stop made h error
 runs_final (compiles name tries nodes audits) files stop made h error = absurd h
-runs_final (checks name tries nodes) files stop made h error = absurd h
+runs_final (checks name tries nodes) files stop made h error = check_errors_are_final name (budgets_of tries nodes) files stop made h error
 runs_final (verifies true name) files stop made h error = verifies_final ⊥ name files stop h.0 error
 runs_final (verifies false name) files stop made h error = absurd h
 runs_final (samples number) files stop made h error = absurd h

@@ -36,10 +36,12 @@ use Rattle.sx_steps.specs.Refusal.{bad_word}
 use Rattle.sx_words.proofs.CommandLaws.{one_command}
 use Rattle.sx_words.proofs.OneAnswer.{one_misfit, no_misfit}
 use Rattle.sx_top.specs.Commands.{by_now, Commands, Spelled}
-use Rattle.sx_top.specs.Outcome.{Runs, Outcome}
-use Rattle.sx_top.specs.Laws.{IsNoBuild, SameFor, SameStops, OneCoreOutcome, OneOutcome}
+use Rattle.sx_top.specs.Outcome.{budgets_of, Runs, Outcome}
+use Rattle.sx_top.specs.Laws.{IsOfCore, SameFor, SameStops, OneCoreOutcome, OneOutcome}
 use Rattle.sx_steps.proofs.StepsOn.{went}
 use Rattle.sx_build.proofs.Agreeing.{builds_by}
+use Rattle.sx_check.proofs.Agreeing.{checks_one}
+use Rattle.sx_outline.specs.Laws.{OneHeaderAnswer}
 use Rattle.sx_steps.specs.Steps.{NoTries, Trying, Untried}
 use Rattle.sx_steps.proofs.Ones.{IsOne, IsOneBy, then_one, and_then_by, trying_one, trying_same, no_tries_one, answers_same, answers_so, held_one, lower_but, ok_same}
 use Rattle.sx_top.proofs.WholeOnes.{compares_one, searches_one}
@@ -107,7 +109,7 @@ commands_one words (Ok a) (Err t) h k n m = absurd (no_misfit by_now words a k.0
 commands_one words (Err s) (Ok b) h k n m = absurd (no_misfit by_now words b h.0 k h.1)
 commands_one words (Err s) (Err t) h k n m = ap Err (h.2 ∙ ap bad_word (one_misfit by_now words h.0 k.0 h.1 k.1) ∙ sym k.2)
 
-module _ (core_one : (bytes : List ℕ) (a b : Result Problem CoreFileError) → IsCoreAnswer bytes a → IsCoreAnswer bytes b → (a ≢ Err core_error.Memory) → (b ≢ Err core_error.Memory) → a ≡ b) where
+module _ (core_one : (bytes : List ℕ) (a b : Result Problem CoreFileError) → IsCoreAnswer bytes a → IsCoreAnswer bytes b → (a ≢ Err core_error.Memory) → (b ≢ Err core_error.Memory) → a ≡ b) (headers : OneHeaderAnswer) where
   reads_one : (file : List ℕ) (files : Files) → IsOne (Reads file files)
   reads_one file files =
       then_one (Held most_bytes file files) (λ bytes. Lower (core_stop file) (IsCoreAnswer bytes)) (held_one most_bytes file files)
@@ -126,11 +128,11 @@ module _ (core_one : (bytes : List ℕ) (a b : Result Problem CoreFileError) →
       then_one (Reads (core_file name) files) (VerifiesSubject name files) (reads_one (core_file name) files)
       (λ p read. subject_one name files p (read_proper (core_file name) files p read))
 
-  runs_one : (command : Meant) (files : Files) → IsNoBuild command → IsOneBy ◌≡◌ (Runs command files)
+  runs_one : (command : Meant) (files : Files) → IsOfCore command → IsOneBy ◌≡◌ (Runs command files)
   runs_one (builds true name tries nodes audits) files kept x y a b h k n m = builds_one name tries files x y a b h k n m
   runs_one (builds false name tries nodes audits) files kept x y a b h k n m = absurd kept
   runs_one (compiles name tries nodes audits) files kept x y a b h k n m = absurd h
-  runs_one (checks name tries nodes) files kept x y a b h k n m = absurd h
+  runs_one (checks name tries nodes) files kept x y a b h k n m = absurd kept
   runs_one (verifies true name) files kept x y a b h k n m = trying_one NoTries (VerifiesWhole name files) no_tries_one (verifies_one name files) x y a b h k n m
   runs_one (verifies false name) files kept x y a b h k n m = absurd h
   runs_one (samples number) files kept x y a b h k n m = absurd h
@@ -146,7 +148,7 @@ module _ (core_one : (bytes : List ℕ) (a b : Result Problem CoreFileError) →
   runs_by (builds true name tries nodes audits) files x y a b h k n m = builds_one name tries files x y a b h k n m
   runs_by (builds false name tries nodes audits) files x y a b h k n m = builds_by name tries files x y a b h k n m
   runs_by (compiles name tries nodes audits) files x y a b h k n m = absurd h
-  runs_by (checks name tries nodes) files x y a b h k n m = absurd h
+  runs_by (checks name tries nodes) files x y a b h k n m = checks_one headers name (budgets_of tries nodes) files x y a b h k n m
   runs_by (verifies true name) files x y a b h k n m = trying_one NoTries (VerifiesWhole name files) no_tries_one (verifies_one name files) x y a b h k n m
   runs_by (verifies false name) files x y a b h k n m = absurd h
   runs_by (samples number) files x y a b h k n m = absurd h

@@ -4,37 +4,42 @@ use Rattle.sx_outside.specs.Files.{Files}
 use Rattle.sx_rules.specs.Views.{modes_of}
 use Rattle.sx_rules.specs.First.{IsUnderivable}
 use Rattle.sx_core.specs.Problem.{Problem}
-use Rattle.sx_words.specs.Commands.{Meant, builds}
+use Rattle.sx_words.specs.Commands.{Meant, builds, checks}
 use Rattle.sx_steps.specs.declared.stop.Stop.{Stop}
 use Rattle.sx_steps.specs.declared.step_error.StepError.{StepError}
 use Rattle.sx_steps.specs.declared.step_error.StepError.TheVariants as errors
 use Rattle.sx_steps.specs.Agree.{IsSure, AnswersBy}
 use Rattle.sx_steps.specs.Work.{Plan}
 use Rattle.sx_build.specs.Laws.{SameButShown, IsTypeError, HasNoType}
+use Rattle.sx_check.specs.Laws.{SameButLines, HasUnsoundRule}
 use Rattle.sx_top.specs.Commands.{Spelled}
 use Rattle.sx_top.specs.FindFirst.{no_hypotheses, rules_of}
-use Rattle.sx_top.specs.Outcome.{Outcome}
+use Rattle.sx_top.specs.Outcome.{budgets_of, Outcome}
 use Rattle.sx_top.specs.ReadCore.{core_file, Reads}
 
 -- ---- one outcome
 
--- the command builds no module
-abbrev pub IsNoBuild : Meant → Type 0
-IsNoBuild (builds false name tries nodes audits) = ⊥
-IsNoBuild command = Unit {0}
+-- the command reads no language
+abbrev pub IsOfCore : Meant → Type 0
+IsOfCore (builds false name tries nodes audits) = ⊥
+IsOfCore (checks name tries nodes) = ⊥
+IsOfCore command = Unit {0}
 
--- words that build no module have with the files one outcome and one number of tries, read faults
+-- words of such commands have with the files one outcome and one number of tries, read faults
 -- and out of memory aside
 abbrev pub OneCoreOutcome : Type 0
 OneCoreOutcome =
-    (words : List (List ℕ)) → ((command : Meant) → Spelled words command → IsNoBuild command) →
+    (words : List (List ℕ)) → ((command : Meant) → Spelled words command → IsOfCore command) →
     (files : Files) (a b : Result Plan StepError) (m n : ℕ) →
     Outcome words files a m → Outcome words files b n → IsSure a → IsSure b → (a ≡ b) × (m ≡ n)
 
 -- the stops of the command are the same; for a module, but for readings that they show where it is
--- free which these are
+-- free which these are; for an extension they give the same status and the same line, but for the
+-- readings of a line
 abbrev pub SameFor : Meant → Files → Stop → Stop → Type 0
 SameFor (builds false name tries nodes audits) files s t = SameButShown name tries files s t
+SameFor (checks name tries nodes) files s t =
+    SameButLines name (budgets_of tries nodes) files s t
 SameFor command files s t = s ≡ t
 
 -- the stops are the same, or so for the command that the words spell
@@ -59,13 +64,17 @@ pub record HasNoDerivation (name : List ℕ) (files : Files) : Type 0 where
   pub none : IsUnderivable (modes_of problem.forms) (rules_of problem) no_hypotheses problem.goal
       None
 
--- the goal that the command derives has no derivation; `verify --core` derives none
+-- the goal that the command derives has no derivation, or a rule that it checks is not sound;
+-- `verify --core` derives none
 abbrev pub IsUntyped : Meant → Files → Type 0
 IsUntyped (builds true name tries nodes audits) files = HasNoDerivation name files
 IsUntyped (builds false name tries nodes audits) files = HasNoType name files
+IsUntyped (checks name tries nodes) files =
+    HasUnsoundRule name (budgets_of tries nodes) files
 IsUntyped command files = ⊥
 
--- a run stops with a type error only where the command's goal has no derivation at all
+-- a run stops with a type error only where the command's goal has no derivation at all, or a rule
+-- that it checks is not sound
 abbrev pub TypeErrorsAreFinal : Type 0
 TypeErrorsAreFinal =
     (words : List (List ℕ)) (files : Files) (stop : Stop) (tries : ℕ) →

@@ -13,6 +13,8 @@ use crate::verify_core::plan_verify_core;
 use std::alloc::Global;
 use std::sync::ledger::Ledger;
 use sx_build::plan_build_module;
+use sx_check::plan_check;
+use sx_extcheck::Budgets;
 use sx_outside::Shelf;
 use sx_steps::{StepError, Work};
 use sx_term::{Steps, Text};
@@ -47,6 +49,13 @@ fn run_command<S: Shelf, L: Ledger>(
             nodes: _,
             audits: _,
         } => plan_build_module(alloc, name, *tries, shelf, steps),
+        Command::Check { name, tries, nodes } => {
+            let budgets = Budgets {
+                tries: *tries,
+                nodes: *nodes,
+            };
+            plan_check(alloc, name, budgets, shelf, steps)
+        }
         Command::Verify { core: true, name } => plan_verify_core(alloc, name, shelf),
         _ => unreachable!(),
     }

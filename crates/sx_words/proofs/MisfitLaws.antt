@@ -48,10 +48,7 @@ opens_more Now Compile place s core t h = absurd cc
 opens_more Now Compile place s (tries n) t h = absurd cc
 opens_more Now Compile place s (nodes n) t h = absurd cc
 opens_more Now Compile place s (audit kind setting) t h = absurd cc
-opens_more Now Check place s core t h = absurd cc
-opens_more Now Check place s (tries n) t h = absurd cc
-opens_more Now Check place s (nodes n) t h = absurd cc
-opens_more Now Check place s (audit kind setting) t h = absurd cc
+opens_more Now Check place s option t h = inl refl
 opens_more Now Verify place s core t h = inl refl
 opens_more Now Verify place s (tries n) t h = absurd cc
 opens_more Now Verify place s (nodes n) t h = absurd cc
@@ -66,7 +63,7 @@ opens_first : (stage : Stage) (verb : Verb) → has_verb stage verb ≡ true →
 unfolding is_new
 opens_first Now Build t = inl refl
 opens_first Now Compile t = absurd cc
-opens_first Now Check t = absurd cc
+opens_first Now Check t = inl refl
 opens_first Now Verify t = inr (refl, refl, refl)
 opens_first Whole Build t = inl refl
 opens_first Whole Compile t = inl refl

@@ -71,10 +71,18 @@ IsGiven (audit kind setting) = NoColon kind
 
 -- ---- what there is
 
--- The table of what there is: whether a command is there for modules, and which options it takes.
+-- The table of what there is: whether a command is there for modules or for extensions, and which
+-- options it takes.
 -- Of a command that is not there, nothing.
 abbrev pub row : Stage → Verb → Row
 row Now Build = record { modules = true; core = true; tries = true; nodes = false; audits = false }
+row Now Check = record {
+  modules = true;
+  core = false;
+  tries = true;
+  nodes = true;
+  audits = false;
+}
 row Now Verify = record {
   modules = false;
   core = true;

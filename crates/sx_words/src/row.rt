@@ -8,7 +8,8 @@ use crate::given::Given;
 use crate::stage::Stage;
 use crate::verb::Verb;
 
-/// What there is of a command: whether it is there for modules, and the options that it takes.
+/// What there is of a command: whether it is there for modules or for extensions, whether for core
+/// files, and the options that it takes.
 #[derive(Clone, Copy)]
 pub(crate) struct Row {
     pub modules: bool,
@@ -51,7 +52,14 @@ fn row_by_now(verb: Verb) -> Row
             nodes: false,
             audits: false,
         },
-        Verb::Compile | Verb::Check => Row {
+        Verb::Check => Row {
+            modules: true,
+            core: false,
+            tries: true,
+            nodes: true,
+            audits: false,
+        },
+        Verb::Compile => Row {
             modules: false,
             core: false,
             tries: false,

@@ -6,6 +6,10 @@ mod core_files_built;
 #[cfg(test)]
 mod core_files_verified;
 #[cfg(test)]
+mod extension_files;
+#[cfg(test)]
+mod extensions_checked;
+#[cfg(test)]
 mod faults;
 #[cfg(test)]
 mod files;

@@ -106,7 +106,7 @@ fn words_that_are_no_command(rt: HostRuntime) {
 fn commands_that_there_are_none_of(rt: HostRuntime) {
     let alloc = rt.alloc();
     let hold = [
-        are_refused(alloc, "check One", b"soundx: words: word 1\n"),
+        are_refused(alloc, "compile One", b"soundx: words: word 1\n"),
         are_refused(alloc, "verify One", b"soundx: words: word 2\n"),
         are_refused(alloc, "build --nodes=5 One", b"soundx: words: word 2\n"),
         are_refused(

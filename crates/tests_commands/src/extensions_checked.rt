@@ -1,0 +1,227 @@
+//! Runs of `check`.
+
+use crate::extension_files::{File, LET, LOUD, NONE, PAIR, QUAD, SHOW, TWICE};
+use crate::files::put;
+use crate::run::ends;
+use crate::samples::LAM;
+use std::alloc::Global;
+use sx_outside::{MemShelf, MemSink};
+
+/// Whether the command line ends so, with these lines, over the language and two extensions.
+fn checks(alloc: Global, line: &str, before: &File, last: &File, code: u8, told: &[u8]) -> bool {
+    let mut shelf = MemShelf::new(alloc);
+    let mut out = MemSink::new(alloc);
+    let is = put(alloc, LAM.file, &[LAM.text], &mut shelf)
+        && put(alloc, before.name, &[before.text], &mut shelf)
+        && put(alloc, last.name, &[last.text], &mut shelf)
+        && ends(alloc, line, &mut shelf, &mut out, code, told);
+    drop(out);
+    drop(shelf);
+    is
+}
+
+/// Whether an extension of this text, which is called X, is refused so.
+fn is_refused(alloc: Global, text: &'static [u8], told: &[u8]) -> bool {
+    let x = File {
+        name: "X.ext",
+        text,
+    };
+    checks(alloc, "check X", &SHOW, &x, 1, told)
+}
+
+#[test]
+fn extensions_that_are_accepted(rt: HostRuntime) {
+    let alloc = rt.alloc();
+    let let_lines = b"T-Let: T-App T-Lam given 2 given 1\naccepted Let: 1 rules\n";
+    let show_lines = b"T-ShowInt: T-Itoa given 1\nT-ShowStr: given 1\naccepted Show: 2 rules\n";
+    let loud_lines = b"T-Loud: T-Cat T-Itoa given 1 T-Str\naccepted Loud: 1 rules\n";
+    let quad_lines = b"T-Quad: T-Cat T-Cat given 1 given 1 T-Cat given 1 given 1\n\
+        accepted Quad: 1 rules\n";
+    let pair_line = b"accepted Pair: 0 rules\n";
+    let hold = [
+        checks(alloc, "check Let", &NONE, &LET, 0, let_lines),
+        checks(alloc, "check Show", &NONE, &SHOW, 0, show_lines),
+        checks(alloc, "check Loud", &SHOW, &LOUD, 0, loud_lines),
+        checks(alloc, "check Pair", &NONE, &PAIR, 0, pair_line),
+        checks(alloc, "check --tries=23 Let", &NONE, &LET, 0, let_lines),
+        checks(alloc, "check --nodes=7 Quad", &TWICE, &QUAD, 0, quad_lines),
+    ];
+    assert_eq!(rt; hold, [true; 6]);
+}
+
+#[test]
+fn extensions_that_pass_a_budget(rt: HostRuntime) {
+    let alloc = rt.alloc();
+    let tries = b"soundx: Let.ext: rule T-Let: more than 5 tries\n";
+    let nodes = b"soundx: Quad.ext: rule T-Quad: rewriting needs more than 6 nodes\n";
+    let hold = [
+        checks(alloc, "check --tries=5 Let", &NONE, &LET, 6, tries),
+        checks(alloc, "check --nodes=6 Quad", &TWICE, &QUAD, 6, nodes),
+    ];
+    assert_eq!(rt; hold, [true; 2]);
+}
+
+#[test]
+fn rules_that_are_not_sound(rt: HostRuntime) {
+    let alloc = rt.alloc();
+    // of the second part the premise is in another environment
+    let loose = br#"extension X
+language Lam
+prod x Exp 10 : "x" id "=" Exp "in" Exp
+rule T-X
+~C |- ~e1 : ~T1
+~C |- ~e2 : ~T2
+---
+~C |- x ~x = ~e1 in ~e2 : ~T2
+to ( \ ~x : ~T1 . ~e2 ) ~e1
+end
+"#;
+    // the body has another type
+    let other = br#"extension X
+language Lam
+prod x Exp 90 : "x"
+rule T-X
+---
+~C |- x : Str
+to 0
+end
+"#;
+    // a rule of the extension before wants another type
+    let shown = br#"extension X
+language Lam
+use Show
+prod x Exp 50 : "x" Exp@51
+rule T-X
+~C |- ~e : ~T
+---
+~C |- x ~e : Str
+to show ~e
+end
+"#;
+    let hold = [
+        is_refused(
+            alloc,
+            loose,
+            b"soundx: X.ext: rule T-X: no rule concludes ~C , ~x : ~T1 |- ~e2 : _\n",
+        ),
+        is_refused(
+            alloc,
+            other,
+            b"soundx: X.ext: rule T-X: ~C |- 0 : Int is not the stated conclusion\n",
+        ),
+        is_refused(
+            alloc,
+            shown,
+            b"soundx: X.ext: rule T-X: ~C |- ~e : ~T is not what premise 1 of T-ShowInt asks for\n",
+        ),
+    ];
+    assert_eq!(rt; hold, [true; 3]);
+}
+
+#[test]
+fn rules_whose_bodies_are_refused(rt: HostRuntime) {
+    let alloc = rt.alloc();
+    let none = br#"extension X
+language Lam
+prod x Exp 90 : "x"
+rule T-X
+---
+~C |- x : Int
+end
+"#;
+    let some = br#"extension X
+language Lam
+rule L-X
+---
+~C , ~x : ~T @ ~x : ~T
+to 0
+end
+"#;
+    let own = br#"extension X
+language Lam
+prod x Exp 50 : "x" Exp@51
+rule T-X
+~C |- ~e : Int
+---
+~C |- x ~e : Int
+to x ~e
+end
+"#;
+    let unbound = br#"extension X
+language Lam
+prod x Exp 90 : "x"
+rule T-X
+---
+~C |- x : Int
+to ~e
+end
+"#;
+    let hold = [
+        is_refused(alloc, none, b"soundx: X.ext: rule T-X: no body\n"),
+        is_refused(
+            alloc,
+            some,
+            b"soundx: X.ext: rule L-X: body without a subject\n",
+        ),
+        is_refused(
+            alloc,
+            own,
+            b"soundx: X.ext: rule T-X: body uses extended syntax\n",
+        ),
+        is_refused(
+            alloc,
+            unbound,
+            b"soundx: X.ext: rule T-X: ~e is not bound\n",
+        ),
+    ];
+    assert_eq!(rt; hold, [true; 4]);
+}
+
+#[test]
+fn plain_bodies_that_are_refused(rt: HostRuntime) {
+    let alloc = rt.alloc();
+    let drops = b"extension X\nlanguage Lam\nprod q Ty 50 : \"Q\" Ty@90\nplain q T\nInt\n";
+    let twice = b"extension X\nlanguage Lam\nprod q Ty 90 : \"Q\"\nplain q\nInt\nplain q\nStr\n";
+    let later = b"extension X\nlanguage Lam\nprod q Ty 90 : \"Q\"\nprod r Ty 90 : \"R\"\n\
+        plain q\nR\nplain r\nInt\n";
+    let none = b"extension X\nlanguage Lam\nprod q Ty 90 : \"Q\"\n";
+    let other = b"extension X\nlanguage Lam\nprod q Ty 90 : \"Q\"\nplain q\n~T\n";
+    let hold = [
+        is_refused(alloc, drops, b"soundx: X.ext: plain q: ~T is not used\n"),
+        is_refused(alloc, twice, b"soundx: X.ext: plain q stands twice\n"),
+        is_refused(alloc, later, b"soundx: X.ext: plain q: uses r\n"),
+        is_refused(alloc, none, b"soundx: X.ext: production q: no plain body\n"),
+        is_refused(alloc, other, b"soundx: X.ext: line 5: variable\n"),
+    ];
+    assert_eq!(rt; hold, [true; 5]);
+}
+
+#[test]
+fn extension_files_that_are_refused(rt: HostRuntime) {
+    let alloc = rt.alloc();
+    let head = b"soundx: X.ext: line 3: head\n";
+    let cut = b"extension X\nlanguage Lam\nrule T-X\n---\n";
+    let stem = b"extension X\nlanguage Lam\nvar e : Exp\n";
+    let label = b"extension X\nlanguage Lam\nprod list Ty 90 : \"L\"\n";
+    let rule = b"extension X\nlanguage Lam\nrule T-Num\n---\n~C |- ~n : Int\nto ~n\nend\n";
+    let line = b"extension X\nlanguage Lam\nrule T-X\n---\n~C |- 1 :\nto 1\nend\n";
+    let cycle = b"extension X\nlanguage Lam\nuse X\n";
+    let absent = b"extension X\nlanguage Lam\nuse Y\n";
+    let other = b"extension X\nlanguage Lim\n";
+    let hold = [
+        is_refused(alloc, b"extension X\n\nprod x Exp 90 : \"x\"\n", head),
+        is_refused(alloc, cut, b"soundx: X.ext: line 3: unfinished\n"),
+        is_refused(alloc, stem, b"soundx: X.ext: line 3: shape\n"),
+        is_refused(alloc, label, b"soundx: X.ext: label list stands twice\n"),
+        is_refused(alloc, rule, b"soundx: X.ext: rule T-Num stands twice\n"),
+        is_refused(
+            alloc,
+            line,
+            b"soundx: X.ext: line 5 column 10: no reading\n",
+        ),
+        is_refused(alloc, cycle, b"soundx: X.ext: cycle X X\n"),
+        is_refused(alloc, absent, b"soundx: Y.ext: absent\n"),
+        is_refused(alloc, other, b"soundx: Lim.lang: absent\n"),
+    ];
+    assert_eq!(rt; hold, [true; 9]);
+}
