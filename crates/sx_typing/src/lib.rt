@@ -31,7 +31,7 @@ pub use goal_laws::{main_goals_fit, outputs_fit, searches_fit, stuck_goals_fit};
 pub use laws::{
     dialects_grow, one_typing, type_errors_are_final, typings_are_first, typings_are_good,
 };
-pub use reading::read_source;
+pub use reading::{main_sort, read_source};
 pub use source::Source;
 pub use typed::Typed;
 pub use typing::type_source;

@@ -40,7 +40,7 @@ fn sort_with(places: &[Place], role: Role) -> Sort
 }
 
 /// The sort of the place of the main form with this role.
-fn main_sort(language: &Language, role: Role) -> Sort
+pub fn main_sort(language: &Language, role: Role) -> Sort
     requires { language.now.main.form < length (forms_in language.now.rules) }
     ensures { result ≡ main_sort (language_data language.now) role }
 {
