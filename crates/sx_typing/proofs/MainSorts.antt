@@ -125,9 +125,10 @@ signature_is_sort d is =
     let l = d.language in
     let m = is.main in
     let known =
-    only_known l.parts is.lines l.forms l.main.form m.form Out (Plain m.signature) is.known is.forms m.is
-    m.output in
+    only_known l.parts is.lines l.forms l.main.form m.form Out (Plain m.signature) is.known is.forms
+    m.is m.output in
     let there : IsSort l.parts (main_sort l Out) =
-    subst (IsSort l.parts) (sym (main_sort_is l.forms l.main.form m.form Out (Plain m.signature) m.is m.output))
+    subst (IsSort l.parts) (sym (main_sort_is l.forms l.main.form m.form Out (Plain m.signature)
+    m.is m.output))
     known in
     subst (λ (p : Parts). IsSort p (main_sort l Out)) (sym is.goes_on) there

@@ -1,0 +1,16 @@
+pub mod Lengths
+pub mod Counted
+pub mod Shown
+pub mod Reread
+pub mod Refusing
+pub mod Entries
+pub mod ListTexts
+pub mod OnePrint
+pub mod Capturing
+pub mod PartSorts
+pub mod PartTexts
+pub mod Units
+pub mod OneWriting
+pub mod OneUnit
+pub mod LoweredTerms
+pub mod MadeUnits

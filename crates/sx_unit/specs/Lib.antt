@@ -1,0 +1,14 @@
+pub mod Modules
+pub mod PrintedParts
+pub mod Texts
+pub mod Unprinted
+pub mod PrintRefused
+pub mod PartRefused
+pub mod Errors
+pub mod Outputs
+pub mod Captured
+pub mod Written
+pub mod Unit
+pub mod Lowered
+pub mod Refused
+pub mod Alike

@@ -1,0 +1,28 @@
+-- What a module is compiled from.
+use Rattle.std.specs.Prelude.{ℕ, List, map}
+use Rattle.sx_interface.specs.Interfaces.{Mark}
+use Rattle.sx_interface.specs.InterfaceView.{mark_view}
+use Rattle.sx_typing.specs.Source.{Source, source_of}
+use Rattle.sx_unit.specs.declared.import.Import.{Import}
+use Rattle.sx_unit.specs.declared.module_source.ModuleSource.{ModuleSource}
+
+-- the source in its dialect, the digest of the language's file, and the names of the extensions in
+-- use and of the imports, each with the digest of its file
+pub record ModuleData : Type 0 where
+  pub source : Source
+  pub digest : List ℕ
+  pub uses : List Mark
+  pub imports : List Mark
+
+-- an import as its row in an interface: its name, and the digest of its file
+abbrev pub mark : Import → Mark
+mark i = record { name = i.interface.module; digest = i.digest.bytes }
+
+-- the view of what a module is compiled from
+abbrev pub module_of : ModuleSource → ModuleData
+module_of m = record {
+  source = source_of m.source;
+  digest = m.digest.now.bytes;
+  uses = map mark_view m.uses.now;
+  imports = map mark m.imports.now;
+}

@@ -1,0 +1,37 @@
+-- Why a printed text cannot be written.
+use Rattle.std.specs.Prelude.{◌≡◌, ℕ, ◌<◌, ◌≤◌, List, [], length}
+use Rattle.sx_term.specs.declared.sort.Sort.{Sort}
+use Rattle.sx_term.specs.Tree.{Tree}
+use Rattle.sx_token.specs.declared.token.Token.{Token}
+use Rattle.sx_grammar.specs.Parts.{Parts, numbered}
+use Rattle.sx_grammar.specs.ReadOne.{IsAnswer, too_hard, too_deep}
+use Rattle.sx_earley.specs.Tokens.{plain_tokens}
+use Rattle.sx_earley.specs.Completed.{number_of}
+use Rattle.sx_notation.specs.WhyUnread.{AreTwo}
+use Rattle.sx_words.specs.declared.print_defect.PrintDefect.{PrintDefect}
+use Rattle.sx_words.specs.declared.print_defect.PrintDefect.TheVariants.{Bytes, Tokens, Items}
+use Rattle.sx_words.specs.declared.print_defect.PrintDefect.TheVariants.{Depth, Ambiguous}
+use Rattle.sx_typing.specs.Body.{IsCut, ReadsOnly}
+use Rattle.sx_unit.specs.Texts.{printed}
+
+-- of a file with so many bytes, in which the term is printed as the sort: which limit is passed
+-- first, or that no limit is passed and there are two readings, with the texts of two
+abbrev pub IsUnprintable : Parts → Sort → (size : ℕ) → (shown : List ℕ) → (t : Tree) → PrintDefect →
+    Type 0
+IsUnprintable p sort size shown t (Bytes n) = (262144 < size) × (n ≡ size)
+IsUnprintable p sort size shown t (Tokens n) = (size ≤ 262144) × (10000 < n) ×
+    (n ≡ length (printed p t)) × ((ts : List Token) → IsCut p shown ts → ⊥)
+IsUnprintable p sort size shown t Items =
+    (size ≤ 262144) × ((ts : List Token) × IsCut p shown ts ×
+    IsAnswer (numbered p) (plain_tokens [] ts) (number_of sort) too_hard)
+IsUnprintable p sort size shown t (Depth n) =
+    (size ≤ 262144) × ((ts : List Token) × IsCut p shown ts ×
+    IsAnswer (numbered p) (plain_tokens [] ts) (number_of sort) (too_deep n))
+IsUnprintable p sort size shown t (Ambiguous one other) =
+    (size ≤ 262144) × ((ts : List Token) × IsCut p shown ts × AreTwo p [] sort ts one other)
+
+-- of such a file: it is short enough, and what is printed has only one reading, that of the term
+pub record IsPrintable (p : Parts) (sort : Sort) (size : ℕ) (shown : List ℕ) (t : Tree) : Type 0
+  where
+    pub short : size ≤ 262144
+    pub read : ReadsOnly p sort shown t
