@@ -1,5 +1,6 @@
 -- The first name that is a literal.
-use Rattle.std.proofs.Common.{◌≡◌, ℕ, ◌+◌, ◌<◌, ◌≤◌, List, [], ◌∷◌, ◌++◌, Contains, get_or, length, drop, Vec, refl, sym, ap, ◌∙◌, subst}
+use Rattle.std.proofs.Common.{◌≡◌, ℕ, ◌+◌, ◌<◌, ◌≤◌, List, [], ◌∷◌, ◌++◌, Contains, get_or, length}
+use Rattle.std.proofs.Common.{drop, Vec, refl, sym, ap, ◌∙◌, subst}
 use Rattle.std.specs.Prelude.{Some, slice_get}
 use Rattle.std.specs.declared.alloc.Global.{Global}
 use Rattle.std.proofs.lemmas.Option.{slice_get_within, get_or_from_slice_get}
@@ -13,8 +14,10 @@ use Rattle.sx_grammar.specs.Grammar.{Text}
 use Rattle.sx_print.specs.Cut.{HasLexemes, HaveLexemes}
 use Rattle.sx_unit.specs.Captured.{names_in, names_among, AreFree, IsFree, IsFirstIn, IsCaptured}
 
-contains_from : (texts : List Text) (i : ℕ) (text : Text) → slice_get texts i ≡ Some text → Contains texts text
-contains_from texts i text e = (i, slice_get_within texts i text e, get_or_from_slice_get texts i text text e)
+contains_from : (texts : List Text) (i : ℕ) (text : Text) → slice_get texts i ≡ Some text →
+    Contains texts text
+contains_from texts i text e =
+    (i, slice_get_within texts i text e, get_or_from_slice_get texts i text text e)
 
 module _ (literals : List Text) where
   -- ---- one word alone
@@ -25,35 +28,46 @@ module _ (literals : List Text) where
   same_tail : (a b : Text) (xs ys : List Text) → a ∷ xs ≡ b ∷ ys → xs ≡ ys
   same_tail a b xs ys e = cc
 
-  firsts_one : (names front rest others more : List Text) (word other : Text) → front ++ word ∷ rest ≡ others ++ other ∷ more →
-      AreFree literals front → AreFree literals others → Contains literals word → Contains literals other → word ≡ other
+  firsts_one : (names front rest others more : List Text) (word other : Text) →
+      front ++ word ∷ rest ≡ others ++ other ∷ more →
+      AreFree literals front → AreFree literals others → Contains literals word →
+      Contains literals other → word ≡ other
   firsts_one names [] rest [] more word other e f g h k = same_head word other rest more e
   firsts_one names [] rest (o ∷ others) more word other e f g h k =
       absurd (g.0 (subst (Contains literals) (same_head word o rest (others ++ other ∷ more) e) h))
   firsts_one names (w ∷ front) rest [] more word other e f g h k =
-      absurd (f.0 (subst (Contains literals) (sym (same_head w other (front ++ word ∷ rest) more e)) k))
+      absurd (f.0 (subst (Contains literals) (sym (same_head w other (front ++ word ∷ rest) more e))
+      k))
   firsts_one names (w ∷ front) rest (o ∷ others) more word other e f g h k =
-      firsts_one names front rest others more word other (same_tail w o (front ++ word ∷ rest) (others ++ other ∷ more) e) f.1 g.1 h k
+      firsts_one names front rest others more word other
+      (same_tail w o (front ++ word ∷ rest) (others ++ other ∷ more) e) f.1 g.1 h k
 
-  pub first_one : (names : List Text) (word other : Text) → IsFirstIn literals names word → IsFirstIn literals names other → word ≡ other
+  pub first_one : (names : List Text) (word other : Text) → IsFirstIn literals names word →
+      IsFirstIn literals names other → word ≡ other
   first_one names word other h k =
-      firsts_one names h.front h.rest k.front k.rest word other (sym h.is ∙ k.is) h.free k.free h.literal k.literal
+      firsts_one names h.front h.rest k.front k.rest word other (sym h.is ∙ k.is) h.free k.free
+      h.literal k.literal
 
-  free_at : (front rest : List Text) (word : Text) → AreFree literals (front ++ word ∷ rest) → Contains literals word → ⊥
+  free_at : (front rest : List Text) (word : Text) → AreFree literals (front ++ word ∷ rest) →
+      Contains literals word → ⊥
   free_at [] rest word f h = f.0 h
   free_at (w ∷ front) rest word f h = free_at front rest word f.1 h
 
   -- where there is a first one not all are free
-  pub first_none : (names : List Text) (word : Text) → IsFirstIn literals names word → AreFree literals names → ⊥
-  first_none names word h f = free_at h.front h.rest word (subst (AreFree literals) h.is f) h.literal
+  pub first_none : (names : List Text) (word : Text) → IsFirstIn literals names word →
+      AreFree literals names → ⊥
+  first_none names word h f = free_at h.front h.rest word (subst (AreFree literals) h.is f)
+      h.literal
 
   -- ---- the walk over the kids
 
-  free_both : (xs ys : List Text) → AreFree literals xs → AreFree literals ys → AreFree literals (xs ++ ys)
+  free_both : (xs ys : List Text) → AreFree literals xs → AreFree literals ys →
+      AreFree literals (xs ++ ys)
   free_both [] ys f g = g
   free_both (a ∷ xs) ys f g = (f.0, free_both xs ys f.1 g)
 
-  first_before : (names more : List Text) (word : Text) → IsFirstIn literals names word → IsFirstIn literals (names ++ more) word
+  first_before : (names more : List Text) (word : Text) → IsFirstIn literals names word →
+      IsFirstIn literals (names ++ more) word
   first_before names more word h = record {
     front = h.front;
     rest = h.rest ++ more;
@@ -62,7 +76,8 @@ module _ (literals : List Text) where
     literal = h.literal;
   }
 
-  first_behind : (front names : List Text) (word : Text) → AreFree literals front → IsFirstIn literals names word → IsFirstIn literals (front ++ names) word
+  first_behind : (front names : List Text) (word : Text) → AreFree literals front →
+      IsFirstIn literals names word → IsFirstIn literals (front ++ names) word
   first_behind front names word f h = record {
     front = front ++ h.front;
     rest = h.rest;
@@ -81,13 +96,18 @@ module _ (literals : List Text) where
   none_before kids = record { front = []; is = refl; free = tt }
 
   names_drop : (kids : List Term) (i : ℕ) (kid : Term) → i < length kids → kid ≡ get_or kids i kid →
-      names_among (trees (drop i kids)) ≡ names_in (tree kid) ++ names_among (trees (drop (i + 1) kids))
+      names_among (trees (drop i kids)) ≡ names_in (tree kid) ++ names_among
+      (trees (drop (i + 1) kids))
   names_drop kids i kid lt at = ap names_among (trees-drop kids i kid lt at)
 
-  pub free_on : (kids : List Term) (i : ℕ) (kid : Term) → i < length kids → kid ≡ get_or kids i kid → FreeBefore kids i → IsFree literals (tree kid) → FreeBefore kids (i + 1)
+  pub free_on : (kids : List Term) (i : ℕ) (kid : Term) → i < length kids →
+      kid ≡ get_or kids i kid → FreeBefore kids i → IsFree literals (tree kid) →
+      FreeBefore kids (i + 1)
   free_on kids i kid lt at b f = record {
     front = b.front ++ names_in (tree kid);
-    is = b.is ∙ ap (λ (l : List Text). b.front ++ l) (names_drop kids i kid lt at) ∙ sym (append_assoc b.front (names_in (tree kid)) (names_among (trees (drop (i + 1) kids))));
+    is = b.is ∙ ap (λ (l : List Text). b.front ++ l) (names_drop kids i kid lt at)
+        ∙ sym (append_assoc b.front (names_in (tree kid))
+        (names_among (trees (drop (i + 1) kids))));
     free = free_both b.front (names_in (tree kid)) b.free f;
   }
 
@@ -95,30 +115,51 @@ module _ (literals : List Text) where
     names_are : names_in (tree t) ≡ names_among (trees kids.items)
     names_are = ap names_in (tree-at_node t label kids is)
 
-    pub first_here : (ts : List Term) (i : ℕ) (kid : Term) (word : Text) → ts ≡ kids.items → i < length ts → kid ≡ get_or ts i kid → FreeBefore ts i → IsCaptured literals (tree kid) word →
+    pub first_here : (ts : List Term) (i : ℕ) (kid : Term) (word : Text) → ts ≡ kids.items →
+        i < length ts → kid ≡ get_or ts i kid → FreeBefore ts i → IsCaptured literals (tree kid)
+        word →
         IsCaptured literals (tree t) word
     first_here ts i kid word same lt at b h =
-        let all : names_among (trees ts) ≡ b.front ++ (names_in (tree kid) ++ names_among (trees (drop (i + 1) ts))) = b.is ∙ ap (λ (l : List Text). b.front ++ l) (names_drop ts i kid lt at) in
-        let there = first_behind b.front (names_in (tree kid) ++ names_among (trees (drop (i + 1) ts))) word b.free (first_before (names_in (tree kid)) (names_among (trees (drop (i + 1) ts))) word h) in
-        subst (λ (l : List Text). IsFirstIn literals l word) (sym (names_are ∙ sym (ap (λ (l : List Term). names_among (trees l)) same) ∙ all)) there
+        let all : names_among (trees ts) ≡ b.front ++
+        (names_in (tree kid) ++ names_among (trees (drop (i + 1) ts))) = b.is
+        ∙ ap (λ (l : List Text). b.front ++ l) (names_drop ts i kid lt at) in
+        let there = first_behind b.front
+        (names_in (tree kid) ++ names_among (trees (drop (i + 1) ts))) word b.free
+        (first_before (names_in (tree kid)) (names_among (trees (drop (i + 1) ts))) word h) in
+        subst (λ (l : List Text). IsFirstIn literals l word)
+        (sym (names_are ∙ sym (ap (λ (l : List Term). names_among (trees l)) same) ∙ all)) there
 
-    pub all_free : (ts : List Term) (i : ℕ) → ts ≡ kids.items → length ts ≤ i → FreeBefore ts i → IsFree literals (tree t)
+    pub all_free : (ts : List Term) (i : ℕ) → ts ≡ kids.items → length ts ≤ i → FreeBefore ts i →
+        IsFree literals (tree t)
     all_free ts i same past b =
-        let all : names_among (trees ts) ≡ b.front ++ [] = b.is ∙ ap (λ (l : Trees). b.front ++ names_among l) (trees-drop_all ts i past) in
-        subst (AreFree literals) (sym (names_are ∙ sym (ap (λ (l : List Term). names_among (trees l)) same) ∙ all ∙ append-nil b.front)) b.free
+        let all : names_among (trees ts) ≡ b.front ++ [] = b.is
+        ∙ ap (λ (l : Trees). b.front ++ names_among l) (trees-drop_all ts i past) in
+        subst (AreFree literals) (sym (names_are
+        ∙ sym (ap (λ (l : List Term). names_among (trees l)) same) ∙ all ∙ append-nil b.front))
+        b.free
 
   -- ---- one name
 
-  pub one_first : (i : ℕ) (text : Text) → slice_get literals i ≡ Some text → IsFirstIn literals (text ∷ []) text
-  one_first i text e = record { front = []; rest = []; is = refl; free = tt; literal = contains_from literals i text e }
+  pub one_first : (i : ℕ) (text : Text) → slice_get literals i ≡ Some text →
+      IsFirstIn literals (text ∷ []) text
+  one_first i text e = record {
+    front = [];
+    rest = [];
+    is = refl;
+    free = tt;
+    literal =
+        contains_from literals i text e;
+  }
 
 -- ---- what has free names can be printed
 
-left_free : (literals : List Text) (xs ys : List Text) → AreFree literals (xs ++ ys) → AreFree literals xs
+left_free : (literals : List Text) (xs ys : List Text) → AreFree literals (xs ++ ys) →
+    AreFree literals xs
 left_free literals [] ys f = tt
 left_free literals (a ∷ xs) ys f = (f.0, left_free literals xs ys f.1)
 
-right_free : (literals : List Text) (xs ys : List Text) → AreFree literals (xs ++ ys) → AreFree literals ys
+right_free : (literals : List Text) (xs ys : List Text) → AreFree literals (xs ++ ys) →
+    AreFree literals ys
 right_free literals [] ys f = f
 right_free literals (a ∷ xs) ys f = right_free literals xs ys f.1
 
@@ -132,6 +173,10 @@ module _ (few many : List Text) where
     free_lexemes (lexeme Str text) h f = h
     free_lexemes (hole v) h f = tt
 
-    all_free_lexemes : (ts : Trees) → HaveLexemes few ts → AreFree many (names_among ts) → HaveLexemes many ts
+    all_free_lexemes : (ts : Trees) → HaveLexemes few ts → AreFree many (names_among ts) →
+        HaveLexemes many ts
     all_free_lexemes none h f = tt
-    all_free_lexemes (t ▹ ts) h f = (free_lexemes t h.0 (left_free many (names_in t) (names_among ts) f), all_free_lexemes ts h.1 (right_free many (names_in t) (names_among ts) f))
+    all_free_lexemes (t ▹ ts) h f = (
+      free_lexemes t h.0 (left_free many (names_in t) (names_among ts) f),
+      all_free_lexemes ts h.1 (right_free many (names_in t) (names_among ts) f),
+    )

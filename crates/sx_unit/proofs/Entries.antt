@@ -1,5 +1,6 @@
 -- Lists of derivations without hypotheses.
-use Rattle.std.proofs.Common.{◌≡◌, ℕ, ◌<◌, List, [], ◌∷◌, ◌++◌, map, length, refl, sym, ap, ◌∙◌, subst, arith}
+use Rattle.std.proofs.Common.{◌≡◌, ℕ, ◌<◌, List, [], ◌∷◌, ◌++◌, map, length, refl, sym, ap, ◌∙◌}
+use Rattle.std.proofs.Common.{subst, arith}
 use Rattle.std.specs.List.{AllByRecursion}
 use Rattle.std.proofs.lemmas.List.{length-append, length-map}
 use Rattle.std.proofs.lemmas.Option.{slice_get_within}
@@ -11,7 +12,8 @@ use Rattle.sx_rules.specs.Rules.{Judgement}
 use Rattle.sx_rules.specs.Views.{NamedRule, named}
 use Rattle.sx_rules.specs.Good.{names_of}
 use Rattle.sx_rules.specs.Sets.{names_in, rules_in}
-use Rattle.sx_rules.specs.Derivations.{Proof, Proofs, by, given, no_more, ◌⊳◌, nodes_of, nodes_of_all, Derives, DeriveEach}
+use Rattle.sx_rules.specs.Derivations.{Proof, Proofs, by, given, no_more, ◌⊳◌, nodes_of}
+use Rattle.sx_rules.specs.Derivations.{nodes_of_all, Derives, DeriveEach}
 use Rattle.sx_rules.specs.Orders.{Entry, of_rule, of_given, order_of, order_of_all}
 use Rattle.sx_rules.specs.EntryView.{entry, entries}
 use Rattle.sx_rules.specs.ListText.{IsEntry}
@@ -23,26 +25,34 @@ AreOfRules n [] = Unit {0}
 AreOfRules n (of_rule r ∷ list) = (r < n) × AreOfRules n list
 AreOfRules n (of_given i ∷ list) = ⊥
 
-of_both : (n : ℕ) (list more : List Entry) → AreOfRules n list → AreOfRules n more → AreOfRules n (list ++ more)
+of_both : (n : ℕ) (list more : List Entry) → AreOfRules n list → AreOfRules n more →
+    AreOfRules n (list ++ more)
 of_both n [] more h k = k
 of_both n (of_rule r ∷ list) more h k = (h.0, of_both n list more h.1 k)
 of_both n (of_given i ∷ list) more h k = absurd h
 
 module _ (rules : List NamedRule) where
   mutual
-    of_rules : (j : Judgement) (p : Proof) → Derives (bare rules) no_hypotheses j p → AreOfRules (length (bare rules)) (order_of p)
+    of_rules : (j : Judgement) (p : Proof) → Derives (bare rules) no_hypotheses j p →
+        AreOfRules (length (bare rules)) (order_of p)
     of_rules j (given i) d = cc
-    of_rules j (by r binds kids) (rule, at, e, f, g, each) = (slice_get_within (bare rules) r rule at, all_of_rules _ kids each)
+    of_rules j (by r binds kids) (rule, at, e, f, g, each) =
+        (slice_get_within (bare rules) r rule at, all_of_rules _ kids each)
 
-    all_of_rules : (js : List Judgement) (ps : Proofs) → DeriveEach (bare rules) no_hypotheses js ps → AreOfRules (length (bare rules)) (order_of_all ps)
+    all_of_rules : (js : List Judgement) (ps : Proofs) → DeriveEach (bare rules) no_hypotheses js ps
+        → AreOfRules (length (bare rules)) (order_of_all ps)
     all_of_rules [] no_more d = tt
     all_of_rules [] (p ⊳ ps) d = absurd d
     all_of_rules (j ∷ js) no_more d = absurd d
-    all_of_rules (j ∷ js) (p ⊳ ps) d = of_both (length (bare rules)) (order_of p) (order_of_all ps) (of_rules j p d.0) (all_of_rules js ps d.1)
+    all_of_rules (j ∷ js) (p ⊳ ps) d = of_both (length (bare rules)) (order_of p) (order_of_all ps)
+        (of_rules j p d.0) (all_of_rules js ps d.1)
 
-  all_entries : (n : ℕ) → n ≡ length (map (λ (r : NamedRule). r.name) rules) → (list : List EntryOf) → AreOfRules n (entries list) → AllByRecursion (IsEntry (map (λ r. r.name) rules)) list
+  all_entries : (n : ℕ) → n ≡ length (map (λ (r : NamedRule). r.name) rules) →
+      (list : List EntryOf) → AreOfRules n (entries list) →
+      AllByRecursion (IsEntry (map (λ r. r.name) rules)) list
   all_entries n many [] all = tt
-  all_entries n many (entry_of.Rule r ∷ list) all = (let h = all.0 in omega arith, all_entries n many list all.1)
+  all_entries n many (entry_of.Rule r ∷ list) all =
+      (let h = all.0 in omega arith, all_entries n many list all.1)
   all_entries n many (entry_of.Given i ∷ list) all = absurd all
 
 -- a derivation has as many entries as nodes
@@ -60,10 +70,12 @@ mutual
       omega arith
 
 -- the list of a derivation has an entry for each node, and names rules that are there
-pub lists_fit : (rules : List NamedRule) (j : Judgement) (p : Proof) (list : List EntryOf) → Derives (bare rules) no_hypotheses j p → entries list ≡ order_of p →
+pub lists_fit : (rules : List NamedRule) (j : Judgement) (p : Proof) (list : List EntryOf) →
+    Derives (bare rules) no_hypotheses j p → entries list ≡ order_of p →
     AllByRecursion (IsEntry (map (λ r. r.name) rules)) list × (length list ≡ nodes_of p)
 lists_fit rules j p list d same = (
-  all_entries rules (length (bare rules)) (length-map rules (λ r. r.rule) ∙ sym (length-map rules (λ r. r.name))) list
+  all_entries rules (length (bare rules)) (length-map rules (λ r. r.rule)
+      ∙ sym (length-map rules (λ r. r.name))) list
       (subst (AreOfRules (length (bare rules))) (sym same) (of_rules rules j p d)),
   sym (length-map list entry) ∙ ap length same ∙ order_length p,
 )

@@ -1,5 +1,6 @@
 -- What compiling answers, from what its steps do.
-use Rattle.std.proofs.Common.{◌≡◌, ◌⊎◌, inl, inr, ℕ, ◌+◌, List, [], ◌∷◌, map, None, length, refl, sym, ap, ◌∙◌, subst, arith}
+use Rattle.std.proofs.Common.{◌≡◌, ◌⊎◌, inl, inr, ℕ, ◌+◌, List, [], ◌∷◌, map, None, length, refl}
+use Rattle.std.proofs.Common.{sym, ap, ◌∙◌, subst, arith}
 use Rattle.std.specs.List.{AllByRecursion}
 use Rattle.std.specs.Prelude.{Result, Ok, Err, IfOk, IfErr}
 use Rattle.sx_term.specs.declared.role.Role.TheVariants.{In, Sub}
@@ -28,7 +29,11 @@ use Rattle.sx_typing.specs.Refused.{HasBody, HasTyping, HasWalked, IsBadSource}
 use Rattle.sx_unit.specs.declared.compiled.Compiled.{Compiled}
 use Rattle.sx_unit.specs.declared.lowering.Lowering.{Lowering}
 use Rattle.sx_unit.specs.declared.module_error.ModuleError.{ModuleError}
-use Rattle.sx_unit.specs.declared.module_error.ModuleError.TheVariants.{Memory, Token, Read, TypeError, BudgetSpent, DepthSpent, TooDeep, TooBig, RewriteSpent, RewriteDeep, Print, Captured}
+use Rattle.sx_unit.specs.declared.module_error.ModuleError.TheVariants.{Memory, Token, Read}
+use Rattle.sx_unit.specs.declared.module_error.ModuleError.TheVariants.{TypeError, BudgetSpent}
+use Rattle.sx_unit.specs.declared.module_error.ModuleError.TheVariants.{DepthSpent, TooDeep, TooBig}
+use Rattle.sx_unit.specs.declared.module_error.ModuleError.TheVariants.{RewriteSpent, RewriteDeep}
+use Rattle.sx_unit.specs.declared.module_error.ModuleError.TheVariants.{Print, Captured}
 use Rattle.sx_unit.specs.Errors.{of_typing, of_rewrite}
 use Rattle.sx_unit.specs.Lowered.{IsLowering}
 use Rattle.sx_unit.specs.Modules.{ModuleData}
@@ -41,33 +46,48 @@ use Rattle.sx_unit.proofs.Units.{units_are_made, final}
 
 -- ---- what is lowered
 
-module _ (s : Source) (is : IsDialect s.dialect) (he : IsTermFor s.dialect In s.environment) (subject : Tree) (hs : IsTermFor s.dialect Sub subject) (tries nodes : ℕ) (t : Typed)
-    (by : IsTypedBy s tries subject t) (l : Lowering) (low : IsLowering s.dialect by.answer.0 nodes l) where
+module _ (s : Source) (is : IsDialect s.dialect) (he : IsTermFor s.dialect In s.environment)
+    (subject : Tree) (hs : IsTermFor s.dialect Sub subject) (tries nodes : ℕ) (t : Typed)
+    (by : IsTypedBy s tries subject t) (l : Lowering)
+    (low : IsLowering s.dialect by.answer.0 nodes l) where
   -- there is one subject and one output
-  pub one_subject : (u : Tree) × (outputs_of (subjects_in s.dialect.language.forms) (judgement l.judgement) ≡ u ∷ [])
+  pub one_subject : (u : Tree) × (outputs_of (subjects_in s.dialect.language.forms)
+      (judgement l.judgement) ≡ u ∷ [])
   one_subject =
-      let good = subject_good s is subject (tree t.output) he hs by.good by.answer by.derives nodes low.lowered low.rewriting in
-      (good.0, ap (outputs_of (subjects_in s.dialect.language.forms)) (sym low.judgement_is) ∙ good.1)
+      let good = subject_good s is subject (tree t.output) he hs by.good by.answer by.derives nodes
+      low.lowered low.rewriting in (
+        good.0,
+        ap (outputs_of (subjects_in s.dialect.language.forms)) (sym low.judgement_is)
+            ∙ good.1,
+      )
 
-  pub one_output : (u : Tree) × (outputs_of (modes_of s.dialect.language.forms) (judgement l.judgement) ≡ u ∷ [])
+  pub one_output : (u : Tree) × (outputs_of (modes_of s.dialect.language.forms)
+      (judgement l.judgement) ≡ u ∷ [])
   one_output =
-      let good = output_good s is subject (tree t.output) he hs by.good by.answer by.derives nodes low.lowered low.rewriting in
+      let good = output_good s is subject (tree t.output) he hs by.good by.answer by.derives nodes
+      low.lowered low.rewriting in
       (good.0, ap (outputs_of (modes_of s.dialect.language.forms)) (sym low.judgement_is) ∙ good.1)
 
   -- these can be printed
-  pub terms_printable : (terms : PrintedData) → ArePrinted s.dialect (judgement l.judgement) (tree t.output) terms → ArePrintable s.dialect terms
+  pub terms_printable : (terms : PrintedData) → ArePrinted s.dialect (judgement l.judgement)
+      (tree t.output) terms → ArePrintable s.dialect terms
   terms_printable terms are =
-      printable s is subject (tree t.output) he hs by.good by.answer by.derives nodes low.lowered low.rewriting terms
-      (subst (λ (j : Judgement). ArePrinted s.dialect j (tree t.output) terms) (sym low.judgement_is) are)
+      printable s is subject (tree t.output) he hs by.good by.answer by.derives nodes low.lowered
+      low.rewriting terms
+      (subst (λ (j : Judgement). ArePrinted s.dialect j (tree t.output) terms)
+      (sym low.judgement_is) are)
 
   -- the list can be written
-  pub list_good : AllByRecursion (IsEntry (map (λ r. r.name) s.dialect.language.rules)) l.list.items × (length l.list.items ≡ nodes_of low.lowered.proof)
-  list_good = list_fits s is subject (tree t.output) he hs by.good by.answer by.derives nodes low.lowered low.rewriting l.list.items low.list_is
+  pub list_good : AllByRecursion (IsEntry (map (λ r. r.name) s.dialect.language.rules)) l.list.items
+      × (length l.list.items ≡ nodes_of low.lowered.proof)
+  list_good = list_fits s is subject (tree t.output) he hs by.good by.answer by.derives nodes
+      low.lowered low.rewriting l.list.items low.list_is
 
 module _ (m : ModuleData) (b : Budgets) where
   -- ---- refusals of the steps
 
-  pub unread_bad : (e : TypingError) → IsBadSource m.source b.tries e → IsBadModule m b (of_typing e)
+  pub unread_bad : (e : TypingError) → IsBadSource m.source b.tries e →
+      IsBadModule m b (of_typing e)
   unread_bad typing.Memory h = tt
   unread_bad (typing.Token line column x) h = h
   unread_bad (typing.Read line column u) h = h
@@ -84,7 +104,8 @@ module _ (m : ModuleData) (b : Budgets) where
   unlowered_bad (rewrite.TooDeep n) h = inr h
   unlowered_bad (rewrite.TooBig n) h = inr h
 
-  pub unwritten_bad : (l : HasLowering m b) (e : ModuleError) → IsUnwritten m l.terms e → IsBadModule m b e
+  pub unwritten_bad : (l : HasLowering m b) (e : ModuleError) → IsUnwritten m l.terms e →
+      IsBadModule m b e
   unwritten_bad l Memory h = tt
   unwritten_bad l (Token line column x) h = absurd h
   unwritten_bad l (Read line column u) h = absurd h
@@ -100,30 +121,61 @@ module _ (m : ModuleData) (b : Budgets) where
 
   -- ---- what is written
 
-  module _ (tokens : List TokenOf) (reading : Reading) (subject : Tree) (read : IsBody m.source tokens reading subject) (t : Typed) (by : IsTypedBy m.source b.tries subject t) where
+  module _ (tokens : List TokenOf) (reading : Reading) (subject : Tree)
+      (read : IsBody m.source tokens reading subject) (t : Typed)
+      (by : IsTypedBy m.source b.tries subject t) where
     abbrev pub typing_is : HasTyping m.source b.tries
-    typing_is = record { body = record { tokens = tokens; reading = reading; subject = subject; read = read }; output = tree t.output; answer = by.answer; typed = by.typed }
+    typing_is = record {
+      body = record {
+        tokens = tokens;
+        reading = reading;
+        subject = subject;
+        read = read;
+      };
+      output = tree t.output;
+      answer = by.answer;
+      typed = by.typed;
+    }
 
-    module _ (l : Lowering) (low : IsLowering m.source.dialect by.answer.0 b.nodes l) (terms : PrintedData) (are : ArePrinted m.source.dialect (judgement l.judgement) (tree t.output) terms) where
+    module _ (l : Lowering) (low : IsLowering m.source.dialect by.answer.0 b.nodes l)
+        (terms : PrintedData) (are : ArePrinted m.source.dialect (judgement l.judgement)
+        (tree t.output) terms) where
       pub are_printed : ArePrinted m.source.dialect low.lowered.judgement (tree t.output) terms
-      are_printed = subst (λ (j : Judgement). ArePrinted m.source.dialect j (tree t.output) terms) (sym low.judgement_is) are
+      are_printed = subst (λ (j : Judgement). ArePrinted m.source.dialect j (tree t.output) terms)
+          (sym low.judgement_is) are
 
       abbrev lowering_is : HasLowering m b
-      lowering_is = record { typing = typing_is; lowered = low.lowered; rewriting = low.rewriting; terms = terms; are = are_printed }
+      lowering_is = record {
+        typing = typing_is;
+        lowered = low.lowered;
+        rewriting = low.rewriting;
+        terms = terms;
+        are = are_printed;
+      }
 
-      pub compiled : (r : Result Compiled ModuleError) (count : ℕ) → length l.list.items ≡ nodes_of low.lowered.proof →
-          IfOk r (λ c. (q : Proof) → entries l.list.items ≡ order_of q → length l.list.items ≡ nodes_of q → IsWritten m terms q (unit_of c)) →
-          IfOk r (λ c. c.source_tokens ≡ count) → count ≡ length tokens → IfErr r (IsUnwritten m terms) → IsCompiled m b r
+      pub compiled : (r : Result Compiled ModuleError) (count : ℕ) → length l.list.items ≡ nodes_of
+          low.lowered.proof →
+          IfOk r (λ c. (q : Proof) → entries l.list.items ≡ order_of q →
+          length l.list.items ≡ nodes_of q → IsWritten m terms q (unit_of c)) →
+          IfOk r (λ c. c.source_tokens ≡ count) → count ≡ length tokens →
+          IfErr r (IsUnwritten m terms) → IsCompiled m b r
       compiled (Ok c) count nodes written counted many refused =
-          record { lowering = lowering_is; written = written low.lowered.proof low.list_is nodes; source_tokens = subst (λ (n : ℕ). c.source_tokens ≡ n) many counted }
-      compiled (Err e) count nodes written counted many refused = unwritten_bad lowering_is e refused
+          record {
+            lowering = lowering_is;
+            written = written low.lowered.proof low.list_is nodes;
+            source_tokens = subst (λ (n : ℕ). c.source_tokens ≡ n) many counted;
+          }
+      compiled (Err e) count nodes written counted many refused = unwritten_bad lowering_is e
+          refused
 
   -- ---- tries
 
   -- so many tries were made, and none is missing
-  all_counted : (made first last : ℕ) → HasWalked m.source b.tries made → last ≡ first + made → (r : Result Compiled ModuleError) → IsCounted m b r first last
+  all_counted : (made first last : ℕ) → HasWalked m.source b.tries made → last ≡ first + made →
+      (r : Result Compiled ModuleError) → IsCounted m b r first last
   all_counted made first last walked h (Ok c) = (made, walked, h)
-  all_counted made first last walked h (Err Memory) = (omega (arith, h), inr (made, walked, omega (arith, h)))
+  all_counted made first last walked h (Err Memory) =
+      (omega (arith, h), inr (made, walked, omega (arith, h)))
   all_counted made first last walked h (Err (Token line column e)) = (made, walked, h)
   all_counted made first last walked h (Err (Read line column e)) = (made, walked, h)
   all_counted made first last walked h (Err (TypeError line column e)) = (made, walked, h)
@@ -137,9 +189,13 @@ module _ (m : ModuleData) (b : Budgets) where
   all_counted made first last walked h (Err (Captured word)) = (made, walked, h)
 
   -- where the body is refused there are none
-  pub unread_counted : (e : TypingError) (at : ℕ) → (e ≡ typing.Memory) ⊎ (HasBody m.source → ⊥) → IsCounted m b (Err (of_typing e)) at at
-  unread_counted e at (inl memory) = subst (λ (x : TypingError). IsCounted m b (Err (of_typing x)) at at) (sym memory) (omega arith, inl refl)
-  unread_counted e at (inr none) = all_counted 0 at at (inr (none, refl)) (omega arith) (Err (of_typing e))
+  pub unread_counted : (e : TypingError) (at : ℕ) → (e ≡ typing.Memory) ⊎ (HasBody m.source → ⊥) →
+      IsCounted m b (Err (of_typing e)) at at
+  unread_counted e at (inl memory) =
+      subst (λ (x : TypingError). IsCounted m b (Err (of_typing x)) at at) (sym memory)
+      (omega arith, inl refl)
+  unread_counted e at (inr none) = all_counted 0 at at (inr (none, refl)) (omega arith)
+      (Err (of_typing e))
 
   module _ (body : HasBody m.source) where
     abbrev made : ℕ
@@ -149,11 +205,13 @@ module _ (m : ModuleData) (b : Budgets) where
     walked = inl (body, refl)
 
     -- where the goal has a derivation the tries are those of its walk, whatever comes then
-    pub typed_counted : (first last : ℕ) (t : Typed) → IsTried made first last (Ok t) → (r : Result Compiled ModuleError) → IsCounted m b r first last
+    pub typed_counted : (first last : ℕ) (t : Typed) → IsTried made first last (Ok t) →
+        (r : Result Compiled ModuleError) → IsCounted m b r first last
     typed_counted first last t h r = all_counted made first last walked h r
 
     -- and so they are where it has none
-    pub untyped_counted : (first last : ℕ) (e : TypingError) → IsTried {X = Typed} made first last (Err e) → IsCounted m b (Err (of_typing e)) first last
+    pub untyped_counted : (first last : ℕ) (e : TypingError) → IsTried {X = Typed} made first last
+        (Err e) → IsCounted m b (Err (of_typing e)) first last
     untyped_counted first last typing.Memory h = (h.0, inr (made, walked, h.1))
     untyped_counted first last (typing.Token line column e) h = (made, walked, h)
     untyped_counted first last (typing.Read line column e) h = (made, walked, h)
@@ -165,25 +223,27 @@ module _ (m : ModuleData) (b : Budgets) where
 
   -- ---- units and type errors
 
-  module _ (moded : AllModed (modes_of m.source.dialect.language.forms) (rules_of m.source.dialect)) where
-    pub unit_if : (r : Result Compiled ModuleError) → IsCompiled m b r → IfOk r (λ c. IsUnit m (unit_of c))
-    unit_if (Ok c) h = units_are_made m b (unit_of c) moded h
-    unit_if (Err e) h = tt
+  module _ (moded : AllModed (modes_of m.source.dialect.language.forms) (rules_of m.source.dialect))
+    where
+      pub unit_if : (r : Result Compiled ModuleError) → IsCompiled m b r →
+          IfOk r (λ c. IsUnit m (unit_of c))
+      unit_if (Ok c) h = units_are_made m b (unit_of c) moded h
+      unit_if (Err e) h = tt
 
-    final_of : (e : ModuleError) → IsBadModule m b e → IsFinal m e
-    final_of Memory h = tt
-    final_of (Token line column x) h = tt
-    final_of (Read line column u) h = tt
-    final_of (TypeError line column text) h = final m b line column text moded h
-    final_of (BudgetSpent n) h = tt
-    final_of DepthSpent h = tt
-    final_of (TooDeep n) h = tt
-    final_of (TooBig n) h = tt
-    final_of (RewriteSpent n) h = tt
-    final_of RewriteDeep h = tt
-    final_of (Print part defect) h = tt
-    final_of (Captured word) h = tt
+      final_of : (e : ModuleError) → IsBadModule m b e → IsFinal m e
+      final_of Memory h = tt
+      final_of (Token line column x) h = tt
+      final_of (Read line column u) h = tt
+      final_of (TypeError line column text) h = final m b line column text moded h
+      final_of (BudgetSpent n) h = tt
+      final_of DepthSpent h = tt
+      final_of (TooDeep n) h = tt
+      final_of (TooBig n) h = tt
+      final_of (RewriteSpent n) h = tt
+      final_of RewriteDeep h = tt
+      final_of (Print part defect) h = tt
+      final_of (Captured word) h = tt
 
-    pub final_if : (r : Result Compiled ModuleError) → IsCompiled m b r → IfErr r (IsFinal m)
-    final_if (Ok c) h = tt
-    final_if (Err e) h = final_of e h
+      pub final_if : (r : Result Compiled ModuleError) → IsCompiled m b r → IfErr r (IsFinal m)
+      final_if (Ok c) h = tt
+      final_if (Err e) h = final_of e h

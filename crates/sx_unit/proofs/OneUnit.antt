@@ -1,5 +1,7 @@
--- A module has one unit or one refusal, but for the readings that a refusal may show of a text with more than two.
-use Rattle.std.proofs.Common.{◌≡◌, ◌≢◌, ℕ, [], ◌∷◌, ◌⊎◌, inl, inr, length, refl, sym, ap, ◌∙◌, subst}
+-- A module has one unit or one refusal, but for the readings that a refusal may show of a text with
+-- more than two.
+use Rattle.std.proofs.Common.{◌≡◌, ◌≢◌, ℕ, [], ◌∷◌, ◌⊎◌, inl, inr, length, refl, sym, ap, ◌∙◌}
+use Rattle.std.proofs.Common.{subst}
 use Rattle.std.specs.Prelude.{Result, Ok, Err}
 use Rattle.sx_grammar.specs.Told.{shapes_of}
 use Rattle.sx_rules.specs.Derivations.{Proof}
@@ -9,7 +11,8 @@ use Rattle.sx_rules.specs.Views.{modes_of, subjects_in}
 use Rattle.sx_rules.proofs.Refusals.{good_moded}
 use Rattle.sx_rewrite.specs.declared.rewrite_error.RewriteError.{RewriteError}
 use Rattle.sx_rewrite.specs.declared.rewrite_error.RewriteError.TheVariants as rewrite
-use Rattle.sx_rewrite.specs.Rewriting.{Refusal, Rewritten, IsRewritten, spent, deep, too_deep, too_big}
+use Rattle.sx_rewrite.specs.Rewriting.{Refusal, Rewritten, IsRewritten, spent, deep, too_deep}
+use Rattle.sx_rewrite.specs.Rewriting.{too_big}
 use Rattle.sx_rewrite.specs.Stored.{signature_of}
 use Rattle.sx_rewrite.proofs.Rewriting.{rewriting_is_unique}
 use Rattle.sx_extcheck.specs.declared.budgets.Budgets.{Budgets}
@@ -22,7 +25,11 @@ use Rattle.sx_typing.specs.Outcomes.{no_hypotheses}
 use Rattle.sx_typing.specs.Refused.{HasTyping, IsBadSource}
 use Rattle.sx_typing.proofs.OneTyping.{one_typing}
 use Rattle.sx_unit.specs.declared.module_error.ModuleError.{ModuleError}
-use Rattle.sx_unit.specs.declared.module_error.ModuleError.TheVariants.{Memory, Token, Read, TypeError, BudgetSpent, DepthSpent, TooDeep, TooBig, RewriteSpent, RewriteDeep, Print, Captured}
+use Rattle.sx_unit.specs.declared.module_error.ModuleError.TheVariants.{Memory, Token, Read}
+use Rattle.sx_unit.specs.declared.module_error.ModuleError.TheVariants.{TypeError, BudgetSpent}
+use Rattle.sx_unit.specs.declared.module_error.ModuleError.TheVariants.{DepthSpent, TooDeep, TooBig}
+use Rattle.sx_unit.specs.declared.module_error.ModuleError.TheVariants.{RewriteSpent, RewriteDeep}
+use Rattle.sx_unit.specs.declared.module_error.ModuleError.TheVariants.{Print, Captured}
 use Rattle.sx_unit.specs.Alike.{ShowOthers, AreAlike, OneUnit}
 use Rattle.sx_unit.specs.Errors.{of_typing, of_rewrite}
 use Rattle.sx_unit.specs.Modules.{ModuleData}
@@ -59,11 +66,14 @@ told budget (too_big n) = rewrite.TooBig n
 
 module _ (m : ModuleData) (b : Budgets) (dialect : IsDialect m.source.dialect) where
   abbrev Rewrites : Proof → Result Rewritten Refusal → Type 0
-  Rewrites p r = IsRewritten m.source.dialect.set (subjects_in m.source.dialect.language.forms) no_hypotheses p b.nodes r
+  Rewrites p r = IsRewritten m.source.dialect.set (subjects_in m.source.dialect.language.forms)
+      no_hypotheses p b.nodes r
 
   rewrites_one : (p : Proof) (r s : Result Rewritten Refusal) → Rewrites p r → Rewrites p s → r ≡ s
   rewrites_one p r s h k =
-      rewriting_is_unique (signature_of m.source.dialect.language.forms) (shapes_of m.source.dialect.language.parts) (shapes_of m.source.dialect.parts) m.source.dialect.set dialect.accepted
+      rewriting_is_unique (signature_of m.source.dialect.language.forms)
+      (shapes_of m.source.dialect.language.parts) (shapes_of m.source.dialect.parts)
+      m.source.dialect.set dialect.accepted
       no_hypotheses p b.nodes r s h k
 
   -- ---- the three steps
@@ -88,11 +98,14 @@ module _ (m : ModuleData) (b : Budgets) (dialect : IsDialect m.source.dialect) w
   abbrev Cases : ModuleError → Type 0
   Cases e = (e ≡ Memory) ⊎ IsUnread e ⊎ IsUnrewritten e ⊎ IsUnput e
 
-  read_case : (error : TypingError) → error ≢ typing.Memory → IsBadSource m.source b.tries error → Cases (of_typing error)
+  read_case : (error : TypingError) → error ≢ typing.Memory → IsBadSource m.source b.tries error →
+      Cases (of_typing error)
   read_case error not h = inr (inl (record { error = error; is = refl; not = not; bad = h }))
 
-  rewrite_case : (refusal : Refusal) (t : HasTyping m.source b.tries) → Rewrites t.answer.0 (Err refusal) → Cases (of_rewrite (told b.nodes refusal))
-  rewrite_case refusal t h = inr (inr (inl (record { typing = t; refusal = refusal; is = refl; rewrites = h })))
+  rewrite_case : (refusal : Refusal) (t : HasTyping m.source b.tries) →
+      Rewrites t.answer.0 (Err refusal) → Cases (of_rewrite (told b.nodes refusal))
+  rewrite_case refusal t h = inr
+      (inr (inl (record { typing = t; refusal = refusal; is = refl; rewrites = h })))
 
   cases : (e : ModuleError) → IsBadModule m b e → Cases e
   cases Memory h = inl refl
@@ -105,39 +118,51 @@ module _ (m : ModuleData) (b : Budgets) (dialect : IsDialect m.source.dialect) w
   cases (TooDeep n) (inr h) = rewrite_case (too_deep n) h.0 h.1
   cases (TooBig n) (inl h) = read_case (typing.TooBig n) (λ e. cc) h
   cases (TooBig n) (inr h) = rewrite_case (too_big n) h.0 h.1
-  cases (RewriteSpent n) h = subst (λ (k : ℕ). Cases (RewriteSpent k)) (sym h.1.0) (rewrite_case spent h.0 h.1.1)
+  cases (RewriteSpent n) h = subst (λ (k : ℕ). Cases (RewriteSpent k)) (sym h.1.0)
+      (rewrite_case spent h.0 h.1.1)
   cases RewriteDeep h = rewrite_case deep h.0 h.1
-  cases (Print part defect) h = inr (inr (inr (record { lowering = h.0; not = λ e. cc; unwritten = h.1 })))
-  cases (Captured word) h = inr (inr (inr (record { lowering = h.0; not = λ e. cc; unwritten = h.1 })))
+  cases (Print part defect) h = inr
+      (inr (inr (record { lowering = h.0; not = λ e. cc; unwritten = h.1 })))
+  cases (Captured word) h = inr (inr
+      (inr (record { lowering = h.0; not = λ e. cc; unwritten = h.1 })))
 
   -- ---- what is typed and lowered
 
   same_answer : (t u : HasTyping m.source b.tries) → t.answer ≡ u.answer
   same_answer t u = (one_typing.found m.source b.tries t u).answer
 
-  rewrites_same : (t u : HasTyping m.source b.tries) (r s : Result Rewritten Refusal) → Rewrites t.answer.0 r → Rewrites u.answer.0 s → r ≡ s
-  rewrites_same t u r s h k = rewrites_one u.answer.0 r s (subst (λ (a : Answer). Rewrites a.0 r) (same_answer t u) h) k
+  rewrites_same : (t u : HasTyping m.source b.tries) (r s : Result Rewritten Refusal) →
+      Rewrites t.answer.0 r → Rewrites u.answer.0 s → r ≡ s
+  rewrites_same t u r s h k = rewrites_one u.answer.0 r s
+      (subst (λ (a : Answer). Rewrites a.0 r) (same_answer t u) h) k
 
   same_lowered : (l k : HasLowering m b) → l.lowered ≡ k.lowered
-  same_lowered l k = ok_same l.lowered k.lowered (rewrites_same l.typing k.typing (Ok l.lowered) (Ok k.lowered) l.rewriting k.rewriting)
+  same_lowered l k = ok_same l.lowered k.lowered (rewrites_same l.typing k.typing (Ok l.lowered)
+      (Ok k.lowered) l.rewriting k.rewriting)
 
   same_terms : (l k : HasLowering m b) → l.terms ≡ k.terms
   same_terms l k = λ i. record { subject = subject i; signature = signature i; stated = stated i }
     where
       subject : l.terms.subject ≡ k.terms.subject
       subject = same_head l.terms.subject k.terms.subject
-          (sym l.are.subject ∙ ap (λ (x : Rewritten). outputs_of (subjects_in m.source.dialect.language.forms) x.judgement) (same_lowered l k) ∙ k.are.subject)
+          (sym l.are.subject ∙ ap (λ (x : Rewritten).
+          outputs_of (subjects_in m.source.dialect.language.forms) x.judgement)
+          (same_lowered l k) ∙ k.are.subject)
 
       signature : l.terms.signature ≡ k.terms.signature
       signature = same_head l.terms.signature k.terms.signature
-          (sym l.are.signature ∙ ap (λ (x : Rewritten). outputs_of (modes_of m.source.dialect.language.forms) x.judgement) (same_lowered l k) ∙ k.are.signature)
+          (sym l.are.signature ∙ ap (λ (x : Rewritten).
+          outputs_of (modes_of m.source.dialect.language.forms) x.judgement) (same_lowered l k)
+          ∙ k.are.signature)
 
       stated : l.terms.stated ≡ k.terms.stated
-      stated = l.are.stated ∙ (one_typing.found m.source b.tries l.typing k.typing).output ∙ sym k.are.stated
+      stated = l.are.stated ∙ (one_typing.found m.source b.tries l.typing k.typing).output
+          ∙ sym k.are.stated
 
   -- ---- refusals
 
-  reads_alike : (e d : ModuleError) (x y : TypingError) → e ≡ of_typing x → d ≡ of_typing y → typed.AreAlike m.source x y → AreAlike m b e d
+  reads_alike : (e d : ModuleError) (x y : TypingError) → e ≡ of_typing x → d ≡ of_typing y →
+      typed.AreAlike m.source x y → AreAlike m b e d
   reads_alike e d x y h k (inl same) = inl (h ∙ ap of_typing same ∙ sym k)
   reads_alike e d x y h k (inr o) = inr (inl (record {
     line = o.line;
@@ -151,7 +176,8 @@ module _ (m : ModuleData) (b : Budgets) (dialect : IsDialect m.source.dialect) w
     three = o.three;
   }))
 
-  puts_alike : (l : HasLowering m b) (e d : ModuleError) → (e ≡ d) ⊎ ShowOthers m l.terms e d → AreAlike m b e d
+  puts_alike : (l : HasLowering m b) (e d : ModuleError) → (e ≡ d) ⊎ ShowOthers m l.terms e d →
+      AreAlike m b e d
   puts_alike l e d (inl same) = inl same
   puts_alike l e d (inr show) = inr (inr (l, show))
 
@@ -161,23 +187,29 @@ module _ (m : ModuleData) (b : Budgets) (dialect : IsDialect m.source.dialect) w
 
   -- what is lowered is not refused
   lowered_none : (e : ModuleError) → HasLowering m b → IsUnrewritten e → ⊥
-  lowered_none e l h = ok_or_err l.lowered h.refusal (rewrites_same l.typing h.typing (Ok l.lowered) (Err h.refusal) l.rewriting h.rewrites)
+  lowered_none e l h = ok_or_err l.lowered h.refusal (rewrites_same l.typing h.typing (Ok l.lowered)
+      (Err h.refusal) l.rewriting h.rewrites)
 
   moded : AllModed (modes_of m.source.dialect.language.forms) (rules_of m.source.dialect)
-  moded = good_moded (shapes_of m.source.dialect.parts) m.source.dialect.language.forms [] m.source.dialect.rules dialect.rule_set.1
+  moded = good_moded (shapes_of m.source.dialect.parts) m.source.dialect.language.forms []
+      m.source.dialect.rules dialect.rule_set.1
 
   reads_one : (e d : ModuleError) → IsUnread e → IsUnread d → AreAlike m b e d
-  reads_one e d h k = reads_alike e d h.error k.error h.is k.is (one_typing.refused m.source b.tries h.error k.error moded h.bad k.bad h.not k.not)
+  reads_one e d h k = reads_alike e d h.error k.error h.is k.is
+      (one_typing.refused m.source b.tries h.error k.error moded h.bad k.bad h.not k.not)
 
   rewrites_alike : (e d : ModuleError) → IsUnrewritten e → IsUnrewritten d → AreAlike m b e d
   rewrites_alike e d h k =
-      let same = err_same h.refusal k.refusal (rewrites_same h.typing k.typing (Err h.refusal) (Err k.refusal) h.rewrites k.rewrites) in
+      let same = err_same h.refusal k.refusal (rewrites_same h.typing k.typing (Err h.refusal)
+      (Err k.refusal) h.rewrites k.rewrites) in
       inl (h.is ∙ ap (λ (r : Refusal). of_rewrite (told b.nodes r)) same ∙ sym k.is)
 
   puts_one : (e d : ModuleError) → IsUnput e → IsUnput d → AreAlike m b e d
   puts_one e d h k =
       puts_alike k.lowering e d
-      (unwritten_one m k.lowering.terms e d h.not k.not (subst (λ (t : PrintedData). IsUnwritten m t e) (same_terms h.lowering k.lowering) h.unwritten) k.unwritten)
+      (unwritten_one m k.lowering.terms e d h.not k.not
+      (subst (λ (t : PrintedData). IsUnwritten m t e) (same_terms h.lowering k.lowering)
+      h.unwritten) k.unwritten)
 
   refused_one : (e d : ModuleError) → Cases e → Cases d → e ≢ Memory → d ≢ Memory → AreAlike m b e d
   refused_one e d (inl h) k n o = absurd (n h)
@@ -200,19 +232,24 @@ module _ (m : ModuleData) (b : Budgets) (dialect : IsDialect m.source.dialect) w
   either_one u e made (inr (inr (inl h))) = absurd (lowered_none e made.lowering h)
   either_one u e made (inr (inr (inr h))) =
       absurd (written_none m made.lowering.terms e made.lowering.lowered.proof u h.not
-      (subst (λ (t : PrintedData). IsUnwritten m t e) (same_terms h.lowering made.lowering) h.unwritten) made.written)
+      (subst (λ (t : PrintedData). IsUnwritten m t e) (same_terms h.lowering made.lowering)
+      h.unwritten) made.written)
 
   found_one : (u v : UnitData) → IsMade m b u → IsMade m b v → u ≡ v
   found_one u v h k =
-      let there = subst (λ (x : Rewritten). IsWritten m h.lowering.terms x.proof u) (same_lowered h.lowering k.lowering) h.written in
-      let here = subst (λ (t : PrintedData). IsWritten m t k.lowering.lowered.proof u) (same_terms h.lowering k.lowering) there in
+      let there = subst (λ (x : Rewritten). IsWritten m h.lowering.terms x.proof u)
+      (same_lowered h.lowering k.lowering) h.written in
+      let here = subst (λ (t : PrintedData). IsWritten m t k.lowering.lowered.proof u)
+      (same_terms h.lowering k.lowering) there in
       let body = (one_typing.found m.source b.tries h.lowering.typing k.lowering.typing).body in
-      written_one m k.lowering.terms k.lowering.lowered.proof u v here k.written (h.source_tokens ∙ ap length body.tokens ∙ sym k.source_tokens)
+      written_one m k.lowering.terms k.lowering.lowered.proof u v here k.written
+      (h.source_tokens ∙ ap length body.tokens ∙ sym k.source_tokens)
 
 pub one_unit : OneUnit
 one_unit = record {
   found = λ m b u v dialect. found_one m b dialect u v;
   either = λ m b u e dialect made bad. either_one m b dialect u e made (cases m b dialect e bad);
-  refused = λ m b e d dialect h k. refused_one m b dialect e d (cases m b dialect e h) (cases m b dialect d k);
+  refused = λ m b e d dialect h k. refused_one m b dialect e d (cases m b dialect e h)
+      (cases m b dialect d k);
   counted = λ m tries made other. one_typing.counted m.source tries made other;
 }

@@ -6,13 +6,18 @@ use Rattle.sx_words.specs.declared.print_defect.PrintedPart.{PrintedPart}
 use Rattle.sx_words.specs.declared.print_defect.PrintedPart.TheVariants.{Body, Signature, Stated}
 use Rattle.sx_words.specs.declared.print_defect.PrintDefect.{PrintDefect}
 use Rattle.sx_unit.specs.declared.module_error.ModuleError.{ModuleError}
-use Rattle.sx_unit.specs.declared.module_error.ModuleError.TheVariants.{Memory, Token, Read, TypeError, BudgetSpent, DepthSpent, TooDeep, TooBig, RewriteSpent, RewriteDeep, Print, Captured}
+use Rattle.sx_unit.specs.declared.module_error.ModuleError.TheVariants.{Memory, Token, Read}
+use Rattle.sx_unit.specs.declared.module_error.ModuleError.TheVariants.{TypeError, BudgetSpent}
+use Rattle.sx_unit.specs.declared.module_error.ModuleError.TheVariants.{DepthSpent, TooDeep, TooBig}
+use Rattle.sx_unit.specs.declared.module_error.ModuleError.TheVariants.{RewriteSpent, RewriteDeep}
+use Rattle.sx_unit.specs.declared.module_error.ModuleError.TheVariants.{Print, Captured}
 use Rattle.sx_unit.specs.Alike.{PartHasThree, ShowOthers}
 use Rattle.sx_unit.specs.Captured.{names_in}
 use Rattle.sx_unit.specs.Modules.{ModuleData}
 use Rattle.sx_unit.specs.PrintedParts.{PrintedData, parts_of, sort_of, term_of}
 use Rattle.sx_unit.specs.Texts.{derivation_text}
-use Rattle.sx_unit.specs.Written.{UnitData, shown_of, file_size, IsBadPart, IsGoodPart, IsDue, HasCaptured, IsWritten, IsUnwritten}
+use Rattle.sx_unit.specs.Written.{UnitData, shown_of, file_size, IsBadPart, IsGoodPart, IsDue}
+use Rattle.sx_unit.specs.Written.{HasCaptured, IsWritten, IsUnwritten}
 use Rattle.sx_unit.proofs.Capturing.{first_one, first_none}
 use Rattle.sx_unit.proofs.OnePrint.{ShowPairs, defect_one, defect_none}
 
@@ -46,13 +51,16 @@ module _ (m : ModuleData) (t : PrintedData) where
   cases (TooBig k) n h = absurd h
   cases (RewriteSpent k) n h = absurd h
   cases RewriteDeep n h = absurd h
-  cases (Print part defect) n h = inl (part, record { defect = defect; is = refl; due = h.0; bad = h.1 })
-  cases (Captured word) n h = inr (record { word = word; is = refl; body = h.0; signature = h.1; captured = h.2 })
+  cases (Print part defect) n h =
+      inl (part, record { defect = defect; is = refl; due = h.0; bad = h.1 })
+  cases (Captured word) n h = inr
+      (record { word = word; is = refl; body = h.0; signature = h.1; captured = h.2 })
 
   abbrev IsOne : ModuleError → ModuleError → Type 0
   IsOne e d = (e ≡ d) ⊎ ShowOthers m t e d
 
-  defects_alike : (part : PrintedPart) (x y : PrintDefect) (e d : ModuleError) → IsDue m t part → e ≡ Print part x → d ≡ Print part y →
+  defects_alike : (part : PrintedPart) (x y : PrintDefect) (e d : ModuleError) → IsDue m t part →
+      e ≡ Print part x → d ≡ Print part y →
       (x ≡ y) ⊎ (ShowPairs x y × PartHasThree m t part) → IsOne e d
   defects_alike part x y e d due h k (inl same) = inl (h ∙ ap (Print part) same ∙ sym k)
   defects_alike part x y e d due h k (inr (pairs, three)) = inr (record {
@@ -67,17 +75,21 @@ module _ (m : ModuleData) (t : PrintedData) where
     three = three;
   })
 
-  same_part : (part : PrintedPart) (e d : ModuleError) → IsUnprinted part e → IsUnprinted part d → IsOne e d
+  same_part : (part : PrintedPart) (e d : ModuleError) → IsUnprinted part e → IsUnprinted part d →
+      IsOne e d
   same_part part e d h k =
       defects_alike part h.defect k.defect e d h.due h.is k.is
-      (defect_one (parts_of m.source.dialect part) (sort_of m.source.dialect part) (file_size m t part) (shown_of m t part) (term_of t part) h.defect k.defect h.bad k.bad)
+      (defect_one (parts_of m.source.dialect part) (sort_of m.source.dialect part)
+      (file_size m t part) (shown_of m t part) (term_of t part) h.defect k.defect h.bad k.bad)
 
   -- a part that can be written is not refused
   part_none : (part : PrintedPart) (e : ModuleError) → IsUnprinted part e → IsGoodPart m t part → ⊥
   part_none part e h g =
-      defect_none (parts_of m.source.dialect part) (sort_of m.source.dialect part) (file_size m t part) (shown_of m t part) (term_of t part) h.defect g.short h.bad g.read
+      defect_none (parts_of m.source.dialect part) (sort_of m.source.dialect part)
+      (file_size m t part) (shown_of m t part) (term_of t part) h.defect g.short h.bad g.read
 
-  parts_one : (part more : PrintedPart) (e d : ModuleError) → IsUnprinted part e → IsUnprinted more d → IsOne e d
+  parts_one : (part more : PrintedPart) (e d : ModuleError) → IsUnprinted part e →
+      IsUnprinted more d → IsOne e d
   parts_one Body Body e d h k = same_part Body e d h k
   parts_one Body Signature e d h k = absurd (part_none Body e h k.due)
   parts_one Body Stated e d h k = absurd (part_none Body e h k.due.0)
@@ -92,11 +104,13 @@ module _ (m : ModuleData) (t : PrintedData) where
   part_or_name : (part : PrintedPart) (e d : ModuleError) → IsUnprinted part e → IsUnnamed d → ⊥
   part_or_name Body e d h k = part_none Body e h k.body
   part_or_name Signature e d h k = part_none Signature e h k.signature
-  part_or_name Stated e d h k = first_none (literals_of m.source.dialect.parts) (names_in t.stated) k.word k.captured h.due.2
+  part_or_name Stated e d h k = first_none (literals_of m.source.dialect.parts) (names_in t.stated)
+      k.word k.captured h.due.2
 
   names_one : (e d : ModuleError) → IsUnnamed e → IsUnnamed d → e ≡ d
   names_one e d h k =
-      h.is ∙ ap Captured (first_one (literals_of m.source.dialect.parts) (names_in t.stated) h.word k.word h.captured k.captured) ∙ sym k.is
+      h.is ∙ ap Captured (first_one (literals_of m.source.dialect.parts) (names_in t.stated) h.word
+      k.word h.captured k.captured) ∙ sym k.is
 
   cases_one : (e d : ModuleError) → Cases e → Cases d → IsOne e d
   cases_one e d (inl h) (inl k) = parts_one h.0 k.0 e d h.1 k.1
@@ -104,28 +118,34 @@ module _ (m : ModuleData) (t : PrintedData) where
   cases_one e d (inr h) (inl k) = absurd (part_or_name k.0 d e k.1 h)
   cases_one e d (inr h) (inr k) = inl (names_one e d h k)
 
-  pub unwritten_one : (e d : ModuleError) → e ≢ Memory → d ≢ Memory → IsUnwritten m t e → IsUnwritten m t d → IsOne e d
+  pub unwritten_one : (e d : ModuleError) → e ≢ Memory → d ≢ Memory → IsUnwritten m t e →
+      IsUnwritten m t d → IsOne e d
   unwritten_one e d n k h i = cases_one e d (cases e n h) (cases d k i)
 
   -- what is written is not refused
-  written_part : (part : PrintedPart) (q : Proof) (u : UnitData) → IsWritten m t q u → IsGoodPart m t part
+  written_part : (part : PrintedPart) (q : Proof) (u : UnitData) → IsWritten m t q u →
+      IsGoodPart m t part
   written_part Body q u w = w.body_good
   written_part Signature q u w = w.signature_good
   written_part Stated q u w = w.stated_good
 
   cases_none : (e : ModuleError) (q : Proof) (u : UnitData) → Cases e → IsWritten m t q u → ⊥
   cases_none e q u (inl h) w = part_none h.0 e h.1 (written_part h.0 q u w)
-  cases_none e q u (inr h) w = first_none (literals_of m.source.dialect.parts) (names_in t.stated) h.word h.captured w.names_free
+  cases_none e q u (inr h) w = first_none (literals_of m.source.dialect.parts) (names_in t.stated)
+      h.word h.captured w.names_free
 
-  pub written_none : (e : ModuleError) (q : Proof) (u : UnitData) → e ≢ Memory → IsUnwritten m t e → IsWritten m t q u → ⊥
+  pub written_none : (e : ModuleError) (q : Proof) (u : UnitData) → e ≢ Memory → IsUnwritten m t e →
+      IsWritten m t q u → ⊥
   written_none e q u n h w = cases_none e q u (cases e n h) w
 
   -- what is written of one derivation is one unit
-  pub written_one : (q : Proof) (u v : UnitData) → IsWritten m t q u → IsWritten m t q v → u.source_tokens ≡ v.source_tokens → u ≡ v
+  pub written_one : (q : Proof) (u v : UnitData) → IsWritten m t q u → IsWritten m t q v →
+      u.source_tokens ≡ v.source_tokens → u ≡ v
   written_one q u v h k same = λ i. record {
     base = (h.base ∙ sym k.base) i;
     interface = (h.interface ∙ sym k.interface) i;
-    derivation = (h.derivation ∙ ap (derivation_text m.source.dialect.language.rules) lists ∙ sym k.derivation) i;
+    derivation = (h.derivation ∙ ap (derivation_text m.source.dialect.language.rules) lists
+        ∙ sym k.derivation) i;
     list = lists i;
     nodes = (h.nodes ∙ sym k.nodes) i;
     source_tokens = same i;

@@ -27,24 +27,32 @@ module _ (d : DialectData) (is : IsDialect d) where
 
   -- the sort as which a part is printed is one of its grammar
   pub part_is_sort : (part : PrintedPart) → IsSort (parts_of d part) (sort_of d part)
-  part_is_sort Body = subst (λ (p : Parts). IsSort p (main_sort d.language Sub)) is.goes_on (subject_is_sort d is)
-  part_is_sort Signature = subst (λ (p : Parts). IsSort p (main_sort d.language Out)) is.goes_on (signature_is_sort d is)
+  part_is_sort Body = subst (λ (p : Parts). IsSort p (main_sort d.language Sub)) is.goes_on
+      (subject_is_sort d is)
+  part_is_sort Signature = subst (λ (p : Parts). IsSort p (main_sort d.language Out)) is.goes_on
+      (signature_is_sort d is)
   part_is_sort Stated = signature_is_sort d is
 
   -- a good term fits there
-  pub part_fits : (part : PrintedPart) (t : Tree) → IsGoodTerm (literals_of (parts_of d part)) (shapes_of (parts_of d part)) (sort_of d part) t →
+  pub part_fits : (part : PrintedPart) (t : Tree) → IsGoodTerm (literals_of (parts_of d part))
+      (shapes_of (parts_of d part)) (sort_of d part) t →
       Fits (numbered (parts_of d part)) [] (of_sort (number_of (sort_of d part))) t
-  part_fits part t good = sorted_fit (parts_of d part) t (sort_of d part) (part_is_sort part) good.sorted
+  part_fits part t good = sorted_fit (parts_of d part) t (sort_of d part) (part_is_sort part)
+      good.sorted
 
   -- so does the stated signature
-  pub stated_fits : (t : PrintedData) → ArePrintable d t → Fits (numbered d.parts) [] (of_sort (number_of (sort_of d Stated))) t.stated
-  stated_fits t terms = sorted_fit d.parts t.stated (sort_of d Stated) (part_is_sort Stated) terms.stated.sorted
+  pub stated_fits : (t : PrintedData) → ArePrintable d t → Fits (numbered d.parts) []
+      (of_sort (number_of (sort_of d Stated))) t.stated
+  stated_fits t terms = sorted_fit d.parts t.stated (sort_of d Stated) (part_is_sort Stated)
+      terms.stated.sorted
 
 -- with free names it is good
-pub stated_good : (d : DialectData) (t : PrintedData) → ArePrintable d t → IsFree (literals_of d.parts) t.stated →
+pub stated_good : (d : DialectData) (t : PrintedData) → ArePrintable d t →
+    IsFree (literals_of d.parts) t.stated →
     IsGoodTerm (literals_of d.parts) (shapes_of d.parts) (sort_of d Stated) t.stated
 stated_good d t terms free = record {
   sorted = terms.stated.sorted;
   depth = terms.stated.depth;
-  lexemes = free_lexemes (literals_of d.language.parts) (literals_of d.parts) t.stated terms.stated.lexemes free;
+  lexemes = free_lexemes (literals_of d.language.parts) (literals_of d.parts) t.stated
+      terms.stated.lexemes free;
 }

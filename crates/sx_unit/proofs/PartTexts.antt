@@ -1,5 +1,6 @@
 -- The printed texts and their files.
-use Rattle.std.proofs.Common.{◌≡◌, ◌≤◌, ◌+◌, ℕ, List, [], ◌∷◌, ◌++◌, length, refl, sym, subst, arith, length-append}
+use Rattle.std.proofs.Common.{◌≡◌, ◌≤◌, ◌+◌, ℕ, List, [], ◌∷◌, ◌++◌, length, refl, sym, subst}
+use Rattle.std.proofs.Common.{arith, length-append}
 use Rattle.std.specs.Prelude.{codes}
 use Rattle.sx_term.specs.declared.sort.Sort.{Sort}
 use Rattle.sx_grammar.specs.Parts.{Parts}
@@ -19,7 +20,8 @@ use Rattle.sx_unit.specs.Unprinted.{IsUnprintable, IsPrintable}
 use Rattle.sx_unit.specs.Written.{shown_of, file_size, IsGoodPart, IsDue, IsUnwritten}
 
 -- what is measured and what is shown are those of the part
-module _ (m : ModuleData) (t : PrintedData) (part : PrintedPart) (size : ℕ) (shown : List ℕ) (size_is : size ≡ file_size m t part) (shown_is : shown ≡ shown_of m t part) where
+module _ (m : ModuleData) (t : PrintedData) (part : PrintedPart) (size : ℕ) (shown : List ℕ)
+    (size_is : size ≡ file_size m t part) (shown_is : shown ≡ shown_of m t part) where
   abbrev p : Parts
   p = parts_of m.source.dialect part
 
@@ -28,14 +30,17 @@ module _ (m : ModuleData) (t : PrintedData) (part : PrintedPart) (size : ℕ) (s
 
   pub good_part : IsPrintable p sort size shown (term_of t part) → IsGoodPart m t part
   good_part h =
-      subst (λ (text : List ℕ). IsPrintable p sort (file_size m t part) text (term_of t part)) shown_is
+      subst (λ (text : List ℕ). IsPrintable p sort (file_size m t part) text (term_of t part))
+      shown_is
       (subst (λ (n : ℕ). IsPrintable p sort n shown (term_of t part)) size_is h)
 
-  pub bad_part : (e : ModuleError) → IsDue m t part → IsPartRefusal m.source.dialect part size shown (term_of t part) e → IsUnwritten m t e
+  pub bad_part : (e : ModuleError) → IsDue m t part → IsPartRefusal m.source.dialect part size shown
+      (term_of t part) e → IsUnwritten m t e
   bad_part e due (Memory, is, bad) = subst (IsUnwritten m t) (sym is) tt
   bad_part e due (Defect defect, is, bad) = subst (IsUnwritten m t) (sym is) (
     due,
-    subst (λ (text : List ℕ). IsUnprintable p sort (file_size m t part) text (term_of t part) defect) shown_is
+    subst (λ (text : List ℕ). IsUnprintable p sort (file_size m t part) text (term_of t part)
+        defect) shown_is
         (subst (λ (n : ℕ). IsUnprintable p sort n shown (term_of t part) defect) size_is bad),
   )
 
@@ -48,20 +53,33 @@ behind_front : (front more : List ℕ) → length more ≤ length (front ++ more
 behind_front front more = omega (arith, length-append front more)
 
 abbrev front_of : HeaderParts → List ℕ
-front_of h = written ((codes "module " ++ h.name) ∷ (codes "language " ++ h.language) ∷ (row_lines (codes "import ") h.imports ++ codes "---" ∷ []))
+front_of h = written ((codes "module " ++ h.name) ∷ (codes "language " ++ h.language) ∷
+    (row_lines (codes "import ") h.imports ++ codes "---" ∷ []))
 
-pub base_within : (h : HeaderParts) (shown text : List ℕ) → text ≡ base_of h shown → length (shown ++ 10 ∷ []) ≤ length text
-base_within h shown text e = subst (λ (t : List ℕ). length (shown ++ 10 ∷ []) ≤ length t) (sym e) (behind_front (front_of h) (shown ++ 10 ∷ []))
+pub base_within : (h : HeaderParts) (shown text : List ℕ) → text ≡ base_of h shown →
+    length (shown ++ 10 ∷ []) ≤ length text
+base_within h shown text e = subst (λ (t : List ℕ). length (shown ++ 10 ∷ []) ≤ length t) (sym e)
+    (behind_front (front_of h) (shown ++ 10 ∷ []))
 
-behind_lines : (lines more : List (List ℕ)) → length (written more) ≤ length (written (lines ++ more))
+behind_lines : (lines more : List (List ℕ)) → length (written more) ≤ length
+    (written (lines ++ more))
 behind_lines [] more = omega arith
 behind_lines (line ∷ lines) more =
-    along (length (written more)) (length (written (lines ++ more))) (length (written (line ∷ lines ++ more))) (behind_lines lines more)
+    along (length (written more)) (length (written (lines ++ more)))
+    (length (written (line ∷ lines ++ more))) (behind_lines lines more)
     (behind_front (line ++ line_feed ∷ []) (written (lines ++ more)))
 
-last_within : (signature stated : List ℕ) → length signature + (length stated + 1) ≤ length (written (codes "---" ∷ signature ∷ stated ∷ []))
+last_within : (signature stated : List ℕ) → length signature + (length stated + 1) ≤ length
+    (written (codes "---" ∷ signature ∷ stated ∷ []))
 last_within signature stated =
-    omega (arith, length-append signature (line_feed ∷ []), length-append (signature ++ line_feed ∷ []) (written (stated ∷ [])), length-append stated (line_feed ∷ []), length-append (stated ++ line_feed ∷ []) [])
+    omega (
+      arith,
+      length-append signature (line_feed ∷ []),
+      length-append (signature ++ line_feed ∷ []) (written (stated ∷ [])),
+      length-append stated
+          (line_feed ∷ []),
+      length-append (stated ++ line_feed ∷ []) [],
+    )
 
 -- the lines but the first
 abbrev rest : List (List ℕ) → List (List ℕ)
@@ -73,23 +91,34 @@ rest_within [] = omega arith
 rest_within (line ∷ lines) = behind_front (line ++ line_feed ∷ []) (written lines)
 
 -- the last lines stand in the file, behind three, the uses, a line and the imports
-end_within : (first second third base : List ℕ) (uses imports last lines : List (List ℕ)) → first ∷ second ∷ third ∷ (uses ++ base ∷ (imports ++ last)) ≡ lines → length (written last) ≤ length (written lines)
+end_within : (first second third base : List ℕ) (uses imports last lines : List (List ℕ)) →
+    first ∷ second ∷ third ∷ (uses ++ base ∷ (imports ++ last)) ≡ lines →
+    length (written last) ≤ length (written lines)
 end_within first second third base uses imports last lines e =
     let size : List (List ℕ) → ℕ = λ lines. length (written lines) in
     let based = base ∷ (imports ++ last) in
     let all = uses ++ based in
-    let low : size last ≤ size based = along (size last) (size (imports ++ last)) (size based) (behind_lines imports last) (rest_within based) in
-    let middle : size last ≤ size all = along (size last) (size based) (size all) low (behind_lines uses based) in
+    let low : size last ≤ size based = along (size last) (size (imports ++ last)) (size based)
+    (behind_lines imports last) (rest_within based) in
+    let middle : size last ≤ size all = along (size last) (size based) (size all) low
+    (behind_lines uses based) in
     let one : size all ≤ size (third ∷ all) = rest_within (third ∷ all) in
-    let two : size (third ∷ all) ≤ size (second ∷ third ∷ all) = rest_within (second ∷ third ∷ all) in
-    let three : size (second ∷ third ∷ all) ≤ size (first ∷ second ∷ third ∷ all) = rest_within (first ∷ second ∷ third ∷ all) in
+    let two : size (third ∷ all) ≤ size (second ∷ third ∷ all) = rest_within (second ∷ third ∷ all)
+    in
+    let three : size (second ∷ third ∷ all) ≤ size (first ∷ second ∷ third ∷ all) =
+    rest_within (first ∷ second ∷ third ∷ all) in
     subst (λ (l : List (List ℕ)). size last ≤ size l) e
-    (along (size last) (size (third ∷ all)) (size (first ∷ second ∷ third ∷ all)) (along (size last) (size all) (size (third ∷ all)) middle one)
-    (along (size (third ∷ all)) (size (second ∷ third ∷ all)) (size (first ∷ second ∷ third ∷ all)) two three))
+    (along (size last) (size (third ∷ all)) (size (first ∷ second ∷ third ∷ all))
+    (along (size last) (size all) (size (third ∷ all)) middle one)
+    (along (size (third ∷ all)) (size (second ∷ third ∷ all)) (size (first ∷ second ∷ third ∷ all))
+    two three))
 
-pub signatures_within : (it : InterfaceParts) (text : List ℕ) → text ≡ written (interface_lines it) → length it.signature + (length it.stated + 1) ≤ length text
+pub signatures_within : (it : InterfaceParts) (text : List ℕ) → text ≡ written (interface_lines it)
+    → length it.signature + (length it.stated + 1) ≤ length text
 signatures_within it text e =
     let last = codes "---" ∷ it.signature ∷ it.stated ∷ [] in
-    let within = end_within _ _ _ _ (mark_lines (codes "use ") it.uses) (mark_lines (codes "import ") it.imports) last (interface_lines it) refl in
+    let within = end_within _ _ _ _ (mark_lines (codes "use ") it.uses)
+    (mark_lines (codes "import ") it.imports) last (interface_lines it) refl in
     subst (λ (t : List ℕ). length it.signature + (length it.stated + 1) ≤ length t) (sym e)
-    (along (length it.signature + (length it.stated + 1)) (length (written last)) (length (written (interface_lines it))) (last_within it.signature it.stated) within)
+    (along (length it.signature + (length it.stated + 1)) (length (written last))
+    (length (written (interface_lines it))) (last_within it.signature it.stated) within)

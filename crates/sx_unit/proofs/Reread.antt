@@ -1,11 +1,14 @@
 -- A printed text is cut into the printed tokens, and they are read as the term.
-use Rattle.std.proofs.Common.{◌≡◌, ℕ, zero, suc, ◌+◌, ◌-◌, ◌^◌, ◌<◌, ◌≤◌, false, List, [], ◌∷◌, ◌++◌, Contains, length, map, get_or, min, sym, refl, ap, ◌∙◌, subst, inl, arith, length-append, lit<}
+use Rattle.std.proofs.Common.{◌≡◌, ℕ, zero, suc, ◌+◌, ◌-◌, ◌^◌, ◌<◌, ◌≤◌, false, List, [], ◌∷◌}
+use Rattle.std.proofs.Common.{◌++◌, Contains, length, map, get_or, min, sym, refl, ap, ◌∙◌, subst}
+use Rattle.std.proofs.Common.{inl, arith, length-append, lit<}
 use Rattle.std.specs.List.{AllByRecursion}
 use Rattle.std.specs.Str.{IsUtf8}
 use Rattle.std.proofs.lemmas.List.{append-nil, length-map}
 use Rattle.std.proofs.lemmas.Bool.{false≢true}
 use Rattle.std.proofs.lemmas.Option.{none-some}
-use Rattle.std.proofs.lemmas.Str.{IsUtf8-take, IsUtf8-drop, IsCharBoundary-before_ascii, IsCharBoundary-after_ascii}
+use Rattle.std.proofs.lemmas.Str.{IsUtf8-take, IsUtf8-drop, IsCharBoundary-before_ascii}
+use Rattle.std.proofs.lemmas.Str.{IsCharBoundary-after_ascii}
 use Rattle.std.proofs.Math.Seq.{take-append_seam, drop-append-add, get_or-append_seam}
 use Rattle.sx_term.specs.declared.mark.Mark as marks
 use Rattle.sx_term.specs.declared.mark.Mark.TheVariants.{Lit, Lex, Meta}
@@ -25,8 +28,10 @@ use Rattle.sx_grammar.proofs.Finding.{distinct_are}
 use Rattle.sx_grammar.specs.Made.{IsGrammar}
 use Rattle.sx_grammar.specs.Reading.{Reading, ReadsWhole}
 use Rattle.sx_grammar.specs.ReadOne.{IsAnswer, only}
-use Rattle.sx_grammar.specs.Print.{print, term_of, Fits, node_fits, lexeme_fits, hole_fits, BracketsWhereAsked}
-use Rattle.sx_earley.specs.Tokens.{stem_of, sort_of, found_stem, shown as shown_token, plain_tokens, AreKnown}
+use Rattle.sx_grammar.specs.Print.{print, term_of, Fits, node_fits, lexeme_fits, hole_fits}
+use Rattle.sx_grammar.specs.Print.{BracketsWhereAsked}
+use Rattle.sx_earley.specs.Tokens.{stem_of, sort_of, found_stem, shown as shown_token, plain_tokens}
+use Rattle.sx_earley.specs.Tokens.{AreKnown}
 use Rattle.sx_earley.specs.Completed.{number_of}
 use Rattle.sx_earley.proofs.Known.{cut_known}
 use Rattle.sx_print.specs.Tokens.{shown, shown_mark}
@@ -44,19 +49,24 @@ front_utf8 : (a b : List ℕ) (c : ℕ) → c < 128 → IsUtf8 (a ++ c ∷ b) �
 front_utf8 a b c low utf8 =
     let at : get_or (a ++ c ∷ b) (length a) 0 ≡ c = get_or-append_seam a c b 0 in
     subst IsUtf8 (take-append_seam a (c ∷ b))
-    (IsUtf8-take (a ++ c ∷ b) (length a) utf8 (IsCharBoundary-before_ascii (a ++ c ∷ b) (length a) (omega (arith, length-append a (c ∷ b))) (omega (arith, at, low))))
+    (IsUtf8-take (a ++ c ∷ b) (length a) utf8 (IsCharBoundary-before_ascii (a ++ c ∷ b) (length a)
+    (omega (arith, length-append a (c ∷ b))) (omega (arith, at, low))))
 
 rest_utf8 : (a b : List ℕ) (c : ℕ) → c < 128 → IsUtf8 (a ++ c ∷ b) → IsUtf8 b
 rest_utf8 a b c low utf8 =
     let at : get_or (a ++ c ∷ b) (length a) 0 ≡ c = get_or-append_seam a c b 0 in
     subst IsUtf8 (drop-append-add a (c ∷ b) 1)
-    (IsUtf8-drop (a ++ c ∷ b) (length a + 1) utf8 (IsCharBoundary-after_ascii (a ++ c ∷ b) (length a) utf8 (omega (arith, length-append a (c ∷ b))) (omega (arith, at, low))))
+    (IsUtf8-drop (a ++ c ∷ b) (length a + 1) utf8 (IsCharBoundary-after_ascii (a ++ c ∷ b)
+    (length a) utf8 (omega (arith, length-append a (c ∷ b))) (omega (arith, at, low))))
 
 -- each token of a UTF-8 text is UTF-8
 parts_utf8 : (ts : List plain.Token) → IsUtf8 (text_of ts) → HaveUtf8 ts
 parts_utf8 [] utf8 = tt
 parts_utf8 (t ∷ []) utf8 = (utf8, tt)
-parts_utf8 (t ∷ u ∷ ts) utf8 = (front_utf8 t.text (text_of (u ∷ ts)) 32 (lit< tt) utf8, parts_utf8 (u ∷ ts) (rest_utf8 t.text (text_of (u ∷ ts)) 32 (lit< tt) utf8))
+parts_utf8 (t ∷ u ∷ ts) utf8 = (
+  front_utf8 t.text (text_of (u ∷ ts)) 32 (lit< tt) utf8,
+  parts_utf8 (u ∷ ts) (rest_utf8 t.text (text_of (u ∷ ts)) 32 (lit< tt) utf8),
+)
 
 unblanked_utf8 : (text blanks : List ℕ) → AreBlanks blanks → IsUtf8 (text ++ blanks) → IsUtf8 text
 unblanked_utf8 text [] are utf8 = subst IsUtf8 (append-nil text) utf8
@@ -68,99 +78,152 @@ unblanked_utf8 text (b ∷ blanks) are utf8 = front_utf8 text blanks b (blank_lo
 tokens_few : (ts : List plain.Token) → length ts ≤ length (text_of ts) + 1
 tokens_few [] = omega arith
 tokens_few (t ∷ []) = omega arith
-tokens_few (t ∷ u ∷ ts) = omega (arith, tokens_few (u ∷ ts), length-append t.text (32 ∷ text_of (u ∷ ts)))
+tokens_few (t ∷ u ∷ ts) = omega (
+  arith,
+  tokens_few (u ∷ ts),
+  length-append t.text
+      (32 ∷ text_of (u ∷ ts)),
+)
 
-few_printed : (p : Parts) (t : Tree) (text blanks : List ℕ) (size : ℕ) → text ≡ print_text p t ++ blanks → length text ≤ size → length (printed p t) ≤ size + 1
-few_printed p t text blanks size is within = omega (arith, within, ap length is, length-append (print_text p t) blanks, tokens_few (printed p t))
+few_printed : (p : Parts) (t : Tree) (text blanks : List ℕ) (size : ℕ) →
+    text ≡ print_text p t ++ blanks → length text ≤ size → length (printed p t) ≤ size + 1
+few_printed p t text blanks size is within =
+    omega (
+      arith,
+      within,
+      ap length is,
+      length-append (print_text p t) blanks,
+      tokens_few (printed p t),
+    )
 
 -- so in a short file they are counted as they are
-pub exact_count : (p : Parts) (t : Tree) (text blanks : List ℕ) (size count : ℕ) → text ≡ print_text p t ++ blanks → length text ≤ size → size ≤ 262144 → count ≡ min (length (printed p t)) (2 ^ 64 - 1) → count ≡ length (printed p t)
-exact_count p t text blanks size count is within short counted = omega (arith, counted, short, few_printed p t text blanks size is within)
+pub exact_count : (p : Parts) (t : Tree) (text blanks : List ℕ) (size count : ℕ) →
+    text ≡ print_text p t ++ blanks → length text ≤ size → size ≤ 262144 →
+    count ≡ min (length (printed p t)) (2 ^ 64 - 1) → count ≡ length (printed p t)
+exact_count p t text blanks size count is within short counted =
+    omega (arith, counted, short, few_printed p t text blanks size is within)
 
-pub few_enough : (p : Parts) (t : Tree) (text blanks : List ℕ) (size count : ℕ) → text ≡ print_text p t ++ blanks → length text ≤ size → size ≤ 262144 → count ≡ min (length (printed p t)) (2 ^ 64 - 1) → count ≤ 10000 → length (printed p t) ≤ 10000
-few_enough p t text blanks size count is within short counted few = omega (arith, few, exact_count p t text blanks size count is within short counted)
+pub few_enough : (p : Parts) (t : Tree) (text blanks : List ℕ) (size count : ℕ) →
+    text ≡ print_text p t ++ blanks → length text ≤ size → size ≤ 262144 →
+    count ≡ min (length (printed p t)) (2 ^ 64 - 1) → count ≤ 10000 → length (printed p t) ≤ 10000
+few_enough p t text blanks size count is within short counted few =
+    omega (arith, few, exact_count p t text blanks size count is within short counted)
 
 -- ---- tokens as a grammar reads them
 
-shown_same : (mark : marks.Mark) (text : Text) → shown_token [] mark text ≡ record { mark = shown_mark (λ x. found_stem (sort_of [] (stem_of x))) mark text; text = text }
+shown_same : (mark : marks.Mark) (text : Text) → shown_token [] mark text ≡ record
+    { mark = shown_mark (λ x. found_stem (sort_of [] (stem_of x))) mark text; text = text }
 shown_same (Lit n) text = refl
 shown_same (Lex kind) text = refl
 shown_same Meta text = refl
 
-plain_pieces : (ts : List Token) → plain_tokens [] ts ≡ map (shown (λ x. found_stem (sort_of [] (stem_of x)))) (pieces ts)
+plain_pieces : (ts : List Token) → plain_tokens [] ts ≡ map
+    (shown (λ x. found_stem (sort_of [] (stem_of x)))) (pieces ts)
 plain_pieces [] = refl
 plain_pieces (t ∷ ts) = λ i. shown_same t.mark t.text i ∷ plain_pieces ts i
 
 -- a term without variables is printed in the same way at each place
-same_print : {g : Grammar} {place : Stem} {t : Tree} → Fits g [] place t → (here there : Stem) (least : ℕ) → print g [] t here least ≡ print g [] t there least
+same_print : {g : Grammar} {place : Stem} {t : Tree} → Fits g [] place t →
+    (here there : Stem) (least : ℕ) → print g [] t here least ≡ print g [] t there least
 same_print (node_fits e all) here there least = refl
 same_print lexeme_fits here there least = refl
 same_print (hole_fits h) here there least = absurd (none-some _ h)
 
 -- ---- the printed text
 
-module _ (p : Parts) (sort : Sort) (t : Tree) (text blanks : List ℕ) (is : IsGrammar p) (asked : BracketsWhereAsked (numbered p)) (fits : Fits (numbered p) [] (of_sort (number_of sort)) t)
-    (has : HasLexemes (literals_of p) t) (are : AreBlanks blanks) (same : text ≡ print_text p t ++ blanks) (utf8 : IsUtf8 text) where
+module _ (p : Parts) (sort : Sort) (t : Tree) (text blanks : List ℕ) (is : IsGrammar p)
+    (asked : BracketsWhereAsked (numbered p))
+    (fits : Fits (numbered p) [] (of_sort (number_of sort)) t)
+    (has : HasLexemes (literals_of p) t) (are : AreBlanks blanks)
+    (same : text ≡ print_text p t ++ blanks) (utf8 : IsUtf8 text) where
   cut_print : IsCutInto (literals_of p) (printed p t) (print_text p t)
-  cut_print = cut_into p (printed p t) (tokens_good p [] is fits has (of_sort 0) 0) (parts_utf8 (printed p t) (unblanked_utf8 (print_text p t) blanks are (subst IsUtf8 same utf8)))
+  cut_print = cut_into p (printed p t) (tokens_good p [] is fits has (of_sort 0) 0)
+      (parts_utf8 (printed p t) (unblanked_utf8 (print_text p t) blanks are
+      (subst IsUtf8 same utf8)))
 
   -- it has tokens, where they are few enough
-  print_stands : length (printed p t) ≤ 10000 → IsOutcome (literals_of p) false text (tokens cut_print.pieces)
-  print_stands few = subst (λ x. IsOutcome (literals_of p) false x (tokens cut_print.pieces)) (sym same) (cut_print.outcome false blanks are few)
+  print_stands : length (printed p t) ≤ 10000 → IsOutcome (literals_of p) false text
+      (tokens cut_print.pieces)
+  print_stands few = subst (λ x. IsOutcome (literals_of p) false x (tokens cut_print.pieces))
+      (sym same) (cut_print.outcome false blanks are few)
 
-  pub print_outcome : length (printed p t) ≤ 10000 → (ps : List Piece) × IsOutcome (literals_of p) false text (tokens ps)
+  pub print_outcome : length (printed p t) ≤ 10000 → (ps : List Piece) × IsOutcome (literals_of p)
+      false text (tokens ps)
   print_outcome few = (cut_print.pieces, print_stands few)
 
   -- and no tokens, where they are not
   pub many_uncut : 10000 < length (printed p t) → (ts : List Token) → IsCut p text ts → ⊥
   many_uncut many ts cut =
-      let here = subst (λ x. Cuts (literals_of p) false (length x) x cut_print.pieces []) (sym same) (cut_print.cut false blanks are) in
-      let alike = Cuts-same (distinct_are (literals p)) (IsStuck-nil (literals_of p) false) (IsStuck-nil (literals_of p) false) cut.2 here in
+      let here = subst (λ x. Cuts (literals_of p) false (length x) x cut_print.pieces []) (sym same)
+      (cut_print.cut false blanks are) in
+      let alike = Cuts-same (distinct_are (literals p)) (IsStuck-nil (literals_of p) false)
+      (IsStuck-nil (literals_of p) false) cut.2 here in
       let shown_as : plain.Text → Stem = λ x. found_stem (sort_of [] (stem_of x)) in
-      let as_many : length (printed p t) ≡ length cut_print.pieces = ap length (sym (cut_print.show shown_as)) ∙ length-map cut_print.pieces (shown shown_as) in
+      let as_many : length (printed p t) ≡ length cut_print.pieces =
+      ap length (sym (cut_print.show shown_as)) ∙ length-map cut_print.pieces (shown shown_as)
+      in
       omega (arith, many, cut.1, ap length alike.0, as_many)
 
   reading_at_zero : HasReading (numbered p) [] (printed p t) (number_of sort) 0 t
   reading_at_zero =
-      subst (λ x. HasReading (numbered p) [] x (number_of sort) 0 t) (same_print fits (of_sort (number_of sort)) (of_sort 0) 0)
-      (printed_read (numbered p) [] 0 (number_of sort) 0 t asked (record { stems = []; place = of_sort (number_of sort); fits = fits; named = omega arith; asked = inl refl }) fits)
+      subst (λ x. HasReading (numbered p) [] x (number_of sort) 0 t)
+      (same_print fits (of_sort (number_of sort)) (of_sort 0) 0)
+      (printed_read (numbered p) [] 0 (number_of sort) 0 t asked
+      (record {
+        stems = [];
+        place = of_sort (number_of sort);
+        fits = fits;
+        named = omega arith;
+        asked = inl refl;
+      }) fits)
 
-  module _ (few : length (printed p t) ≤ 10000) (ts : List Token) (only_one : (ps : List Piece) → IsOutcome (literals_of p) false text (tokens ps) → pieces ts ≡ ps) where
+  module _ (few : length (printed p t) ≤ 10000) (ts : List Token) (only_one : (ps : List Piece) →
+      IsOutcome (literals_of p) false text (tokens ps) → pieces ts ≡ ps) where
     are_printed : plain_tokens [] ts ≡ printed p t
     are_printed =
-        plain_pieces ts ∙ ap (map (shown (λ x. found_stem (sort_of [] (stem_of x))))) (only_one cut_print.pieces (print_stands few)) ∙ cut_print.show (λ x. found_stem (sort_of [] (stem_of x)))
+        plain_pieces ts ∙ ap (map (shown (λ x. found_stem (sort_of [] (stem_of x)))))
+        (only_one cut_print.pieces (print_stands few)) ∙ cut_print.show
+        (λ x. found_stem (sort_of [] (stem_of x)))
 
     reading_of_tokens : HasReading (numbered p) [] (plain_tokens [] ts) (number_of sort) 0 t
-    reading_of_tokens = subst (λ x. HasReading (numbered p) [] x (number_of sort) 0 t) (sym are_printed) reading_at_zero
+    reading_of_tokens = subst (λ x. HasReading (numbered p) [] x (number_of sort) 0 t)
+        (sym are_printed) reading_at_zero
 
-    pub print_reads : (r : Reading) × ReadsWhole (numbered p) (plain_tokens [] ts) (number_of sort) r
+    pub print_reads : (r : Reading) × ReadsWhole (numbered p) (plain_tokens [] ts) (number_of sort)
+        r
     print_reads = (reading_of_tokens.0, reading_of_tokens.1)
 
     -- the only reading is that of the term
-    pub reads_only : IsCut p text ts → (r : Reading) × IsAnswer (numbered p) (plain_tokens [] ts) (number_of sort) (only r) → ReadsOnly p sort text t
+    pub reads_only : IsCut p text ts → (r : Reading) × IsAnswer (numbered p) (plain_tokens [] ts)
+        (number_of sort) (only r) → ReadsOnly p sort text t
     reads_only cut answer = (
       ts,
       answer.0,
       record {
         cut = cut;
         answer = answer.1;
-        term = sym reading_of_tokens.2 ∙ ap (term_of (plain_tokens [] ts) []) (answer.1.1.1 reading_of_tokens.0 reading_of_tokens.1);
+        term = sym reading_of_tokens.2 ∙ ap (term_of (plain_tokens [] ts) [])
+            (answer.1.1.1 reading_of_tokens.0 reading_of_tokens.1);
       },
     )
 
 -- ---- tokens of a text without metavariables
 
-no_meta : (literals : List Text) (m : marks.Mark) (text rest : Text) → Stands literals false m text rest → m ≡ Meta → ⊥
+no_meta : (literals : List Text) (m : marks.Mark) (text rest : Text) → Stands literals false m text
+    rest → m ≡ Meta → ⊥
 no_meta literals (Lit n) text rest h e = cc
 no_meta literals (Lex kind) text rest h e = cc
 no_meta literals Meta text rest h e = false≢true h.0
 
-pieces_closed : {literals : List Text} {size : ℕ} {text rest : Text} {ps : List Piece} → Cuts literals false size text ps rest → AllByRecursion (λ p. p.mark ≡ Meta → ⊥) ps
+pieces_closed : {literals : List Text} {size : ℕ} {text rest : Text} {ps : List Piece} →
+    Cuts literals false size text ps rest → AllByRecursion (λ p. p.mark ≡ Meta → ⊥) ps
 pieces_closed done = tt
 pieces_closed (skip blank more) = pieces_closed more
-pieces_closed {literals = literals} (piece {more = more} {t = t} at rest) = (no_meta literals t.mark t.text more at.stands, pieces_closed rest)
+pieces_closed {literals = literals} (piece {more = more} {t = t} at rest) =
+    (no_meta literals t.mark t.text more at.stands, pieces_closed rest)
 
-closed_at : (ts : List Token) (t : Token) → AllByRecursion (λ p. p.mark ≡ Meta → ⊥) (pieces ts) → Contains ts t → t.mark ≡ Meta → ⊥
+closed_at : (ts : List Token) (t : Token) → AllByRecursion (λ p. p.mark ≡ Meta → ⊥) (pieces ts) →
+    Contains ts t → t.mark ≡ Meta → ⊥
 closed_at [] t all h e = absurd (omega (arith, h.1))
 closed_at (u ∷ us) t all (zero, h, here) e = all.0 (ap (λ x. x.mark) here ∙ e)
 closed_at (u ∷ us) t all (suc k, h, here) e = closed_at us t all.1 (k, omega (arith, h), here) e
@@ -168,5 +231,7 @@ closed_at (u ∷ us) t all (suc k, h, here) e = closed_at us t all.1 (k, omega (
 pub cut_short : (p : Parts) (text : Text) (ts : List Token) → IsCut p text ts → length ts ≤ 10000
 cut_short p text ts cut = omega (arith, cut.1, length-map ts piece_of)
 
-pub cut_tokens_known : (p : Parts) (text : Text) (ts : List Token) → IsCut p text ts → AreKnown (literals_of p) [] ts
-cut_tokens_known p text ts cut = cut_known [] ts cut.2 (λ t there e. absurd (closed_at ts t (pieces_closed cut.2) there e))
+pub cut_tokens_known : (p : Parts) (text : Text) (ts : List Token) → IsCut p text ts →
+    AreKnown (literals_of p) [] ts
+cut_tokens_known p text ts cut = cut_known [] ts cut.2
+    (λ t there e. absurd (closed_at ts t (pieces_closed cut.2) there e))

@@ -11,7 +11,8 @@ units_are_made m b u moded made = record {
   subject = typing.body.subject;
   read = typing.body.read;
   answer = typing.answer;
-  first = typings_are_first m.source b.tries typing.body.subject typing.output typing.answer moded typing.typed;
+  first = typings_are_first m.source b.tries typing.body.subject typing.output typing.answer moded
+      typing.typed;
   output = typing.output;
   gives = typing.typed.gives;
   proof = made.lowering.lowered.proof;
@@ -27,4 +28,5 @@ units_are_made m b u moded made = record {
     typing = made.lowering.typing
 
 pub final : TypeErrorsAreFinal
-final m b line column text moded bad = type_errors_are_final m.source b.tries line column text moded bad
+final m b line column text moded bad = type_errors_are_final m.source b.tries line column text moded
+    bad

@@ -12,4 +12,5 @@ abbrev pub decreases-count_symbols : goal.decreases-count_symbols
 decreases-count_symbols l = 2 * greatest_depth (trees l.kids.now) + 1
 
 abbrev pub invariant-count_symbols-loop-symbol : goal.invariant-count_symbols-loop-symbol
-invariant-count_symbols-loop-symbol l = Counted l.grammar.parts l.symbols l.kids l.symbol-index l.next l.total
+invariant-count_symbols-loop-symbol l = Counted l.grammar.parts l.symbols l.kids l.symbol-index
+    l.next l.total

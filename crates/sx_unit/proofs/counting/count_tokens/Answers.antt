@@ -5,7 +5,8 @@ use Rattle.sx_print.proofs.Fitting.{built}
 use Rattle.sx_unit.proofs.counting.count_tokens.Goals as goal
 
 pub count_at-requires-clause-built : goal.count_at-requires-clause-built
-count_at-requires-clause-built c = built (numbered c.args.grammar.now.parts) [] 0 (omega arith) c.requires.fits.1
+count_at-requires-clause-built c = built (numbered c.args.grammar.now.parts) [] 0 (omega arith)
+    c.requires.fits.1
 
 pub returns : goal.returns
 returns c = c.count_at.ensures (of_sort 0)

@@ -16,20 +16,29 @@ use Rattle.sx_unit.proofs.module_writing.put_body.Goals as goal
 pub show-requires-clause-fits : goal.show-requires-clause-fits
 show-requires-clause-fits c =
     let d = (module_of c.args.given.now).source.dialect in
-    let t = printed_of c.args.terms.now in
-    (number_of (sort_of d Body), part_fits d c.requires.can.dialect.is Body t.subject c.requires.terms.subject)
+    let t = printed_of c.args.terms.now in (
+      number_of (sort_of d Body),
+      part_fits d c.requires.can.dialect.is Body t.subject
+          c.requires.terms.subject,
+    )
 
 pub check_part-requires-clause-utf8 : goal.check_part-requires-clause-utf8
-check_part-requires-clause-utf8 c = subst IsUtf8 (sym (c.deref-2.ensures.value ∙ c.in_ok-end_line.ensures)) (line_utf8 c.in_ok-shown.shown.items c.in_ok-shown.ensures.1)
+check_part-requires-clause-utf8 c =
+    subst IsUtf8 (sym (c.deref-2.ensures.value ∙ c.in_ok-end_line.ensures))
+    (line_utf8 c.in_ok-shown.shown.items c.in_ok-shown.ensures.1)
 
 pub check_part-requires-clause-within : goal.check_part-requires-clause-within
 check_part-requires-clause-within c =
     let h = (module_of c.args.given.now).source.header in
     let shown = c.in_ok-shown.shown.items in
     let text = c.in_ok-text.text.items in
-    let within : length (shown ++ 10 ∷ []) ≤ length text = base_within h shown text (c.in_ok-text.ensures (module_of c.args.given.now).source.bytes ∙ ap (base_of h) c.deref.ensures.value) in
-    let line : length c.deref-2.result.now ≡ length (shown ++ 10 ∷ []) = ap length (c.deref-2.ensures.value ∙ c.in_ok-end_line.ensures) in
-    let size : c.len-size.result ≡ length text = size_of c.in_ok-text.text c.len-size.result c.len-size.ensures in
+    let within : length (shown ++ 10 ∷ []) ≤ length text = base_within h shown text
+    (c.in_ok-text.ensures (module_of c.args.given.now).source.bytes
+    ∙ ap (base_of h) c.deref.ensures.value) in
+    let line : length c.deref-2.result.now ≡ length (shown ++ 10 ∷ []) =
+    ap length (c.deref-2.ensures.value ∙ c.in_ok-end_line.ensures) in
+    let size : c.len-size.result ≡ length text = size_of c.in_ok-text.text c.len-size.result
+    c.len-size.ensures in
     omega (arith, within, line, size)
 
 pub returns-in_err-tokens-clause-refused : goal.returns-in_err-tokens-clause-refused
@@ -37,21 +46,29 @@ returns-in_err-tokens-clause-refused c =
     let m = module_of c.args.given.now in
     let t = printed_of c.args.terms.now in
     let shown = c.in_ok-shown.ensures.0 in
-    let text = c.in_ok-text.ensures m.source.bytes ∙ ap (base_of m.source.header) (c.deref.ensures.value ∙ shown) in
-    err_if c.from_residual-in_err-tokens.result _ (IsUnwritten m t) c.from_residual-in_err-tokens.ensures.1 (λ e is. subst (IsUnwritten m t) (sym is)
-    (bad_part m t Body c.len-size.result c.deref-2.result.now (size_of c.in_ok-text.text c.len-size.result c.len-size.ensures ∙ ap length text)
-    (c.deref-2.ensures.value ∙ c.in_ok-end_line.ensures ∙ ap (λ (l : List ℕ). l ++ 10 ∷ []) shown) _ tt c.in_err-tokens.ensures.refused))
+    let text = c.in_ok-text.ensures m.source.bytes ∙ ap (base_of m.source.header)
+    (c.deref.ensures.value ∙ shown) in
+    err_if c.from_residual-in_err-tokens.result _ (IsUnwritten m t)
+    c.from_residual-in_err-tokens.ensures.1 (λ e is. subst (IsUnwritten m t) (sym is)
+    (bad_part m t Body c.len-size.result c.deref-2.result.now
+    (size_of c.in_ok-text.text c.len-size.result c.len-size.ensures ∙ ap length text)
+    (c.deref-2.ensures.value ∙ c.in_ok-end_line.ensures ∙ ap (λ (l : List ℕ). l ++ 10 ∷ []) shown) _
+    tt c.in_err-tokens.ensures.refused))
 
 pub returns-clause-text : goal.returns-clause-text
 returns-clause-text c =
     let m = module_of c.args.given.now in
-    c.in_ok-text.ensures m.source.bytes ∙ ap (base_of m.source.header) (c.deref.ensures.value ∙ c.in_ok-shown.ensures.0)
+    c.in_ok-text.ensures m.source.bytes ∙ ap (base_of m.source.header)
+    (c.deref.ensures.value ∙ c.in_ok-shown.ensures.0)
 
 pub returns-clause-good : goal.returns-clause-good
 returns-clause-good c =
     let m = module_of c.args.given.now in
     let t = printed_of c.args.terms.now in
     let shown = c.in_ok-shown.ensures.0 in
-    let text = c.in_ok-text.ensures m.source.bytes ∙ ap (base_of m.source.header) (c.deref.ensures.value ∙ shown) in
-    good_part m t Body c.len-size.result c.deref-2.result.now (size_of c.in_ok-text.text c.len-size.result c.len-size.ensures ∙ ap length text)
-    (c.deref-2.ensures.value ∙ c.in_ok-end_line.ensures ∙ ap (λ (l : List ℕ). l ++ 10 ∷ []) shown) c.in_ok-tokens.ensures.good
+    let text = c.in_ok-text.ensures m.source.bytes ∙ ap (base_of m.source.header)
+    (c.deref.ensures.value ∙ shown) in
+    good_part m t Body c.len-size.result c.deref-2.result.now
+    (size_of c.in_ok-text.text c.len-size.result c.len-size.ensures ∙ ap length text)
+    (c.deref-2.ensures.value ∙ c.in_ok-end_line.ensures ∙ ap (λ (l : List ℕ). l ++ 10 ∷ []) shown)
+    c.in_ok-tokens.ensures.good

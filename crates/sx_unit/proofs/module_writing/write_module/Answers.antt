@@ -16,7 +16,9 @@ returns-clause-written c = λ q is nodes. record {
   stated_good = c.in_ok-interface.ensures.stated;
   list = is;
   derivation = c.in_ok-derivation.ensures
-      ∙ ap (λ (list : List EntryOf). derivation_text (module_of c.args.given.now).source.dialect.language.rules (entries list)) c.deref-2.ensures.value;
+      ∙ ap (λ (list : List EntryOf). derivation_text
+      (module_of c.args.given.now).source.dialect.language.rules (entries list))
+      c.deref-2.ensures.value;
   nodes = size_of c.args.list c.len.result c.len.ensures ∙ nodes;
   base_tokens = c.in_ok-base.ensures.tokens;
 }

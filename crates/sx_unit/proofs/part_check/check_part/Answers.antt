@@ -17,12 +17,15 @@ pub check_print-requires-clause-sort : goal.check_print-requires-clause-sort
 check_print-requires-clause-sort c =
     let d = dialect_of c.args.dialect.now in
     subst (λ (p : Parts). IsSort p c.part_sort-sort.result) (sym c.part_grammar-grammar.ensures)
-    (subst (IsSort (parts_of d c.args.part)) (sym c.part_sort-sort.ensures) (part_is_sort d c.requires.dialect.is c.args.part))
+    (subst (IsSort (parts_of d c.args.part)) (sym c.part_sort-sort.ensures)
+    (part_is_sort d c.requires.dialect.is c.args.part))
 
 pub check_print-requires-clause-fits : goal.check_print-requires-clause-fits
 check_print-requires-clause-fits c =
     let d = dialect_of c.args.dialect.now in
     let t = tree c.args.term.now in
-    subst (λ (p : Parts). Fits (numbered p) [] (of_sort (number_of c.part_sort-sort.result)) t) (sym c.part_grammar-grammar.ensures)
-    (subst (λ (sort : Sort). Fits (numbered (parts_of d c.args.part)) [] (of_sort (number_of sort)) t) (sym c.part_sort-sort.ensures)
+    subst (λ (p : Parts). Fits (numbered p) [] (of_sort (number_of c.part_sort-sort.result)) t)
+    (sym c.part_grammar-grammar.ensures)
+    (subst (λ (sort : Sort). Fits (numbered (parts_of d c.args.part)) [] (of_sort (number_of sort))
+    t) (sym c.part_sort-sort.ensures)
     (part_fits d c.requires.dialect.is c.args.part t c.requires.good))

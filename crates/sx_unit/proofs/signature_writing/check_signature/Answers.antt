@@ -11,9 +11,12 @@ pub returns-in_err-check_part-clause-refused : goal.returns-in_err-check_part-cl
 returns-in_err-check_part-clause-refused c =
     let m = module_of c.args.given.now in
     let t = printed_of c.args.terms.now in
-    err_if c.from_residual.result _ (IsUnwritten m t) c.from_residual.ensures.1 (λ e is. subst (IsUnwritten m t) (sym is)
-    (bad_part m t Signature c.args.size c.args.shown.now c.requires.size c.requires.text _ c.requires.body c.in_err-check_part.ensures.refused))
+    err_if c.from_residual.result _ (IsUnwritten m t) c.from_residual.ensures.1
+    (λ e is. subst (IsUnwritten m t) (sym is)
+    (bad_part m t Signature c.args.size c.args.shown.now c.requires.size c.requires.text _
+    c.requires.body c.in_err-check_part.ensures.refused))
 
 pub returns-clause-good : goal.returns-clause-good
 returns-clause-good c =
-    good_part (module_of c.args.given.now) (printed_of c.args.terms.now) Signature c.args.size c.args.shown.now c.requires.size c.requires.text c.in_ok-check_part.ensures.good
+    good_part (module_of c.args.given.now) (printed_of c.args.terms.now) Signature c.args.size
+    c.args.shown.now c.requires.size c.requires.text c.in_ok-check_part.ensures.good

@@ -11,7 +11,8 @@ use Rattle.sx_unit.proofs.signature_writing.check_stated.Goals as goal
 
 pub check_part-requires-clause-good : goal.check_part-requires-clause-good
 check_part-requires-clause-good c =
-    stated_good (module_of c.args.given.now).source.dialect (printed_of c.args.terms.now) c.requires.terms c.requires.free
+    stated_good (module_of c.args.given.now).source.dialect (printed_of c.args.terms.now)
+    c.requires.terms c.requires.free
 
 pub check_part-requires-clause-text : goal.check_part-requires-clause-text
 check_part-requires-clause-text c = ([], tt, c.requires.text ∙ sym (append-nil _))
@@ -20,9 +21,13 @@ pub returns-in_err-check_part-clause-refused : goal.returns-in_err-check_part-cl
 returns-in_err-check_part-clause-refused c =
     let m = module_of c.args.given.now in
     let t = printed_of c.args.terms.now in
-    err_if c.from_residual.result _ (IsUnwritten m t) c.from_residual.ensures.1 (λ e is. subst (IsUnwritten m t) (sym is)
-    (bad_part m t Stated c.args.size c.args.shown.now c.requires.size c.requires.text _ (c.requires.body, c.requires.signature, c.requires.free) c.in_err-check_part.ensures.refused))
+    err_if c.from_residual.result _ (IsUnwritten m t) c.from_residual.ensures.1
+    (λ e is. subst (IsUnwritten m t) (sym is)
+    (bad_part m t Stated c.args.size c.args.shown.now c.requires.size c.requires.text _
+    (c.requires.body, c.requires.signature, c.requires.free)
+    c.in_err-check_part.ensures.refused))
 
 pub returns-clause-good : goal.returns-clause-good
 returns-clause-good c =
-    good_part (module_of c.args.given.now) (printed_of c.args.terms.now) Stated c.args.size c.args.shown.now c.requires.size c.requires.text c.in_ok-check_part.ensures.good
+    good_part (module_of c.args.given.now) (printed_of c.args.terms.now) Stated c.args.size
+    c.args.shown.now c.requires.size c.requires.text c.in_ok-check_part.ensures.good

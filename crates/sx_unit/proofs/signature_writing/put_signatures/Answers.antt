@@ -12,29 +12,60 @@ use Rattle.sx_unit.proofs.signature_writing.put_signatures.Goals as goal
 pub show-requires-clause-fits : goal.show-requires-clause-fits
 show-requires-clause-fits c =
     let d = (module_of c.args.given.now).source.dialect in
-    let t = printed_of c.args.terms.now in
-    (number_of (sort_of d Signature), part_fits d c.requires.can.dialect.is Signature t.signature c.requires.terms.signature)
+    let t = printed_of c.args.terms.now in (
+      number_of (sort_of d Signature),
+      part_fits d c.requires.can.dialect.is Signature t.signature
+          c.requires.terms.signature,
+    )
 
 pub show-requires-2-clause-fits : goal.show-requires-2-clause-fits
 show-requires-2-clause-fits c =
-    let d = (module_of c.args.given.now).source.dialect in
-    (number_of (sort_of d Stated), stated_fits d c.requires.can.dialect.is (printed_of c.args.terms.now) c.requires.terms)
+    let d = (module_of c.args.given.now).source.dialect in (
+      number_of (sort_of d Stated),
+      stated_fits d c.requires.can.dialect.is
+          (printed_of c.args.terms.now) c.requires.terms,
+    )
 
 pub check_signature-requires-clause-within : goal.check_signature-requires-clause-within
 check_signature-requires-clause-within c =
-    let it = interface_of (module_of c.args.given.now) c.args.base.now c.deref.result.now c.deref-2.result.now in
+    let it = interface_of (module_of c.args.given.now) c.args.base.now c.deref.result.now
+    c.deref-2.result.now in
     let text = c.in_ok-text.text.items in
-    let within : length c.deref.result.now + (length c.deref-2.result.now + 1) ≤ length text = signatures_within it text c.in_ok-text.ensures in
-    let here : length c.deref.result.now ≡ length c.in_ok-signature.signature.items = ap length c.deref.ensures.value in
-    let again : length c.deref-3.result.now ≡ length c.in_ok-signature.signature.items = ap length c.deref-3.ensures.value in
-    let line : length c.deref-2.result.now ≡ length c.in_ok-stated.stated.items = ap length c.deref-2.ensures.value in
-    omega (arith, within, here, again, line, size_of c.in_ok-text.text c.len-size.result c.len-size.ensures, size_of c.in_ok-stated.stated c.len.result c.len.ensures)
+    let within : length c.deref.result.now + (length c.deref-2.result.now + 1) ≤ length text =
+    signatures_within it text c.in_ok-text.ensures in
+    let here : length c.deref.result.now ≡ length c.in_ok-signature.signature.items =
+    ap length c.deref.ensures.value in
+    let again : length c.deref-3.result.now ≡ length c.in_ok-signature.signature.items =
+    ap length c.deref-3.ensures.value in
+    let line : length c.deref-2.result.now ≡ length c.in_ok-stated.stated.items =
+    ap length c.deref-2.ensures.value in
+    omega (
+      arith,
+      within,
+      here,
+      again,
+      line,
+      size_of c.in_ok-text.text c.len-size.result
+          c.len-size.ensures,
+      size_of c.in_ok-stated.stated c.len.result c.len.ensures,
+    )
 
 pub check_stated-requires-clause-within : goal.check_stated-requires-clause-within
 check_stated-requires-clause-within c =
-    let it = interface_of (module_of c.args.given.now) c.args.base.now c.deref.result.now c.deref-2.result.now in
+    let it = interface_of (module_of c.args.given.now) c.args.base.now c.deref.result.now
+    c.deref-2.result.now in
     let text = c.in_ok-text.text.items in
-    let within : length c.deref.result.now + (length c.deref-2.result.now + 1) ≤ length text = signatures_within it text c.in_ok-text.ensures in
-    let line : length c.deref-2.result.now ≡ length c.in_ok-stated.stated.items = ap length c.deref-2.ensures.value in
-    let again : length c.deref-4.result.now ≡ length c.in_ok-stated.stated.items = ap length c.deref-4.ensures.value in
-    omega (arith, within, line, again, size_of c.in_ok-text.text c.len-size.result c.len-size.ensures)
+    let within : length c.deref.result.now + (length c.deref-2.result.now + 1) ≤ length text =
+    signatures_within it text c.in_ok-text.ensures in
+    let line : length c.deref-2.result.now ≡ length c.in_ok-stated.stated.items =
+    ap length c.deref-2.ensures.value in
+    let again : length c.deref-4.result.now ≡ length c.in_ok-stated.stated.items =
+    ap length c.deref-4.ensures.value in
+    omega (
+      arith,
+      within,
+      line,
+      again,
+      size_of c.in_ok-text.text c.len-size.result
+          c.len-size.ensures,
+    )
