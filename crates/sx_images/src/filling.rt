@@ -11,7 +11,7 @@ use sx_arena::Arena;
 use sx_term::{NoMemory, Term};
 
 /// The number of the flat body with the term of each of these numbers in the place of the part.
-pub(crate) fn filled(
+pub fn filled(
     alloc: Global,
     arena: &mut Arena,
     flat: &Term,

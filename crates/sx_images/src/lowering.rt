@@ -1,11 +1,11 @@
 //! Plain images by number.
 
-ghost use Rattle.std.specs.Prelude.{◌<◌, ◌≤◌, length};
+ghost use Rattle.std.specs.Prelude.{◌<◌, ◌≤◌, IfOk, OnOk, length};
 ghost use Rattle.sx_term.specs.Tree.{depth_of};
 ghost use Rattle.sx_plain.specs.Tables.{FitsTable};
 ghost use Rattle.sx_plain.specs.Views.{table_of};
 ghost use Rattle.sx_arena.specs.Arena.{trees, tree_at, IsArena};
-ghost use Rattle.sx_images.specs.Images.{AreImages};
+ghost use Rattle.sx_images.specs.Images.{AreImages, IsMeasure};
 ghost use Rattle.sx_images.specs.Lowered.{IsLowered};
 
 use crate::images::Images;
@@ -13,8 +13,8 @@ use crate::making::made;
 use crate::measuring::measured;
 use std::alloc::Global;
 use sx_arena::Arena;
-use sx_plain::PlainTable;
-use sx_term::TermError;
+use sx_plain::{Measure, PlainTable};
+use sx_term::{NoMemory, TermError};
 
 impl Images {
     /// The number of the plain image of the term with this number. The image is measured before it
@@ -44,5 +44,26 @@ impl Images {
             return Err(TermError::TooBig(measure.size));
         }
         Ok(made(alloc, table, arena, &mut self.numbers, term)?)
+    }
+    /// How deep and how big the plain image of the term with this number is. No image is made. A
+    /// term that was met before costs a look-up.
+    pub fn measure(
+        &mut self,
+        alloc: Global,
+        table: &PlainTable,
+        arena: &Arena,
+        term: usize,
+    ) -> Result<Measure, NoMemory>
+        requires arena { IsArena arena.now }
+        requires known { AreImages (table_of table.now) (trees arena.now) self.old }
+        requires within { term < length (trees arena.now) }
+        requires shallow { depth_of (tree_at (trees arena.now) term) ≤ 1000 }
+        requires fits { FitsTable (table_of table.now) (tree_at (trees arena.now) term) }
+        ensures known { OnOk result (AreImages (table_of table.now)
+            (trees arena.now) self.new) }
+        ensures measure { IfOk result (IsMeasure (table_of table.now)
+            (tree_at (trees arena.now) term)) }
+    {
+        measured(alloc, table, arena, &mut self.measures, term)
     }
 }
