@@ -8,3 +8,6 @@ pub mod Placing
 pub mod Emitting
 pub mod ListTallies
 pub mod NodeTerms
+pub mod NumbersPut
+pub mod Following
+pub mod NumbersBound

@@ -5,3 +5,6 @@ pub mod Laws
 pub mod Listed
 pub mod Tallies
 pub mod LoweredLists
+pub mod Readers
+pub mod Put
+pub mod Followed

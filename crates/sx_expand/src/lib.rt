@@ -7,15 +7,21 @@
 //! - Law: what a derivation is lowered to has the order that its own order determines.
 #![tactic(auto)]
 
+mod binding;
 mod emission;
 mod ends;
+mod image_numbers;
 mod kid_places;
 mod laws;
 mod list_lowering;
 mod listing;
 mod lowered_list;
 mod node_limits;
+mod put_number;
+mod put_numbers;
+mod reader;
 mod tallying;
+mod work;
 
 pub use laws::orders_are_lowered;
 pub use list_lowering::lower_list;
