@@ -1,11 +1,11 @@
 -- The bindings at a node, premise by premise.
-use Rattle.std.proofs.Common.{◌≡◌, ℕ, zero, suc, ◌<◌, List, [], ◌∷◌, ◌⊎◌, inl, inr, map, length, Option, Some, refl, sym, ap, ◌∙◌}
+use Rattle.std.proofs.Common.{◌≡◌, ℕ, ◌<◌, List, [], ◌∷◌, ◌⊎◌, inl, inr, length, Some, sym, ◌∙◌}
 use Rattle.sx_term.specs.Tree.{Tree}
-use Rattle.sx_rules.specs.Instances.{instance, Stands, StandsAmong, bound_by}
+use Rattle.sx_rules.specs.Instances.{StandsAmong, bound_by}
 use Rattle.sx_rules.specs.Rules.{Judgement, Premise, holds, apart, Rule, judgement_instance}
 use Rattle.sx_rules.specs.Modes.{Modes, inputs_of, outputs_of, AreModed, IsModed}
 use Rattle.sx_rules.proofs.Moded.{inputs-map, outputs-map}
-use Rattle.sx_arena.specs.Matching.{Assignment, unbound, match_all, filled, IsBound, Extends, Agrees}
+use Rattle.sx_arena.specs.Matching.{Assignment, unbound, match_all, filled, IsBound}
 use Rattle.sx_arena.specs.Limits.{first_values}
 use Rattle.sx_arena.proofs.Matchings.{match_all-matches, match_all_found, stays-bound}
 use Rattle.sx_arena.proofs.Filled.{filled-agrees, filled-inputs, filled-outputs, first_values-bound}

@@ -11,3 +11,5 @@ pub mod NodeTerms
 pub mod NumbersPut
 pub mod Following
 pub mod NumbersBound
+pub mod KidsPut
+pub mod OwnSubject

@@ -1,10 +1,10 @@
 -- The numbers of the terms that are bound, one variable after another.
-use Rattle.std.proofs.Common.{◌≡◌, arith, ℕ, zero, suc, ◌+◌, ◌<◌, ◌≤◌, List, [], ◌∷◌, ◌++◌, map, length, Option, Some, None, refl, sym, ap, ◌∙◌, subst}
+use Rattle.std.proofs.Common.{◌≡◌, arith, ℕ, zero, suc, ◌+◌, ◌<◌, List, [], ◌∷◌, ◌++◌, map, length, Some, None, refl, sym, ap, ◌∙◌, subst}
 use Rattle.sx_term.specs.Tree.{Tree}
 use Rattle.sx_arena.specs.Arena.{tree_at, AreBelow}
 use Rattle.sx_arena.specs.Binds.{IsFound}
 use Rattle.sx_arena.specs.Limits.{first_values}
-use Rattle.sx_arena.specs.Matching.{Assignment, value_or, filled, IsBound}
+use Rattle.sx_arena.specs.Matching.{value_or, filled, IsBound}
 use Rattle.sx_expand.specs.declared.work.Work.{Work}
 use Rattle.sx_expand.specs.Followed.{IsWork, bindings_of}
 

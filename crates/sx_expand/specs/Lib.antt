@@ -8,3 +8,5 @@ pub mod LoweredLists
 pub mod Readers
 pub mod Put
 pub mod Followed
+pub mod KidSubjects
+pub mod OwnSubjects

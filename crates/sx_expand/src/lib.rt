@@ -12,6 +12,7 @@ mod emission;
 mod ends;
 mod image_numbers;
 mod kid_places;
+mod kid_subjects;
 mod laws;
 mod list_lowering;
 mod listing;
@@ -20,6 +21,7 @@ mod node_limits;
 mod put_number;
 mod put_numbers;
 mod reader;
+mod subject_number;
 mod tallying;
 mod work;
 
