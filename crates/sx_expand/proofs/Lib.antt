@@ -12,4 +12,6 @@ pub mod NumbersPut
 pub mod Following
 pub mod NumbersBound
 pub mod KidsPut
+pub mod KidsStay
+pub mod NodeLowering
 pub mod OwnSubject

@@ -1,19 +1,20 @@
 -- The subjects of lowered kids, by number.
-use Rattle.std.specs.Prelude.{◌≡◌, ℕ, ◌<◌, ◌≤◌, Bool, true, List, [], ◌∷◌, length, get_or, Option}
+use Rattle.std.specs.Prelude.{◌≡◌, ℕ, ◌<◌, Bool, true, List, [], ◌∷◌, length, get_or, Option}
 use Rattle.std.specs.Prelude.{Some, None}
-use Rattle.sx_term.specs.Tree.{Tree, depth_of}
+use Rattle.sx_term.specs.Tree.{Tree}
 use Rattle.sx_rules.specs.Derivations.{Proof, Proofs, proof_at, Derives}
 use Rattle.sx_rules.specs.Discipline.{subjects_of}
 use Rattle.sx_rules.specs.Modes.{Modes}
 use Rattle.sx_rules.specs.Rules.{Judgement, Rule, Hypotheses}
 use Rattle.sx_arena.specs.Arena.{tree_at}
 use Rattle.sx_rewrite.specs.LoweredSizes.{number_of}
+use Rattle.sx_rewrite.specs.Puts.{IsSmall}
 
--- the first of the subjects stands at the number, no deeper than 1,000, or there is none
+-- the first of the subjects stands at the number and passes no limit, or there is none
 abbrev pub IsSubjectAt : List Tree → List Tree → Option ℕ → Type 0
 IsSubjectAt terms subjects None = subjects ≡ []
 IsSubjectAt terms subjects (Some i) =
-    (i < length terms) × (depth_of (tree_at terms i) ≤ 1000)
+    (i < length terms) × IsSmall (tree_at terms i)
     × ((rest : List Tree) × (subjects ≡ tree_at terms i ∷ rest))
 
 -- so it is of the subject of what the kid derives, and it derives a judgement

@@ -10,3 +10,4 @@ pub mod Put
 pub mod Followed
 pub mod KidSubjects
 pub mod OwnSubjects
+pub mod LoweredNodes

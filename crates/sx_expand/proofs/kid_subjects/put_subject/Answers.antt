@@ -19,7 +19,7 @@ pub put_at-requires-clause-shallow : goal.put_at-requires-clause-shallow
 put_at-requires-clause-shallow c =
     let k = c.requires.kid.2 in
     let subjects = subjects_in (forms_in c.args.base.now) in
-    (subst (λ (o : Option ℕ). IsSubjectAt (trees c.args.arena.now) (subjects_of subjects k.judgement) o) c.in-Some-subject.is (k.is k.judgement k.derives)).1
+    (subst (λ (o : Option ℕ). IsSubjectAt (trees c.args.arena.now) (subjects_of subjects k.judgement) o) c.in-Some-subject.is (k.is k.judgement k.derives)).1.0
 
 pub returns-in-Some-subject : goal.returns-in-Some-subject
 returns-in-Some-subject c = λ hyps kid is old h.
