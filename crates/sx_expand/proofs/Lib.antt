@@ -14,4 +14,6 @@ pub mod NumbersBound
 pub mod KidsPut
 pub mod KidsStay
 pub mod NodeLowering
+pub mod KidsLowered
+pub mod NodeRead
 pub mod OwnSubject

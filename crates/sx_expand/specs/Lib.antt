@@ -11,3 +11,4 @@ pub mod Followed
 pub mod KidSubjects
 pub mod OwnSubjects
 pub mod LoweredNodes
+pub mod KidsRead

@@ -60,7 +60,13 @@ pub(crate) fn put_subjects(
         match from {
             Premise::Holds(it) => {
                 if set.is_needed(rule, number) {
-                    put_subject(set.base_rules(), arena, it, subject_at(subjects, number), puts);
+                    put_subject(
+                        set.base_rules(),
+                        arena,
+                        it,
+                        subject_at(subjects, number),
+                        puts,
+                    );
                 }
                 number += 1;
             }

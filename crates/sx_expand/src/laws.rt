@@ -1,8 +1,19 @@
-//! Laws of the order of lowered derivations.
+//! Laws of lowered derivations by their lists and by the numbers of their terms.
 
-ghost use Rattle.sx_expand.specs.Laws.{OrdersAreLowered};
+ghost use Rattle.sx_expand.specs.Laws.{OrdersAreLowered, KidsAreLowered, NodesAreMeasured};
 
 /// What a derivation is lowered to has the order that its own order determines.
 pub fn orders_are_lowered()
     ensures { OrdersAreLowered }
+{}
+
+/// Kids that are read have what they are lowered to, with their subjects at the numbers.
+pub fn kids_are_lowered()
+    ensures { KidsAreLowered }
+{}
+
+/// A node over such kids whose own terms pass no limit has no measured term that passes one, and
+/// where it is refused the error tells the first that does.
+pub fn nodes_are_measured()
+    ensures { NodesAreMeasured }
 {}

@@ -57,9 +57,13 @@ pub(crate) fn lower_node(
         AreKidSubjects (subjects_in (forms_in set.now.base)) (bare_rules_in set.now.base) hyps
         (needed (certificate_at (accepted set.now) number)) (terms_in reader.old) kids
         subjects.now → IsNodeLowered (accepted set.now) (subjects_in (forms_in set.now.base))
-        hyps (terms_in reader.new) (record { rule = number; known = x;
-        binds = map (tree_at (terms_in reader.old)) binds.now; kids = kids;
-        count = length subjects.now }) result }
+        hyps (terms_in reader.new) (record {
+          rule = number;
+          known = x;
+          binds = map (tree_at (terms_in reader.old)) binds.now;
+          kids = kids;
+          count = length subjects.now;
+        }) result }
 {
     set.facts();
     let puts = put_node(alloc, set, reader, number, binds, subjects)?;
@@ -73,14 +77,7 @@ pub(crate) fn lower_node(
     let rules = set.rules();
     rules.facts();
     let rule = rule_at(rules, number);
-    let subject = subject_number(
-        alloc,
-        set,
-        &mut reader.arena,
-        number,
-        rule,
-        &puts.numbers,
-    );
+    let subject = subject_number(alloc, set, &mut reader.arena, number, rule, &puts.numbers);
     drop(puts);
     match subject {
         Ok(found) => Ok(found),

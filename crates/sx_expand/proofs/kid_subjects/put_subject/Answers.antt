@@ -34,9 +34,12 @@ returns-in-Some-subject c = λ hyps kid is old h.
 pub returns-in-None-subject : goal.returns-in-None-subject
 returns-in-None-subject c = λ hyps kid is old h.
     let subjects = subjects_in (forms_in c.args.base.now) in
-    let ts = trees c.args.arena.now in
-    (old, h, none-lacks subjects (bare_rules_in c.args.base.now) hyps (judgement c.args.premise.now) kid old ts
-    (subst (λ (o : Option ℕ). IsKidSubject subjects (bare_rules_in c.args.base.now) hyps ts kid o) c.in-None-subject.is is))
+    let ts = trees c.args.arena.now in (
+      old,
+      h,
+      none-lacks subjects (bare_rules_in c.args.base.now) hyps (judgement c.args.premise.now) kid old ts
+          (subst (λ (o : Option ℕ). IsKidSubject subjects (bare_rules_in c.args.base.now) hyps ts kid o) c.in-None-subject.is is),
+    )
 
 pub returns-in-None : goal.returns-in-None
 returns-in-None c = λ hyps kid is old h. (
