@@ -16,4 +16,5 @@ pub mod KidsStay
 pub mod NodeLowering
 pub mod KidsLowered
 pub mod NodeRead
+pub mod NodeSubject
 pub mod OwnSubject

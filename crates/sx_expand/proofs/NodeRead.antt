@@ -42,14 +42,14 @@ module _ (sig : Signature) (base shapes : List Shape) (a : Accepted) (ok : IsAcc
   need-is : needed (certificate_at a r) ≡ need_of known
   need-is = ap needed certificate-is
 
-  lowered : AreLoweredTo a sig.subjects hyps (need_of known) kids kl.news
+  pub lowered : AreLoweredTo a sig.subjects hyps (need_of known) kids kl.news
   lowered = subst (λ (need : ℕ → Bool). AreLoweredTo a sig.subjects hyps need kids kl.news) need-is kl.lowered
 
-  puts : (more : List Tree) → ArePutFor a sig.subjects hyps over more →
+  pub puts : (more : List Tree) → ArePutFor a sig.subjects hyps over more →
       ArePutBelow sig.subjects a.base hyps (need_of known) (judgements_of (rule_in known).premises) kl.news (length numbers) (images_for a.table (rule_in known).sorts binds) more
   puts more p = subst (λ (need : ℕ → Bool). ArePutBelow sig.subjects a.base hyps need (judgements_of (rule_in known).premises) kl.news (length numbers) (images_for a.table (rule_in known).sorts binds) more) need-is p
 
-  own-is : (more : List Tree) → node.own_terms a known r more ≡ own_terms a.base (certificate_at a r) r more
+  pub own-is : (more : List Tree) → node.own_terms a known r more ≡ own_terms a.base (certificate_at a r) r more
   own-is more = own-same a known r more ∙ ap (λ (o : Option Proof). own_terms a.base o r more) (sym certificate-is)
 
   -- none of the terms that are measured for it passes a limit

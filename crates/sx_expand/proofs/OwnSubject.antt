@@ -11,7 +11,7 @@ use Rattle.sx_rewrite.specs.Accepted.{Known, basic, checked, rule_in, Accepted, 
 use Rattle.sx_rewrite.specs.Stored.{stored_in, body_in, flat_body_at}
 use Rattle.sx_expand.specs.OwnSubjects.{own_judgement}
 
-flat-none : (table : Table) (o : Option Tree) (mask : List Bool) (ts : List Tree) → outputs mask ts ≡ [] → outputs mask (flat_places table o mask ts) ≡ []
+pub flat-none : (table : Table) (o : Option Tree) (mask : List Bool) (ts : List Tree) → outputs mask ts ≡ [] → outputs mask (flat_places table o mask ts) ≡ []
 flat-none table o [] ts e = refl
 flat-none table o (b ∷ mask) [] e = refl
 flat-none table o (true ∷ mask) (t ∷ ts) e = cc
@@ -23,7 +23,7 @@ flat-body table b (x ∷ mask) [] t rest e = cc
 flat-body table b (true ∷ mask) (u ∷ ts) t rest e = (outputs mask (flat_places table (Some b) mask ts), refl)
 flat-body table b (false ∷ mask) (u ∷ ts) t rest e = flat-body table b mask ts t rest e
 
-flat-own : (table : Table) (mask : List Bool) (ts : List Tree) (t : Tree) (rest : List Tree) → outputs mask ts ≡ t ∷ rest → (more : List Tree) × (outputs mask (flat_places table None mask ts) ≡ t ∷ more)
+pub flat-own : (table : Table) (mask : List Bool) (ts : List Tree) (t : Tree) (rest : List Tree) → outputs mask ts ≡ t ∷ rest → (more : List Tree) × (outputs mask (flat_places table None mask ts) ≡ t ∷ more)
 flat-own table [] ts t rest e = cc
 flat-own table (x ∷ mask) [] t rest e = cc
 flat-own table (true ∷ mask) (u ∷ ts) t rest e =

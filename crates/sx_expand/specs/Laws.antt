@@ -4,6 +4,7 @@ use Rattle.sx_term.specs.Sorts.{Shape}
 use Rattle.sx_term.specs.Tree.{Tree}
 use Rattle.sx_rules.specs.Rules.{Judgement, Hypotheses}
 use Rattle.sx_rules.specs.Derivations.{Proof, Proofs, by, DeriveEach, ShallowJudgements}
+use Rattle.sx_rules.specs.Discipline.{subjects_of}
 use Rattle.sx_rules.specs.Modes.{Modes}
 use Rattle.sx_rules.specs.Orders.{order_of}
 use Rattle.sx_rewrite.specs.declared.rewrite_error.RewriteError.{RewriteError}
@@ -14,7 +15,7 @@ use Rattle.sx_rewrite.specs.Measured.{Measures}
 use Rattle.sx_rewrite.specs.Needed.{needed}
 use Rattle.sx_rewrite.specs.Rewriting.{first_over}
 use Rattle.sx_rewrite.specs.Stored.{certificate_at}
-use Rattle.sx_expand.specs.KidSubjects.{AreKidSubjects}
+use Rattle.sx_expand.specs.KidSubjects.{IsSubjectAt, AreKidSubjects}
 use Rattle.sx_expand.specs.KidsRead.{AreKidsRead}
 use Rattle.sx_expand.specs.LoweredNodes.{IsOwnSubject, IsNodeRefused}
 use Rattle.sx_expand.specs.LoweredOrders.{lowered_order}
@@ -55,3 +56,19 @@ NodesAreMeasured =
     × ((e : RewriteError) → IsNodeRefused a sig.subjects hyps
     (record { rule = r; known = known; binds = binds; kids = news; count = length numbers }) e →
     IsRefused a sig.subjects hyps (by r binds kids) e)
+
+-- and the subject of what it is lowered to stands at the number
+abbrev pub NodesHaveSubjects : Type 0
+NodesHaveSubjects =
+    (sig : Signature) (base shapes : List Shape) (a : Accepted) → IsAccepted sig base shapes a →
+    (hyps : Hypotheses) → HypothesesBelow (length base) hyps →
+    ShallowJudgements hyps.judgements →
+    (r : ℕ) (binds : List Tree) (kids news : Proofs) → CanLower a hyps (by r binds kids) →
+    (known : Known) → slice_get (known_of a) r ≡ Some known →
+    (terms : List Tree) (numbers : List (Option ℕ)) →
+    AreLoweredTo a sig.subjects hyps (needed (certificate_at a r)) kids news →
+    AreKidSubjects sig.subjects a.base hyps (needed (certificate_at a r)) terms news numbers →
+    (later : List Tree) (number : Option ℕ) → IsOwnSubject a sig.subjects hyps later
+    (record { rule = r; known = known; binds = binds; kids = news; count = length numbers })
+    number → (q : Proof) (k : Judgement) → Lowers a sig.subjects hyps (by r binds kids) q k →
+    IsSubjectAt later (subjects_of sig.subjects k) number

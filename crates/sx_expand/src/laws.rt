@@ -1,6 +1,7 @@
 //! Laws of lowered derivations by their lists and by the numbers of their terms.
 
 ghost use Rattle.sx_expand.specs.Laws.{OrdersAreLowered, KidsAreLowered, NodesAreMeasured};
+ghost use Rattle.sx_expand.specs.Laws.{NodesHaveSubjects};
 
 /// What a derivation is lowered to has the order that its own order determines.
 pub fn orders_are_lowered()
@@ -16,4 +17,9 @@ pub fn kids_are_lowered()
 /// where it is refused the error tells the first that does.
 pub fn nodes_are_measured()
     ensures { NodesAreMeasured }
+{}
+
+/// The subject of what such a node is lowered to stands at the number.
+pub fn nodes_have_subjects()
+    ensures { NodesHaveSubjects }
 {}

@@ -27,7 +27,7 @@ mod subject_number;
 mod tallying;
 mod work;
 
-pub use laws::{kids_are_lowered, nodes_are_measured, orders_are_lowered};
+pub use laws::{kids_are_lowered, nodes_are_measured, nodes_have_subjects, orders_are_lowered};
 pub use list_lowering::lower_list;
 pub use lowered_list::LoweredList;
 pub use node_limits::check_node;
