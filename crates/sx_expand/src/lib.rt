@@ -4,7 +4,11 @@
 //!   derivation and no term. Its nodes are counted first, and each entry is written once.
 //! - `check_node` measures the terms of a lowered node by how deep and how big the terms are that
 //!   are put for the variables of its rule. No term is made.
-//! - Law: what a derivation is lowered to has the order that its own order determines.
+//! - A node is lowered by the numbers of its terms and of its kids' subjects (`lower_node`): its
+//!   variables get plain images and subjects by number, its limits are told by measures, and of
+//!   its terms the subject alone is made.
+//! - Laws: what a derivation is lowered to has the order that its own order determines; a node over
+//!   kids that are read is read, with its subject at the number, or refused as it is due.
 #![tactic(auto)]
 
 mod binding;
