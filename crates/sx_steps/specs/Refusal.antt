@@ -59,6 +59,7 @@ defect_status (defect.Rule what) = statuses.Refused
 defect_status (defect.Extension what) = statuses.Refused
 defect_status (defect.Goal what) = statuses.Refused
 defect_status (defect.Print part what) = statuses.Refused
+defect_status (defect.Captured word) = statuses.Refused
 defect_status (defect.Closure what) = statuses.Refused
 defect_status (defect.List what) = statuses.Refused
 defect_status (defect.Objected auditor node rule) = statuses.Refused

@@ -73,6 +73,7 @@ fn defect_status(defect: &Defect) -> Status
         | Defect::Extension(_)
         | Defect::Goal(_)
         | Defect::Print { part: _, defect: _ }
+        | Defect::Captured(_)
         | Defect::Closure(_)
         | Defect::List(_)
         | Defect::Objected {

@@ -110,6 +110,7 @@ defect_of_stop (defect.Extension what) = tt
 defect_of_stop (defect.Goal what) = tt
 defect_of_stop (defect.Budget what) = tt
 defect_of_stop (defect.Print part what) = tt
+defect_of_stop (defect.Captured word) = tt
 defect_of_stop (defect.Closure what) = tt
 defect_of_stop (defect.List what) = tt
 defect_of_stop (defect.Objected auditor node rule) = tt

@@ -48,7 +48,7 @@ verb_now Verify s name command there ends is = inr (inl (record { name = name; i
 now_by_size : (words : List (List ℕ)) (command : Meant) → SpellsSample Now words command → BuildsSome command ⊎ VerifiesGoal command ⊎ ChecksSome command
 now_by_size words command h = let none = h.there in absurd cc
 
--- where modules are built, but not verified, each command is one of these
+-- by now each command builds, verifies what was built for a core file, or checks an extension
 pub by_now : (words : List (List ℕ)) (command : Meant) → SpellsAt Now words command → BuildsSome command ⊎ VerifiesGoal command ⊎ ChecksSome command
 by_now words command (inl h) = verb_now h.verb _ h.name command h.there h.ends h.is
 by_now words command (inr h) = now_by_size words command h

@@ -75,7 +75,7 @@ IsGiven (audit kind setting) = NoColon kind
 -- options it takes.
 -- Of a command that is not there, nothing.
 abbrev pub row : Stage → Verb → Row
-row Now Build = record { modules = true; core = true; tries = true; nodes = false; audits = false }
+row Now Build = record { modules = true; core = true; tries = true; nodes = true; audits = false }
 row Now Check = record {
   modules = true;
   core = false;
@@ -132,7 +132,7 @@ has_option r (tries n) = r.tries
 has_option r (nodes n) = r.nodes
 has_option r (audit kind setting) = r.audits
 
--- the command is there, for modules or for core files
+-- the command is there, for modules or extensions, or for core files
 abbrev pub has_verb : Stage → Verb → Bool
 has_verb stage verb = (row stage verb).modules || (row stage verb).core
 
@@ -205,7 +205,7 @@ MayStand stage verb place s (option ∷ options) =
     (takes stage verb option ≡ true) × (is_new s option ≡ true) × IsGiven option ×
     MayStand stage verb (place + 1) (with_option place s option) options
 
--- the name may come: `--core` stands, or the command is there for modules
+-- the name may come: `--core` stands, or the command is there for modules or extensions
 abbrev pub may_end : Stage → Verb → Settings → Bool
 may_end stage verb s = (row stage verb).modules || s.core
 

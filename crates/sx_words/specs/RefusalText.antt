@@ -187,6 +187,8 @@ defect_text (defect.Extension x) = extension_text x
 defect_text (defect.Goal x) = goal_text x
 defect_text (defect.Budget x) = budget_text x
 defect_text (defect.Print part x) = part_text part ++ print_text x
+defect_text (defect.Captured word) =
+    joined (codes "stated signature has the literal " ∷ word ∷ codes " as a name" ∷ [])
 defect_text (defect.Closure x) = closure_text x
 defect_text (defect.List x) = list_text x
 defect_text (defect.Objected auditor node name) =

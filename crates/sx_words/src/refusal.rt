@@ -43,6 +43,8 @@ pub enum Defect {
         part: PrintedPart,
         defect: PrintDefect,
     },
+    /// A name in the stated signature, the first such, is this literal.
+    Captured(Text),
     /// Files do not go together.
     Closure(ClosureDefect),
     /// A derivation list fits no derivation.
@@ -87,6 +89,14 @@ fn put_defect(alloc: Global, defect: &Defect, into: &mut Vec<u8>) -> Result<(), 
             put_part(*part, into)?;
             put_print(alloc, defect, into)
         }
+        Defect::Captured(word) => put(
+            &[
+                b"stated signature has the literal ",
+                word.bytes(),
+                b" as a name",
+            ],
+            into,
+        ),
         Defect::Closure(closure) => put_closure(closure, into),
         Defect::List(list) => put_list(alloc, list, into),
         Defect::Objected {

@@ -42,7 +42,7 @@ fn row_by_now(verb: Verb) -> Row
             modules: true,
             core: true,
             tries: true,
-            nodes: false,
+            nodes: true,
             audits: false,
         },
         Verb::Verify => Row {
