@@ -114,7 +114,7 @@ def words_input(rng):
             b"x" * 64, b"x" * 65, b"check", b"compile", b"\xff", b"--", b"-", b"\xc3\xa9", b"_x", b"X_1", b"--audit=a:b")
     words = [rng.choice(pool) for _ in range(rng.randrange(5))]
     if words and rng.random() < 0.7:
-        words[0] = rng.choice((b"build", b"verify"))
+        words[0] = rng.choice((b"build", b"check", b"verify"))
     return {}, [words]
 
 

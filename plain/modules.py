@@ -146,10 +146,10 @@ def compile_one(command):
     return answer([(module, treat(module, held, imports, command, auditors))], auditors)
 
 
-def build_alone(command):
-    """`build` where there are modules only: no extensions and no imports."""
+def build_without_imports(command):
+    """`build` where imports are not read yet."""
     module = Module(command.name)
-    if module.header.uses or module.header.imports:
+    if module.header.imports:
         raise Stop(b"not read yet", file=module.file)
     held = HeldLanguage(module.header.language).read()
     return answer([(module, treat(module, held, [], command, []))], [])

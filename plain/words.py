@@ -13,8 +13,9 @@ OPTIONS = {
     b"verify": (b"--core",),
     b"sample": (),
 }
-OPTIONS_OF_MODULES = {
-    b"build": (b"--core", b"--tries"),
+OPTIONS_BY_NOW = {
+    b"build": (b"--core", b"--tries", b"--nodes"),
+    b"check": (b"--tries", b"--nodes"),
     b"verify": (b"--core",),
 }
 
@@ -93,11 +94,11 @@ class Command:
         return is_file_name(word)
 
 
-def read_words(words, modules_only):
+def read_words(words, by_now):
     """The command that the words spell: its word, options while a word begins with `--`, a last word.
 
-    Where there are modules only, some commands and options are none."""
-    options = OPTIONS_OF_MODULES if modules_only else OPTIONS
+    Where only that counts which the proved program knows by now, some commands and options are none."""
+    options = OPTIONS_BY_NOW if by_now else OPTIONS
     if not words or words[0] not in options:
         raise bad_word(1)
     command = Command(words[0], options[words[0]])
@@ -106,7 +107,7 @@ def read_words(words, modules_only):
         if not command.take_option(words[at], at + 1):
             raise bad_word(at + 1)
         at += 1
-    if modules_only and command.what == "verify" and not command.core:
+    if by_now and command.what == "verify" and not command.core:
         raise bad_word(at + 1)
     if at == len(words) or not command.take_last(words[at]):
         raise bad_word(at + 1)
