@@ -6,6 +6,8 @@ mod core_files_built;
 #[cfg(test)]
 mod core_files_verified;
 #[cfg(test)]
+mod extended_modules;
+#[cfg(test)]
 mod extension_files;
 #[cfg(test)]
 mod extensions_checked;
