@@ -8,3 +8,4 @@ pub mod Lower
 pub mod Work
 pub mod Unit
 pub mod Agree
+pub mod TypeErrors
