@@ -12,3 +12,4 @@ pub mod SameRefusals
 pub mod OneLanguageFile
 pub mod OneChecked
 pub mod OneExtended
+pub mod TypeErrors
