@@ -9,6 +9,7 @@ use std::alloc::Global;
 use std::marker::Brand;
 use std::sync::ledger::{Blank, Ledger};
 use sx_build::plan_build_module;
+use sx_extcheck::Budgets;
 use sx_outside::MemShelf;
 use sx_steps::{StepError, Work};
 use sx_term::{Steps, Text};
@@ -19,7 +20,7 @@ fn fill(alloc: Global, body: &[u8], shelf: &mut MemShelf) -> bool {
     put(alloc, "Numbers.lang", &[NUMBERS], shelf) && put(alloc, "Main.mod", &[header, body], shelf)
 }
 
-/// The plan of `Main`, within 100 tries.
+/// The plan of `Main`, within 100 tries and 100 nodes.
 fn planned<L: Ledger>(
     alloc: Global,
     name: &Text,
@@ -31,7 +32,11 @@ fn planned<L: Ledger>(
     requires some { 0 < blank.parts }
 {
     let mut steps = Steps::<L>::new(blank);
-    plan_build_module(alloc, name, 100, shelf, &mut steps)
+    let budgets = Budgets {
+        tries: 100,
+        nodes: 100,
+    };
+    plan_build_module(alloc, name, budgets, shelf, &mut steps)
 }
 
 /// What is wanted of a plan: its first two files and its lines, or the line of a stop.

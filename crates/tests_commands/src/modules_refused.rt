@@ -61,12 +61,13 @@ fn module_files_that_are_refused(rt: HostRuntime) {
 fn modules_that_need_other_files(rt: HostRuntime) {
     let alloc = rt.alloc();
     let yet = b"soundx: Main.mod: not read yet\n";
+    let none = b"soundx: Let.ext: absent\n";
     let uses = b"module Main\nlanguage Lam\nuse Let\n---\n1\n";
     let imports = b"module Main\nlanguage Lam\nimport A\n---\n1\n";
     let other = b"module Main\nlanguage Lim\n---\n1\n";
     let absent = b"soundx: Lim.lang: absent\n";
     let hold = [
-        is_file_refused(alloc, "build Main", uses, yet),
+        is_file_refused(alloc, "build Main", uses, none),
         is_file_refused(alloc, "build Main", imports, yet),
         is_file_refused(alloc, "build Main", other, absent),
     ];

@@ -8,6 +8,7 @@ use std::marker::Brand;
 use std::sync::ledger::{Blank, Ledger};
 use std::test::*;
 use sx_build::plan_build_module;
+use sx_extcheck::Budgets;
 use sx_outside::MemShelf;
 use sx_steps::{Output, StepError, Stop, Work};
 use sx_term::{NoMemory, Steps, Text};
@@ -42,7 +43,7 @@ fn put_files(alloc: Global, module: &[u8], shelf: &mut MemShelf) -> Result<(), N
     put_file(alloc, b"Main.mod", Vec::from_slice(alloc, module)?, shelf)
 }
 
-/// The plan of `Main`, within 100 tries.
+/// The plan of `Main`, within 100 tries and 100 nodes.
 fn planned<L: Ledger>(
     alloc: Global,
     name: &Text,
@@ -54,7 +55,11 @@ fn planned<L: Ledger>(
     requires some { 0 < blank.parts }
 {
     let mut steps = Steps::<L>::new(blank);
-    plan_build_module(alloc, name, 100, shelf, &mut steps)
+    let budgets = Budgets {
+        tries: 100,
+        nodes: 100,
+    };
+    plan_build_module(alloc, name, budgets, shelf, &mut steps)
 }
 
 /// The plan of `Main` from the shelf.
