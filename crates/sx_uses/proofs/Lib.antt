@@ -7,3 +7,4 @@ pub mod Agreeing
 pub mod Coming
 pub mod Lasting
 pub mod FewFiles
+pub mod TypeErrors
