@@ -13,3 +13,4 @@ pub mod OneLanguageFile
 pub mod OneChecked
 pub mod OneExtended
 pub mod TypeErrors
+pub mod UnsoundRules

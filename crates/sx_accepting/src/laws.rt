@@ -6,7 +6,7 @@ ghost use Rattle.sx_accepting.specs.Refusals.{
   RefusedExtensionsCanBeTold,
   RefusedRulesStopAlike,
 };
-ghost use Rattle.sx_accepting.specs.Laws.{ExtendedIsAccepted, ExtendsAgree};
+ghost use Rattle.sx_accepting.specs.Laws.{ExtendedIsAccepted, ExtendsAgree, UnsoundIsFinal};
 
 use sx_rewrite::Accepted;
 
@@ -43,4 +43,9 @@ pub fn extended_is_accepted()
 /// memory aside, but for the two readings that a stop shows of a line.
 pub fn extends_agree()
     ensures { ExtendsAgree }
+{}
+
+/// Extensions are refused for a type error only where the rule that the stop is about is not sound.
+pub fn unsound_is_final()
+    ensures { UnsoundIsFinal }
 {}

@@ -26,7 +26,7 @@ pub use growing::extend_language;
 pub use language_stops::bad_language;
 pub use laws::{
     extended_is_accepted, extends_agree, kept, refused_extensions_can_be_told,
-    refused_rules_stop_alike, rejected_goals_are_sorted,
+    refused_rules_stop_alike, rejected_goals_are_sorted, unsound_is_final,
 };
 pub use read_language::{LanguageFile, read_language_file};
 pub use refusing::Refusing;
