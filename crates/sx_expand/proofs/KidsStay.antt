@@ -10,7 +10,7 @@ use Rattle.sx_arena.proofs.Growing.{extends-length, extends-at}
 use Rattle.sx_rewrite.specs.Puts.{IsSmall}
 use Rattle.sx_expand.specs.KidSubjects.{IsSubjectAt, IsKidSubject, AreKidSubjects}
 
-subject-stays : (old new subjects : List Tree) (o : Option ℕ) → Extends old new → IsSubjectAt old subjects o → IsSubjectAt new subjects o
+pub subject-stays : (old new subjects : List Tree) (o : Option ℕ) → Extends old new → IsSubjectAt old subjects o → IsSubjectAt new subjects o
 subject-stays old new subjects None x h = h
 subject-stays old new subjects (Some i) x (l, d, (rest, e)) =
     let same = extends-at old new x i (node 0 none) l in

@@ -18,3 +18,7 @@ pub mod KidsLowered
 pub mod NodeRead
 pub mod NodeSubject
 pub mod OwnSubject
+pub mod Bindings
+pub mod KidSteps
+pub mod NodeAnswers
+pub mod ReadNodes

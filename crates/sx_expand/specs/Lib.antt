@@ -12,3 +12,5 @@ pub mod KidSubjects
 pub mod OwnSubjects
 pub mod LoweredNodes
 pub mod KidsRead
+pub mod ReadDerivations
+pub mod ReadNodes

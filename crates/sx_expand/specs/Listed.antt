@@ -3,8 +3,8 @@ use Rattle.std.specs.Prelude.{ℕ, List}
 use Rattle.sx_rules.specs.Derivations.{Proof, Proofs}
 use Rattle.sx_rules.specs.EntryView.{entries}
 use Rattle.sx_rules.specs.Orders.{Entry}
-use Rattle.sx_rewrite.specs.Accepted.{Accepted}
-use Rattle.sx_rewrite.specs.AcceptedView.{accepted}
+use Rattle.sx_rewrite.specs.Accepted.{Accepted, Signature}
+use Rattle.sx_rewrite.specs.AcceptedView.{accepted, signature}
 use Rattle.sx_expand.specs.declared.listing.Listing.{Listing}
 use Rattle.sx_expand.specs.Standing.{IsListed, AreListed, ListedEach, AreEnds}
 
@@ -14,6 +14,10 @@ set_in l = accepted l.set.now
 
 abbrev pub entries_in : Listing → List Entry
 entries_in l = entries l.list.now
+
+-- the signature of the set's forms
+abbrev pub signature_in : Listing → Signature
+signature_in l = signature l.set.now
 
 -- its ends are those of its entries
 abbrev pub HasEnds : Listing → Type 0

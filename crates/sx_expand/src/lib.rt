@@ -7,6 +7,8 @@
 //! - A node is lowered by the numbers of its terms and of its kids' subjects (`lower_node`): its
 //!   variables get plain images and subjects by number, its limits are told by measures, and of
 //!   its terms the subject alone is made.
+//! - A derivation is read from its list by the numbers of its inputs (`read_node`): what these bind,
+//!   its kids one after another, and then the node. What is not needed is not lowered.
 //! - Laws: what a derivation is lowered to has the order that its own order determines; a node over
 //!   kids that are read is read, with its subject at the number, or refused as it is due.
 #![tactic(auto)]
@@ -14,7 +16,9 @@
 mod binding;
 mod emission;
 mod ends;
+mod finishing;
 mod image_numbers;
+mod kid;
 mod kid_places;
 mod kid_subjects;
 mod laws;
@@ -22,10 +26,14 @@ mod list_lowering;
 mod listing;
 mod lower_node;
 mod lowered_list;
+mod node;
+mod node_binding;
 mod node_limits;
+mod node_reading;
 mod put_node;
 mod put_number;
 mod put_numbers;
+mod read;
 mod reader;
 mod subject_number;
 mod tallying;

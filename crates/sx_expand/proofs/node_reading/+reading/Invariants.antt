@@ -1,0 +1,15 @@
+use Rattle.std.proofs.Common.{◌+◌, ◌-◌, ◌*◌, length}
+use Rattle.sx_expand.proofs.KidSteps.{IsLooping}
+use Rattle.sx_expand.proofs.node_reading.+reading.Given as goal
+
+abbrev pub decreases-read_node : goal.decreases-read_node
+decreases-read_node l = 3 * (length l.listing.now.list.now - l.at)
+
+abbrev pub decreases-read_kids : goal.decreases-read_kids
+decreases-read_kids l = 3 * (length l.listing.now.list.now - (l.node.now.at + 1)) + 2
+
+abbrev pub decreases-read_kid : goal.decreases-read_kid
+decreases-read_kid l = 3 * (length l.listing.now.list.now - l.kid.now.at) + 1
+
+abbrev pub invariant-read_kids-loop-premise : goal.invariant-read_kids-loop-premise
+invariant-read_kids-loop-premise l = IsLooping l.listing l.node l.premise-items l.premise-index l.at l.fn.reader l.reader l.fn.work l.work l.subjects.items
