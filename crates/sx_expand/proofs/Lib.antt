@@ -22,3 +22,8 @@ pub mod Bindings
 pub mod KidSteps
 pub mod NodeAnswers
 pub mod ReadNodes
+pub mod RootPlaces
+pub mod RootTerms
+pub mod RootLowered
+pub mod Expansion
+pub mod RewrittenAlike

@@ -43,7 +43,7 @@ use Rattle.sx_expand.proofs.NodeRead.{puts, own-is, lowered}
 use Rattle.sx_expand.proofs.OwnSubject.{flat-none, flat-own}
 
 -- each of the terms passes no limit
-abbrev AllSmall : List Tree → Type 0
+abbrev pub AllSmall : List Tree → Type 0
 AllSmall [] = Unit {0}
 AllSmall (t ∷ ts) = IsSmall t × AllSmall ts
 
@@ -89,7 +89,7 @@ known-basic (b ∷ bs) more zero rule e = let q : b ≡ rule = cc in cc
 known-basic (b ∷ bs) more (suc r) rule e = known-basic bs more r rule e
 
 -- the places of a node that derives a judgement
-node-places : (base : List Rule) (hyps : Hypotheses) (r : ℕ) (binds : List Tree) (qs : Proofs) (k : Judgement) → Derives base hyps k (by r binds qs) → AllSmall (node_terms (slice_get base r) binds) → AllSmall k.places
+pub node-places : (base : List Rule) (hyps : Hypotheses) (r : ℕ) (binds : List Tree) (qs : Proofs) (k : Judgement) → Derives base hyps k (by r binds qs) → AllSmall (node_terms (slice_get base r) binds) → AllSmall k.places
 node-places base hyps r binds qs k (rule, at, many, concluded, apart_ones, each) h =
     let all = subst (λ (o : Option Rule). AllSmall (node_terms o binds)) at h in
     subst (λ (j : Judgement). AllSmall j.places) concluded (small-right binds (judgement_instance (bound_by binds) rule.conclusion).places all)

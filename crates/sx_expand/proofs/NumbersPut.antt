@@ -26,11 +26,11 @@ made-both [] (u ∷ us) xs ys h k = absurd h
 made-both (t ∷ ts) [] xs ys h k = absurd h
 made-both (t ∷ ts) (u ∷ us) xs ys h k = (h.0, made-both ts us xs ys h.1 k)
 
-below-both : (n : ℕ) (is : List ℕ) (i : ℕ) → AreBelow n is → i < n → AreBelow n (is ++ i ∷ [])
+pub below-both : (n : ℕ) (is : List ℕ) (i : ℕ) → AreBelow n is → i < n → AreBelow n (is ++ i ∷ [])
 below-both n [] i h l = (l, tt)
 below-both n (j ∷ is) i h l = (h.0, below-both n is i h.1 l)
 
-maps-both : (f : ℕ → Tree) (is : List ℕ) (i : ℕ) → map f (is ++ i ∷ []) ≡ map f is ++ f i ∷ []
+pub maps-both : (f : ℕ → Tree) (is : List ℕ) (i : ℕ) → map f (is ++ i ∷ []) ≡ map f is ++ f i ∷ []
 maps-both f [] i = refl
 maps-both f (j ∷ is) i = ap (λ (ts : List Tree). f j ∷ ts) (maps-both f is i)
 

@@ -14,3 +14,5 @@ pub mod LoweredNodes
 pub mod KidsRead
 pub mod ReadDerivations
 pub mod ReadNodes
+pub mod Roots
+pub mod Expansions

@@ -1,5 +1,6 @@
 //! Laws of lowered derivations by their lists and by the numbers of their terms.
 
+ghost use Rattle.sx_expand.specs.Expansions.{ExpandingIsRewriting};
 ghost use Rattle.sx_expand.specs.Laws.{OrdersAreLowered, KidsAreLowered, NodesAreMeasured};
 ghost use Rattle.sx_expand.specs.Laws.{NodesHaveSubjects};
 
@@ -22,4 +23,11 @@ pub fn nodes_are_measured()
 /// The subject of what such a node is lowered to stands at the number.
 pub fn nodes_have_subjects()
     ensures { NodesHaveSubjects }
+{}
+
+/// The boxed `rewrite` answers the same of a derivation as `expand` does of its list, unless memory
+/// is lacking: a derivation with that list, the same judgement and as many copied nodes, or the
+/// same refusal.
+pub fn expanding_is_rewriting()
+    ensures { ExpandingIsRewriting }
 {}

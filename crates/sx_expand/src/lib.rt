@@ -1,5 +1,8 @@
 //! Derivations that are rewritten as lists of entries, without a derivation in boxes.
 //!
+//! - `expand` expands the list of a goal's derivation to the list of what it is lowered to, and tells
+//!   the judgement of that. The nodes are counted first, and then the terms are measured, node by
+//!   node.
 //! - `lower_list` writes the entries of what a derivation is lowered to, by the entries of the
 //!   derivation and no term. Its nodes are counted first, and each entry is written once.
 //! - `check_node` measures the terms of a lowered node by how deep and how big the terms are that
@@ -10,12 +13,15 @@
 //! - A derivation is read from its list by the numbers of its inputs (`read_node`): what these bind,
 //!   its kids one after another, and then the node. What is not needed is not lowered.
 //! - Laws: what a derivation is lowered to has the order that its own order determines; a node over
-//!   kids that are read is read, with its subject at the number, or refused as it is due.
+//!   kids that are read is read, with its subject at the number, or refused as it is due; the boxed
+//!   `rewrite` has the same answer as `expand`.
 #![tactic(auto)]
 
 mod binding;
 mod emission;
 mod ends;
+mod expanded;
+mod expanding;
 mod finishing;
 mod image_numbers;
 mod kid;
@@ -35,11 +41,17 @@ mod put_number;
 mod put_numbers;
 mod read;
 mod reader;
+mod root_places;
 mod subject_number;
 mod tallying;
 mod work;
 
-pub use laws::{kids_are_lowered, nodes_are_measured, nodes_have_subjects, orders_are_lowered};
+pub use expanded::Expanded;
+pub use expanding::expand;
+pub use laws::{
+    expanding_is_rewriting, kids_are_lowered, nodes_are_measured, nodes_have_subjects,
+    orders_are_lowered,
+};
 pub use list_lowering::lower_list;
 pub use lowered_list::LoweredList;
 pub use node_limits::check_node;

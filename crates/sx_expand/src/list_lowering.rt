@@ -44,7 +44,11 @@ pub fn lower_list(
 }
 
 /// The list of what the derivation is lowered to that the listing begins with.
-fn lower_listing(alloc: Global, listing: &Listing, budget: u64) -> Result<LoweredList, RewriteError>
+pub(crate) fn lower_listing(
+    alloc: Global,
+    listing: &Listing,
+    budget: u64,
+) -> Result<LoweredList, RewriteError>
     requires ends { HasEnds listing.now }
     requires stands { (p : spec.Proof) × StandsIn listing.now 0 p × (height_of p ≤ 3000) }
     ensures { (p : spec.Proof) → StandsIn listing.now 0 p →

@@ -1,0 +1,164 @@
+//! Derivations that are expanded.
+
+ghost use Rattle.std.specs.Prelude.{length, map};
+ghost use Rattle.sx_rules.specs.Deep.{AreShallow};
+ghost use Rattle.sx_rules.specs.Derivations as spec;
+ghost use Rattle.sx_rules.specs.EntryView.{entries};
+ghost use Rattle.sx_rules.specs.First.{Answer};
+ghost use Rattle.sx_rules.specs.Rules as known;
+ghost use Rattle.sx_rules.specs.Rules.{no_hypotheses};
+ghost use Rattle.sx_rules.specs.Sets.{forms_in};
+ghost use Rattle.sx_rules.specs.Views.{goal as goal_of};
+ghost use Rattle.sx_arena.specs.Arena.{tree_at, AreBelow};
+ghost use Rattle.sx_rewrite.specs.AcceptedView.{accepted, signature};
+ghost use Rattle.sx_expand.specs.Expansions.{IsListedAnswer, IsExpanding, HasOneSubject};
+ghost use Rattle.sx_expand.specs.Listed.{HasEnds, set_in, signature_in, entries_in};
+ghost use Rattle.sx_expand.specs.Readers.{terms_in, IsReader};
+ghost use Rattle.sx_expand.specs.Roots.{IsRoot, IsRootLowered};
+
+use crate::ends::ends_of;
+use crate::expanded::Expanded;
+use crate::list_lowering::lower_listing;
+use crate::listing::Listing;
+use crate::lowered_list::LoweredList;
+use crate::node_reading::read_node;
+use crate::reader::Reader;
+use crate::root_places::root_judgement;
+use std::alloc::Global;
+use sx_arena::{Arena, enter_places};
+use sx_images::Images;
+use sx_rewrite::{Accepted, RewriteError};
+use sx_rules::{Entry, Goal, Judgement};
+
+/// What the derivation of the goal with this list is lowered to, as a list with its judgement.
+/// Where that has more nodes than the budget, is deeper than 3,000, or has a term over a limit, the
+/// first of these is refused, in this order. Its nodes are counted before any term is made.
+///
+/// The derivation is by the extended rules of the set, without hypotheses. No term of the goal, of
+/// its outputs or bound in the derivation is deeper than 1,000, and the goal's form has at most one
+/// subject. No derivation is made in boxes.
+pub fn expand(
+    alloc: Global,
+    set: &Accepted,
+    goal: &Goal,
+    list: &[Entry],
+    budget: u64,
+) -> Result<Expanded, RewriteError>
+    requires shallow { AreShallow (goal_of goal.now).terms }
+    requires one { HasOneSubject (forms_in set.now.base) goal.now.form }
+    requires listed { (answer : Answer)
+        × IsListedAnswer (signature set.now).modes (accepted set.now) (goal_of goal.now)
+        (entries list.now) answer }
+    ensures { (answer : Answer) →
+        IsListedAnswer (signature set.now).modes (accepted set.now) (goal_of goal.now)
+        (entries list.now) answer →
+        IsExpanding (accepted set.now) (signature set.now).subjects no_hypotheses answer.0 budget
+        result }
+{
+    let ends = ends_of(alloc, set, list)?;
+    let listing = Listing {
+        set,
+        list,
+        ends: &ends,
+    };
+    expand_listing(alloc, &listing, goal, budget)
+}
+
+/// What the derivation of the goal is lowered to that the listing begins with.
+fn expand_listing(
+    alloc: Global,
+    listing: &Listing,
+    goal: &Goal,
+    budget: u64,
+) -> Result<Expanded, RewriteError>
+    requires ends { HasEnds listing.now }
+    requires shallow { AreShallow (goal_of goal.now).terms }
+    requires one { HasOneSubject (forms_in listing.now.set.now.base) goal.now.form }
+    requires listed { (answer : Answer)
+        × IsListedAnswer (signature_in listing.now).modes (set_in listing.now) (goal_of goal.now)
+        (entries_in listing.now) answer }
+    ensures { (answer : Answer) →
+        IsListedAnswer (signature_in listing.now).modes (set_in listing.now) (goal_of goal.now)
+        (entries_in listing.now) answer →
+        IsExpanding (set_in listing.now) (signature_in listing.now).subjects no_hypotheses answer.0
+        budget result }
+{
+    listing.set.facts();
+    let lowered = lower_listing(alloc, listing, budget)?;
+    match lowered_root(alloc, listing, goal) {
+        Ok(judgement) => {
+            let LoweredList { entries, copied } = lowered;
+            Ok(Expanded {
+                entries,
+                judgement,
+                copied,
+            })
+        }
+        Err(error) => {
+            drop(lowered);
+            Err(error)
+        }
+    }
+}
+
+/// The judgement that the derivation of the goal is lowered to, where no term of the lowered
+/// derivation passes a limit. The first that does is refused.
+fn lowered_root(alloc: Global, listing: &Listing, goal: &Goal) -> Result<Judgement, RewriteError>
+    requires ends { HasEnds listing.now }
+    requires shallow { AreShallow (goal_of goal.now).terms }
+    requires one { HasOneSubject (forms_in listing.now.set.now.base) goal.now.form }
+    requires root { (j : known.Judgement) × (p : spec.Proof)
+        × IsRoot listing.now (goal_of goal.now) j p }
+    ensures { (j : known.Judgement) (p : spec.Proof) → IsRoot listing.now (goal_of goal.now) j p →
+        IsRootLowered listing.now p result }
+{
+    let mut arena = Arena::new(alloc);
+    match enter_places(alloc, &mut arena, &[], false, &goal.inputs) {
+        Ok(inputs) => {
+            let mut reader = Reader {
+                arena,
+                images: Images::new(alloc),
+            };
+            let judgement = read_root(alloc, listing, &mut reader, goal.form, &inputs);
+            drop(reader);
+            drop(inputs);
+            judgement
+        }
+        Err(_) => {
+            drop(arena);
+            Err(RewriteError::Memory)
+        }
+    }
+}
+
+/// The judgement that the derivation is lowered to whose goal has the form and the terms with these
+/// numbers, where no term of the lowered derivation passes a limit. The first that does is
+/// refused.
+fn read_root(
+    alloc: Global,
+    listing: &Listing,
+    reader: &mut Reader,
+    form: u32,
+    inputs: &[usize],
+) -> Result<Judgement, RewriteError>
+    requires ends { HasEnds listing.now }
+    requires reader { IsReader (set_in listing.now).table reader.old }
+    requires below { AreBelow (length (terms_in reader.old)) inputs.now }
+    requires shallow { AreShallow (map (tree_at (terms_in reader.old)) inputs.now) }
+    requires one { HasOneSubject (forms_in listing.now.set.now.base) form }
+    requires root { (j : known.Judgement) × (p : spec.Proof)
+        × IsRoot listing.now (record {
+          form = form;
+          terms = map (tree_at (terms_in reader.old)) inputs.now;
+        }) j p }
+    ensures { (j : known.Judgement) (p : spec.Proof) → IsRoot listing.now (record {
+      form = form;
+      terms = map (tree_at (terms_in reader.old)) inputs.now;
+    }) j p → IsRootLowered listing.now p result }
+{
+    listing.set.facts();
+    let read = read_node(alloc, listing, reader, 0, inputs, true)?;
+    let judgement = root_judgement(alloc, listing.set, reader, form, inputs, &read);
+    drop(read);
+    Ok(judgement?)
+}
