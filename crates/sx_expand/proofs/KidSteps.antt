@@ -1,7 +1,7 @@
 -- Kids that are read one after another.
 use Rattle.std.proofs.Common.{◌≡◌, arith, ℕ, zero, suc, ◌+◌, ◌<◌, ◌≤◌, ◌&&◌, ◌⊎◌, Bool, true, false, List, [], ◌∷◌, ◌++◌, length, drop, get_or, map, Option, Some, None, if◌then◌else◌, refl, sym, ap, ◌∙◌, subst, inl, inr}
-use Rattle.std.proofs.lemmas.Bool.{cases_eq}
-use Rattle.std.proofs.lemmas.List.{at_drop_more, drop_all, length_push, get_or_append_left, get_or_push}
+use Rattle.std.proofs.lemmas.Bool.{cases_eq, and_from, and_parts, and_left, and_right}
+use Rattle.std.proofs.lemmas.List.{drop_all, length_push, get_or_append_left, get_or_push}
 use Rattle.sx_term.specs.declared.term.Term.{Term}
 use Rattle.sx_term.specs.Sorts.{Shape}
 use Rattle.sx_term.specs.Tree.{Tree}
@@ -17,7 +17,6 @@ use Rattle.sx_rules.specs.Views.{premise, judgement}
 use Rattle.sx_arena.specs.Arena.{Extends}
 use Rattle.sx_arena.specs.Matching.{Assignment}
 use Rattle.sx_rewrite.specs.declared.rewrite_error.RewriteError.{RewriteError}
-use Rattle.sx_rewrite.specs.declared.rewrite_error.RewriteError.TheVariants.{Memory}
 use Rattle.sx_rewrite.specs.Accepted.{Accepted, rules_of, IsAccepted}
 use Rattle.sx_rewrite.specs.Lowering.{BindsFit, AllBindsFit, CanLower, IsRefused, needed_terms, IsKidRefused}
 use Rattle.sx_rewrite.specs.LoweredSizes.{number_of}
@@ -43,31 +42,7 @@ use Rattle.sx_expand.proofs.Bindings.{is-by, bindings-stay}
 use Rattle.sx_expand.proofs.Following.{follows-apart}
 use Rattle.sx_expand.proofs.KidsStay.{subject-stays}
 use Rattle.sx_expand.proofs.Standing.{listed-kids, listed-first, stands-within, nodes-some}
-
--- want of memory is told of any derivation
-pub memory-refused : (l : Listing) (need : Bool) (p : Proof) (e : RewriteError) → e ≡ Memory → IsReadRefused l need p e
-memory-refused l need p e same = ((λ n ts m. subst (λ (x : RewriteError). Tells (first_over ts) x) (sym same) tt), (λ n. same))
-
-both-true : (x y : Bool) → x ≡ true → y ≡ true → (x && y) ≡ true
-both-true true true e f = refl
-both-true true false e f = f
-both-true false y e f = e
-
-first-true : (x y : Bool) → (x && y) ≡ true → x ≡ true
-first-true true y e = refl
-first-true false y e = e
-
-second-true : (x y : Bool) → (x && y) ≡ true → y ≡ true
-second-true true y e = e
-second-true false y e = let z : false ≡ true = e in cc
-
-second-false : (x y : Bool) → y ≡ false → (x && y) ≡ false
-second-false true y e = e
-second-false false y e = refl
-
-first-false : (x y : Bool) → x ≡ false → (x && y) ≡ false
-first-false true y e = let z : true ≡ false = e in cc
-first-false false y e = refl
+use Rattle.sx_expand.proofs.Steps.{premise-drop}
 
 -- what is known of a kid stays where terms are put into the arena
 pub read-stays : (a : Accepted) (subjects : Modes) (hyps : Hypotheses) (old new : List Tree) (p : Proof) (o : Option ℕ) → Extends old new → IsKidRead a subjects hyps old p o → IsKidRead a subjects hyps new p o
@@ -81,6 +56,10 @@ node-read-stays l n old new w numbers d x work h = record {
     each = λ i p needs at. read-stays (set_in l) (signature_in l).subjects no_hypotheses old new p (get_or numbers i None) x ((h.kids need).each i p needs at);
   };
 }
+
+-- a node that is needed can be lowered
+pub can-lower : (l : Listing) (n : Node) (d : NodeData) → IsNodeIn l n d → n.is_needed ≡ true → CanLower (set_in l) no_hypotheses (proof_by n d)
+can-lower l n d is need = record { judgement = d.judgement; derives = is.can.derives; binds = is.can.binds; fit = is.can.fit; low = is.can.low need }
 
 -- the error of a kid is that of all, where those before it pass no limit
 refused-at : (a : Accepted) (subjects : Modes) (hyps : Hypotheses) (need : ℕ → Bool) (e : RewriteError) (n : ℕ) (ps : Proofs) (i : ℕ) (p : Proof) (tss : List (List Tree)) →
@@ -102,9 +81,6 @@ refused-at a subjects hyps need e n (x ⊳ ps) (suc i) p (ts ∷ tss) f g k h =
     here : (b : Bool) → need n ≡ b → first_over (if b then ts else []) ≡ None
     here true c = f 0 x (omega arith) (let v : n + 0 ≡ n = omega arith in ap need v ∙ c) refl ts h.0
     here false c = refl
-
-premise-drop : (ps : List PremiseOf) (i : ℕ) (p : PremiseOf) → i < length ps → p ≡ get_or ps i p → map premise (drop i ps) ≡ premise p ∷ map premise (drop (i + 1) ps)
-premise-drop ps i p l e = at_drop_more (map premise) ps i p l ∙ ap (λ (x : PremiseOf). premise x ∷ map premise (drop (i + 1) ps)) (sym e)
 
 within-number : (ps : Proofs) (i : ℕ) (p : Proof) → proof_at ps i ≡ Some p → i < number_of ps
 within-number no_more i p e = cc
@@ -130,9 +106,6 @@ module _ (l : Listing) (base shapes : List Shape) (ok : IsAccepted (signature_in
 
   abbrev cert : Option Proof
   cert = certificate_at a n.number
-
-  can-lower : n.is_needed ≡ true → CanLower a no_hypotheses (proof_by n d)
-  can-lower need = record { judgement = d.judgement; derives = is.can.derives; binds = is.can.binds; fit = is.can.fit; low = is.can.low need }
 
   module _ (ps : List PremiseOf) (premises_are : map premise ps ≡ d.rule.premises) where
     pub kids-start : (at : ℕ) (terms : List Tree) (w : Work) (numbers : List (Option ℕ)) → at ≡ n.at + 1 → numbers ≡ [] → AreFollowed l d.rule d.binds d.rule.premises (bindings_of terms w) → KidsSoFar l n ps 0 at terms w numbers d
@@ -249,7 +222,7 @@ module _ (l : Listing) (base shapes : List Shape) (ok : IsAccepted (signature_in
                   fit = x.fit.0;
                   low = λ e.
                       let both = sym needs ∙ e in
-                      (by-can (signature_in l) base shapes a ok no_hypotheses (tt, tt) tt n.number d.binds d.kids (can-lower (first-true n.is_needed _ both)) cert refl (length numbers) x.first (second-true n.is_needed _ both) x.at_kid).low;
+                      (by-can (signature_in l) base shapes a ok no_hypotheses (tt, tt) tt n.number d.binds d.kids (can-lower l n d is (and_parts n.is_needed _ both).0) cert refl (length numbers) x.first (and_parts n.is_needed _ both).1 x.at_kid).low;
                 };
                 followed = subst (λ (y : JudgementOf). AreFollowed l d.rule d.binds (holds (judgement y) ∷ map premise (drop (i + 1) ps)) (bindings_of terms w)) (sym for_premise)
                     (subst (λ (xs : List Premise). AreFollowed l d.rule d.binds xs (bindings_of terms w)) row_here so.followed);
@@ -284,7 +257,7 @@ module _ (l : Listing) (base shapes : List Shape) (ok : IsAccepted (signature_in
                   let o : Some next-kid.first ≡ Some p = sym next-kid.at_kid ∙ sym (ap (proof_at d.kids) same) ∙ at_m in
                   let is_p : next-kid.first ≡ p = cc in
                   let got : get_or (numbers ++ number ∷ []) m None ≡ number = get_or_push numbers number None m (sym same) in
-                  let it = h.1 (needs ∙ both-true n.is_needed _ need (sym (ap (needed cert) same) ∙ needs_m)) in
+                  let it = h.1 (needs ∙ and_from n.is_needed _ need (sym (ap (needed cert) same) ∙ needs_m)) in
                   subst (λ (o : Option ℕ). IsKidRead a (signature_in l).subjects no_hypotheses later p o) (sym got) (subst (λ (y : Proof). IsKidRead a (signature_in l).subjects no_hypotheses later y number) is_p it)
               read-at m p need low needs_m at_m (inr other) =
                   let before : m < length numbers = omega (arith, low, other) in
@@ -294,14 +267,14 @@ module _ (l : Listing) (base shapes : List Shape) (ok : IsAccepted (signature_in
 
           -- or refused
           pub kid-refuses : (e : RewriteError) → IsReadRefused l kid_needed next-kid.first e → IsReadRefused l n.is_needed (proof_by n d) e
-          kid-refuses e h = (refuses, (λ f. h.1 (needs ∙ first-false n.is_needed _ f)))
+          kid-refuses e h = (refuses, (λ f. h.1 (needs ∙ and_left n.is_needed _ f)))
             where
               here : n.is_needed ≡ true → (b : Bool) → needed cert (length numbers) ≡ b → IsKidRefused a (signature_in l).subjects no_hypotheses b next-kid.first e
-              here need true f ts m = h.0 (needs ∙ both-true n.is_needed _ need f) ts m
-              here need false f ts m = subst (λ (x : RewriteError). Tells None x) (sym (h.1 (needs ∙ second-false n.is_needed _ f))) tt
+              here need true f ts m = h.0 (needs ∙ and_from n.is_needed _ need f) ts m
+              here need false f ts m = subst (λ (x : RewriteError). Tells None x) (sym (h.1 (needs ∙ and_right n.is_needed _ f))) tt
 
               refuses : n.is_needed ≡ true → IsRefused a (signature_in l).subjects no_hypotheses (proof_by n d) e
-              refuses need = by-refuse (signature_in l) base shapes a ok no_hypotheses (tt, tt) tt n.number d.binds d.kids (can-lower need) cert refl e (λ tss m.
+              refuses need = by-refuse (signature_in l) base shapes a ok no_hypotheses (tt, tt) tt n.number d.binds d.kids (can-lower l n d is need) cert refl e (λ tss m.
                   refused-at a (signature_in l).subjects no_hypotheses (needed cert) e 0 d.kids (length numbers) next-kid.first tss
                   (λ i x low f g. (so.read i x need low (let z : 0 + i ≡ i = omega arith in sym (ap (needed cert) z) ∙ f) g).small)
                   next-kid.at_kid (let z : 0 + length numbers ≡ length numbers = omega arith in subst (λ (v : ℕ). IsKidRefused a (signature_in l).subjects no_hypotheses (needed cert v) next-kid.first e) (sym z) (here need (needed cert (length numbers)) refl)) m)

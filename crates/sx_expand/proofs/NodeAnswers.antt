@@ -21,6 +21,7 @@ use Rattle.sx_expand.specs.Listed.{set_in, signature_in}
 use Rattle.sx_expand.specs.LoweredNodes.{NodeOver, IsNodeLowered}
 use Rattle.sx_expand.specs.ReadNodes.{NodeData, IsNodeIn, proof_by, IsNodeRead, IsSubjectRead}
 use Rattle.sx_expand.proofs.Bindings.{is-by}
+use Rattle.sx_expand.proofs.KidSteps.{can-lower}
 use Rattle.sx_expand.proofs.KidsLowered.{KidsLoweredTo, kids-lowered}
 use Rattle.sx_expand.proofs.NodeRead.{node-small, node-refused}
 use Rattle.sx_expand.proofs.NodeSubject.{node-subject}
@@ -36,7 +37,7 @@ module _ (l : Listing) (base shapes : List Shape) (ok : IsAccepted (signature_in
   sig = signature_in l
 
   can : CanLower a no_hypotheses (proof_by n d)
-  can = record { judgement = d.judgement; derives = is.can.derives; binds = is.can.binds; fit = is.can.fit; low = is.can.low need }
+  can = can-lower l n d is need
 
   known-here : (known : Known) × (slice_get (known_of a) n.number ≡ Some known) × (rule_in known ≡ d.rule)
   known-here = known-at (known_of a) n.number d.rule is.found

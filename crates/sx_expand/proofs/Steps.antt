@@ -54,7 +54,7 @@ Stepping ps ends first i here = (sizes : List ℕ) → length sizes ≡ length (
 pub stepping-first : (ps : List Premise) (ends : List ℕ) (first : ℕ) → Stepping ps ends first 0 first
 stepping-first ps ends first sizes many steps = record { sizes = sizes; many = many; steps = steps; sum = refl }
 
-premise-drop : (ps : List Premise) (i : ℕ) (p : Premise) → i < length ps → p ≡ get_or ps i p → map premise (drop i ps) ≡ premise p ∷ map premise (drop (i + 1) ps)
+pub premise-drop : (ps : List Premise) (i : ℕ) (p : Premise) → i < length ps → p ≡ get_or ps i p → map premise (drop i ps) ≡ premise p ∷ map premise (drop (i + 1) ps)
 premise-drop ps i p l e = at_drop_more (map premise) ps i p l ∙ ap (λ (x : Premise). premise x ∷ map premise (drop (i + 1) ps)) (sym e)
 
 -- at a judgement there is a step
