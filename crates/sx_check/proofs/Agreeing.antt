@@ -9,7 +9,7 @@ use Rattle.sx_extcheck.specs.declared.budgets.Budgets.{Budgets}
 use Rattle.sx_steps.specs.declared.stop.Stop.{Stop}
 use Rattle.sx_steps.specs.declared.step_error.StepError.{StepError}
 use Rattle.sx_steps.specs.declared.step_error.StepError.TheVariants as errors
-use Rattle.sx_steps.specs.Agree.{AreReadings, AnswersBy}
+use Rattle.sx_steps.specs.Agree.{AnswersBy}
 use Rattle.sx_steps.specs.Refusal.{status_of, line_of}
 use Rattle.sx_steps.specs.Steps.{NoTries, Untried}
 use Rattle.sx_steps.proofs.Ones.{IsNearlyOne, IsOneBy, no_tries_one, trying_by, and_then_by, trying_same, trying_nearly, as_answer, answers_so}

@@ -1,6 +1,6 @@
 -- The rules of the last extension are among all.
-use Rattle.std.proofs.Common.{◌≡◌, ℕ, ◌≤◌, List, [], ◌∷◌, ◌++◌, length, length-append, sym, ap, subst, arith}
-use Rattle.std.specs.Prelude.{Result, Ok, Err}
+use Rattle.std.proofs.Common.{◌≡◌, ℕ, ◌≤◌, List, [], ◌∷◌, length, length-append, sym, subst, arith}
+use Rattle.std.specs.Prelude.{Result, Ok}
 use Rattle.sx_extcheck.specs.declared.budgets.Budgets.{Budgets}
 use Rattle.sx_steps.specs.Steps.{Untried}
 use Rattle.sx_steps.specs.declared.stop.Stop.{Stop}

@@ -10,7 +10,7 @@ use Rattle.sx_rewrite.specs.AcceptedView.{accepted}
 use Rattle.sx_rewrite.specs.Stored.{certificate_at}
 use Rattle.sx_check.specs.CertificateText.{certificate_line}
 
--- an accepted set, the names of its base rules, and those of all its rules
+-- an accepted set, its base rules with their names, and all its rules with theirs
 pub record Shown : Type 0 where
   pub set : Accepted
   pub base : List NamedRule

@@ -1,44 +1,67 @@
 -- What `check NAME` promises.
-use Rattle.std.specs.Prelude.{◌≡◌, ℕ, ◌-◌, List, [], ◌∷◌, Some, Ok, length}
+use Rattle.std.specs.Prelude.{◌≡◌, ℕ, ◌-◌, ◌<◌, ◌≤◌, List, [], ◌∷◌, ◌++◌, Some, Ok, length}
+use Rattle.sx_rules.specs.Derivations.{Proof}
+use Rattle.sx_rewrite.specs.Stored.{certificate_at}
 use Rattle.sx_extcheck.specs.declared.budgets.Budgets.{Budgets}
-use Rattle.sx_outline.specs.Headers.{HeaderData, IsHeaderAnswer}
+use Rattle.sx_outline.specs.Headers.{IsHeaderAnswer}
 use Rattle.sx_outside.specs.Files.{Files, after}
 use Rattle.sx_steps.specs.Work.{Plan}
 use Rattle.sx_uses.specs.ExtensionFile.{Extension, extension_file}
 use Rattle.sx_uses.specs.ReadUses.{ReadsUses}
-use Rattle.sx_accepting.specs.ExtendedLanguages.{ExtendedData, unextended}
-use Rattle.sx_accepting.specs.Extending.{Extends}
+use Rattle.sx_accepting.specs.ExtendedLanguages.{BaseLanguage, ExtendedData, SetData, unextended}
+use Rattle.sx_accepting.specs.Extending.{ReadData, ReadsAfter, Extends}
 use Rattle.sx_accepting.specs.LanguageFiles.{language_file}
 use Rattle.sx_accepting.specs.Laws.{IsAcceptedOver}
 use Rattle.sx_accepting.specs.ReadLanguage.{Stated, IsStated, base_in}
 use Rattle.sx_check.specs.CheckExtension.{ChecksExtension, shown_in}
 use Rattle.sx_check.specs.CheckText.{check_text}
 
+-- each of so many rules of the set, the last ones, has a certificate
+abbrev pub HaveCertificates : SetData → (last : ℕ) → Type 0
+HaveCertificates s last =
+    (number : ℕ) → length s.rules - last ≤ number → number < length s.rules →
+    (p : Proof) × (certificate_at s.kept number ≡ Some p)
+
+-- This extension comes last. It is read after all others, and the last rules are those that its
+-- file states.
+pub record ComesLast (l : BaseLanguage) (budgets : Budgets) (own : Extension)
+    (extensions : List Extension) (x : ExtendedData) : Type 0 where
+  pub before : List Extension
+  pub parts : extensions ≡ before ++ own ∷ []
+  pub so_far : ExtendedData
+  pub tries : ℕ
+  pub extends : Extends l budgets before (unextended l.content) (Ok so_far) tries
+  pub read : ReadData
+  pub reads : ReadsAfter l so_far own (Ok read)
+  pub rules : x.set.rules ≡ so_far.set.rules ++ read.rules
+  pub count : x.last ≡ length read.rules
+
 -- The extension in the file NAME.ext and those that are reached by its `use` lines, each after those
--- that it uses, are accepted in order over the language that its header names, as its file states
--- it: each rule of each has a certificate, by which its flat conclusion follows from its flat
--- premises by the rules of the language alone. All files are as before, and the lines tell the
--- certificates of the rules of NAME, which comes last, and how many they are.
+-- that it uses and NAME last, are accepted in order over the language that its header names, as
+-- that file states it: each rule of each has a certificate, by which its flat conclusion follows
+-- from its flat premises by the rules of the language alone. All files are as before, and the lines
+-- tell the certificates of the rules that the file of NAME states, and how many these are.
 pub record CheckedExtension (name : List ℕ) (budgets : Budgets) (old new : Files)
-    (lines : List ℕ) : Type 0 where
-  pub bytes : List ℕ
-  pub header : HeaderData
+    (text : List ℕ) : Type 0 where
+  pub own : Extension
   pub language_bytes : List ℕ
   pub language : Stated
   pub extensions : List Extension
   pub extended : ExtendedData
   pub tries : ℕ
-  pub held : old (extension_file name) ≡ Some bytes
-  pub headed : IsHeaderAnswer name bytes (Ok header)
-  pub language_held : old (language_file header.language) ≡ Some language_bytes
-  pub stated : IsStated header.language language_bytes language
+  pub held : old (extension_file name) ≡ Some own.bytes
+  pub headed : IsHeaderAnswer name own.bytes (Ok own.header)
+  pub language_held : old (language_file own.header.language) ≡ Some language_bytes
+  pub stated : IsStated own.header.language language_bytes language
   pub reached :
-      ReadsUses (extension_file name) header.language (name ∷ []) old (Ok extensions)
+      ReadsUses (extension_file name) own.header.language (name ∷ []) old (Ok extensions)
   pub extends : Extends (base_in language) budgets extensions (unextended language.language)
       (Ok extended) tries
   pub accepted : IsAcceptedOver (base_in language) extended
+  pub last : ComesLast (base_in language) budgets own extensions extended
+  pub certified : HaveCertificates extended.set extended.last
   pub same : new ≡ old
-  pub line : lines ≡ check_text (shown_in extended.set) name
+  pub lines : text ≡ check_text (shown_in extended.set) name
       (length extended.set.rules - extended.last) extended.last
 
 -- where the check ends with lines, and the files are as it leaves them, it promises this

@@ -1,24 +1,21 @@
 -- What is proved of `check NAME`.
-use Rattle.std.specs.Prelude.{◌≡◌, ◌⊎◌, ℕ, List, [], ◌∷◌, ◌++◌, map, Result}
-use Rattle.std.specs.Prelude.{Ok, Err}
-use Rattle.sx_rules.specs.Views.{named}
-use Rattle.sx_rewrite.specs.declared.ext_rule.ExtRule.{ExtRule}
-use Rattle.sx_extcheck.specs.Accepts.{HasUnsound}
+use Rattle.std.specs.Prelude.{◌≡◌, ◌⊎◌, ℕ, List, [], ◌∷◌, Result, Ok, Err}
 use Rattle.sx_extcheck.specs.declared.budgets.Budgets.{Budgets}
 use Rattle.sx_outside.specs.Files.{Files}
 use Rattle.sx_steps.specs.declared.stop.Stop.{Stop}
 use Rattle.sx_steps.specs.declared.step_error.StepError.{StepError}
 use Rattle.sx_steps.specs.declared.step_error.StepError.TheVariants as errors
 use Rattle.sx_steps.specs.Agree.{AreReadings, IsSure, AnswersBy}
+use Rattle.sx_steps.specs.TypeErrors.{IsTypeError}
 use Rattle.sx_steps.specs.Work.{Plan}
 use Rattle.sx_uses.specs.ExtensionFile.{Extension, extension_file}
 use Rattle.sx_uses.specs.Laws.{AnswerAlike}
 use Rattle.sx_uses.specs.ReadExtension.{ReadsFile}
 use Rattle.sx_uses.specs.ReadUses.{ReadsUses}
 use Rattle.sx_accepting.specs.ExtendedLanguages.{ExtendedData, unextended}
-use Rattle.sx_accepting.specs.Extending.{ReadData, bodies_in, ReadsAfter, check_after, Extends}
+use Rattle.sx_accepting.specs.Extending.{Extends}
+use Rattle.sx_accepting.specs.Laws.{StopsAtUnsound}
 use Rattle.sx_accepting.specs.ReadLanguage.{Stated, ReadsLanguage, base_in}
-use Rattle.sx_build.specs.Laws.{IsTypeError}
 use Rattle.sx_check.specs.CheckExtension.{ChecksExtension}
 
 -- ---- one result
@@ -69,29 +66,16 @@ ChecksAgree =
 
 -- ---- rules that are not sound
 
--- One of the extensions that are reached, which is read after those before it, has a rule that is
--- sound by nothing.
-pub record HasUnsoundRule (name : List ℕ) (budgets : Budgets) (files : Files) : Type 0 where
-  pub from : IsReached name files
-  pub before : List Extension
-  pub this : Extension
-  pub after : List Extension
-  pub parts : from.extensions ≡ before ++ this ∷ after
-  pub so_far : ExtendedData
-  pub tries : ℕ
-  pub extends : Extends (base_in from.language) budgets before
-      (unextended from.language.language) (Ok so_far) tries
-  pub read : ReadData
-  pub reads : ReadsAfter (base_in from.language) so_far this (Ok read)
-  pub rules : List ExtRule
-  pub rules_are : map (λ e. named e.rule) rules ≡ read.rules
-  pub bodies_are : bodies_in rules ≡ read.bodies
-  pub rule : List ℕ
-  pub unsound : HasUnsound (check_after so_far.set read.table budgets) rules rule
+-- one of the extensions that are reached has a rule that is sound by nothing, and the stop is about
+-- this rule, in the file of that extension
+pub record HasUnsoundRule (name : List ℕ) (budgets : Budgets) (files : Files) (stop : Stop) : Type 0
+  where
+    pub from : IsReached name files
+    pub unsound : StopsAtUnsound (base_in from.language) budgets from.extensions stop
 
--- a check stops with a type error only where a rule is not sound
+-- a check stops with a type error only where the rule that the stop is about is not sound
 abbrev pub UnsoundIsFinal : Type 0
 UnsoundIsFinal =
     (name : List ℕ) (budgets : Budgets) (files : Files) (stop : Stop) (tries : ℕ) →
     ChecksExtension name budgets files (Err (errors.Stopped stop)) tries → IsTypeError stop →
-    HasUnsoundRule name budgets files
+    HasUnsoundRule name budgets files stop

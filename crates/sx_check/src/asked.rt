@@ -4,7 +4,8 @@ use std::alloc::Global;
 use sx_extcheck::Budgets;
 use sx_term::Text;
 
-/// The name of the extension, the name of its file, and the budgets.
+/// Where memory is taken from, the name of the extension, the name of its file, and how many tries
+/// and nodes each rule may take.
 #[derive(Clone, Copy)]
 pub(crate) struct Asked<'a> {
     pub(crate) alloc: Global,

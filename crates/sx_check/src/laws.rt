@@ -5,8 +5,8 @@ ghost use Rattle.sx_check.specs.Laws.{ChecksAgree, UnsoundIsFinal};
 
 use sx_outline::one_extension_header;
 
-/// Where the check ends with lines, the extension and all that it uses are accepted, each rule with
-/// the certificate that is told, and no file has changed.
+/// Where the check ends with lines, the extension and all that it uses are accepted, itself last. The
+/// lines tell the certificate of each rule that its own file states, and no file has changed.
 pub fn checks_keep_promise()
     ensures { ChecksKeepPromise }
 {}
@@ -20,7 +20,8 @@ pub fn checks_agree()
     one_extension_header();
 }
 
-/// A check stops with a type error only where a rule of an extension is not sound.
+/// A check stops with a type error only where the rule that the stop is about, in the file that it
+/// names, is not sound.
 pub fn unsound_is_final()
     ensures { UnsoundIsFinal }
 {}

@@ -2,9 +2,8 @@
 //!
 //! - `plan_check`: the lines that are to be written, or why none are. The extension's file is read
 //!   as far as its header, then its language's, then those of the extensions that it uses; and then
-//!   each of them is read and accepted, itself last.
-//! - `check_lines`: the lines that are written where the extension is accepted: the certificate of
-//!   each of its rules, and how many rules it has.
+//!   each of them is read and accepted, itself last. Where all are accepted, the lines are the
+//!   certificate of each rule of the extension, and how many rules it has.
 #![tactic(auto)]
 
 mod accepted_lines;
@@ -18,4 +17,3 @@ mod sought;
 
 pub use check_extension::plan_check;
 pub use laws::{checks_agree, checks_keep_promise, unsound_is_final};
-pub use rule_lines::check_lines;

@@ -56,7 +56,7 @@ fn put_accepted(alloc: Global, name: &Text, count: u32, into: &mut Vec<u8>) -> R
 
 /// The lines of the extension with this name, whose rules are so many of the set, from the one with
 /// this number on: the certificate of each, and how many they are.
-pub fn check_lines(
+pub(crate) fn check_lines(
     alloc: Global,
     set: &Accepted,
     name: &Text,

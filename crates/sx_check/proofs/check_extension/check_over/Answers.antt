@@ -1,4 +1,4 @@
-use Rattle.std.proofs.Common.{◌≡◌, ◌∷◌, [], ℕ, List, subst}
+use Rattle.std.proofs.Common.{◌∷◌, [], ℕ, List, subst}
 use Rattle.sx_steps.specs.Steps.{NoTries}
 use Rattle.sx_steps.specs.Stop.{Does}
 use Rattle.sx_steps.specs.Work.{plan_of}

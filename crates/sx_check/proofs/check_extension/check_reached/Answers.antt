@@ -1,6 +1,5 @@
-use Rattle.std.proofs.Common.{◌≡◌, ◌∷◌, [], ℕ, List, map, refl, subst, arith}
-use Rattle.std.specs.Prelude.{Result, Ok, Err}
-use Rattle.sx_outside.specs.Files.{Files}
+use Rattle.std.proofs.Common.{◌∷◌, [], ℕ, List, map, refl, subst, arith}
+use Rattle.std.specs.Prelude.{Ok, Err}
 use Rattle.sx_steps.specs.Steps.{Untried}
 use Rattle.sx_steps.specs.Stop.{Gives, Does}
 use Rattle.sx_steps.specs.Work.{plan_of}

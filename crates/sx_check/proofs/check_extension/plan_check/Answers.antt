@@ -1,5 +1,5 @@
-use Rattle.std.proofs.Common.{ℕ, List, refl, sym, subst, ◌∙◌, arith}
-use Rattle.std.specs.Prelude.{Result, Ok, Err}
+use Rattle.std.proofs.Common.{refl, sym, subst, ◌∙◌, arith}
+use Rattle.std.specs.Prelude.{Result, Err}
 use Rattle.sx_rewrite.proofs.Instanced.{err_is}
 use Rattle.sx_steps.specs.declared.step_error.StepError.{StepError}
 use Rattle.sx_steps.specs.declared.work.Work.{Work}
