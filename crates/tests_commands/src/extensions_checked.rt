@@ -1,7 +1,7 @@
 //! Runs of `check`.
 
 use crate::extension_files::{File, LET, LOUD, NONE, PAIR, QUAD, SHOW, TWICE};
-use crate::files::put;
+use crate::files::{append, join, put, put_under};
 use crate::run::ends;
 use crate::samples::LAM;
 use std::alloc::Global;
@@ -224,4 +224,139 @@ fn extension_files_that_are_refused(rt: HostRuntime) {
         is_refused(alloc, other, b"soundx: Lim.lang: absent\n"),
     ];
     assert_eq!(rt; hold, [true; 9]);
+}
+
+#[test]
+fn an_extension_of_another_language(rt: HostRuntime) {
+    let alloc = rt.alloc();
+    let other = File {
+        name: "Y.ext",
+        text: b"extension Y\nlanguage Lim\n",
+    };
+    let user = File {
+        name: "X.ext",
+        text: b"extension X\nlanguage Lam\nuse Y\n",
+    };
+    let told = b"soundx: Y.ext: written for language Lim\n";
+    let is = checks(alloc, "check X", &other, &user, 1, told);
+    assert!(rt; is);
+}
+
+/// Sixteen letters.
+const LETTERS: &[u8] = b"abcdefghijklmnop";
+
+/// Puts an extension that adds nothing, whose name has three letters, and appends a line that uses
+/// it; whether memory was there for that.
+fn put_empty(alloc: Global, name: [u8; 3], uses: &mut Vec<u8>, shelf: &mut MemShelf) -> bool {
+    let name = name.as_slice();
+    let mut file = Vec::new(alloc);
+    let is = join(&[name, b".ext".as_slice()], &mut file)
+        && put_under(
+            alloc,
+            file.as_slice(),
+            &[
+                b"extension ".as_slice(),
+                name,
+                b"\nlanguage Lam\n".as_slice(),
+            ],
+            shelf,
+        )
+        && join(&[b"use ".as_slice(), name, b"\n".as_slice()], uses);
+    drop(file);
+    is
+}
+
+/// So with each of 256 names.
+fn put_empties(alloc: Global, uses: &mut Vec<u8>, shelf: &mut MemShelf) -> bool {
+    for first in LETTERS {
+        for second in LETTERS {
+            if !put_empty(alloc, [b'E', *first, *second], uses, shelf) {
+                return false;
+            }
+        }
+    }
+    true
+}
+
+#[test]
+fn more_than_256_files(rt: HostRuntime) {
+    let alloc = rt.alloc();
+    let mut shelf = MemShelf::new(alloc);
+    let mut out = MemSink::new(alloc);
+    let mut uses = Vec::new(alloc);
+    let head = b"extension X\nlanguage Lam\n".as_slice();
+    let told = b"soundx: X.ext: more than 256 files\n";
+    let is = put(alloc, LAM.file, &[LAM.text], &mut shelf)
+        && put_empties(alloc, &mut uses, &mut shelf)
+        && put(alloc, "X.ext", &[head, uses.as_slice()], &mut shelf)
+        && ends(alloc, "check X", &mut shelf, &mut out, 1, told);
+    drop(uses);
+    drop(out);
+    drop(shelf);
+    assert!(rt; is);
+}
+
+/// A text whose middle stands sixty times.
+struct Repeated {
+    head: &'static [u8],
+    middle: &'static [u8],
+    end: &'static [u8],
+}
+
+/// A rule for texts, whose certificate is sixty deep.
+const DEEP: Repeated = Repeated {
+    head: br#"extension A
+language Lam
+prod a Exp 90 : "a" Exp@90
+rule T-A
+~C |- ~e : Str
+---
+~C |- a ~e : Str
+to ~e"#,
+    middle: br#" ++ "!""#,
+    end: b"\nend\n",
+};
+
+/// One whose body is sixty of these deep.
+const DEEPER: Repeated = Repeated {
+    head: br#"extension B
+language Lam
+use A
+prod b Exp 90 : "b" Exp@90
+rule T-B
+~C |- ~e : Str
+---
+~C |- b ~e : Str
+to"#,
+    middle: b" a",
+    end: b" ~e\nend\n",
+};
+
+/// Puts the text under the name.
+fn put_repeated(alloc: Global, name: &str, text: &Repeated, shelf: &mut MemShelf) -> bool {
+    let mut bytes = Vec::new(alloc);
+    for _ in 0..60 {
+        if !append(text.middle, &mut bytes) {
+            drop(bytes);
+            return false;
+        }
+    }
+    let is = put(alloc, name, &[text.head, bytes.as_slice(), text.end], shelf);
+    drop(bytes);
+    is
+}
+
+#[test]
+fn a_rewritten_derivation_that_is_too_deep(rt: HostRuntime) {
+    let alloc = rt.alloc();
+    let mut shelf = MemShelf::new(alloc);
+    let mut out = MemSink::new(alloc);
+    let told = b"soundx: B.ext: rule T-B: rewritten derivation deeper than 3000\n";
+    let is = put(alloc, LAM.file, &[LAM.text], &mut shelf)
+        && put_repeated(alloc, "A.ext", &DEEP, &mut shelf)
+        && put_repeated(alloc, "B.ext", &DEEPER, &mut shelf)
+        && ends(alloc, "check B", &mut shelf, &mut out, 6, told);
+    drop(out);
+    drop(shelf);
+    assert!(rt; is);
 }

@@ -5,8 +5,8 @@ use sx_outside::MemShelf;
 use sx_term::Text;
 
 /// Puts the bytes under the name, and answers whether memory was there for that.
-fn put_bytes(alloc: Global, name: &str, bytes: Vec<u8>, shelf: &mut MemShelf) -> bool {
-    match Text::make(alloc, name.as_bytes()) {
+fn put_bytes(alloc: Global, name: &[u8], bytes: Vec<u8>, shelf: &mut MemShelf) -> bool {
+    match Text::make(alloc, name) {
         Ok(name) => shelf.put(name, bytes).is_ok(),
         Err(_) => {
             drop(bytes);
@@ -21,7 +21,7 @@ pub fn append(part: &[u8], bytes: &mut Vec<u8>) -> bool {
 }
 
 /// Appends the parts one after another, and answers whether memory was there for them.
-fn join(parts: &[&[u8]], bytes: &mut Vec<u8>) -> bool {
+pub fn join(parts: &[&[u8]], bytes: &mut Vec<u8>) -> bool {
     for part in parts {
         if !append(part, bytes) {
             return false;
@@ -32,6 +32,11 @@ fn join(parts: &[&[u8]], bytes: &mut Vec<u8>) -> bool {
 
 /// Puts the parts, one after another, under the name.
 pub fn put(alloc: Global, name: &str, parts: &[&[u8]], shelf: &mut MemShelf) -> bool {
+    put_under(alloc, name.as_bytes(), parts, shelf)
+}
+
+/// The same, under a name of these bytes.
+pub fn put_under(alloc: Global, name: &[u8], parts: &[&[u8]], shelf: &mut MemShelf) -> bool {
     let mut bytes = Vec::new(alloc);
     if join(parts, &mut bytes) {
         put_bytes(alloc, name, bytes, shelf)
@@ -45,7 +50,7 @@ pub fn put(alloc: Global, name: &str, parts: &[&[u8]], shelf: &mut MemShelf) -> 
 pub fn put_module(alloc: Global, header: &[u8], body: &[u8], shelf: &mut MemShelf) -> bool {
     let mut bytes = Vec::new(alloc);
     if append(header, &mut bytes) && append(body, &mut bytes) && append(b"\n", &mut bytes) {
-        put_bytes(alloc, "Main.mod", bytes, shelf)
+        put_bytes(alloc, b"Main.mod", bytes, shelf)
     } else {
         drop(bytes);
         false

@@ -108,12 +108,17 @@ fn commands_that_there_are_none_of(rt: HostRuntime) {
     let hold = [
         are_refused(alloc, "compile One", b"soundx: words: word 1\n"),
         are_refused(alloc, "verify One", b"soundx: words: word 2\n"),
-        are_refused(alloc, "build --nodes=5 One", b"soundx: words: word 2\n"),
+        are_refused(
+            alloc,
+            "build --audit=deny:R One",
+            b"soundx: words: word 2\n",
+        ),
+        are_refused(alloc, "check --core One", b"soundx: words: word 2\n"),
         are_refused(
             alloc,
             "build --core --nodes=5 One",
             b"soundx: words: word 3\n",
         ),
     ];
-    assert_eq!(rt; hold, [true; 4]);
+    assert_eq!(rt; hold, [true; 5]);
 }

@@ -130,14 +130,17 @@ fn words_by_now(rt: HostRuntime) {
         misfit_at(alloc, stage, b"verify Main"),
         misfit_at(alloc, stage, b"verify --tries=5 Main"),
         misfit_at(alloc, stage, b"build --nodes=5 Main"),
+        misfit_at(alloc, stage, b"build --core --nodes=5 One"),
         misfit_at(alloc, stage, b"build --audit=deny:R Main"),
         misfit_at(alloc, stage, b"build --core --core One"),
         misfit_at(alloc, stage, b"build --core One Two"),
         misfit_at(alloc, stage, b"build Main --tries=5"),
+        misfit_at(alloc, stage, b"check --tries=1 --nodes=1 Let"),
+        misfit_at(alloc, stage, b"check --core Let"),
         misfit_at(alloc, stage, b"compile Main"),
         misfit_at(alloc, stage, b"sample 1"),
     ];
-    assert_eq!(rt; places, [0, 0, 0, 0, 2, 2, 2, 2, 3, 4, 3, 1, 1]);
+    assert_eq!(rt; places, [0, 0, 0, 0, 2, 2, 0, 3, 2, 3, 4, 3, 0, 2, 1, 1]);
 }
 
 /// Whether the auditor is that of the test.
