@@ -14,3 +14,4 @@ pub mod OneWriting
 pub mod OneUnit
 pub mod LoweredTerms
 pub mod MadeUnits
+pub mod ExpandedTypings

@@ -1,5 +1,7 @@
 //! Units: what is written of a module that is typed in a dialect and lowered.
 //!
+//! - `compile` makes the unit of a module: its body is read and typed, the derivation is lowered,
+//!   and the texts are written; or it tells the refusal that is due.
 //! - A unit is a body that is read in one way by the grammar of a dialect, the first derivation of
 //!   its goal, what that is lowered to by the language's own rules, and three texts: the base
 //!   program, the interface with the signature and the stated signature, and the list of the
@@ -12,6 +14,7 @@
 
 mod captured;
 mod compiled;
+mod compiling;
 mod counting;
 mod errors;
 mod import;
@@ -29,8 +32,10 @@ mod printed_terms;
 mod showing;
 mod signature_writing;
 mod texts;
+mod typed_lowering;
 
 pub use compiled::Compiled;
+pub use compiling::compile;
 pub use import::Import;
 pub use laws::{one_unit, type_errors_are_final, units_are_made};
 pub use module_error::ModuleError;
