@@ -102,6 +102,115 @@ plain pair T1 T2
 "#,
 };
 
+/// A loop over a list: its body binds a name of a type that was found.
+pub const FOR: File = File {
+    name: "For.ext",
+    text: br#"extension For
+language Lam
+prod for Exp 10 : "for" id "in" Exp "yield" Exp
+rule T-For
+~C |- ~e1 : List ~T1
+~C , ~x : ~T1 |- ~e2 : ~T2
+---
+~C |- for ~x in ~e1 yield ~e2 : List ~T2
+to map ( \ ~x : ~T1 . ~e2 ) ~e1
+end
+"#,
+};
+
+/// One word for two values, which the types around it choose from.
+pub const NULL: File = File {
+    name: "Null.ext",
+    text: br#"extension Null
+language Lam
+prod null Exp 90 : "null"
+rule T-NullI
+---
+~C |- null : Int
+to 0
+end
+rule T-NullS
+---
+~C |- null : Str
+to ""
+end
+"#,
+};
+
+/// A part that is typed and then dropped.
+pub const KEEP: File = File {
+    name: "Keep.ext",
+    text: br#"extension Keep
+language Lam
+prod keep Exp 50 : "keep" Exp@51 Exp@51
+rule T-Keep
+~C |- ~e1 : ~T1
+~C |- ~e2 : ~T2
+---
+~C |- keep ~e1 ~e2 : ~T1
+to ~e1
+end
+"#,
+};
+
+/// A rule that concludes its own premise.
+pub const SAME: File = File {
+    name: "Same.ext",
+    text: br#"extension Same
+language Lam
+rule T-Same
+~C |- ~e : ~T
+---
+~C |- ~e : ~T
+to ~e
+end
+"#,
+};
+
+/// A word that could be a name.
+pub const CAP: File = File {
+    name: "Cap.ext",
+    text: br#"extension Cap
+language Lam
+prod cap Exp 90 : "f"
+rule T-Cap
+---
+~C |- f : Int
+to 0
+end
+"#,
+};
+
+/// A sign behind a term, of the same level as the one of the next file.
+pub const BANG: File = File {
+    name: "Bang.ext",
+    text: br#"extension Bang
+language Lam
+prod bang Exp 40 : Exp@40 "!"
+rule T-Bang
+~C |- ~e : ~T
+---
+~C |- ~e ! : ~T
+to ~e
+end
+"#,
+};
+
+/// A sign before a term.
+pub const QUEST: File = File {
+    name: "Quest.ext",
+    text: br#"extension Quest
+language Lam
+prod quest Exp 40 : "?" Exp@40
+rule T-Quest
+~C |- ~e : ~T
+---
+~C |- ? ~e : ~T
+to ~e
+end
+"#,
+};
+
 /// An extension that adds nothing.
 pub const NONE: File = File {
     name: "None.ext",

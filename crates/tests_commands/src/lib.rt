@@ -28,6 +28,8 @@ mod modules_planned;
 #[cfg(test)]
 mod modules_refused;
 #[cfg(test)]
+mod modules_rewritten;
+#[cfg(test)]
 mod refusal_lines;
 #[cfg(test)]
 mod run;
