@@ -74,6 +74,31 @@ rule T-Plus
 end
 """
 
+# A binder of functions in other words, so that each is a node of an extension.
+BINDER = """extension Binder
+language Lam
+prod binder Exp 10 : "let" id ":" Ty "in" Exp
+rule T-Binder
+~C , ~x : ~T1 |- ~e : ~T2
+---
+~C |- let ~x : ~T1 in ~e : ~T1 -> ~T2
+to \\ ~x : ~T1 . ~e
+end
+"""
+
+# The name of each of many extensions, before its number, and what such a file holds.
+CHAIN = "Chain"
+EXTENSION = """extension %s%d
+language Lam
+%sprod chain%d Exp 50 : "chain%d" Exp@51
+rule T-Chain%d
+~C |- ~e : ~T
+---
+~C |- chain%d ~e : ~T
+to ~e
+end
+"""
+
 # The lists of two kinds of steps: each step has two rules, none of which ends, and makes a large term that no other step makes.
 GROWING = """sxcore 1
 sort Steps typed
@@ -91,6 +116,12 @@ form walk sub:Steps in:Exp in:Exp
 def lam():
     """The language of lambda terms of the examples."""
     with open(os.path.join(TOP, "examples", "lam", "Lam.lang")) as file:
+        return file.read()
+
+
+def extension(name):
+    """An extension of that language among the examples."""
+    with open(os.path.join(TOP, "examples", "lam", name + ".ext")) as file:
         return file.read()
 
 
@@ -176,18 +207,41 @@ def made(width, levels):
 # ---- modules
 
 
-def module(language, body):
-    """A module with this body."""
-    return "module NAME\nlanguage %s\n---\n%s\n" % (language, body)
+def module(language, body, *uses):
+    """A module with this body that uses these extensions."""
+    return "module NAME\nlanguage %s\n%s---\n%s\n" % (language, "".join("use %s\n" % it for it in uses), body)
+
+
+def bound(count, uses, last, binder):
+    """Nested binders, and so many references to the outermost of them, each made a string, joined by a balanced tree of bracketed `++`. The last
+    reference may be to another one. A binder is written with its number and its type."""
+    body = balanced(["itoa x0"] * (uses - 1) + ["itoa " + last], concat)
+    for number in reversed(range(count)):
+        body = binder % (number, " -> ".join(["Int"] * (1 if number == 0 else 8))) + body
+    return body
 
 
 def binders(count, uses, last="x0"):
-    """Nested binders, and so many references to the outermost of them, each made a string, joined by a balanced tree of bracketed `++`. The last
-    reference may be to another one."""
-    body = balanced(["itoa x0"] * (uses - 1) + ["itoa " + last], concat)
+    """Such binders in the syntax of the language."""
+    return module("Lam", bound(count, uses, last, "\\ x%d : %s . "))
+
+
+def extended_binders(count, uses):
+    """Such binders in the syntax of an extension."""
+    return module("Lam", bound(count, uses, "x0", "let x%d : %s in "), "Binder")
+
+
+def lets(count):
+    """So many `let`, one in the other, each of the name before."""
+    body = "x%d" % (count - 1)
     for number in reversed(range(count)):
-        body = "\\ x%d : %s . %s" % (number, " -> ".join(["Int"] * (1 if number == 0 else 8)), body)
-    return module("Lam", body)
+        body = "let x%d = %s in %s" % (number, "1" if number == 0 else "x%d" % (number - 1), body)
+    return module("Lam", body, "Let")
+
+
+def twice(times):
+    """`twice`, so often round a string: each doubles what is within."""
+    return module("Lam", "twice ( " * times + '"a"' + " )" * times, "Twice")
 
 
 def applications(count):
@@ -250,6 +304,18 @@ def unread_rule(count):
     return lam().replace("\nrule ", "\nrule T-Unread\n---\n~C |- 1 : %s\nend\nrule " % ("Int -> " * count), 1)
 
 
+# ---- extensions
+
+
+def chained(count):
+    """So many extensions of a rule each, each of which uses the one before, and a module that uses the last."""
+    files = {}
+    for number in range(count):
+        use = "use %s%d\n" % (CHAIN, number - 1) if number else ""
+        files["%s%d.ext" % (CHAIN, number)] = EXTENSION % (CHAIN, number, use, number, number, number, number)
+    return files
+
+
 # ---- workloads
 
 
@@ -275,9 +341,15 @@ def language(title, single, double, refusals=(None, None)):
     return Workload(title, files[0], files[1], [], [["build", "one"], ["build", "two"]], refusals)
 
 
+def checked(title, single, double):
+    """A workload of checking the last of so many extensions, each of which uses the one before."""
+    return Workload(title, chained(single), chained(double), [],
+                    [["check", "%s%d" % (CHAIN, count - 1)] for count in (single, double)], (None, None))
+
+
 def common():
     """Files that several workloads read."""
-    return {"Lam.lang": lam(), "Sums.lang": SUMS}
+    return {"Lam.lang": lam(), "Sums.lang": SUMS, "Binder.ext": BINDER, "Let.ext": extension("Let"), "Twice.ext": extension("Twice")}
 
 
 def workloads():
@@ -285,6 +357,12 @@ def workloads():
     yield source("a small module", module("Lam", "\\ x : Int . itoa x ++ itoa 1"), module("Lam", "\\ x : Int . itoa x ++ itoa 1 ++ itoa 2"))
     yield source("225 and 450 binders, 128 and 256 far references", binders(225, 128), binders(450, 256))
     yield source("450 binders, 125 and 250 far references", binders(450, 125), binders(450, 250))
+    yield source("225 and 450 binders of an extension, 128 and 256 uses", extended_binders(225, 128), extended_binders(450, 256))
+    yield source("450 binders of an extension, 125 and 250 uses", extended_binders(450, 125), extended_binders(450, 250))
+    yield source("150 and 300 lets", lets(150), lets(300))
+    yield source("twice, 10 and 11 deep", twice(10), twice(11))
+    yield source("twice, 20 and 40 deep", twice(20), twice(40), ("rewriting needs", "rewriting needs"))
+    yield checked("128 and 256 extensions of a rule each", 128, 256)
     yield source("chain of 450 and 900 `++`", joined(450), joined(900))
     yield source("400 and 800 applications under a type of as many arrows", applications(400), applications(800))
     yield source("a type of 450 and 900 arrows", arrows(450), arrows(900))
