@@ -11,6 +11,7 @@ pub mod InOrder
 pub mod SameRefusals
 pub mod OneLanguageFile
 pub mod OneChecked
+pub mod AcceptedExtended
 pub mod OneExtended
 pub mod TypeErrors
 pub mod UnsoundRules

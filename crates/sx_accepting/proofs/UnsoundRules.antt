@@ -40,7 +40,8 @@ use Rattle.sx_accepting.specs.Extending.{ReadData, bodies_in, ReadsAfter, check_
 use Rattle.sx_accepting.specs.Extending.{Accepts, ExtendsBy, Extends}
 use Rattle.sx_accepting.specs.Laws.{IsAcceptedOver, StopsAtUnsound, UnsoundIsFinal}
 use Rattle.sx_accepting.specs.ReadLanguage.{base_in}
-use Rattle.sx_accepting.proofs.OneExtended.{set_is, accepted_begin, accepted_by}
+use Rattle.sx_accepting.proofs.AcceptedExtended.{accepted_begin, accepted_by}
+use Rattle.sx_accepting.proofs.OneExtended.{set_is}
 use Rattle.sx_accepting.proofs.TypeErrors.{no_language}
 
 module _ (Q : Stop → Type 0) where

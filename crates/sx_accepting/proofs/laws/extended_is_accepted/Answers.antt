@@ -1,4 +1,4 @@
-use Rattle.sx_accepting.proofs.OneExtended.{extended_is_accepted}
+use Rattle.sx_accepting.proofs.AcceptedExtended.{extended_is_accepted}
 use Rattle.sx_accepting.proofs.laws.extended_is_accepted.Goals as goal
 
 pub returns : goal.returns
