@@ -1,0 +1,2 @@
+pub mod LanguagesBegun
+pub mod DialectsGrown
