@@ -12,7 +12,7 @@ use Rattle.sx_lines.proofs.LineLaws.{first_line}
 use Rattle.sx_lines.proofs.TextLaws.{IsPlain, IsPlain-append, plain_text, plain_from_test, name_no_blank, no_blank_plain, all_inner}
 use Rattle.sx_interface.specs.Headers.{HeaderParts}
 use Rattle.sx_interface.specs.StatedHeader.{AreNames, row_lines, header_lines, StatesHeader}
-use Rattle.sx_module.specs.Texts.{base_of}
+use Rattle.sx_unit.specs.Texts.{base_of}
 
 -- a text that stands on a line of its own and is no blank line and no comment
 record StandsOnLine (text : List ℕ) : Type 0 where

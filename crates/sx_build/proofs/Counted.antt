@@ -1,25 +1,32 @@
--- The tries of a module that is not compiled.
+-- The tries of a module that is compiled.
 use Rattle.std.proofs.Common.{◌≡◌, ◌⊎◌, ℕ, ◌≤◌, List, inl, inr, arith}
 use Rattle.std.specs.Prelude.{Ok, Err, Some, None}
-use Rattle.sx_module.specs.declared.module_error.ModuleError.{ModuleError}
-use Rattle.sx_module.specs.declared.module_error.ModuleError.TheVariants as errors
-use Rattle.sx_module.specs.Source.{Source}
+use Rattle.sx_extcheck.specs.declared.budgets.Budgets.{Budgets}
 use Rattle.sx_derive.proofs.FewNodes.{tries_within}
-use Rattle.sx_module.specs.Unit.{goal_events}
-use Rattle.sx_module.specs.declared.compiled.Compiled.{Compiled}
-use Rattle.sx_module.specs.Refused.{IsBadModule, HasWalked, IsCounted}
+use Rattle.sx_typing.specs.Goals.{goal_events}
+use Rattle.sx_typing.specs.Refused.{HasWalked}
+use Rattle.sx_typing.specs.Source.{Source}
+use Rattle.sx_unit.specs.declared.compiled.Compiled.{Compiled}
+use Rattle.sx_unit.specs.declared.module_error.ModuleError.{ModuleError}
+use Rattle.sx_unit.specs.declared.module_error.ModuleError.TheVariants as errors
+use Rattle.sx_unit.specs.Modules.{ModuleData}
+use Rattle.sx_unit.specs.Refused.{IsBadModule, IsCounted}
 use Rattle.sx_steps.specs.declared.stop.Stop.{Stop}
 use Rattle.sx_steps.specs.Stop.{RisesBy, RisesUpTo}
 use Rattle.sx_steps.proofs.Ones.{none_some}
 use Rattle.sx_build.specs.ModuleStops.{module_stop}
 use Rattle.sx_build.specs.CompileModule.{IsUncompiled}
 
-module _ (s : Source) (tries before after : ℕ) where
-  just : RisesBy (HasWalked s tries) before after → (after ≡ before) ⊎ RisesUpTo (HasWalked s tries) before after
+module _ (m : ModuleData) (b : Budgets) (before after : ℕ) where
+  abbrev Walks : ℕ → Type 0
+  Walks = HasWalked m.source b.tries
+
+  just : RisesBy Walks before after → (after ≡ before) ⊎ RisesUpTo Walks before after
   just rises = let e = rises.2 in inr (rises.0, rises.1, omega arith, omega arith)
 
   -- they rose by at most those of the walk
-  pub counted_short : (e : ModuleError) → IsCounted s tries (Err e) before after → (after ≡ before) ⊎ RisesUpTo (HasWalked s tries) before after
+  pub counted_short : (e : ModuleError) → IsCounted m b (Err e) before after →
+      (after ≡ before) ⊎ RisesUpTo Walks before after
   counted_short errors.Memory (le, inl same) = inl same
   counted_short errors.Memory (le, inr made) = inr (made.0, made.1, le, made.2)
   counted_short (errors.Token line column e) counted = just counted
@@ -29,14 +36,20 @@ module _ (s : Source) (tries before after : ℕ) where
   counted_short errors.DepthSpent counted = just counted
   counted_short (errors.TooDeep depth) counted = just counted
   counted_short (errors.TooBig size) counted = just counted
+  counted_short (errors.RewriteSpent nodes) counted = just counted
+  counted_short errors.RewriteDeep counted = just counted
   counted_short (errors.Print part defect) counted = just counted
+  counted_short (errors.Captured word) counted = just counted
 
   -- they rose by those of the walk, where the module was compiled
-  pub counted_unit : (c : Compiled) → IsCounted s tries (Ok c) before after → RisesBy (HasWalked s tries) before after
+  pub counted_unit : (c : Compiled) → IsCounted m b (Ok c) before after →
+      RisesBy Walks before after
   counted_unit c counted = counted
 
   -- and where it was refused
-  pub counted_stop : (file : List ℕ) (e : ModuleError) (stop : Stop) → module_stop file e ≡ Some stop → IsCounted s tries (Err e) before after → RisesBy (HasWalked s tries) before after
+  pub counted_stop : (file : List ℕ) (e : ModuleError) (stop : Stop) →
+      module_stop file e ≡ Some stop → IsCounted m b (Err e) before after →
+      RisesBy Walks before after
   counted_stop file errors.Memory stop is counted = absurd (none_some stop is)
   counted_stop file (errors.Token line column e) stop is counted = counted
   counted_stop file (errors.Read line column e) stop is counted = counted
@@ -45,13 +58,20 @@ module _ (s : Source) (tries before after : ℕ) where
   counted_stop file errors.DepthSpent stop is counted = counted
   counted_stop file (errors.TooDeep depth) stop is counted = counted
   counted_stop file (errors.TooBig size) stop is counted = counted
+  counted_stop file (errors.RewriteSpent nodes) stop is counted = counted
+  counted_stop file errors.RewriteDeep stop is counted = counted
   counted_stop file (errors.Print part defect) stop is counted = counted
+  counted_stop file (errors.Captured word) stop is counted = counted
 
 -- a refusal and its stop
-pub uncompiled : (file : List ℕ) (s : Source) (tries : ℕ) (e : ModuleError) (stop : Stop) → IsBadModule s tries e → module_stop file e ≡ Some stop → IsUncompiled file s tries stop
-uncompiled file s tries e stop bad is = record { error = e; refused = bad; is = is }
+pub uncompiled : (file : List ℕ) (m : ModuleData) (b : Budgets) (e : ModuleError) (stop : Stop) →
+    IsBadModule m b e → module_stop file e ≡ Some stop → IsUncompiled file m b stop
+uncompiled file m b e stop bad is = record { error = e; refused = bad; is = is }
 
 -- the tries of a walk are at most those that it may spend
 pub within_budget : (s : Source) (budget tries : ℕ) → HasWalked s budget tries → tries ≤ budget
-within_budget s budget tries (inl walked) = let few = tries_within None budget (goal_events s walked.0.subject) in let is = walked.1 in omega arith
+within_budget s budget tries (inl walked) =
+    let few = tries_within None budget (goal_events s walked.0.subject) in
+    let is = walked.1 in
+    omega arith
 within_budget s budget tries (inr none) = let is = none.1 in omega arith

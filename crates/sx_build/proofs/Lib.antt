@@ -1,9 +1,11 @@
 mod Environments
-mod Sources
+mod LoweredGoals
+mod ModulesGiven
 mod FirstLines
-pub mod Agreeing
-pub mod Promise
-mod Counted
-pub mod TypeErrors
 mod BaseHeaders
-mod Headlines
+mod Counted
+pub mod Promise
+pub mod Headlines
+pub mod Agreeing
+pub mod TypeErrors
+mod FewTries

@@ -1,12 +1,11 @@
 -- What is proved of `build NAME`.
-use Rattle.std.specs.Prelude.{◌≡◌, ◌⊎◌, ℕ, ◌≤◌, List, Result, Ok, Err}
-use Rattle.sx_rules.specs.Modes.{AllModed}
-use Rattle.sx_rules.specs.Views.{modes_of}
-use Rattle.sx_notation.specs.Language.{LanguageData}
-use Rattle.sx_module.specs.Alike.{BodyHasThree, PartHasThree}
-use Rattle.sx_module.specs.Refused.{IsUntyped}
-use Rattle.sx_module.specs.Source.{Source}
-use Rattle.sx_module.specs.Unit.{rules_of}
+use Rattle.std.specs.Prelude.{◌≡◌, ◌⊎◌, ℕ, suc, ◌*◌, ◌≤◌, List, length, Result, Ok, Err}
+use Rattle.sx_extcheck.specs.declared.budgets.Budgets.{Budgets}
+use Rattle.sx_typing.specs.Alike.{BodyHasThree}
+use Rattle.sx_typing.specs.Refused.{IsUntyped}
+use Rattle.sx_unit.specs.Alike.{PartHasThree}
+use Rattle.sx_unit.specs.Modules.{ModuleData}
+use Rattle.sx_unit.specs.Unit.{HasLowering}
 use Rattle.sx_outside.specs.Files.{Files}
 use Rattle.sx_words.specs.declared.refusal.Defect.{Defect}
 use Rattle.sx_words.specs.declared.refusal.Defect.TheVariants as defect
@@ -16,38 +15,32 @@ use Rattle.sx_steps.specs.declared.stop.Stop.{Stop}
 use Rattle.sx_steps.specs.declared.step_error.StepError.{StepError}
 use Rattle.sx_steps.specs.declared.step_error.StepError.TheVariants as errors
 use Rattle.sx_steps.specs.Agree.{AreReadings, IsSure, AnswersBy}
+use Rattle.sx_steps.specs.TypeErrors.{IsTypeError}
 use Rattle.sx_steps.specs.Work.{Plan}
+use Rattle.sx_uses.specs.Laws.{AnswerAlike}
+use Rattle.sx_accepting.specs.Laws.{StopsAtUnsound}
+use Rattle.sx_accepting.specs.ReadLanguage.{base_in, ReadsLanguage}
 use Rattle.sx_build.specs.ModuleFiles.{module_file}
 use Rattle.sx_build.specs.ReadModule.{Module, ReadsModule, StandsAlone}
-use Rattle.sx_accepting.specs.ReadLanguage.{Stated, ReadsLanguage}
-use Rattle.sx_build.specs.CompileModule.{source_of, CompilingTries}
 use Rattle.sx_build.specs.BuildModule.{BuildsModule}
+use Rattle.sx_build.specs.Reached.{IsReached, ExtendsReached, HasDialect, module_over}
 
--- ---- modules
-
--- the rules of the language can be followed
-abbrev pub IsFollowed : LanguageData → Type 0
-IsFollowed language = AllModed (modes_of language.forms) (rules_of language)
-
--- ---- builds
+-- ---- one result
 
 -- the text of which the defect shows two readings has more than two: the body of the module, or
 -- what is printed of it
-abbrev pub ShowsOfThree : Source → (budget : ℕ) → Defect → Type 0
-ShowsOfThree s budget (defect.Text (text_defect.Ambiguous one other)) = BodyHasThree s
-ShowsOfThree s budget (defect.Print part (print_defect.Ambiguous one other)) =
-    PartHasThree s budget part
-ShowsOfThree s budget _ = ⊥
+abbrev pub ShowsOfThree : ModuleData → Budgets → Defect → Type 0
+ShowsOfThree m b (defect.Text (text_defect.Ambiguous one other)) = BodyHasThree m.source
+ShowsOfThree m b (defect.Print part (print_defect.Ambiguous one other)) =
+    (l : HasLowering m b) × PartHasThree m l.terms part
+ShowsOfThree m b _ = ⊥
 
--- it is so of the stop of the module in the file, which stands alone, over the language that its
--- header names
-pub record IsOfThree (name : List ℕ) (budget : ℕ) (files : Files) (stop : Stop) : Type 0 where
-  pub read : Module
-  pub reads : ReadsModule (module_file name) name files (Ok read)
-  pub alone : StandsAlone read.header
-  pub language : Stated
-  pub states : ReadsLanguage read.header.language files (Ok language)
-  pub three : ShowsOfThree (source_of read language) budget stop.refusal.defect
+-- it is so of the stop of the module in its dialect
+pub record IsOfThree (name : List ℕ) (budgets : Budgets) (files : Files) (stop : Stop) : Type 0
+  where
+    pub over : HasDialect name budgets files
+    pub file : stop.file ≡ module_file name
+    pub three : ShowsOfThree (module_over over) budgets stop.refusal.defect
 
 -- the stop is that of the file of the language
 pub record IsOfLanguage (name : List ℕ) (files : Files) (stop : Stop) : Type 0 where
@@ -56,51 +49,65 @@ pub record IsOfLanguage (name : List ℕ) (files : Files) (stop : Stop) : Type 0
   pub alone : StandsAlone read.header
   pub stops : ReadsLanguage read.header.language files (Err stop)
 
--- The stops are the same, but for the two readings that they show of one text where it is free
--- which two these are: of a text of the module that has more than two, and of a line of the
--- language's file.
-abbrev pub SameButShown : (name : List ℕ) → (budget : ℕ) → Files → Stop → Stop → Type 0
-SameButShown name budget files s t =
-    (s ≡ t) ⊎ (AreReadings s t × (IsOfThree name budget files s ⊎ IsOfLanguage name files s))
+-- the stop is that of one of the extensions, which is read or accepted after those before it
+pub record IsOfExtension (name : List ℕ) (budgets : Budgets) (files : Files) (stop : Stop) : Type 0
+  where
+    pub from : IsReached name files
+    pub tries : ℕ
+    pub stops : ExtendsReached name budgets files from (Err (errors.Stopped stop)) tries
 
--- by the name and the files there is one result and one number of tries, but for read faults, out
--- of memory and such readings
+-- the text of which the stop shows two readings is one where it is free which two these are: a text
+-- of the module that has more than two, or a line of the language's file or of an extension's
+abbrev pub ShowsFree : (name : List ℕ) → Budgets → Files → Stop → Type 0
+ShowsFree name budgets files s = IsOfThree name budgets files s ⊎ IsOfLanguage name files s
+    ⊎ IsOfExtension name budgets files s
+
+-- the stops give the same status and the same line, but for the two readings that they show of one
+-- such text
+abbrev pub SameButShown : (name : List ℕ) → Budgets → Files → Stop → Stop → Type 0
+SameButShown name budgets files s t =
+    AnswerAlike s t ⊎ (AreReadings s t × ShowsFree name budgets files s)
+
+-- by the name, the budgets and the files there is one result and one number of tries, but for read
+-- faults, out of memory and such readings
 abbrev pub BuildsAgree : Type 0
 BuildsAgree =
-    (name : List ℕ) (budget : ℕ) (files : Files) (a b : Result Plan StepError) (m n : ℕ) →
-    BuildsModule name budget files a m → BuildsModule name budget files b n → IsSure a → IsSure b →
-    AnswersBy (SameButShown name budget files) a b × (m ≡ n)
+    (name : List ℕ) (budgets : Budgets) (files : Files) (a b : Result Plan StepError) (m n : ℕ) →
+    BuildsModule name budgets files a m → BuildsModule name budgets files b n →
+    IsSure a → IsSure b → AnswersBy (SameButShown name budgets files) a b × (m ≡ n)
 
 -- ---- type errors
 
--- a goal has no derivation
-abbrev pub IsGoalDefect : Defect → Type 0
-IsGoalDefect (defect.Goal why) = Unit {0}
-IsGoalDefect _ = ⊥
+-- the module in its dialect has a body whose goal has no derivation; the stop names its file
+pub record HasNoType (name : List ℕ) (budgets : Budgets) (files : Files) (stop : Stop) : Type 0
+  where
+    pub over : HasDialect name budgets files
+    pub untyped : IsUntyped (module_over over).source
+    pub file : stop.file ≡ module_file name
 
--- the stop is a type error
-abbrev pub IsTypeError : Stop → Type 0
-IsTypeError stop = IsGoalDefect stop.refusal.defect
+-- one of the extensions that are reached has a rule that is sound by nothing; the stop names its
+-- file and the rule
+pub record HasUnsoundRule (name : List ℕ) (budgets : Budgets) (files : Files) (stop : Stop) :
+    Type 0 where
+  pub from : IsReached name files
+  pub unsound : StopsAtUnsound (base_in from.language) budgets from.extensions stop
 
--- the module in the file, which stands alone, has over the language that its header names a body
--- whose goal has no derivation
-pub record HasNoType (name : List ℕ) (files : Files) : Type 0 where
-  pub read : Module
-  pub reads : ReadsModule (module_file name) name files (Ok read)
-  pub alone : StandsAlone read.header
-  pub language : Stated
-  pub states : ReadsLanguage read.header.language files (Ok language)
-  pub untyped : IsUntyped (source_of read language)
-
--- a module is refused for a type error only where it has no type
+-- a build stops with a type error only where the module has no type by the rules of its dialect, or
+-- a rule of one of its extensions is not sound
 abbrev pub TypeErrorsAreFinal : Type 0
-TypeErrorsAreFinal = (name : List ℕ) (budget : ℕ) (files : Files) (stop : Stop) (tries : ℕ) →
-    BuildsModule name budget files (Err (errors.Stopped stop)) tries → IsTypeError stop →
-    HasNoType name files
+TypeErrorsAreFinal =
+    (name : List ℕ) (budgets : Budgets) (files : Files) (stop : Stop) (tries : ℕ) →
+    BuildsModule name budgets files (Err (errors.Stopped stop)) tries → IsTypeError stop →
+    HasNoType name budgets files stop ⊎ HasUnsoundRule name budgets files stop
 
 -- ---- tries
 
--- the walk of a module makes no more tries than it may spend
-abbrev pub WalksAreWithin : Type 0
-WalksAreWithin = (budget : ℕ) (m : Module) (l : Stated) (tries : ℕ) →
-    CompilingTries budget m l tries → tries ≤ budget
+-- There is at most one walk for each rule of the extensions, which are with the language's rules at
+-- most 4,096, and one for the module; and a walk makes no more tries than it may spend.
+pub record WalksAreWithin : Type 0 where
+  pub built : (name : List ℕ) (budgets : Budgets) (files : Files) (plan : Plan) (tries : ℕ) →
+      BuildsModule name budgets files (Ok plan) tries →
+      (d : HasDialect name budgets files)
+      × (tries ≤ suc (length d.extended.set.kept.more) * budgets.tries)
+  pub all : (name : List ℕ) (budgets : Budgets) (files : Files) (result : Result Plan StepError)
+      (tries : ℕ) → BuildsModule name budgets files result tries → tries ≤ 4097 * budgets.tries

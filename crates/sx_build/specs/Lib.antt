@@ -3,5 +3,7 @@ pub mod ReadModule
 pub mod ModuleStops
 pub mod CompileModule
 pub mod BuildModule
+pub mod Reached
+pub mod BuiltModule
 pub mod Headline
 pub mod Laws

@@ -4,11 +4,12 @@ use Rattle.sx_token.specs.declared.token_error.TokenError.{TokenError}
 use Rattle.sx_token.specs.declared.token_error.TokenError.TheVariants as token_error
 use Rattle.sx_notation.specs.declared.unread.Unread.{Unread}
 use Rattle.sx_notation.specs.declared.unread.Unread.TheVariants as unread
-use Rattle.sx_module.specs.declared.module_error.ModuleError.{ModuleError}
-use Rattle.sx_module.specs.declared.module_error.ModuleError.TheVariants as module_error
+use Rattle.sx_unit.specs.declared.module_error.ModuleError.{ModuleError}
+use Rattle.sx_unit.specs.declared.module_error.ModuleError.TheVariants as module_error
 use Rattle.sx_words.specs.declared.place.Place.TheVariants.{Spot}
 use Rattle.sx_words.specs.declared.text_defect.TextDefect.{TextDefect}
 use Rattle.sx_words.specs.declared.text_defect.TextDefect.TheVariants as text_defect
+use Rattle.sx_words.specs.declared.budget_defect.BudgetDefect.TheVariants as budget_defect
 use Rattle.sx_words.specs.declared.goal_defect.GoalDefect.{GoalDefect}
 use Rattle.sx_words.specs.declared.refusal.Defect.TheVariants as defect
 use Rattle.sx_steps.specs.declared.stop.Stop.{Stop}
@@ -54,4 +55,9 @@ module_stop file (module_error.BudgetSpent budget) = Some (tries_spent file budg
 module_stop file module_error.DepthSpent = Some (depth_spent file)
 module_stop file (module_error.TooDeep depth) = Some (too_deep file depth)
 module_stop file (module_error.TooBig size) = Some (too_big file size)
+module_stop file (module_error.RewriteSpent nodes) =
+    Some (about file (defect.Budget (budget_defect.Nodes nodes)))
+module_stop file module_error.RewriteDeep =
+    Some (about file (defect.Budget budget_defect.RewriteDepth))
 module_stop file (module_error.Print part what) = Some (about file (defect.Print part what))
+module_stop file (module_error.Captured word) = Some (about file (defect.Captured word))

@@ -30,11 +30,6 @@ pub record Module : Type 0 where
 abbrev pub module_of : ModuleFile → Module
 module_of m = record { bytes = m.bytes.items; header = header_view m.bytes.items m.header }
 
--- the bytes are UTF-8, and state the header under the name that it has
-pub record IsHeaded (m : Module) : Type 0 where
-  pub utf8 : IsUtf8 m.bytes
-  pub states : StatesHeader m.header.name (kept (lines_from 1 m.bytes)) m.header
-
 -- ---- stops
 
 -- the first line of a header that is not as defined
@@ -74,9 +69,9 @@ StatesModule file name bytes (Err stop) =
 abbrev pub ReadsModule : List ℕ → List ℕ → Files → Result Module Stop → Type 0
 ReadsModule file name files = Then (Held most_bytes file files) (StatesModule file name)
 
--- the header has no `use` line and no `import` line
+-- the header has no `import` line
 abbrev pub StandsAlone : HeaderParts → Type 0
-StandsAlone header = (header.uses ≡ []) × (header.imports ≡ [])
+StandsAlone header = header.imports ≡ []
 
 -- such a header, and any other is not read yet
 abbrev pub IsAlone : List ℕ → HeaderParts → Result (Unit {0}) Stop → Type 0

@@ -1,187 +1,251 @@
 //! The steps of `build NAME`.
 
-ghost use Rattle.std.specs.Prelude.{◌≡◌, ◌≤◌, IfOk, [], length};
-ghost use Rattle.sx_outside.specs.Told.{WhereTold};
-ghost use Rattle.sx_term.specs.Term.{tree};
+ghost use Rattle.std.specs.Prelude.{◌≡◌, ◌≤◌, ℕ, List, IfOk, length, map};
+ghost use Rattle.std.specs.List.{AllByRecursion};
+ghost use Rattle.sx_interface.specs.HeaderView.{header_view};
 ghost use Rattle.sx_notation.specs.Language.{IsLanguage, language_data};
-ghost use Rattle.sx_module.specs.Source.{IsSource, IsEnvironment};
-ghost use Rattle.sx_module.specs.Unit.{unit_of};
-ghost use Rattle.sx_steps.specs.Stop.{Gives, OnlyReads, IsNoFault, Counts, RisesWithin, Does};
+ghost use Rattle.sx_outside.specs.Told.{WhereTold};
+ghost use Rattle.sx_steps.specs.Stop.{OnlyReads, IsNoFault, Does};
 ghost use Rattle.sx_steps.specs.Work.{plan_of};
+ghost use Rattle.sx_uses.specs.ExtensionFile.{extension_of, IsStated};
+ghost use Rattle.sx_dialects.specs.Dialects.{HasHistory};
+ghost use Rattle.sx_accepting.specs.ExtendedLanguages.{extended_data};
+ghost use Rattle.sx_accepting.specs.ReadLanguage.{stated_of, HasText};
 ghost use Rattle.sx_build.specs.ModuleFiles.{module_file};
-ghost use Rattle.sx_build.specs.ReadModule.{module_of, IsHeaded};
-ghost use Rattle.sx_accepting.specs.ReadLanguage.{stated_of};
-ghost use Rattle.sx_build.specs.CompileModule as spec;
-ghost use Rattle.sx_build.specs.CompileModule.{Compiles, CompilingTries};
-ghost use Rattle.sx_build.specs.BuildModule.{unit_plan, BuildsUnit, BuildsOver, BuildsRead};
-ghost use Rattle.sx_build.specs.BuildModule.{BuildsModule};
+ghost use Rattle.sx_build.specs.ReadModule.{module_of};
+ghost use Rattle.sx_build.specs.CompileModule.{module_in};
+ghost use Rattle.sx_build.specs.BuildModule as spec;
 
-use crate::module_stops::bad_module;
+use crate::asked::Asked;
+use crate::compile_module::{build_unit, empty_environment};
 use crate::read_module::{ModuleFile, check_alone, read_module};
+use crate::use_marks::use_marks;
 use std::alloc::Global;
 use std::sync::ledger::Ledger;
-use sx_accepting::{LanguageFile, read_language_file};
-use sx_module::{Compiled, compile};
-use sx_notation::Language;
+use sx_accepting::{Extended, LanguageFile, extend_language, read_language_file};
+use sx_dialects::dialect;
+use sx_extcheck::Budgets;
 use sx_outside::Shelf;
-use sx_steps::{StepError, Work, built_work, with_suffix};
-use sx_term::{Steps, Term, Text};
+use sx_steps::{StepError, Work, with_suffix};
+use sx_term::{NoMemory, Steps, Text};
+use sx_typing::Source;
+use sx_unit::ModuleSource;
+use sx_uses::{ExtensionFile, read_uses};
 
-/// The language's empty environment.
-fn empty_environment(alloc: Global, language: &Language) -> Term
-    requires { IsLanguage language.now }
-    ensures value { tree result ≡ spec.empty_environment (language_data language.now) }
-    ensures fit { IsEnvironment (language_data language.now) (tree result) }
-{
-    Term::Node {
-        label: language.main.empty,
-        kids: Vec::new(alloc),
-    }
-}
-
-/// The unit that the module gives over the language.
-fn compile_module<L: Ledger>(
-    alloc: Global,
-    file: &Text,
+/// The steps from the language with the extensions, which are those of these files.
+fn build_extended<L: Ledger>(
+    asked: &Asked,
     source: &ModuleFile,
     language: &LanguageFile,
-    budget: u64,
-    steps: &mut Steps<L>,
-) -> Result<Compiled, StepError>
-    requires language { IsLanguage language.now.language }
-    requires stated { IsSource source.now.bytes.items (module_of source.now).header [] }
-    requires short { length source.now.bytes.items ≤ 262144 }
-    ensures step { Gives unit_of
-        (Compiles file.now budget (module_of source.now) (stated_of language.now)) result }
-    ensures no_fault { IsNoFault result }
-    ensures tries { Counts (CompilingTries budget (module_of source.now) (stated_of language.now))
-        result steps.old steps.new }
-    ensures most { RisesWithin budget steps.old steps.new }
-{
-    let environment = empty_environment(alloc, &language.language);
-    match compile(
-        alloc,
-        &language.language,
-        &language.digest,
-        &source.header,
-        &source.bytes,
-        &[],
-        &environment,
-        budget,
-        steps,
-    ) {
-        Ok(compiled) => Ok(compiled),
-        Err(error) => match bad_module(alloc, file, error) {
-            Ok(stop) => Err(StepError::Stopped(stop)),
-            Err(_) => Err(StepError::Memory),
-        },
-    }
-}
-
-/// The three files and the line of the unit that the module gives over the language.
-fn build_unit<L: Ledger>(
-    alloc: Global,
-    name: &Text,
-    file: &Text,
-    source: &ModuleFile,
-    language: &LanguageFile,
-    budget: u64,
+    files: &[ExtensionFile],
+    extended: &Extended,
     steps: &mut Steps<L>,
 ) -> Result<Work, StepError>
-    requires file { file.now ≡ module_file name.now }
-    requires language { IsLanguage language.now.language }
-    requires stated { IsSource source.now.bytes.items (module_of source.now).header [] }
+    requires file { asked.now.file.now ≡ module_file asked.now.name.now }
     requires short { length source.now.bytes.items ≤ 262144 }
-    ensures step { Does plan_of
-        (BuildsUnit name.now budget (module_of source.now) (stated_of language.now)) result
+    requires language { IsLanguage language.now.language }
+    requires text { (name : List ℕ) × HasText name language.now.language }
+    requires extends { HasHistory language.now.language extended.now }
+    ensures step { Does plan_of (spec.BuildsUnit asked.now.name.now asked.now.budgets
+        (module_in (module_of source.now) (stated_of language.now) (map extension_of files.now)
+        (extended_data language.now.language extended.now))) result steps.old steps.new }
+    ensures no_fault { IsNoFault result }
+{
+    let uses = match use_marks(asked.alloc, files) {
+        Ok(uses) => uses,
+        Err(_) => return Err(StepError::Memory),
+    };
+    let environment = empty_environment(asked.alloc, &language.language);
+    let given = ModuleSource {
+        source: Source {
+            dialect: dialect(&language.language, extended),
+            header: &source.header,
+            bytes: &source.bytes,
+            environment: &environment,
+        },
+        digest: &language.digest,
+        uses: &uses,
+        imports: &[],
+    };
+    build_unit(asked, &given, steps)
+}
+
+/// The steps from the files of all extensions that are reached.
+fn build_all<L: Ledger>(
+    asked: &Asked,
+    source: &ModuleFile,
+    language: &LanguageFile,
+    files: &[ExtensionFile],
+    steps: &mut Steps<L>,
+) -> Result<Work, StepError>
+    requires file { asked.now.file.now ≡ module_file asked.now.name.now }
+    requires short { length source.now.bytes.items ≤ 262144 }
+    requires language { IsLanguage language.now.language }
+    requires text { (name : List ℕ) × HasText name language.now.language }
+    requires files { AllByRecursion IsStated (map extension_of files.now) }
+    requires few { length files.now ≤ 256 }
+    ensures step { Does plan_of (spec.BuildsExtended asked.now.name.now asked.now.budgets
+        (module_of source.now) (stated_of language.now) (map extension_of files.now)) result
         steps.old steps.new }
     ensures no_fault { IsNoFault result }
 {
-    match compile_module(alloc, file, source, language, budget, steps) {
-        Ok(unit) => match built_work(
-            alloc,
-            name,
-            unit.base,
-            unit.derivation,
-            unit.interface,
-            unit.nodes,
-        ) {
-            Ok(work) => Ok(work),
-            Err(_) => Err(StepError::Memory),
-        },
+    match extend_language(asked.alloc, &language.language, files, asked.budgets, steps) {
+        Ok(extended) => {
+            let work = build_extended(asked, source, language, files, &extended, steps);
+            drop(extended);
+            work
+        }
         Err(e) => Err(e),
     }
 }
 
-/// The steps from a module that stands alone: its language, and then the unit.
-fn build_over<S: Shelf, L: Ledger>(
-    alloc: Global,
-    name: &Text,
-    file: &Text,
+/// The names in order, anew.
+fn copies(alloc: Global, names: &[Text]) -> Result<Vec<Text>, NoMemory>
+    ensures { IfOk result (λ copies. copies.items ≡ names.now) }
+{
+    let mut copies = Vec::new(alloc);
+    for name in names {
+        copies.push(name.copy(alloc)?)?;
+    }
+    Ok(copies)
+}
+
+/// The steps from the names from which extensions are sought, which the module uses.
+fn build_reached<S: Shelf, L: Ledger>(
+    asked: &Asked,
     source: &ModuleFile,
-    budget: u64,
+    language: &LanguageFile,
+    roots: Vec<Text>,
     shelf: &mut S,
     steps: &mut Steps<L>,
 ) -> Result<Work, StepError>
-    requires file { file.now ≡ module_file name.now }
-    requires stated { IsSource source.now.bytes.items (module_of source.now).header [] }
+    requires file { asked.now.file.now ≡ module_file asked.now.name.now }
     requires short { length source.now.bytes.items ≤ 262144 }
+    requires language { IsLanguage language.now.language }
+    requires text { (name : List ℕ) × HasText name language.now.language }
+    requires roots { roots.items ≡ source.now.header.uses.items }
     ensures step { WhereTold (S.content shelf.old)
-        (λ files. Does plan_of (BuildsOver name.now budget files (module_of source.now)) result
-        steps.old steps.new) }
+        (λ files. Does plan_of (spec.BuildsReached asked.now.name.now asked.now.budgets files
+        (module_of source.now) (stated_of language.now)) result steps.old steps.new) }
     ensures reads { OnlyReads (S.content shelf.old) (S.content shelf.new)
         (S.read_faults shelf.old) (S.read_faults shelf.new)
         (S.write_faults shelf.old) (S.write_faults shelf.new) result }
 {
-    match read_language_file(alloc, &source.header.language, shelf) {
-        Ok(language) => build_unit(alloc, name, file, source, &language, budget, steps),
+    let written_for = &source.header.language;
+    match read_uses(asked.alloc, asked.file, written_for, None, roots, shelf) {
+        Ok(files) => {
+            let work = build_all(asked, source, language, &files, steps);
+            drop(files);
+            work
+        }
+        Err(e) => Err(e),
+    }
+}
+
+/// The steps from the language that the module's header names.
+fn build_language<S: Shelf, L: Ledger>(
+    asked: &Asked,
+    source: &ModuleFile,
+    language: &LanguageFile,
+    shelf: &mut S,
+    steps: &mut Steps<L>,
+) -> Result<Work, StepError>
+    requires file { asked.now.file.now ≡ module_file asked.now.name.now }
+    requires short { length source.now.bytes.items ≤ 262144 }
+    requires language { IsLanguage language.now.language }
+    requires text { (name : List ℕ) × HasText name language.now.language }
+    ensures step { WhereTold (S.content shelf.old)
+        (λ files. Does plan_of (spec.BuildsReached asked.now.name.now asked.now.budgets files
+        (module_of source.now) (stated_of language.now)) result steps.old steps.new) }
+    ensures reads { OnlyReads (S.content shelf.old) (S.content shelf.new)
+        (S.read_faults shelf.old) (S.read_faults shelf.new)
+        (S.write_faults shelf.old) (S.write_faults shelf.new) result }
+{
+    match copies(asked.alloc, &source.header.uses) {
+        Ok(roots) => build_reached(asked, source, language, roots, shelf, steps),
+        Err(_) => Err(StepError::Memory),
+    }
+}
+
+/// The steps from a module that stands alone.
+fn build_over<S: Shelf, L: Ledger>(
+    asked: &Asked,
+    source: &ModuleFile,
+    shelf: &mut S,
+    steps: &mut Steps<L>,
+) -> Result<Work, StepError>
+    requires file { asked.now.file.now ≡ module_file asked.now.name.now }
+    requires short { length source.now.bytes.items ≤ 262144 }
+    ensures step { WhereTold (S.content shelf.old)
+        (λ files. Does plan_of (spec.BuildsOver asked.now.name.now asked.now.budgets files
+        (module_of source.now)) result steps.old steps.new) }
+    ensures reads { OnlyReads (S.content shelf.old) (S.content shelf.new)
+        (S.read_faults shelf.old) (S.read_faults shelf.new)
+        (S.write_faults shelf.old) (S.write_faults shelf.new) result }
+{
+    match read_language_file(asked.alloc, &source.header.language, shelf) {
+        Ok(language) => {
+            let work = build_language(asked, source, &language, shelf, steps);
+            drop(language);
+            work
+        }
         Err(e) => Err(e),
     }
 }
 
 /// The steps from the module in its file.
 fn build_read<S: Shelf, L: Ledger>(
-    alloc: Global,
-    name: &Text,
-    file: &Text,
+    asked: &Asked,
     source: &ModuleFile,
-    budget: u64,
     shelf: &mut S,
     steps: &mut Steps<L>,
 ) -> Result<Work, StepError>
-    requires file { file.now ≡ module_file name.now }
-    requires headed { IsHeaded (module_of source.now) }
+    requires file { asked.now.file.now ≡ module_file asked.now.name.now }
     requires short { length source.now.bytes.items ≤ 262144 }
     ensures step { WhereTold (S.content shelf.old)
-        (λ files. Does plan_of (BuildsRead name.now budget files (module_of source.now)) result
-        steps.old steps.new) }
+        (λ files. Does plan_of (spec.BuildsRead asked.now.name.now asked.now.budgets files
+        (module_of source.now)) result steps.old steps.new) }
     ensures reads { OnlyReads (S.content shelf.old) (S.content shelf.new)
         (S.read_faults shelf.old) (S.read_faults shelf.new)
         (S.write_faults shelf.old) (S.write_faults shelf.new) result }
 {
-    match check_alone(alloc, file, source) {
-        Ok(()) => build_over(alloc, name, file, source, budget, shelf, steps),
+    match check_alone(asked.alloc, asked.file, source) {
+        Ok(()) => build_over(asked, source, shelf, steps),
         Err(e) => Err(e),
     }
 }
 
-/// The steps of `build NAME`, with so many tries to spend.
+/// The steps of `build NAME`, with so many tries to spend for each walk and so many nodes for each
+/// derivation that is lowered: the module's file, that of its language, the headers of the
+/// extensions that it uses; then each extension is read and accepted, and the module is compiled in
+/// the dialect that they make.
 pub fn plan_build_module<S: Shelf, L: Ledger>(
     alloc: Global,
     name: &Text,
-    budget: u64,
+    budgets: Budgets,
     shelf: &mut S,
     steps: &mut Steps<L>,
 ) -> Result<Work, StepError>
     ensures step { WhereTold (S.content shelf.old)
-        (λ files. Does plan_of (BuildsModule name.now budget files) result steps.old steps.new) }
+        (λ files. Does plan_of (spec.BuildsModule name.now budgets files) result
+        steps.old steps.new) }
     ensures reads { OnlyReads (S.content shelf.old) (S.content shelf.new)
         (S.read_faults shelf.old) (S.read_faults shelf.new)
         (S.write_faults shelf.old) (S.write_faults shelf.new) result }
 {
     let file = with_suffix(alloc, name, ".mod")?;
     match read_module(alloc, &file, name, shelf) {
-        Ok(source) => build_read(alloc, name, &file, &source, budget, shelf, steps),
+        Ok(source) => {
+            let asked = Asked {
+                alloc,
+                name,
+                file: &file,
+                budgets,
+            };
+            let work = build_read(&asked, &source, shelf, steps);
+            drop(source);
+            work
+        }
         Err(e) => Err(e),
     }
 }

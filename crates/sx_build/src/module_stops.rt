@@ -4,11 +4,11 @@ ghost use Rattle.std.specs.Prelude.{◌≡◌, IfOk, Some};
 ghost use Rattle.sx_build.specs.ModuleStops as stops;
 
 use std::alloc::Global;
-use sx_module::ModuleError;
 use sx_notation::Unread;
 use sx_steps::{Stop, refused, refused_at};
 use sx_term::{NoMemory, Text};
 use sx_token::TokenError;
+use sx_unit::ModuleError;
 use sx_words::{BudgetDefect, Defect, FileDefect, GoalDefect, Place, TextDefect};
 
 /// A defect of the text at a line and a column.
@@ -109,7 +109,10 @@ pub fn bad_module(alloc: Global, file: &Text, error: ModuleError) -> Result<Stop
         ModuleError::DepthSpent => Defect::Budget(BudgetDefect::Depth),
         ModuleError::TooDeep(depth) => Defect::Text(TextDefect::TooDeep(depth)),
         ModuleError::TooBig(size) => Defect::Text(TextDefect::TooBig(size)),
+        ModuleError::RewriteSpent(nodes) => Defect::Budget(BudgetDefect::Nodes(nodes)),
+        ModuleError::RewriteDeep => Defect::Budget(BudgetDefect::RewriteDepth),
         ModuleError::Print { part, defect } => Defect::Print { part, defect },
+        ModuleError::Captured(word) => Defect::Captured(word),
     };
     refused(alloc, file, defect)
 }

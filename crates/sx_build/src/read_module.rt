@@ -5,7 +5,7 @@ ghost use Rattle.sx_outside.specs.Told.{WhereTold};
 ghost use Rattle.sx_interface.specs.HeaderView.{header_view};
 ghost use Rattle.sx_steps.specs.Stop.{Gives, OnlyReads, IsNoFault};
 ghost use Rattle.sx_build.specs.ReadModule as spec;
-ghost use Rattle.sx_build.specs.ReadModule.{module_of, IsHeaded, StatesModule, ReadsModule};
+ghost use Rattle.sx_build.specs.ReadModule.{module_of, StatesModule, ReadsModule};
 ghost use Rattle.sx_build.specs.ReadModule.{IsAlone};
 
 use std::alloc::Global;
@@ -56,7 +56,6 @@ fn state_module(
 ) -> Result<ModuleFile, StepError>
     requires { length bytes.items ≤ 262144 }
     ensures step { Gives module_of (StatesModule file.now name.now bytes.items) result }
-    ensures headed { IfOk result (λ m. IsHeaded (module_of m)) }
     ensures short { IfOk result (λ m. length m.bytes.items ≤ 262144) }
     ensures no_fault { IsNoFault result }
 {
@@ -75,7 +74,6 @@ pub fn read_module<S: Shelf>(
 ) -> Result<ModuleFile, StepError>
     ensures step { WhereTold (S.content shelf.old)
         (λ files. Gives module_of (ReadsModule file.now name.now files) result) }
-    ensures headed { IfOk result (λ m. IsHeaded (module_of m)) }
     ensures short { IfOk result (λ m. length m.bytes.items ≤ 262144) }
     ensures reads { OnlyReads (S.content shelf.old) (S.content shelf.new)
         (S.read_faults shelf.old) (S.read_faults shelf.new)
@@ -87,13 +85,13 @@ pub fn read_module<S: Shelf>(
     }
 }
 
-/// The header has no `use` line and no `import` line. Any other is not read yet.
+/// The header has no `import` line. Any other is not read yet.
 pub fn check_alone(alloc: Global, file: &Text, source: &ModuleFile) -> Result<(), StepError>
     ensures step { Gives (λ done. done)
         (IsAlone file.now (header_view source.now.bytes.items source.now.header)) result }
     ensures no_fault { IsNoFault result }
 {
-    if source.header.uses.is_empty() && source.header.imports.is_empty() {
+    if source.header.imports.is_empty() {
         return Ok(());
     }
     Err(StepError::Stopped(refused(alloc, file, Defect::File(FileDefect::NotYet))?))

@@ -1,24 +1,30 @@
-use Rattle.std.proofs.Common.{refl, arith}
+use Rattle.std.proofs.Common.{◌∙◌, refl, arith}
 use Rattle.std.specs.Prelude.{Err}
 use Rattle.sx_steps.specs.Steps.{Untried}
 use Rattle.sx_steps.specs.Work.{plan_of}
-use Rattle.sx_steps.proofs.StepsOn.{goes_from, stops_at, untried, reads_on}
-use Rattle.sx_build.specs.ReadModule.{module_of}
+use Rattle.sx_steps.proofs.StepsOn.{goes_from, stops_at, untried}
 use Rattle.sx_accepting.specs.ReadLanguage.{stated_of, ReadsLanguage}
-use Rattle.sx_build.specs.BuildModule.{BuildsUnit}
+use Rattle.sx_build.specs.ReadModule.{module_of}
+use Rattle.sx_build.specs.BuildModule.{BuildsReached}
 use Rattle.sx_build.proofs.build_module.build_over.Goals as goal
 
 pub returns-in-Ok-clause-step : goal.returns-in-Ok-clause-step
 returns-in-Ok-clause-step g c = λ files told.
+    let name = c.args.asked.now.name.now in
+    let b = c.args.asked.now.budgets in
     let m = module_of c.args.source.now in
-    goes_from plan_of (Untried (ReadsLanguage m.header.language files)) (BuildsUnit c.args.name.now c.args.budget m) (stated_of c.in-Ok.language) c.build_unit.result c.args.steps.now c.args.steps.now c.build_unit.new.steps
-    (0, (c.in-Ok.ensures.step files told, refl), omega arith) c.build_unit.ensures.step
-
-pub returns-in-Ok-clause-reads : goal.returns-in-Ok-clause-reads
-returns-in-Ok-clause-reads g c = reads_on _ _ _ _ _ _ _ c.build_unit.result c.in-Ok.ensures.reads c.build_unit.ensures.no_fault
+    goes_from plan_of (Untried (ReadsLanguage m.header.language files))
+    (BuildsReached name b files m) (stated_of c.in-Ok.language) c.build_language-work.result
+    c.args.steps.now c.args.steps.now c.build_language-work.new.steps
+    (0, (c.in-Ok.ensures.step files told, refl), omega arith)
+    (c.build_language-work.ensures.step files (c.in-Ok.ensures.reads.content ∙ told))
 
 pub returns-in-Err-clause-step : goal.returns-in-Err-clause-step
 returns-in-Err-clause-step g c = λ files told.
+    let name = c.args.asked.now.name.now in
+    let b = c.args.asked.now.budgets in
     let m = module_of c.args.source.now in
-    stops_at stated_of plan_of (Untried (ReadsLanguage m.header.language files)) (BuildsUnit c.args.name.now c.args.budget m) c.in-Err.e c.args.steps.now c.args.steps.now
-    (untried stated_of (ReadsLanguage m.header.language files) (Err c.in-Err.e) c.args.steps.now (c.in-Err.ensures.step files told))
+    stops_at stated_of plan_of (Untried (ReadsLanguage m.header.language files))
+    (BuildsReached name b files m) c.in-Err.e c.args.steps.now c.args.steps.now
+    (untried stated_of (ReadsLanguage m.header.language files) (Err c.in-Err.e) c.args.steps.now
+    (c.in-Err.ensures.step files told))

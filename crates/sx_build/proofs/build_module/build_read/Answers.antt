@@ -11,13 +11,21 @@ use Rattle.sx_build.proofs.build_module.build_read.Goals as goal
 
 pub returns-in-Ok-clause-step : goal.returns-in-Ok-clause-step
 returns-in-Ok-clause-step g c = λ files told.
+    let name = c.args.asked.now.name.now in
     let m = module_of c.args.source.now in
-    goes_from plan_of (Untried (IsAlone (module_file c.args.name.now) m.header)) (λ done. BuildsOver c.args.name.now c.args.budget files m) c.in-Ok.field-0 c.build_over.result c.args.steps.now c.args.steps.now c.build_over.new.steps
+    goes_from plan_of (Untried (IsAlone (module_file name) m.header))
+    (λ done. BuildsOver name c.args.asked.now.budgets files m) c.in-Ok.field-0 c.build_over.result
+    c.args.steps.now c.args.steps.now c.build_over.new.steps
     (0, (c.in-Ok.ensures.step, refl), omega arith) (c.build_over.ensures.step files told)
 
 pub returns-in-Err-clause-step : goal.returns-in-Err-clause-step
 returns-in-Err-clause-step g c = λ files told.
+    let name = c.args.asked.now.name.now in
     let m = module_of c.args.source.now in
-    stops_at (λ (done : Unit {0}). done) plan_of (Untried (IsAlone (module_file c.args.name.now) m.header)) (λ done. BuildsOver c.args.name.now c.args.budget files m) c.in-Err.e c.args.steps.now c.args.steps.now
-    (untried (λ (done : Unit {0}). done) (IsAlone (module_file c.args.name.now) m.header) (Err c.in-Err.e) c.args.steps.now
-    (subst (λ (file : List ℕ). Gives (λ (done : Unit {0}). done) (IsAlone file m.header) (Err c.in-Err.e)) c.requires.file c.in-Err.ensures.step))
+    stops_at (λ (done : Unit {0}). done) plan_of (Untried (IsAlone (module_file name) m.header))
+    (λ done. BuildsOver name c.args.asked.now.budgets files m) c.in-Err.e c.args.steps.now
+    c.args.steps.now
+    (untried (λ (done : Unit {0}). done) (IsAlone (module_file name) m.header) (Err c.in-Err.e)
+    c.args.steps.now
+    (subst (λ (file : List ℕ). Gives (λ (done : Unit {0}). done) (IsAlone file m.header)
+    (Err c.in-Err.e)) c.requires.file c.in-Err.ensures.step))

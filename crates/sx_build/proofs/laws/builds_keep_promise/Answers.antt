@@ -1,0 +1,5 @@
+use Rattle.sx_build.proofs.Promise.{build_promise}
+use Rattle.sx_build.proofs.laws.builds_keep_promise.Goals as goal
+
+pub returns : goal.returns
+returns c = build_promise
