@@ -127,7 +127,7 @@ answered_done stop write.NoMemory is = cc
 -- each command keeps its promise
 kept : (command : Meant) (plan : Plan) (old new : Files) (made : ℕ) → Runs command old (Ok plan) made → new ≡ after plan.files old → Promises command old new plan.lines
 kept (builds true name tries nodes audits) plan old new made runs is = build_promise name tries old new plan made runs is
-kept (builds false name tries nodes audits) plan old new made runs is = build_module_promise name tries old new plan made runs is
+kept (builds false name tries nodes audits) plan old new made runs is = build_module_promise name (budgets_of tries nodes) old new plan made runs is
 kept (compiles name tries nodes audits) plan old new made runs is = absurd runs
 kept (checks name tries nodes) plan old new made runs is = check_promise name (budgets_of tries nodes) old new plan made runs is
 kept (verifies true name) plan old new made runs is = verify_promise replayed_derives name old new plan runs.0 is

@@ -1,11 +1,9 @@
 -- A run stops with a type error only where the command's goal has no derivation.
 use Rattle.std.proofs.Common.{◌≡◌, ℕ, true, false, List, length, refl, sym, subst}
-use Rattle.std.specs.Prelude.{Ok, Err, Option, Some, None}
+use Rattle.std.specs.Prelude.{Ok, Err, None}
 use Rattle.sx_outside.specs.Files.{Files}
 use Rattle.sx_term.specs.Tree.{Tree}
 use Rattle.sx_rules.specs.declared.entry.Entry.{Entry as EntryOf}
-use Rattle.sx_rules.specs.declared.error.RuleError.{RuleError}
-use Rattle.sx_rules.specs.declared.error.RuleError.TheVariants as rule_error
 use Rattle.sx_rules.specs.First.{IsUnderivable}
 use Rattle.sx_rules.specs.Modes.{AllModed}
 use Rattle.sx_rules.specs.Views.{modes_of}
@@ -23,12 +21,14 @@ use Rattle.sx_steps.specs.declared.stop.Stop.{Stop}
 use Rattle.sx_steps.specs.Held.{Held, most_bytes, most_list_bytes}
 use Rattle.sx_steps.specs.Lower.{Lower}
 use Rattle.sx_steps.specs.Refusal.{bad_word}
-use Rattle.sx_steps.specs.Stops.{bad_rules, tries_spent}
+use Rattle.sx_steps.specs.Steps.{NoTries, Trying, Untried, AndThen}
+use Rattle.sx_steps.specs.Stops.{tries_spent}
+use Rattle.sx_steps.specs.TypeErrors.{IsTypeError}
 use Rattle.sx_steps.specs.Unit.{base_file, list_file, interface_file}
 use Rattle.sx_steps.proofs.Ones.{err_same, ok_no_err}
 use Rattle.sx_steps.proofs.StepsOn.{went}
-use Rattle.sx_build.specs.Laws.{IsTypeError}
-use Rattle.sx_build.proofs.TypeErrors.{OnTypeError, Final, FinalTrying, then_final, trying_final, and_then_final, held_final, type_errors_are_final as module_errors_are_final}
+use Rattle.sx_steps.proofs.TypeErrors.{OnTypeError, on_stop, no_type_error, no_rules, Final, FinalTrying, then_final, trying_final, and_then_final, held_final}
+use Rattle.sx_build.proofs.TypeErrors.{type_errors_are_final as module_errors_are_final}
 use Rattle.sx_check.proofs.TypeErrors.{check_errors_are_final}
 use Rattle.sx_top.specs.BuildCore.{core_plan, BuildsGoal, BuildsWhole}
 use Rattle.sx_top.specs.Commands.{Commands, Spelled}
@@ -39,37 +39,20 @@ use Rattle.sx_top.specs.Laws.{HasNoDerivation, IsUntyped, TypeErrorsAreFinal}
 use Rattle.sx_top.specs.LowerStops.{core_stop, replay_stop}
 use Rattle.sx_top.specs.Outcome.{budgets_of, Runs, Outcome}
 use Rattle.sx_top.specs.ReadCore.{core_file, rule_names, Reads}
-use Rattle.sx_steps.specs.Steps.{NoTries, Trying, Untried}
 use Rattle.sx_top.specs.Search.{goal_events, passed, ComesTo, Searches, HasWalked}
 use Rattle.sx_top.specs.VerifyCore.{verified_plan, Replays, VerifiesOutputs, VerifiesEntries, VerifiesList, VerifiesSubject, VerifiesWhole}
 use Rattle.sx_top.specs.Written.{Equals, Compares, StatesEntries, ReadsEntries}
 use Rattle.sx_top.proofs.Propers.{proper}
 
-module _ (Q : Type 0) where
+module _ (Q : Stop → Type 0) where
   -- ---- stops
-
-  of_stop : (x : Option Stop) (stop : Stop) → OnTypeError Q x → x ≡ Some stop → IsTypeError stop → Q
-  of_stop x stop on is = subst (OnTypeError Q) is on
-
-  -- no other stop is a type error
-  other_stop : (x stop : Stop) → (IsTypeError x → ⊥) → stop ≡ x → IsTypeError stop → Q
-  other_stop x stop none is error = absurd (none (subst IsTypeError is error))
-
-  no_rules : (file : List ℕ) (e : RuleError) → OnTypeError Q (bad_rules file variable_name e)
-  no_rules file rule_error.Memory = tt
-  no_rules file rule_error.TooManyRules = λ h. absurd h
-  no_rules file (rule_error.SameRule name) = λ h. absurd h
-  no_rules file (rule_error.TooManyVars name) = λ h. absurd h
-  no_rules file (rule_error.SortDiffers name) = λ h. absurd h
-  no_rules file (rule_error.Discipline name part premise) = λ h. absurd h
-  no_rules file (rule_error.NotModed name variable) = λ h. absurd h
 
   no_core : (file : List ℕ) (e : CoreFileError) → OnTypeError Q (core_stop file e)
   no_core file core_error.Memory = tt
   no_core file (core_error.NotUtf8 before) = λ h. absurd h
   no_core file (core_error.Notation line what) = λ h. absurd h
   no_core file (core_error.TooDeep line depth) = λ h. absurd h
-  no_core file (core_error.Rules e) = no_rules file e
+  no_core file (core_error.Rules e) = no_rules Q file variable_name e
 
   no_replay : (file : List ℕ) (e : ReplayError) → OnTypeError Q (replay_stop file e)
   no_replay file replay_error.Memory = tt
@@ -85,17 +68,17 @@ module _ (Q : Type 0) where
   reads_final : (file : List ℕ) (files : Files) → Final Q (Reads file files)
   reads_final file files =
       then_final Q (Held most_bytes file files) (λ bytes. Lower (core_stop file) (IsCoreAnswer bytes)) (held_final Q most_bytes file files)
-      (λ bytes held stop h. of_stop (core_stop file h.0) stop (no_core file h.0) h.2)
+      (λ bytes held stop h. on_stop Q (core_stop file h.0) stop (no_core file h.0) h.2)
 
   equals_final : (file text bytes : List ℕ) → Final Q (Equals file text bytes)
-  equals_final file text bytes stop h = other_stop (differs file) stop (λ e. e) h.1
+  equals_final file text bytes stop h = no_type_error Q (differs file) stop (λ e. e) h.1
 
   compares_final : (file text : List ℕ) (files : Files) → Final Q (Compares file text files)
   compares_final file text files =
       then_final Q (Held most_bytes file files) (Equals file text) (held_final Q most_bytes file files) (λ bytes held. equals_final file text bytes)
 
   entries_final : (file : List ℕ) (names : List (List ℕ)) (bytes : List ℕ) → Final Q (StatesEntries file names bytes)
-  entries_final file names bytes stop h = other_stop (bad_entry file h.0) stop (λ e. e) h.2
+  entries_final file names bytes stop h = no_type_error Q (bad_entry file h.0) stop (λ e. e) h.2
 
   reads_entries_final : (file : List ℕ) (names : List (List ℕ)) (files : Files) → Final Q (ReadsEntries file names files)
   reads_entries_final file names files =
@@ -104,7 +87,7 @@ module _ (Q : Type 0) where
   -- ---- `verify --core`
 
   replays_final : (file : List ℕ) (p : Problem) (list : List EntryOf) → Final Q (Replays file p list)
-  replays_final file p list stop h = of_stop (replay_stop file h.0) stop (no_replay file h.0) h.2
+  replays_final file p list stop h = on_stop Q (replay_stop file h.0) stop (no_replay file h.0) h.2
 
   module _ (name : List ℕ) (files : Files) where
     outputs_final : (nodes : ℕ) (outputs : List Tree) → Final Q (VerifiesOutputs name files nodes outputs)
@@ -144,7 +127,7 @@ comes_final file p budget (stopped cause) stop comes error = absurd (no_limit fi
 comes_final file p budget spent stop comes error = absurd (subst IsTypeError (err_same stop (tries_spent file budget) comes) error)
 comes_final file p budget exhausted stop comes error = refl
 
-searches_final : (file : List ℕ) (budget : ℕ) (p : Problem) → AllModed (modes_of p.forms) (rules_of p) → Final (IsUnderivable (modes_of p.forms) (rules_of p) no_hypotheses p.goal None) (Searches file budget p)
+searches_final : (file : List ℕ) (budget : ℕ) (p : Problem) → AllModed (modes_of p.forms) (rules_of p) → Final (λ (stop : Stop). IsUnderivable (modes_of p.forms) (rules_of p) no_hypotheses p.goal None) (Searches file budget p)
 searches_final file budget p moded stop comes error =
     exhausted_means_none (modes_of p.forms) (rules_of p) no_hypotheses moded p.goal None budget 1 (comes_final file p budget (walk None budget (goal_events p)) stop comes error)
 
@@ -152,34 +135,44 @@ read_moded : (file : List ℕ) (files : Files) (p : Problem) → Reads file file
 read_moded file files p read = let at = went _ _ _ read in (proper at.given p at.goes).moded
 
 module _ (name : List ℕ) (budget : ℕ) (files : Files) where
-  goal_final : (p : Problem) → Reads (core_file name) files (Ok p) → FinalTrying (HasNoDerivation name files) (BuildsGoal name (core_file name) budget p)
-  goal_final p read =
-      and_then_final (HasNoDerivation name files) (Trying (HasWalked budget p) (Searches (core_file name) budget p)) (λ answer. Untried (λ result. result ≡ Ok (core_plan name p answer)))
-      (trying_final (HasNoDerivation name files) (HasWalked budget p) (Searches (core_file name) budget p)
-      (λ stop h error. record { problem = p; reads = read; none = searches_final (core_file name) budget p (read_moded (core_file name) files p read) stop h error }))
-      (λ answer before first. trying_final (HasNoDerivation name files) NoTries (λ result. result ≡ Ok (core_plan name p answer)) (λ stop h. absurd (ok_no_err (core_plan name p answer) stop (sym h))))
+  abbrev Q : Stop → Type 0
+  Q stop = HasNoDerivation name files
 
-  builds_final : FinalTrying (HasNoDerivation name files) (BuildsWhole name budget files)
+  goal_final : (p : Problem) → Reads (core_file name) files (Ok p) → FinalTrying Q (BuildsGoal name (core_file name) budget p)
+  goal_final p read =
+      and_then_final Q (Trying (HasWalked budget p) (Searches (core_file name) budget p)) (λ answer. Untried (λ result. result ≡ Ok (core_plan name p answer)))
+      (trying_final Q (HasWalked budget p) (Searches (core_file name) budget p)
+      (λ stop h error. record { problem = p; reads = read; none = searches_final (core_file name) budget p (read_moded (core_file name) files p read) stop h error }))
+      (λ answer before first. trying_final Q NoTries (λ result. result ≡ Ok (core_plan name p answer)) (λ stop h. absurd (ok_no_err (core_plan name p answer) stop (sym h))))
+
+  builds_final : FinalTrying Q (BuildsWhole name budget files)
   builds_final =
-      and_then_final (HasNoDerivation name files) (Untried (Reads (core_file name) files)) (BuildsGoal name (core_file name) budget)
-      (trying_final (HasNoDerivation name files) NoTries (Reads (core_file name) files) (reads_final (HasNoDerivation name files) (core_file name) files))
+      and_then_final Q (Untried (Reads (core_file name) files)) (BuildsGoal name (core_file name) budget)
+      (trying_final Q NoTries (Reads (core_file name) files) (reads_final Q (core_file name) files))
       (λ p before read. goal_final p read.0)
 
 -- ---- commands
 
 runs_final : (command : Meant) (files : Files) → FinalTrying (IsUntyped command files) (Runs command files)
 runs_final (builds true name tries nodes audits) files stop made h error = builds_final name tries files stop made h error
-runs_final (builds false name tries nodes audits) files stop made h error = module_errors_are_final name tries files stop made h error
+runs_final (builds false name tries nodes audits) files stop made h error = module_errors_are_final name (budgets_of tries nodes) files stop made h error
 runs_final (compiles name tries nodes audits) files stop made h error = absurd h
 runs_final (checks name tries nodes) files stop made h error = check_errors_are_final name (budgets_of tries nodes) files stop made h error
-runs_final (verifies true name) files stop made h error = verifies_final ⊥ name files stop h.0 error
+runs_final (verifies true name) files stop made h error = verifies_final (λ (s : Stop). ⊥) name files stop h.0 error
 runs_final (verifies false name) files stop made h error = absurd h
 runs_final (samples number) files stop made h error = absurd h
 
+module _ (words : List (List ℕ)) (files : Files) where
+  -- the words spell a command that is so
+  abbrev Spells : Stop → Type 0
+  Spells stop = (command : Meant) × Spelled words command × IsUntyped command files stop
+
+  outcome_final : FinalTrying Spells (AndThen (Untried (Commands words)) (λ command. Runs command files))
+  outcome_final =
+      and_then_final Spells (Untried (Commands words)) (λ command. Runs command files)
+      (trying_final Spells NoTries (Commands words) (λ stop h. no_type_error Spells (bad_word h.0) stop (λ e. e) h.2))
+      (λ command before spelled stop made h error. (command, spelled.0, runs_final command files stop made h error))
+
 pub type_errors_are_final : TypeErrorsAreFinal
 unfolding Outcome
-type_errors_are_final words files =
-    and_then_final ((command : Meant) × Spelled words command × IsUntyped command files) (Untried (Commands words)) (λ command. Runs command files)
-    (trying_final ((command : Meant) × Spelled words command × IsUntyped command files) NoTries (Commands words)
-    (λ stop h. other_stop ((command : Meant) × Spelled words command × IsUntyped command files) (bad_word h.0) stop (λ e. e) h.2))
-    (λ command before spelled stop made h error. (command, spelled.0, runs_final command files stop made h error))
+type_errors_are_final words files = outcome_final words files

@@ -131,11 +131,11 @@ module _ (core_one : (bytes : List ℕ) (a b : Result Problem CoreFileError) →
   runs_one : (command : Meant) (files : Files) → IsOfCore command → IsOneBy ◌≡◌ (Runs command files)
   runs_one (builds true name tries nodes audits) files kept x y a b h k n m = builds_one name tries files x y a b h k n m
   runs_one (builds false name tries nodes audits) files kept x y a b h k n m = absurd kept
-  runs_one (compiles name tries nodes audits) files kept x y a b h k n m = absurd h
+  runs_one (compiles name tries nodes audits) files kept x y a b h k n m = absurd kept
   runs_one (checks name tries nodes) files kept x y a b h k n m = absurd kept
   runs_one (verifies true name) files kept x y a b h k n m = trying_one NoTries (VerifiesWhole name files) no_tries_one (verifies_one name files) x y a b h k n m
-  runs_one (verifies false name) files kept x y a b h k n m = absurd h
-  runs_one (samples number) files kept x y a b h k n m = absurd h
+  runs_one (verifies false name) files kept x y a b h k n m = absurd kept
+  runs_one (samples number) files kept x y a b h k n m = absurd kept
 
   pub core_outcome_by : OneCoreOutcome
   unfolding Outcome

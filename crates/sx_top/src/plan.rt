@@ -1,9 +1,10 @@
 //! What the words come to.
 
+ghost use Rattle.std.specs.Prelude.{◌≡◌};
 ghost use Rattle.sx_outside.specs.Told.{WhereTold};
 ghost use Rattle.sx_words.specs.View.{command_view};
 ghost use Rattle.sx_top.specs.Commands.{IsThere};
-ghost use Rattle.sx_top.specs.Outcome.{Outcome, Runs};
+ghost use Rattle.sx_top.specs.Outcome.{budgets_of, Outcome, Runs};
 ghost use Rattle.sx_steps.specs.Stop.{OnlyReads, Does};
 ghost use Rattle.sx_steps.specs.Work.{plan_of};
 
@@ -19,6 +20,13 @@ use sx_outside::Shelf;
 use sx_steps::{StepError, Work};
 use sx_term::{Steps, Text};
 use sx_words::Command;
+
+/// So many tries for each walk, and so many nodes for each derivation that is lowered.
+fn budgets_for(tries: u64, nodes: u64) -> Budgets
+    ensures { result ≡ budgets_of tries nodes }
+{
+    Budgets { tries, nodes }
+}
 
 /// The steps of a command that there is so far.
 fn run_command<S: Shelf, L: Ledger>(
@@ -46,15 +54,11 @@ fn run_command<S: Shelf, L: Ledger>(
             core: false,
             name,
             tries,
-            nodes: _,
+            nodes,
             audits: _,
-        } => plan_build_module(alloc, name, *tries, shelf, steps),
+        } => plan_build_module(alloc, name, budgets_for(*tries, *nodes), shelf, steps),
         Command::Check { name, tries, nodes } => {
-            let budgets = Budgets {
-                tries: *tries,
-                nodes: *nodes,
-            };
-            plan_check(alloc, name, budgets, shelf, steps)
+            plan_check(alloc, name, budgets_for(*tries, *nodes), shelf, steps)
         }
         Command::Verify { core: true, name } => plan_verify_core(alloc, name, shelf),
         _ => unreachable!(),
