@@ -146,7 +146,7 @@ module _ (core_one : (bytes : List ℕ) (a b : Result Problem CoreFileError) →
   -- the steps of a command have one answer for it
   runs_by : (command : Meant) (files : Files) → IsOneBy (SameFor command files) (Runs command files)
   runs_by (builds true name tries nodes audits) files x y a b h k n m = builds_one name tries files x y a b h k n m
-  runs_by (builds false name tries nodes audits) files x y a b h k n m = builds_by name tries files x y a b h k n m
+  runs_by (builds false name tries nodes audits) files x y a b h k n m = builds_by headers name (budgets_of tries nodes) files x y a b h k n m
   runs_by (compiles name tries nodes audits) files x y a b h k n m = absurd h
   runs_by (checks name tries nodes) files x y a b h k n m = checks_one headers name (budgets_of tries nodes) files x y a b h k n m
   runs_by (verifies true name) files x y a b h k n m = trying_one NoTries (VerifiesWhole name files) no_tries_one (verifies_one name files) x y a b h k n m

@@ -17,7 +17,7 @@ pub fn one_outcome()
 }
 
 /// A type error comes only where the command's goal has no derivation at all, of whatever depth and
-/// size, or where the rule that it is about, which is checked, is not sound.
+/// size, or where the rule that it is about, of an extension that is checked or used, is not sound.
 pub fn type_errors_are_final()
     ensures { TypeErrorsAreFinal }
 {}
