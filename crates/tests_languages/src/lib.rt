@@ -1,5 +1,5 @@
 //! Tests of the crates that read languages and modules: `sx_directives`, `sx_outline`,
-//! `sx_notation`, `sx_language` and `sx_module`.
+//! `sx_notation`, `sx_language` and `sx_build`.
 #![tactic(auto)]
 
 #[cfg(test)]

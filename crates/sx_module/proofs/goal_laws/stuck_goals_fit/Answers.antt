@@ -1,5 +1,0 @@
-use Rattle.sx_module.proofs.SortedGoals.{stuck_goals_fit}
-use Rattle.sx_module.proofs.goal_laws.stuck_goals_fit.Goals as goal
-
-pub returns : goal.returns
-returns c = stuck_goals_fit

@@ -1,7 +1,0 @@
-use Rattle.std.proofs.Common.{◌≡◌, map, take}
-use Rattle.sx_interface.specs.InterfaceView.{mark_view}
-use Rattle.sx_module.specs.Source.{mark}
-use Rattle.sx_module.proofs.texts.import_marks.Given as goal
-
-abbrev pub invariant-loop-i : goal.invariant-loop-i
-invariant-loop-i l = map mark_view l.marks.items ≡ map mark (take l.i l.imports)
