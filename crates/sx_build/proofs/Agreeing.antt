@@ -1,4 +1,5 @@
--- `build NAME` has one result, but for read faults and for readings that a stop shows where it is free which these are.
+-- `build NAME` has one result, but for read faults and for readings that a stop shows where it is
+-- free which these are.
 use Rattle.std.proofs.Common.{◌≡◌, ◌≢◌, ℕ, List, refl, sym, ap, ◌∙◌, subst, inl, inr, ◌⊎◌}
 use Rattle.std.specs.Prelude.{Result, Ok, Err, Some}
 use Rattle.sx_lines.specs.Lines.{lines_from}
@@ -26,7 +27,9 @@ use Rattle.sx_steps.specs.declared.step_error.StepError.TheVariants as errors
 use Rattle.sx_steps.specs.Held.{Held, most_bytes}
 use Rattle.sx_steps.specs.Agree.{IsNoReadFault, AreReadings, AnswersBy}
 use Rattle.sx_steps.specs.Steps.{NoTries, Trying, Untried}
-use Rattle.sx_steps.proofs.Ones.{IsOne, IsOneBy, then_one, and_then_by, as_answer, answers_so, trying_by, trying_same, trying_nearly, no_tries_one, held_one, ok_same, some_same}
+use Rattle.sx_steps.proofs.Ones.{IsOne, IsOneBy, then_one, and_then_by, as_answer, answers_so}
+use Rattle.sx_steps.proofs.Ones.{trying_by, trying_same, trying_nearly, no_tries_one, held_one}
+use Rattle.sx_steps.proofs.Ones.{ok_same, some_same}
 use Rattle.sx_steps.proofs.StepsOn.{went}
 use Rattle.sx_uses.specs.Laws.{AnswerAlike}
 use Rattle.sx_uses.specs.ReadUses.{ReadsUses}
@@ -40,9 +43,11 @@ use Rattle.sx_accepting.proofs.OneLanguageFile.{reads_language_nearly}
 use Rattle.sx_accepting.proofs.SameRefusals.{not_lacking, same_refusal, readings_as}
 use Rattle.sx_build.specs.ModuleFiles.{module_file}
 use Rattle.sx_build.specs.ModuleStops.{unread_body, module_stop}
-use Rattle.sx_build.specs.ReadModule.{Module, HasHeader, StatesModule, ReadsModule, StandsAlone, IsAlone, bad_header}
+use Rattle.sx_build.specs.ReadModule.{Module, HasHeader, StatesModule, ReadsModule, StandsAlone}
+use Rattle.sx_build.specs.ReadModule.{IsAlone, bad_header}
 use Rattle.sx_build.specs.CompileModule.{module_in, Compiles, CompilingTries}
-use Rattle.sx_build.specs.BuildModule.{unit_plan, BuildsUnit, BuildsExtended, BuildsReached, BuildsOver, BuildsRead}
+use Rattle.sx_build.specs.BuildModule.{unit_plan, BuildsUnit, BuildsExtended, BuildsReached}
+use Rattle.sx_build.specs.BuildModule.{BuildsOver, BuildsRead}
 use Rattle.sx_build.specs.Reached.{IsReached, ExtendsReached, HasDialect, module_over}
 use Rattle.sx_build.specs.Laws.{ShowsOfThree, SameButShown, BuildsAgree}
 use Rattle.sx_build.proofs.FirstLines.{bad_states_none, one_first_bad}
@@ -52,24 +57,35 @@ use Rattle.sx_build.proofs.Promise.{dialect_by}
 -- ---- the module's file
 
 module _ (file name bytes : List ℕ) where
-  one_header : (h k : HeaderParts) → StatesHeader name (kept (lines_from 1 bytes)) h → StatesHeader name (kept (lines_from 1 bytes)) k → h ≡ k
-  one_header h k s t = ok_same h k (sym (header_again name (kept (lines_from 1 bytes)) h s) ∙ header_again name (kept (lines_from 1 bytes)) k t)
+  one_header : (h k : HeaderParts) → StatesHeader name (kept (lines_from 1 bytes)) h →
+      StatesHeader name (kept (lines_from 1 bytes)) k → h ≡ k
+  one_header h k s t =
+      ok_same h k (sym (header_again name (kept (lines_from 1 bytes)) h s)
+      ∙ header_again name (kept (lines_from 1 bytes)) k t)
 
   one_module : (m n : Module) → HasHeader name bytes m → HasHeader name bytes n → m ≡ n
-  one_module m n h k = λ i. record { bytes = (h.same ∙ sym k.same) i; header = one_header m.header n.header h.states k.states i }
+  one_module m n h k = λ i. record {
+    bytes = (h.same ∙ sym k.same) i;
+    header = one_header m.header n.header h.states k.states i;
+  }
 
-  no_module : (m : Module) (stop : Stop) → StatesModule file name bytes (Ok m) → StatesModule file name bytes (Err stop) → ⊥
+  no_module : (m : Module) (stop : Stop) → StatesModule file name bytes (Ok m) →
+      StatesModule file name bytes (Err stop) → ⊥
   no_module m stop h (inl k) = k.0 h.utf8
-  no_module m stop h (inr k) = let b = k.1 in bad_states_none (StatesHeader name) (kept (lines_from 1 bytes)) b.0 m.header b.1 h.states
+  no_module m stop h (inr k) =
+      let b = k.1 in
+      bad_states_none (StatesHeader name) (kept (lines_from 1 bytes)) b.0 m.header b.1 h.states
 
-  one_stop : (s t : Stop) → StatesModule file name bytes (Err s) → StatesModule file name bytes (Err t) → s ≡ t
+  one_stop : (s t : Stop) → StatesModule file name bytes (Err s) →
+      StatesModule file name bytes (Err t) → s ≡ t
   one_stop s t (inl h) (inl k) = h.1 ∙ sym k.1
   one_stop s t (inl h) (inr k) = absurd (h.0 k.0)
   one_stop s t (inr h) (inl k) = absurd (k.0 h.0)
   one_stop s t (inr h) (inr k) =
       let a = h.1 in
       let b = k.1 in
-      a.2 ∙ ap (bad_header file) (one_first_bad (StatesHeader name) (kept (lines_from 1 bytes)) a.0 b.0 a.1 b.1) ∙ sym b.2
+      a.2 ∙ ap (bad_header file) (one_first_bad (StatesHeader name) (kept (lines_from 1 bytes)) a.0
+      b.0 a.1 b.1) ∙ sym b.2
 
   states_one : IsOne (StatesModule file name bytes)
   states_one (Ok m) (Ok n) h k f g = ap Ok (one_module m n h k)
@@ -79,7 +95,8 @@ module _ (file name bytes : List ℕ) where
 
 reads_one : (file name : List ℕ) (files : Files) → IsOne (ReadsModule file name files)
 reads_one file name files =
-    then_one (Held most_bytes file files) (StatesModule file name) (held_one most_bytes file files) (λ bytes held. states_one file name bytes)
+    then_one (Held most_bytes file files) (StatesModule file name) (held_one most_bytes file files)
+    (λ bytes held. states_one file name bytes)
 
 alone_one : (file : List ℕ) (header : HeaderParts) → IsOne (IsAlone file header)
 alone_one file header (Ok a) (Ok b) h k f g = refl
@@ -95,8 +112,8 @@ module _ (file : List ℕ) (m : ModuleData) (b : Budgets) where
   abbrev AreSame : Stop → Stop → Type 0
   AreSame s t = (s ≡ t) ⊎ (AreReadings s t × (s.file ≡ file) × ShowsOfThree m b s.refusal.defect)
 
-  shown_as : (x y s t : Stop) → AreReadings x y → x.file ≡ file → ShowsOfThree m b x.refusal.defect →
-      Some x ≡ Some s → Some y ≡ Some t → AreSame s t
+  shown_as : (x y s t : Stop) → AreReadings x y → x.file ≡ file →
+      ShowsOfThree m b x.refusal.defect → Some x ≡ Some s → Some y ≡ Some t → AreSame s t
   shown_as x y s t are of three h k =
       inr (
         readings_as x y s t are h k,

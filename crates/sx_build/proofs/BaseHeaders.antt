@@ -1,5 +1,6 @@
 -- The header of a base file is read back.
-use Rattle.std.proofs.Common.{◌≡◌, ℕ, ◌+◌, false, true, List, [], ◌∷◌, ◌++◌, codes, refl, sym, ap, ◌∙◌, subst, append_assoc}
+use Rattle.std.proofs.Common.{◌≡◌, ℕ, ◌+◌, false, true, List, [], ◌∷◌, ◌++◌, codes, refl, sym, ap}
+use Rattle.std.proofs.Common.{◌∙◌, subst, append_assoc}
 use Rattle.std.specs.List.{AllByRecursion}
 use Rattle.std.proofs.lemmas.Grind.{flat_map-append}
 use Rattle.sx_lines.specs.Bytes.{is_skipped}
@@ -9,7 +10,8 @@ use Rattle.sx_lines.specs.Takes.{Takes, EndsWith}
 use Rattle.sx_lines.specs.Words.{is_name}
 use Rattle.sx_lines.proofs.KeptLaws.{kept-line}
 use Rattle.sx_lines.proofs.LineLaws.{first_line}
-use Rattle.sx_lines.proofs.TextLaws.{IsPlain, IsPlain-append, plain_text, plain_from_test, name_no_blank, no_blank_plain, all_inner}
+use Rattle.sx_lines.proofs.TextLaws.{IsPlain, IsPlain-append, plain_text, plain_from_test}
+use Rattle.sx_lines.proofs.TextLaws.{name_no_blank, no_blank_plain, all_inner}
 use Rattle.sx_interface.specs.Headers.{HeaderParts}
 use Rattle.sx_interface.specs.StatedHeader.{AreNames, row_lines, header_lines, StatesHeader}
 use Rattle.sx_unit.specs.Texts.{base_of}

@@ -8,4 +8,5 @@ pub mod Promise
 pub mod Headlines
 pub mod Agreeing
 pub mod TypeErrors
+mod RuleTries
 mod FewTries

@@ -60,7 +60,8 @@ module _ (f : Tree → Tree) (environment before subject : Tree) (fixed : f envi
         (old new : List Tree) → Lowered outs subs sorts old new →
         Lowered (is_out role ∷ outs) (is_sub role ∷ subs) (sort_when Sub role sort ++ sorts)
         (input_at environment before role ++ old) (input_at environment subject role ++ new)
-    one_place In sort outs subs sorts old new more [] us g i s = absurd (none_some environment old g)
+    one_place In sort outs subs sorts old new more [] us g i s =
+        absurd (none_some environment old g)
     one_place In sort outs subs sorts old new more (t ∷ ts) [] g i s =
         absurd (none_some (f t) (map f (inputs subs ts)) i)
     one_place In sort outs subs sorts old new more (t ∷ ts) (u ∷ us) g i s =
@@ -124,8 +125,8 @@ module _ (f : Tree → Tree) (environment before subject : Tree) (fixed : f envi
       one_sort : sorts_with Sub (places_at forms number) ≡ sort ∷ []
       one_sort = ap (λ f. sorts_with Sub (places_or_none f)) is ∙ typed
 
-      subject_terms : HasSubject (subjects_in forms number) (sorts_with Sub (places_at forms number))
-          k.places
+      subject_terms : HasSubject (subjects_in forms number)
+          (sorts_with Sub (places_at forms number)) k.places
       subject_terms =
           subst (λ (n : ℕ). outputs (subjects_in forms n) k.places ≡ subject ∷ [])
           (same ∙ of_main) has

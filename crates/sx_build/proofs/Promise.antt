@@ -27,9 +27,9 @@ use Rattle.sx_build.specs.Reached.{IsReached, ExtendsReached, HasDialect, module
 use Rattle.sx_build.specs.BuiltModule.{BuiltModule, BuildsKeepPromise}
 
 -- what is reached and accepted gives a dialect
-abbrev pub dialect_by : (name : List ℕ) (budgets : Budgets) (files : Files) (r : IsReached name files)
-    (x : ExtendedData) (tries : ℕ) → ExtendsReached name budgets files r (Ok x) tries →
-    HasDialect name budgets files
+abbrev pub dialect_by : (name : List ℕ) (budgets : Budgets) (files : Files)
+    (r : IsReached name files) (x : ExtendedData) (tries : ℕ) →
+    ExtendsReached name budgets files r (Ok x) tries → HasDialect name budgets files
 dialect_by name budgets files r x tries extends =
     let stated = went (Held most_bytes (language_file r.read.header.language) files)
     (StatesLanguage r.read.header.language) r.language r.states in

@@ -1,4 +1,5 @@
--- A build stops with a type error only where the module has no type, or where a rule of an extension is not sound.
+-- A build stops with a type error only where the module has no type, or where a rule of an
+-- extension is not sound.
 use Rattle.std.proofs.Common.{◌≡◌, ℕ, List, [], inl, inr, ◌⊎◌, refl, sym}
 use Rattle.std.specs.Prelude.{Ok, Some}
 use Rattle.sx_token.specs.declared.token_error.TokenError.{TokenError}
@@ -25,7 +26,8 @@ use Rattle.sx_steps.specs.Steps.{NoTries, Trying, Untried}
 use Rattle.sx_steps.specs.Stops.{not_utf8}
 use Rattle.sx_steps.proofs.Ones.{ok_no_err}
 use Rattle.sx_steps.proofs.StepsOn.{went}
-use Rattle.sx_steps.proofs.TypeErrors.{OnTypeError, on_stop, no_type_error, Final, FinalTrying, then_final, trying_final, and_then_final, held_final}
+use Rattle.sx_steps.proofs.TypeErrors.{OnTypeError, on_stop, no_type_error, Final, FinalTrying}
+use Rattle.sx_steps.proofs.TypeErrors.{then_final, trying_final, and_then_final, held_final}
 use Rattle.sx_uses.specs.ReadUses.{ReadsUses}
 use Rattle.sx_uses.proofs.TypeErrors.{uses_final}
 use Rattle.sx_accepting.specs.ExtendedLanguages.{unextended}
@@ -35,9 +37,11 @@ use Rattle.sx_accepting.proofs.TypeErrors.{reads_language_final}
 use Rattle.sx_accepting.proofs.UnsoundRules.{unsound_is_final}
 use Rattle.sx_build.specs.ModuleFiles.{module_file}
 use Rattle.sx_build.specs.ModuleStops.{uncut_body, unread_body, untyped, module_stop}
-use Rattle.sx_build.specs.ReadModule.{Module, StatesModule, ReadsModule, IsAlone, StandsAlone, bad_header, not_yet}
+use Rattle.sx_build.specs.ReadModule.{Module, StatesModule, ReadsModule, IsAlone, StandsAlone}
+use Rattle.sx_build.specs.ReadModule.{bad_header, not_yet}
 use Rattle.sx_build.specs.CompileModule.{module_in, Compiles, CompilingTries}
-use Rattle.sx_build.specs.BuildModule.{unit_plan, BuildsUnit, BuildsExtended, BuildsReached, BuildsOver, BuildsRead}
+use Rattle.sx_build.specs.BuildModule.{unit_plan, BuildsUnit, BuildsExtended, BuildsReached}
+use Rattle.sx_build.specs.BuildModule.{BuildsOver, BuildsRead}
 use Rattle.sx_build.specs.Reached.{IsReached, HasDialect, module_over}
 use Rattle.sx_build.specs.Laws.{HasNoType, HasUnsoundRule, TypeErrorsAreFinal}
 use Rattle.sx_build.proofs.Headlines.{dialect_is}
