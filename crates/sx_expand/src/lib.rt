@@ -1,8 +1,8 @@
 //! Derivations that are rewritten as lists of entries, without a derivation in boxes.
 //!
-//! - `expand` expands the list of a goal's derivation to the list of what it is lowered to, and tells
-//!   the judgement of that. The nodes are counted first, and then the terms are measured, node by
-//!   node.
+//! - `expand` expands the list of a goal's derivation to the list of what it is lowered to, and
+//!   tells the judgement of that. The nodes are counted first, and then the terms are measured,
+//!   node by node.
 //! - `lower_list` writes the entries of what a derivation is lowered to, by the entries of the
 //!   derivation and no term. Its nodes are counted first, and each entry is written once.
 //! - `check_node` measures the terms of a lowered node by how deep and how big the terms are that
@@ -10,8 +10,8 @@
 //! - A node is lowered by the numbers of its terms and of its kids' subjects (`lower_node`): its
 //!   variables get plain images and subjects by number, its limits are told by measures, and of
 //!   its terms the subject alone is made.
-//! - A derivation is read from its list by the numbers of its inputs (`read_node`): what these bind,
-//!   its kids one after another, and then the node. What is not needed is not lowered.
+//! - A derivation is read from its list by the numbers of its inputs (`read_node`): what these
+//!   bind, its kids one after another, and then the node. What is not needed is not lowered.
 //! - Laws: what a derivation is lowered to has the order that its own order determines; a node over
 //!   kids that are read is read, with its subject at the number, or refused as it is due; the boxed
 //!   `rewrite` has the same answer as `expand`.

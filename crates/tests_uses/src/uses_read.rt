@@ -7,7 +7,7 @@ use sx_term::{NoMemory, Text};
 use sx_uses::{ExtensionFile, read_extension_file, read_uses};
 
 /// Puts the file on the shelf; whether memory was there for that.
-fn put(alloc: Global, name: &str, text: &[u8], shelf: &mut MemShelf) -> bool {
+pub(crate) fn put(alloc: Global, name: &str, text: &[u8], shelf: &mut MemShelf) -> bool {
     match Text::of_str(alloc, name) {
         Ok(name) => match Vec::from_slice(alloc, text) {
             Ok(bytes) => shelf.put(name, bytes).is_ok(),
