@@ -278,17 +278,22 @@ fn put_empties(alloc: Global, uses: &mut Vec<u8>, shelf: &mut MemShelf) -> bool 
     true
 }
 
+/// Puts an extension with these lines after its header; whether memory was there for that.
+fn put_user(alloc: Global, uses: &[u8], shelf: &mut MemShelf) -> bool {
+    let head = b"extension X\nlanguage Lam\n".as_slice();
+    put(alloc, "X.ext", &[head, uses], shelf)
+}
+
 #[test]
 fn more_than_256_files(rt: HostRuntime) {
     let alloc = rt.alloc();
     let mut shelf = MemShelf::new(alloc);
     let mut out = MemSink::new(alloc);
     let mut uses = Vec::new(alloc);
-    let head = b"extension X\nlanguage Lam\n".as_slice();
     let told = b"soundx: X.ext: more than 256 files\n";
     let is = put(alloc, LAM.file, &[LAM.text], &mut shelf)
         && put_empties(alloc, &mut uses, &mut shelf)
-        && put(alloc, "X.ext", &[head, uses.as_slice()], &mut shelf)
+        && put_user(alloc, uses.as_slice(), &mut shelf)
         && ends(alloc, "check X", &mut shelf, &mut out, 1, told);
     drop(uses);
     drop(out);
