@@ -29,8 +29,8 @@ pub(crate) fn body_spot(source: &Source, place: usize) -> Spot
     spot_of(source.bytes, source.bytes.len() - body.len() + place)
 }
 
-/// The place that the defect tells.
-pub(crate) fn defect_place(error: &TokenError) -> usize
+/// The place that the defect tells, or 0 where it tells none.
+pub fn defect_place(error: &TokenError) -> usize
     ensures { result ≡ defect_place error.now }
 {
     match error {
@@ -41,8 +41,8 @@ pub(crate) fn defect_place(error: &TokenError) -> usize
     }
 }
 
-/// The place that is told of a text that is not read.
-pub(crate) fn unread_place(unread: &Unread) -> usize
+/// The place that is told of a text that is not read, or 0 where none is told.
+pub fn unread_place(unread: &Unread) -> usize
     ensures { result ≡ unread_place unread.now }
 {
     match unread {

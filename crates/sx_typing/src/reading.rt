@@ -10,14 +10,14 @@ ghost use Rattle.sx_typing.specs.declared.typing_error.TypingError.TheVariants.{
 ghost use Rattle.sx_typing.specs.Goals.{IsBody};
 ghost use Rattle.sx_typing.specs.Refused.{HasBody, IsBadSource};
 ghost use Rattle.sx_typing.specs.Source.{source_of, CanType, IsTermFor, main_sort, only_sort};
-ghost use Rattle.sx_typing.specs.Unread.{IsUnreadBody};
+ghost use Rattle.sx_typing.specs.Unread.{IsUnreadText};
 
 use crate::body::Body;
-use crate::body_error::BodyError;
-use crate::body_reading::read_body;
 use crate::places::{body_of, body_spot, defect_place, unread_place};
 use crate::source::Source;
+use crate::text_reading::read_text;
 use crate::typing_error::TypingError;
+use crate::unread_text::UnreadText;
 use std::alloc::Global;
 use sx_notation::Language;
 use sx_rules::Place;
@@ -49,16 +49,16 @@ pub fn main_sort(language: &Language, role: Role) -> Sort
 }
 
 /// The refusal of the body, with its place.
-fn refusal(source: &Source, error: BodyError) -> TypingError
-    requires { IsUnreadBody (source_of source.now).dialect.parts
+fn refusal(source: &Source, error: UnreadText) -> TypingError
+    requires { IsUnreadText (source_of source.now).dialect.parts
         (main_sort (source_of source.now).dialect.language Sub) (source_of source.now).header.body
         error }
     ensures bad { (tries : ℕ) → IsBadSource (source_of source.now) tries result }
     ensures none { (result ≡ Memory) ⊎ (HasBody (source_of source.now) → ⊥) }
 {
     match error {
-        BodyError::Memory => TypingError::Memory,
-        BodyError::Token(error) => {
+        UnreadText::Memory => TypingError::Memory,
+        UnreadText::Token(error) => {
             let spot = body_spot(source, defect_place(&error));
             TypingError::Token {
                 line: spot.line,
@@ -66,7 +66,7 @@ fn refusal(source: &Source, error: BodyError) -> TypingError
                 error,
             }
         }
-        BodyError::Read(error) => {
+        UnreadText::Read(error) => {
             let spot = body_spot(source, unread_place(&error));
             TypingError::Read {
                 line: spot.line,
@@ -95,7 +95,7 @@ pub fn read_source(alloc: Global, source: &Source) -> Result<Body, TypingError>
     let dialect = &source.dialect;
     let sort = main_sort(dialect.language, Role::Sub);
     let body = body_of(source.bytes, source.header);
-    match read_body(alloc, dialect.grammar, sort, body) {
+    match read_text(alloc, dialect.grammar, sort, body) {
         Ok(body) => Ok(body),
         Err(error) => Err(refusal(source, error)),
     }

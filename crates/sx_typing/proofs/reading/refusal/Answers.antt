@@ -7,7 +7,7 @@ use Rattle.sx_earley.specs.Completed.{number_of}
 use Rattle.sx_term.specs.declared.role.Role.TheVariants.{Sub}
 use Rattle.sx_notation.proofs.OneReasons.{unread_or_read}
 use Rattle.sx_typing.specs.Source.{source_of, main_sort}
-use Rattle.sx_typing.specs.Unread.{IsUnreadBody}
+use Rattle.sx_typing.specs.Unread.{IsUnreadText}
 use Rattle.sx_typing.proofs.OneBody.{one_cut, defect_or_cut, unread_within}
 use Rattle.sx_typing.proofs.reading.refusal.Goals as goal
 
@@ -16,7 +16,7 @@ body_spot-spot-requires-in-Read c =
     let s = source_of c.args.source.now in
     let p = s.dialect.parts in
     let sort = main_sort s.dialect.language Sub in
-    let h = subst (IsUnreadBody p sort s.header.body) c.in-Read.is c.requires in
+    let h = subst (IsUnreadText p sort s.header.body) c.in-Read.is c.requires in
     let w = unread_within p sort s.header.body h.0 c.in-Read.error h.1 h.2 in
     omega (arith, w, c.unread_place.ensures)
 
@@ -24,7 +24,7 @@ pub returns-in-Token-clause-none : goal.returns-in-Token-clause-none
 returns-in-Token-clause-none c =
     let s = source_of c.args.source.now in
     let p = s.dialect.parts in
-    let h = subst (IsUnreadBody p (main_sort s.dialect.language Sub) s.header.body) c.in-Token.is
+    let h = subst (IsUnreadText p (main_sort s.dialect.language Sub) s.header.body) c.in-Token.is
     c.requires in
     inr (λ b. defect_or_cut p s.header.body c.in-Token.error b.tokens h b.read.cut)
 
@@ -33,7 +33,7 @@ returns-in-Read-clause-none c =
     let s = source_of c.args.source.now in
     let p = s.dialect.parts in
     let sort = main_sort s.dialect.language Sub in
-    let h = subst (IsUnreadBody p sort s.header.body) c.in-Read.is c.requires in
+    let h = subst (IsUnreadText p sort s.header.body) c.in-Read.is c.requires in
     inr (λ b.
     let same : b.tokens ≡ h.0 = one_cut p s.header.body b.tokens h.0 b.read.cut h.1 in
     unread_or_read p [] sort h.0 (length s.header.body) c.in-Read.error b.reading h.2

@@ -7,7 +7,7 @@ use Rattle.sx_earley.specs.Completed.{number_of}
 use Rattle.sx_forest.specs.Readings.{plain_reading}
 use Rattle.sx_notation.specs.WhyUnread.{IsUnreadAs, IsReadError}
 use Rattle.sx_typing.proofs.Bodies.{known_tokens}
-use Rattle.sx_typing.proofs.body_reading.reading_of.Goals as goal
+use Rattle.sx_typing.proofs.text_reading.reading_of.Goals as goal
 
 pub read_one-requires-clause-known : goal.read_one-requires-clause-known
 read_one-requires-clause-known c =

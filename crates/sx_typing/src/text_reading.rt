@@ -10,10 +10,10 @@ ghost use Rattle.sx_earley.specs.Completed.{IsSort, number_of};
 ghost use Rattle.sx_forest.specs.Readings.{plain_reading};
 ghost use Rattle.sx_notation.specs.WhyUnread.{IsUnreadAs, IsReadError};
 ghost use Rattle.sx_typing.specs.Body.{IsCut, ReadsAs};
-ghost use Rattle.sx_typing.specs.Unread.{of_token_error, IsUnreadBody};
+ghost use Rattle.sx_typing.specs.Unread.{of_token_error, IsUnreadText};
 
 use crate::body::Body;
-use crate::body_error::BodyError;
+use crate::unread_text::UnreadText;
 use std::alloc::Global;
 use sx_earley::Metas;
 use sx_forest::{ReadError, Reading, read_one, strip};
@@ -32,21 +32,21 @@ fn no_metas(alloc: Global) -> Metas
 }
 
 /// The refusal of a text that has this defect.
-fn token_error(error: TokenError) -> BodyError
+fn token_error(error: TokenError) -> UnreadText
     ensures { result ≡ of_token_error error }
 {
     match error {
-        TokenError::Memory => BodyError::Memory,
-        error => BodyError::Token(error),
+        TokenError::Memory => UnreadText::Memory,
+        error => UnreadText::Token(error),
     }
 }
 
 /// The tokens of the text.
-fn cut_text(alloc: Global, grammar: &Grammar, text: &[u8]) -> Result<Vec<Token>, BodyError>
+fn cut_text(alloc: Global, grammar: &Grammar, text: &[u8]) -> Result<Vec<Token>, UnreadText>
     requires { length text.now ≤ 262144 }
     ensures cut { IfOk result (λ ts. IsCut grammar.now.parts text.now ts.items) }
     ensures refused { IfErr result (λ e. (sort : Sort) →
-        IsUnreadBody grammar.now.parts sort text.now e) }
+        IsUnreadText grammar.now.parts sort text.now e) }
 {
     grammar.facts();
     match tokens(alloc, text, grammar.literals(), false) {
@@ -78,39 +78,39 @@ fn reading_of(
     sort: Sort,
     tokens: &[Token],
     size: usize,
-) -> Result<Reading, BodyError>
+) -> Result<Reading, UnreadText>
     requires sort { IsSort grammar.now.parts sort }
     requires cut { (text : List ℕ) × IsCut grammar.now.parts text tokens.now }
     ensures only { IfOk result
         (λ r. IsAnswer (numbered grammar.now.parts) (plain_tokens [] tokens.now) (number_of sort)
         (only (plain_reading r))) }
     ensures refused { IfErr result (λ e. (text : List ℕ) → IsCut grammar.now.parts text tokens.now →
-        length text ≡ size → IsUnreadBody grammar.now.parts sort text e) }
+        length text ≡ size → IsUnreadText grammar.now.parts sort text e) }
 {
     let metas = no_metas(alloc);
     match read_one(alloc, grammar, sort, &metas, tokens) {
         Ok(reading) => Ok(reading),
         Err(error) => {
             let unread = read_error(alloc, grammar, tokens, size, error)?;
-            Err(BodyError::Read(unread))
+            Err(UnreadText::Read(unread))
         }
     }
 }
 
-/// Reads the text as the sort, without metavariables. It is refused where it has no tokens, and
-/// where these have not one reading.
-pub(crate) fn read_body(
+/// Reads the text, of at most 262,144 bytes, as the sort, without metavariables. It is refused where
+/// it has no tokens, and where these have not one reading.
+pub fn read_text(
     alloc: Global,
     grammar: &Grammar,
     sort: Sort,
     text: &[u8],
-) -> Result<Body, BodyError>
+) -> Result<Body, UnreadText>
     requires sort { IsSort grammar.now.parts sort }
     requires short { length text.now ≤ 262144 }
     ensures read { IfOk result
         (λ b. ReadsAs grammar.now.parts sort text.now b.tokens.items (plain_reading b.reading)
         (tree b.term)) }
-    ensures refused { IfErr result (IsUnreadBody grammar.now.parts sort text.now) }
+    ensures refused { IfErr result (IsUnreadText grammar.now.parts sort text.now) }
 {
     let tokens = cut_text(alloc, grammar, text)?;
     let reading = match reading_of(alloc, grammar, sort, &tokens, text.len()) {
@@ -134,7 +134,7 @@ pub(crate) fn read_body(
             drop(names);
             drop(reading);
             drop(tokens);
-            Err(BodyError::Memory)
+            Err(UnreadText::Memory)
         }
     }
 }

@@ -10,13 +10,13 @@ use Rattle.sx_earley.specs.Completed.{number_of}
 use Rattle.sx_forest.specs.Names.{IsMarked, names_in, AddsEach}
 use Rattle.sx_forest.specs.Readings.{plain_reading}
 use Rattle.sx_notation.proofs.TextReading.{err_if}
-use Rattle.sx_typing.specs.Unread.{IsUnreadBody}
+use Rattle.sx_typing.specs.Unread.{IsUnreadText}
 use Rattle.sx_typing.proofs.Bodies.{is_marked, has_no_names, reads_as}
-use Rattle.sx_typing.proofs.body_reading.read_body.Goals as goal
+use Rattle.sx_typing.proofs.text_reading.read_text.Goals as goal
 
 pub returns-in_err-tokens-clause-refused : goal.returns-in_err-tokens-clause-refused
 returns-in_err-tokens-clause-refused c =
-    let P = IsUnreadBody c.args.grammar.now.parts c.args.sort c.args.text.now in
+    let P = IsUnreadText c.args.grammar.now.parts c.args.sort c.args.text.now in
     err_if c.from_residual.result _ P c.from_residual.ensures.1
     (λ e is. subst P (sym is) (c.in_err-tokens.ensures.refused c.args.sort))
 
