@@ -1,0 +1,12 @@
+mod Nodes
+mod Rows
+mod Comparing
+mod ImageNodes
+mod SeenTerms
+mod NameWords
+mod EnvironmentTerms
+mod Lists
+mod Refusing
+mod OneSeen
+mod OneEnvironment
+mod RowLines

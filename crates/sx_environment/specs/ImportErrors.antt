@@ -1,0 +1,103 @@
+-- Why no environment is made of imports.
+use Rattle.std.specs.Prelude.{◌≡◌, ◌≢◌, ℕ, ◌+◌, ◌<◌, ◌≤◌, List, [], ◌∷◌, ◌++◌, length}
+use Rattle.sx_term.specs.Tree.{Tree, depth_of}
+use Rattle.sx_token.specs.declared.token.Token.{Token}
+use Rattle.sx_token.specs.declared.token_error.TokenError.{TokenError}
+use Rattle.sx_notation.specs.declared.unread.Unread.{Unread}
+use Rattle.sx_notation.specs.WhyUnread.{IsUnreadAs}
+use Rattle.sx_interface.specs.Interfaces.{InterfaceParts}
+use Rattle.sx_typing.specs.Body.{IsCut, HasDefect}
+use Rattle.sx_typing.specs.Refused.{defect_place, unread_place}
+use Rattle.sx_environment.specs.declared.import_error.ImportError.{ImportError}
+use Rattle.sx_environment.specs.declared.import_error.ImportError.TheVariants.{Memory}
+use Rattle.sx_environment.specs.declared.import_error.ImportError.TheVariants.{LanguageDiffers}
+use Rattle.sx_environment.specs.declared.import_error.ImportError.TheVariants.{Differs}
+use Rattle.sx_environment.specs.declared.import_error.ImportError.TheVariants.{StatedDiffers}
+use Rattle.sx_environment.specs.declared.import_error.ImportError.TheVariants.{Read, TooDeep}
+use Rattle.sx_environment.specs.declared.import_error.ImportError.TheVariants.{Token as BadTokens}
+use Rattle.sx_environment.specs.declared.row.Row.{Row}
+use Rattle.sx_environment.specs.declared.row.Row.TheVariants.{Signature, Stated}
+use Rattle.sx_environment.specs.Environments.{IsEnvironment, with_import}
+use Rattle.sx_environment.specs.Seen.{text_of, line_of, parts_of, sort_of, IsRead, HasLanguage}
+use Rattle.sx_environment.specs.Seen.{SeesStated, IsPlainOf, IsGoodImport}
+use Rattle.sx_environment.specs.SeenFrom.{SeenFrom}
+
+-- ---- rows that are not read
+
+-- the row is read: the signature where the import is in the language, the stated signature where
+-- also the signature is read and the stated one is seen
+abbrev pub IsDue : SeenFrom → InterfaceParts → Row → Type 0
+IsDue s it Signature = HasLanguage s it
+IsDue s it Stated =
+    HasLanguage s it × ((signature : Tree) × IsRead s it Signature signature) × SeesStated s it
+
+-- line and column are those of this place in the row, in the interface's file
+abbrev pub IsSpot : InterfaceParts → Row → (place line column : ℕ) → Type 0
+IsSpot it row place line column = (line ≡ line_of it row) × (column ≡ 1 + place)
+
+-- the row has no tokens: this is its first defect
+abbrev pub IsUncut : SeenFrom → InterfaceParts → Row → (line column : ℕ) → TokenError → Type 0
+IsUncut s it row line column e =
+    HasDefect (parts_of s row) (text_of it row) e × IsSpot it row (defect_place e) line column
+
+-- its tokens have not one reading
+abbrev pub IsUnread : SeenFrom → InterfaceParts → Row → (line column : ℕ) → Unread → Type 0
+IsUnread s it row line column u =
+    ((ts : List Token) × IsCut (parts_of s row) (text_of it row) ts ×
+    IsUnreadAs (parts_of s row) [] (sort_of s) ts (length (text_of it row)) u)
+    × IsSpot it row (unread_place u) line column
+
+-- ---- an import that is refused
+
+-- the plain image of the stated signature is not the signature
+pub record StatesOther (s : SeenFrom) (it : InterfaceParts) : Type 0 where
+  pub due : IsDue s it Stated
+  pub signature : Tree
+  pub stated : Tree
+  pub read : IsRead s it Signature signature
+  pub read_stated : IsRead s it Stated stated
+  pub other : IsPlainOf s stated signature → ⊥
+
+-- the environment with the import is deeper than 1,000, and this deep
+pub record IsTooDeep (s : SeenFrom) (before : Tree) (it : InterfaceParts) (depth : ℕ) : Type 0
+  where
+    pub seen : Tree
+    pub good : IsGoodImport s it seen
+    pub is : depth ≡ depth_of (with_import s before it.name seen)
+    pub deep : 1000 < depth
+
+-- why the import with this number, from 0, is refused behind this environment: each refusal has the
+-- conditions of those before it; out of memory is free
+abbrev pub IsBadImport : SeenFrom → (number : ℕ) → (before : Tree) → InterfaceParts → ImportError →
+    Type 0
+IsBadImport s number before it Memory = Unit {0}
+IsBadImport s number before it (LanguageDiffers import language) = (import ≡ number) ×
+    (language ≡ it.language.name) × (it.language.name ≢ s.language.name)
+IsBadImport s number before it (Differs import kept found) = (import ≡ number) ×
+    (it.language.name ≡ s.language.name) × (kept.bytes ≡ it.language.digest) ×
+    (found.bytes ≡ s.language.digest) × (it.language.digest ≢ s.language.digest)
+IsBadImport s number before it (BadTokens import line column e) = (import ≡ number) ×
+    ((row : Row) × IsDue s it row × IsUncut s it row line column e)
+IsBadImport s number before it (Read import line column u) = (import ≡ number) ×
+    ((row : Row) × IsDue s it row × IsUnread s it row line column u)
+IsBadImport s number before it (StatedDiffers import kept found) = (import ≡ number) ×
+    (kept ≡ it.signature) × (found ≡ it.stated) × StatesOther s it
+IsBadImport s number before it (TooDeep depth) = IsTooDeep s before it depth
+
+-- ---- the first of them
+
+-- the imports before this one are good, and their environment is not too deep; this one is refused
+pub record IsRefused (s : SeenFrom) (its : List InterfaceParts) (e : ImportError) : Type 0 where
+  pub front : List InterfaceParts
+  pub it : InterfaceParts
+  pub rest : List InterfaceParts
+  pub is : its ≡ front ++ it ∷ rest
+  pub before : Tree
+  pub environment : IsEnvironment s front before
+  pub shallow : depth_of before ≤ 1000
+  pub bad : IsBadImport s (length front) before it e
+
+-- why no environment is made; out of memory is free
+abbrev pub HasNone : SeenFrom → List InterfaceParts → ImportError → Type 0
+HasNone s its Memory = Unit {0}
+HasNone s its e = IsRefused s its e

@@ -1,0 +1,68 @@
+-- The term that is seen of an import.
+use Rattle.std.specs.Prelude.{◌≡◌, ◌≢◌, ◌⊎◌, ℕ, ◌+◌, [], length}
+use Rattle.sx_term.specs.declared.role.Role.TheVariants.{Out}
+use Rattle.sx_term.specs.declared.sort.Sort.{Sort}
+use Rattle.sx_term.specs.Tree.{Tree}
+use Rattle.sx_grammar.specs.Grammar.{Text}
+use Rattle.sx_grammar.specs.Parts.{Parts}
+use Rattle.sx_plain.specs.Plain.{image}
+use Rattle.sx_interface.specs.Interfaces.{InterfaceParts}
+use Rattle.sx_typing.specs.Body.{ReadsOnly}
+use Rattle.sx_typing.specs.Source.{main_sort}
+use Rattle.sx_environment.specs.declared.row.Row.{Row}
+use Rattle.sx_environment.specs.declared.row.Row.TheVariants.{Signature, Stated}
+use Rattle.sx_environment.specs.SeenFrom.{SeenFrom}
+
+-- ---- the rows that are read
+
+-- the text of a row
+abbrev pub text_of : InterfaceParts → Row → Text
+text_of it Signature = it.signature
+text_of it Stated = it.stated
+
+-- its line in the interface's file, which stands behind a line for each use and each import
+abbrev pub line_of : InterfaceParts → Row → ℕ
+line_of it Signature = 6 + (length it.uses + length it.imports)
+line_of it Stated = 7 + (length it.uses + length it.imports)
+
+-- the grammar by which it is read: the language's, and for the stated signature the dialect's
+abbrev pub parts_of : SeenFrom → Row → Parts
+parts_of s Signature = s.dialect.language.parts
+parts_of s Stated = s.dialect.parts
+
+-- the sort as which it is read: that of the main form's output
+abbrev pub sort_of : SeenFrom → Sort
+sort_of s = main_sort s.dialect.language Out
+
+-- the row has only one reading, with this term
+abbrev pub IsRead : SeenFrom → InterfaceParts → Row → Tree → Type 0
+IsRead s it row t = ReadsOnly (parts_of s row) (sort_of s) (text_of it row) t
+
+-- ---- what is seen
+
+-- the import is in the language, by the same file
+abbrev pub HasLanguage : SeenFrom → InterfaceParts → Type 0
+HasLanguage s it =
+    (it.language.name ≡ s.language.name) × (it.language.digest ≡ s.language.digest)
+
+-- it uses extensions, just those in use here, in the same order and by the same files
+abbrev pub SeesStated : SeenFrom → InterfaceParts → Type 0
+SeesStated s it = (it.uses ≢ []) × (it.uses ≡ s.uses)
+
+-- a signature is the plain image of the signature as it is stated
+abbrev pub IsPlainOf : SeenFrom → (stated signature : Tree) → Type 0
+IsPlainOf s stated signature = image s.dialect.set.table stated ≡ signature
+
+-- the term that is seen: that of the stated signature where this is seen, and else that of the
+-- signature
+abbrev pub Sees : SeenFrom → InterfaceParts → (signature seen : Tree) → Type 0
+Sees s it signature seen =
+    (SeesStated s it × IsRead s it Stated seen × IsPlainOf s seen signature)
+    ⊎ ((SeesStated s it → ⊥) × (seen ≡ signature))
+
+-- the import is in the language, its signature has only one reading, and this is the term seen
+pub record IsGoodImport (s : SeenFrom) (it : InterfaceParts) (seen : Tree) : Type 0 where
+  pub language : HasLanguage s it
+  pub signature : Tree
+  pub read : IsRead s it Signature signature
+  pub sees : Sees s it signature seen
