@@ -1,0 +1,7 @@
+pub mod RowLaws
+pub mod ShownNodes
+pub mod OneNode
+pub mod ProofNodes
+pub mod Carrying
+pub mod ListNodes
+pub mod NodeLaws
