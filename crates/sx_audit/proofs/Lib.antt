@@ -3,5 +3,5 @@ pub mod ShownNodes
 pub mod OneNode
 pub mod ProofNodes
 pub mod Carrying
-pub mod ListNodes
 pub mod NodeLaws
+pub mod ListNodes

@@ -20,10 +20,11 @@ use Rattle.sx_rules.specs.Derivations.{Proof, Proofs, by, given, no_more, ◌⊳
 use Rattle.sx_rules.specs.Derivations.{most_height}
 use Rattle.sx_rules.specs.Orders.{Entry, of_rule, order_of, order_of_all}
 use Rattle.sx_audit.specs.Meaning.{Meaning, node}
-use Rattle.sx_audit.specs.Preorder.{nodes, nodes_of_each, IsListOf}
+use Rattle.sx_audit.specs.Preorder.{nodes, nodes_of_each, IsDerivationList}
 use Rattle.sx_audit.specs.Shown.{IsShownAfter}
-use Rattle.sx_audit.specs.Standing.{StandsAt}
+use Rattle.sx_audit.specs.Standing.{IsDerivationAt}
 use Rattle.sx_audit.specs.declared.show_error.ShowError.{ShowError}
+use Rattle.sx_audit.proofs.NodeLaws.{some-below}
 use Rattle.sx_audit.proofs.ProofNodes.{name-at}
 use Rattle.sx_audit.proofs.Carrying.{Carries, carries-all, carries-on, carries-stop, carries-end}
 
@@ -50,11 +51,6 @@ first-there {A} (y ∷ xs) (suc at) x more e =
           ∙ ap (λ (n : ℕ). drop n xs) (sym (next-of at)) ∙ r.next;
       within = omega (arith, h);
     }
-
-some-below : {A : Type 0} (xs : List A) (i : ℕ) (x : A) → slice_get xs i ≡ Some x → i < length xs
-some-below [] i x e = absurd (cc)
-some-below (y ∷ xs) zero x e = omega arith
-some-below (y ∷ xs) (suc i) x e = let r = some-below xs i x e in omega (arith, r)
 
 -- a rule without its name
 bare-at : (rs : List RuleOf) (i : ℕ) (r : NamedRule) → slice_get (map named rs) i ≡ Some r →
@@ -91,8 +87,8 @@ named-below (x ∷ rs) zero h = omega arith
 named-below (x ∷ rs) (suc i) h = let r = named-below rs i (omega (arith, h)) in omega (arith, r)
 
 -- the whole list of a derivation
-pub list-stands : (rules : List Rule) (list : List Entry) (p : Proof) → IsListOf rules list p →
-    StandsAt rules list 0 1 p []
+pub list-stands : (rules : List Rule) (list : List Entry) (p : Proof) → IsDerivationList rules list p →
+    IsDerivationAt rules list 0 1 p []
 list-stands rules list p is = record {
   judgement = is.judgement;
   derives = is.derives;
@@ -108,13 +104,13 @@ module _ (rs : List RuleOf) (list : List Entry) (at depth : ℕ) where
   bare = map rule rs
 
   -- what stands there is the entry of the root's rule
-  pub root-there : (p : Proof) (rest : List Entry) → StandsAt bare list at depth p rest →
+  pub root-there : (p : Proof) (rest : List Entry) → IsDerivationAt bare list at depth p rest →
       (r : ℕ) × (slice_get list at ≡ Some (of_rule r))
   root-there (given i) rest s = absurd (let h : None ≡ Some s.judgement = s.derives in cc)
   root-there (by r binds kids) rest s =
       (r, (first-there list at (of_rule r) (order_of_all kids ++ rest) s.place).there)
 
-  pub root-within : (p : Proof) (rest : List Entry) → StandsAt bare list at depth p rest →
+  pub root-within : (p : Proof) (rest : List Entry) → IsDerivationAt bare list at depth p rest →
       (r : ℕ) → slice_get list at ≡ Some (of_rule r) → r < length rules
   root-within (given i) rest s r e = absurd (let h : None ≡ Some s.judgement = s.derives in cc)
   root-within (by q binds kids) rest s r e =
@@ -123,7 +119,7 @@ module _ (rs : List RuleOf) (list : List Entry) (at depth : ℕ) where
       let found = ap (slice_get bare) (sym same) ∙ s.derives.1 in
       named-below rs r (some-below bare r s.derives.0 found)
 
-  pub place-within : (p : Proof) (rest : List Entry) → StandsAt bare list at depth p rest →
+  pub place-within : (p : Proof) (rest : List Entry) → IsDerivationAt bare list at depth p rest →
       at < length list
   place-within (given i) rest s = absurd (let h : None ≡ Some s.judgement = s.derives in cc)
   place-within (by r binds kids) rest s =
@@ -150,7 +146,7 @@ module _ (rs : List RuleOf) (list : List Entry) (at depth : ℕ) where
       ap (λ (name : List ℕ). node name depth ∷ nodes_of_each rules (depth + 1) kids)
       (name-at rules q n (ap (slice_get rules) same ∙ e))
 
-  pub root-shown : (p : Proof) (rest : List Entry) → StandsAt bare list at depth p rest →
+  pub root-shown : (p : Proof) (rest : List Entry) → IsDerivationAt bare list at depth p rest →
       (r : ℕ) (n : NamedRule) → slice_get list at ≡ Some (of_rule r) → slice_get rules r ≡ Some n →
       at + 1 ≤ 2 ^ 64 - 1 → (ps : List Premise) → ps ≡ n.rule.premises →
       (old now : List Meaning) (j : ℕ) → IsShownAfter at old (node n.name depth ∷ []) (Ok j) now →
@@ -183,7 +179,7 @@ module _ (rs : List RuleOf) (list : List Entry) (at depth : ℕ) where
             (root-first q r binds kids n same f) h);
       }
 
-  pub root-stops : (p : Proof) (rest : List Entry) → StandsAt bare list at depth p rest →
+  pub root-stops : (p : Proof) (rest : List Entry) → IsDerivationAt bare list at depth p rest →
       (r : ℕ) (n : NamedRule) → slice_get list at ≡ Some (of_rule r) → slice_get rules r ≡ Some n →
       at ≤ 2 ^ 64 - 1 → (old new : List Meaning) (result : Result ℕ ShowError) (e : ShowError) →
       IsErrAnd result (λ z. z ≡ e) → IsShownAfter at old (node n.name depth ∷ []) (Err e) new →
@@ -228,7 +224,7 @@ module _ (rs : List RuleOf) (list : List Entry) (at depth : ℕ) where
         (map (judgement_instance (bound_by left.binds)) (judgements_of xs)) left.kids) same
         left.derive)
 
-    kid-stands : StandsAt bare list next (depth + 1) kid.it (order_of_all kid.more ++ rest)
+    kid-stands : IsDerivationAt bare list next (depth + 1) kid.it (order_of_all kid.more ++ rest)
     kid-stands = record {
       judgement = judgement_instance (bound_by left.binds) j;
       derives = kid.derives;
@@ -241,13 +237,13 @@ module _ (rs : List RuleOf) (list : List Entry) (at depth : ℕ) where
         ≡ nodes rules (depth + 1) kid.it ++ nodes_of_each rules (depth + 1) kid.more
     nodes-left = ap (nodes_of_each rules (depth + 1)) kid.whole
 
-    pub kid-there : (q : Proof) × (more : List Entry) × StandsAt bare list next (depth + 1) q more
+    pub kid-there : (q : Proof) × (more : List Entry) × IsDerivationAt bare list next (depth + 1) q more
     kid-there = (kid.it, order_of_all kid.more ++ rest, kid-stands)
 
     pub kid-shown : (i : ℕ) (new : List Meaning) →
-        ((q : Proof) (more : List Entry) → StandsAt bare list next (depth + 1) q more →
+        ((q : Proof) (more : List Entry) → IsDerivationAt bare list next (depth + 1) q more →
         IsShownAfter next now (nodes rules (depth + 1) q) (Ok i) new) →
-        ((q : Proof) (more : List Entry) → StandsAt bare list next (depth + 1) q more →
+        ((q : Proof) (more : List Entry) → IsDerivationAt bare list next (depth + 1) q more →
         drop i list ≡ more) → Left p rest old new i qs
     kid-shown i new shown after = record {
       binds = left.binds;
@@ -262,7 +258,7 @@ module _ (rs : List RuleOf) (list : List Entry) (at depth : ℕ) where
     }
 
     pub kid-after : (i : ℕ) (new : List Meaning) →
-        ((q : Proof) (more : List Entry) → StandsAt bare list next (depth + 1) q more →
+        ((q : Proof) (more : List Entry) → IsDerivationAt bare list next (depth + 1) q more →
         IsShownAfter next now (nodes rules (depth + 1) q) (Ok i) new) → next ≤ i
     kid-after i new shown =
         let fits = left.carries.fits in
@@ -271,7 +267,7 @@ module _ (rs : List RuleOf) (list : List Entry) (at depth : ℕ) where
 
     pub kid-stops : (new : List Meaning) (result : Result ℕ ShowError) (e : ShowError) →
         IsErrAnd result (λ z. z ≡ e) →
-        ((q : Proof) (more : List Entry) → StandsAt bare list next (depth + 1) q more →
+        ((q : Proof) (more : List Entry) → IsDerivationAt bare list next (depth + 1) q more →
         IsShownAfter next now (nodes rules (depth + 1) q) (Err e) new) →
         IsShownAfter at old (nodes rules depth p) result new
     kid-stops new result e is shown =

@@ -1,17 +1,22 @@
 -- What nodes that are shown have to do with the lists of derivations.
-use Rattle.std.proofs.Common.{◌≡◌, ℕ, zero, suc, Bool, true, false, not, List, [], ◌∷◌, ◌++◌}
-use Rattle.std.proofs.Common.{map, length, codes, ◌+◌, ap, sym, refl, ◌∙◌, arith}
-use Rattle.std.specs.Prelude.{Contains}
+use Rattle.std.proofs.Common.{◌≡◌, ℕ, zero, suc, ◌+◌, ◌<◌, Bool, true, false, not, List, [], ◌∷◌}
+use Rattle.std.proofs.Common.{◌++◌, map, length, codes, Some, None, ap, sym, refl, ◌∙◌, arith}
+use Rattle.std.specs.Prelude.{Contains, slice_get, slice_index_or}
 use Rattle.std.specs.Fmt.{decimal}
 use Rattle.std.proofs.lemmas.Bool.{false≢true}
 use Rattle.std.proofs.lemmas.List.{map-append}
 use Rattle.sx_rules.specs.declared.entry.Entry.{Entry}
-use Rattle.sx_rules.specs.declared.entry.Entry.TheVariants.{Rule, Given}
-use Rattle.sx_rules.specs.Derivations.{Proof, Proofs, by, given, no_more, ◌⊳◌}
+use Rattle.sx_rules.specs.declared.entry.Entry.TheVariants.{Rule as RuleEntry, Given}
+use Rattle.sx_rules.specs.declared.rule.Rule.{Rule as RuleOf}
+use Rattle.sx_rules.specs.declared.rule_set.RuleSet.{RuleSet}
+use Rattle.sx_rules.specs.Derivations.{Proof, Proofs, by, given, no_more, ◌⊳◌, Derives, DeriveEach}
 use Rattle.sx_rules.specs.EntryView.{entry, entries}
+use Rattle.sx_rules.specs.Good.{names_of}
 use Rattle.sx_rules.specs.ListText.{entry_line}
 use Rattle.sx_rules.specs.Orders.{Entry as EntryData, of_rule, of_given, order_of, order_of_all}
-use Rattle.sx_rules.specs.Views.{NamedRule, rule_name}
+use Rattle.sx_rules.specs.Rules.{Judgement, Rule, no_hypotheses}
+use Rattle.sx_rules.specs.Sets.{rules_in, bare_rules_in, names_in}
+use Rattle.sx_rules.specs.Views.{NamedRule, named, rule_name}
 use Rattle.sx_audit.specs.Meaning.{Node, Meaning}
 use Rattle.sx_audit.specs.Kinds.{is_among, of_names, deny_kind}
 use Rattle.sx_audit.specs.Shown.{Admits}
@@ -60,22 +65,48 @@ mutual
       (each-named rules depth many ps h.1)
       ∙ sym (map-append (line_of rules) (order_of p) (order_of_all ps))
 
-same-line : (rules : List NamedRule) (e : Entry) →
-    line_of rules (entry e) ≡ entry_line (map (λ r. r.name) rules) e
-same-line rules (Rule r) = refl
-same-line rules (Given i) = refl
+-- the same lines by the names alone
+name-in : (rs : List RuleOf) (r : ℕ) → rule_name (map named rs) r ≡ slice_index_or (names_of rs) r []
+name-in [] r = refl
+name-in (x ∷ rs) zero = refl
+name-in (x ∷ rs) (suc r) = name-in rs r
 
-same-lines : (rules : List NamedRule) (list : List Entry) →
-    map (line_of rules) (entries list) ≡ map (entry_line (map (λ r. r.name) rules)) list
-same-lines rules [] = refl
-same-lines rules (e ∷ list) =
-    ap (λ (l : List ℕ). l ∷ map (line_of rules) (entries list)) (same-line rules e)
-    ∙ ap (λ (ls : List (List ℕ)). entry_line (map (λ r. r.name) rules) e ∷ ls)
-    (same-lines rules list)
+same-line : (rs : List RuleOf) (e : Entry) →
+    line_of (map named rs) (entry e) ≡ entry_line (names_of rs) e
+same-line rs (RuleEntry r) = name-in rs r
+same-line rs (Given i) = refl
 
-pub lines-named : (rules : List NamedRule) (depth : ℕ) (p : Proof) (list : List Entry) →
-    IsByRules (length rules) p → entries list ≡ order_of p →
-    map (λ n. n.rule) (nodes rules depth p) ≡ map (entry_line (map (λ r. r.name) rules)) list
-lines-named rules depth p list h e =
-    nodes-named rules depth (length rules) p h
-    ∙ ap (map (line_of rules)) (sym e) ∙ same-lines rules list
+same-lines : (rs : List RuleOf) (list : List Entry) →
+    map (line_of (map named rs)) (entries list) ≡ map (entry_line (names_of rs)) list
+same-lines rs [] = refl
+same-lines rs (e ∷ list) =
+    ap (λ (l : List ℕ). l ∷ map (line_of (map named rs)) (entries list)) (same-line rs e)
+    ∙ ap (λ (ls : List (List ℕ)). entry_line (names_of rs) e ∷ ls) (same-lines rs list)
+
+pub some-below : {A : Type 0} (xs : List A) (i : ℕ) (x : A) → slice_get xs i ≡ Some x →
+    i < length xs
+some-below [] i x e = absurd (cc)
+some-below (y ∷ xs) zero x e = omega arith
+some-below (y ∷ xs) (suc i) x e = let r = some-below xs i x e in omega (arith, r)
+
+-- a derivation without hypotheses is by its rules
+mutual
+  pub derived-by-rules : (rules : List Rule) (j : Judgement) (p : Proof) →
+      Derives rules no_hypotheses j p → IsByRules (length rules) p
+  derived-by-rules rules j (given i) d = absurd (let h : None ≡ Some j = d in cc)
+  derived-by-rules rules j (by r binds kids) d =
+      (some-below rules r d.0 d.1, each-by-rules rules _ kids d.5)
+
+  each-by-rules : (rules : List Rule) (js : List Judgement) (ps : Proofs) →
+      DeriveEach rules no_hypotheses js ps → AreByRules (length rules) ps
+  each-by-rules rules js no_more d = tt
+  each-by-rules rules [] (p ⊳ ps) d = absurd d
+  each-by-rules rules (j ∷ js) (p ⊳ ps) d =
+      (derived-by-rules rules j p d.0, each-by-rules rules js ps d.1)
+
+pub lines-named : (set : RuleSet) (depth : ℕ) (j : Judgement) (p : Proof) (list : List Entry) →
+    Derives (bare_rules_in set) no_hypotheses j p → entries list ≡ order_of p →
+    map (λ n. n.rule) (nodes (rules_in set) depth p) ≡ map (entry_line (names_in set)) list
+lines-named set depth j p list d e =
+    nodes-named (rules_in set) depth _ p (derived-by-rules (bare_rules_in set) j p d)
+    ∙ ap (map (line_of (rules_in set))) (sym e) ∙ same-lines set.rules.items list

@@ -30,7 +30,7 @@ abbrev mutual
   AreByRules many (p ⊳ ps) = IsByRules many p × AreByRules many ps
 
 -- the list is that of a derivation by the rules without hypotheses, no deeper than 3,000
-pub record IsListOf (rules : List Rule) (list : List Entry) (p : Proof) : Type 0 where
+pub record IsDerivationList (rules : List Rule) (list : List Entry) (p : Proof) : Type 0 where
   pub judgement : Judgement
   pub derives : Derives rules no_hypotheses judgement p
   pub order : list ≡ order_of p

@@ -6,7 +6,7 @@ use Rattle.sx_rules.specs.Orders.{Entry, order_of}
 
 -- the entries of a derivation stand in the list from the place on, and then the rest; its root has
 -- this depth, and no node is deeper than 3,000
-pub record StandsAt (rules : List Rule) (list : List Entry) (at depth : ℕ) (p : Proof)
+pub record IsDerivationAt (rules : List Rule) (list : List Entry) (at depth : ℕ) (p : Proof)
     (rest : List Entry) : Type 0 where
   pub judgement : Judgement
   pub derives : Derives rules no_hypotheses judgement p

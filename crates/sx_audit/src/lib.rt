@@ -18,7 +18,7 @@ mod texts;
 pub use auditor::Auditor;
 pub use denying::Deny;
 pub use depths::Depth;
-pub use laws::{denied_are_absent, lines_name_nodes};
+pub use laws::{denied_are_absent, derivations_are_by_rules, lines_name_nodes};
 pub use listed::show_list;
 pub use node_count::Nodes;
 pub use set_error::SetError;

@@ -5,9 +5,9 @@ ghost use Rattle.sx_rules.specs.Derivations.{Proof};
 ghost use Rattle.sx_rules.specs.EntryView.{entries};
 ghost use Rattle.sx_rules.specs.Orders.{Entry as EntryData, of_rule};
 ghost use Rattle.sx_rules.specs.Sets.{rules_in, bare_rules_in};
-ghost use Rattle.sx_audit.specs.Preorder.{nodes, IsListOf};
+ghost use Rattle.sx_audit.specs.Preorder.{nodes, IsDerivationList};
 ghost use Rattle.sx_audit.specs.Shown.{IsShown, IsShownAfter};
-ghost use Rattle.sx_audit.specs.Standing.{StandsAt};
+ghost use Rattle.sx_audit.specs.Standing.{IsDerivationAt};
 
 use crate::auditor::Auditor;
 use crate::show_error::ShowError;
@@ -38,13 +38,13 @@ fn show_at(
     depth: u32,
 ) -> Result<usize, ShowError>
     requires { (p : Proof) × (rest : List EntryData)
-        × StandsAt (bare_rules_in rules.now) (entries list.now) at depth p rest }
+        × IsDerivationAt (bare_rules_in rules.now) (entries list.now) at depth p rest }
     ensures shown { (p : Proof) (rest : List EntryData) →
-        StandsAt (bare_rules_in rules.now) (entries list.now) at depth p rest →
+        IsDerivationAt (bare_rules_in rules.now) (entries list.now) at depth p rest →
         IsShownAfter at (map (λ b. meaning b) auditors.old.items)
         (nodes (rules_in rules.now) depth p) result (map (λ b. meaning b) auditors.new.items) }
     ensures next { (p : Proof) (rest : List EntryData) →
-        StandsAt (bare_rules_in rules.now) (entries list.now) at depth p rest →
+        IsDerivationAt (bare_rules_in rules.now) (entries list.now) at depth p rest →
         IfOk result (λ next. drop next (entries list.now) ≡ rest) }
 {
     let rule = rule_at(rules, rule_number(list, at));
@@ -68,8 +68,8 @@ pub fn show_list(
     rules: &RuleSet,
     list: &[Entry],
 ) -> Result<(), ShowError>
-    requires { (p : Proof) × IsListOf (bare_rules_in rules.now) (entries list.now) p }
-    ensures { (p : Proof) → IsListOf (bare_rules_in rules.now) (entries list.now) p →
+    requires { (p : Proof) × IsDerivationList (bare_rules_in rules.now) (entries list.now) p }
+    ensures { (p : Proof) → IsDerivationList (bare_rules_in rules.now) (entries list.now) p →
         IsShown (map (λ b. meaning b) auditors.old.items) (nodes (rules_in rules.now) 1 p)
         result (map (λ b. meaning b) auditors.new.items) }
 {
