@@ -24,7 +24,7 @@ use Rattle.sx_audit.specs.Preorder.{nodes, nodes_of_each, IsDerivationList}
 use Rattle.sx_audit.specs.Shown.{IsShownAfter}
 use Rattle.sx_audit.specs.Standing.{IsDerivationAt}
 use Rattle.sx_audit.specs.declared.show_error.ShowError.{ShowError}
-use Rattle.sx_audit.proofs.NodeLaws.{some-below}
+use Rattle.sx_audit.proofs.NodeLaws.{some-below, same-length}
 use Rattle.sx_audit.proofs.ProofNodes.{name-at}
 use Rattle.sx_audit.proofs.Carrying.{Carries, carries-all, carries-on, carries-stop, carries-end}
 
@@ -81,11 +81,6 @@ pub no-premise : (items : List PremiseOf) (i : ℕ) → length items ≤ i →
     map premise (drop i items) ≡ []
 no-premise items i h = ap (map premise) (drop_all i items h)
 
-named-below : (rs : List RuleOf) (i : ℕ) → i < length (map rule rs) → i < length (map named rs)
-named-below [] i h = h
-named-below (x ∷ rs) zero h = omega arith
-named-below (x ∷ rs) (suc i) h = let r = named-below rs i (omega (arith, h)) in omega (arith, r)
-
 -- the whole list of a derivation
 pub list-stands : (rules : List Rule) (list : List Entry) (p : Proof) → IsDerivationList rules list p →
     IsDerivationAt rules list 0 1 p []
@@ -117,7 +112,7 @@ module _ (rs : List RuleOf) (list : List Entry) (at depth : ℕ) where
       let f = (first-there list at (of_rule q) (order_of_all kids ++ rest) s.place).there in
       let same : q ≡ r = cc in
       let found = ap (slice_get bare) (sym same) ∙ s.derives.1 in
-      named-below rs r (some-below bare r s.derives.0 found)
+      subst (λ (n : ℕ). r < n) (same-length rs) (some-below bare r s.derives.0 found)
 
   pub place-within : (p : Proof) (rest : List Entry) → IsDerivationAt bare list at depth p rest →
       at < length list

@@ -1,6 +1,6 @@
 -- What nodes that are shown have to do with the lists of derivations.
 use Rattle.std.proofs.Common.{◌≡◌, ℕ, zero, suc, ◌+◌, ◌<◌, Bool, true, false, not, List, [], ◌∷◌}
-use Rattle.std.proofs.Common.{◌++◌, map, length, codes, Some, None, ap, sym, refl, ◌∙◌, arith}
+use Rattle.std.proofs.Common.{◌++◌, map, length, codes, Some, None, ap, sym, refl, subst, ◌∙◌, arith}
 use Rattle.std.specs.Prelude.{Contains, slice_get, slice_index_or}
 use Rattle.std.specs.Fmt.{decimal}
 use Rattle.std.proofs.lemmas.Bool.{false≢true}
@@ -16,7 +16,7 @@ use Rattle.sx_rules.specs.ListText.{entry_line}
 use Rattle.sx_rules.specs.Orders.{Entry as EntryData, of_rule, of_given, order_of, order_of_all}
 use Rattle.sx_rules.specs.Rules.{Judgement, Rule, no_hypotheses}
 use Rattle.sx_rules.specs.Sets.{rules_in, bare_rules_in, names_in}
-use Rattle.sx_rules.specs.Views.{NamedRule, named, rule_name}
+use Rattle.sx_rules.specs.Views.{NamedRule, named, rule, rule_name}
 use Rattle.sx_audit.specs.Meaning.{Node, Meaning}
 use Rattle.sx_audit.specs.Kinds.{is_among, of_names, deny_kind}
 use Rattle.sx_audit.specs.Shown.{Admits}
@@ -89,24 +89,35 @@ some-below [] i x e = absurd (cc)
 some-below (y ∷ xs) zero x e = omega arith
 some-below (y ∷ xs) (suc i) x e = let r = some-below xs i x e in omega (arith, r)
 
+-- as many rules as rules with their names
+pub same-length : (rs : List RuleOf) → length (map rule rs) ≡ length (map named rs)
+same-length [] = refl
+same-length (x ∷ rs) = ap suc (same-length rs)
+
 -- a derivation without hypotheses is by its rules
 mutual
-  pub derived-by-rules : (rules : List Rule) (j : Judgement) (p : Proof) →
-      Derives rules no_hypotheses j p → IsByRules (length rules) p
-  derived-by-rules rules j (given i) d = absurd (let h : None ≡ Some j = d in cc)
-  derived-by-rules rules j (by r binds kids) d =
-      (some-below rules r d.0 d.1, each-by-rules rules _ kids d.5)
+  derived-by : (rules : List Rule) (j : Judgement) (p : Proof) → Derives rules no_hypotheses j p →
+      IsByRules (length rules) p
+  derived-by rules j (given i) d = absurd (let h : None ≡ Some j = d in cc)
+  derived-by rules j (by r binds kids) d =
+      (some-below rules r d.0 d.1, each-derived-by rules _ kids d.5)
 
-  each-by-rules : (rules : List Rule) (js : List Judgement) (ps : Proofs) →
+  each-derived-by : (rules : List Rule) (js : List Judgement) (ps : Proofs) →
       DeriveEach rules no_hypotheses js ps → AreByRules (length rules) ps
-  each-by-rules rules js no_more d = tt
-  each-by-rules rules [] (p ⊳ ps) d = absurd d
-  each-by-rules rules (j ∷ js) (p ⊳ ps) d =
-      (derived-by-rules rules j p d.0, each-by-rules rules js ps d.1)
+  each-derived-by rules js no_more d = tt
+  each-derived-by rules [] (p ⊳ ps) d = absurd d
+  each-derived-by rules (j ∷ js) (p ⊳ ps) d =
+      (derived-by rules j p d.0, each-derived-by rules js ps d.1)
+
+pub derived-by-rules : (set : RuleSet) (j : Judgement) (p : Proof) →
+    Derives (bare_rules_in set) no_hypotheses j p → IsByRules (length (rules_in set)) p
+derived-by-rules set j p d =
+    subst (λ (n : ℕ). IsByRules n p) (same-length set.rules.items)
+    (derived-by (bare_rules_in set) j p d)
 
 pub lines-named : (set : RuleSet) (depth : ℕ) (j : Judgement) (p : Proof) (list : List Entry) →
     Derives (bare_rules_in set) no_hypotheses j p → entries list ≡ order_of p →
     map (λ n. n.rule) (nodes (rules_in set) depth p) ≡ map (entry_line (names_in set)) list
 lines-named set depth j p list d e =
-    nodes-named (rules_in set) depth _ p (derived-by-rules (bare_rules_in set) j p d)
+    nodes-named (rules_in set) depth _ p (derived-by-rules set j p d)
     ∙ ap (map (line_of (rules_in set))) (sym e) ∙ same-lines set.rules.items list

@@ -6,7 +6,7 @@ use Rattle.sx_rules.specs.Derivations.{Proof, Derives}
 use Rattle.sx_rules.specs.EntryView.{entries}
 use Rattle.sx_rules.specs.ListText.{entry_line}
 use Rattle.sx_rules.specs.Orders.{order_of}
-use Rattle.sx_rules.specs.Rules.{Judgement, Rule, no_hypotheses}
+use Rattle.sx_rules.specs.Rules.{Judgement, no_hypotheses}
 use Rattle.sx_rules.specs.Sets.{rules_in, bare_rules_in, names_in}
 use Rattle.sx_audit.specs.Meaning.{Node}
 use Rattle.sx_audit.specs.Kinds.{is_among, of_names, deny_kind}
@@ -19,10 +19,10 @@ DeniedAreAbsent = (name : List ℕ) (names : List (List ℕ)) (ns : List Node) �
     Admits ns (record { kind = deny_kind name; state = of_names names }) →
     (n : Node) → Contains ns n → is_among names n.rule ≡ false
 
--- a derivation without hypotheses has no givens, and is by its rules
+-- a derivation without hypotheses has no givens, and is by the rules of the set
 abbrev pub DerivationsAreByRules : Type 0
-DerivationsAreByRules = (rules : List Rule) (j : Judgement) (p : Proof) →
-    Derives rules no_hypotheses j p → IsByRules (length rules) p
+DerivationsAreByRules = (set : RuleSet) (j : Judgement) (p : Proof) →
+    Derives (bare_rules_in set) no_hypotheses j p → IsByRules (length (rules_in set)) p
 
 -- the rules of its nodes are those that the lines of its list name
 abbrev pub LinesNameNodes : Type 0
