@@ -22,7 +22,7 @@ name-at (x ∷ rules) zero r e = cc
 name-at (x ∷ rules) (suc i) r e = name-at rules i r e
 
 -- one kid on
-boxed-on : (ks : List (Box ProofOf Global)) (i : ℕ) (k : Box ProofOf Global) (q : ProofOf) →
+pub boxed-on : (ks : List (Box ProofOf Global)) (i : ℕ) (k : Box ProofOf Global) (q : ProofOf) →
     i < length ks → k ≡ get_or ks i k → q ≡ k.value →
     boxed (drop i ks) ≡ proof q ⊳ boxed (drop (i + 1) ks)
 boxed-on ks i k q h e same =

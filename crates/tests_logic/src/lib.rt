@@ -4,6 +4,8 @@
 #[cfg(test)]
 mod asking;
 #[cfg(test)]
+mod auditors;
+#[cfg(test)]
 mod bad_core_lines;
 #[cfg(test)]
 mod core_files;
@@ -19,6 +21,10 @@ mod samples;
 mod searches;
 #[cfg(test)]
 mod shared_terms;
+#[cfg(test)]
+mod shown;
+#[cfg(test)]
+mod stop;
 #[cfg(test)]
 mod stuck_goals;
 #[cfg(test)]
