@@ -1,0 +1,12 @@
+//! The sample: a large valid module, with the language and the extension that it uses.
+#![tactic(auto)]
+
+mod laws;
+mod sampling;
+mod shelf;
+mod texts;
+
+pub use laws::tokens_are_counted;
+pub use sampling::sample;
+pub use shelf::sample_shelf;
+pub use texts::{LAM_LANG, LET_EXT};
