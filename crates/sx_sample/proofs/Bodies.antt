@@ -57,7 +57,7 @@ pub all-bound : (text last : List ℕ) (n i : ℕ) → n ≤ i → last ≡ name
 all-bound text last n i h e so_far =
     let none : n - i ≡ 0 = omega (arith, h) in
     let bound : text ≡ head ++ bindings 1 n =
-        sym (append-nil text) ∙ ap (λ (m : ℕ). text ++ bindings (i + 1) m) (sym none) ∙ so_far in
+    sym (append-nil text) ∙ ap (λ (m : ℕ). text ++ bindings (i + 1) m) (sym none) ∙ so_far in
     ap (λ (front : List ℕ). (front ++ last) ++ 10 ∷ []) bound
     ∙ ap (λ (end : List ℕ). ((head ++ bindings 1 n) ++ end) ++ 10 ∷ []) e
     ∙ ap (λ (front : List ℕ). front ++ 10 ∷ []) (append_assoc head (bindings 1 n) (name_of n))

@@ -1,3 +1,4 @@
 pub mod Samples
 pub mod Holding
+pub mod Summaries
 pub mod Laws

@@ -4,9 +4,11 @@
 mod laws;
 mod sampling;
 mod shelf;
+mod summary;
 mod texts;
 
 pub use laws::tokens_are_counted;
 pub use sampling::sample;
 pub use shelf::sample_shelf;
+pub use summary::{Summary, summary_line};
 pub use texts::{LAM_LANG, LET_EXT};

@@ -1,4 +1,4 @@
-use Rattle.std.proofs.Common.{◌≡◌, ◌++◌, ◌-◌, ◌+◌, codes}
+use Rattle.std.proofs.Common.{◌≡◌, ◌++◌, ◌-◌, ◌+◌}
 use Rattle.sx_sample.proofs.Bodies.{bindings, head}
 use Rattle.sx_sample.proofs.sampling.sample.Given as goal
 
