@@ -1,4 +1,5 @@
-//! Tests of terms, of lines, of tokens and of plain images, by what their crates show.
+//! Tests of terms, of lines, of tokens, of plain images and of the sample module, by what their
+//! crates show.
 #![tactic(auto)]
 
 #[cfg(test)]
@@ -23,6 +24,8 @@ mod orders;
 mod pairs;
 #[cfg(test)]
 mod plain_images;
+#[cfg(test)]
+mod sample_module;
 #[cfg(test)]
 mod samples;
 #[cfg(test)]
