@@ -3,7 +3,7 @@ use Rattle.std.proofs.Common.{◌≡◌, ℕ, List, [], ◌∷◌, ◌++◌, Vec
 use Rattle.std.proofs.Common.{ap, sym, refl, ◌∙◌}
 use Rattle.std.specs.declared.alloc.Global.{Global}
 use Rattle.std.proofs.lemmas.List.{length-map, with_items_is}
-use Rattle.sx_audit.specs.declared.tallying.Row.{Row}
+use Rattle.sx_audit.specs.declared.row.Row.{Row}
 use Rattle.sx_audit.specs.Kinds.{of_counts, counted}
 use Rattle.sx_audit.specs.Rows.{names_of, counts_of, row_after}
 

@@ -1,7 +1,7 @@
 -- Rows of names with their counts.
 use Rattle.std.specs.Prelude.{ℕ, ◌+◌, List, map, if◌then◌else◌}
 use Rattle.std.specs.Str.{bytes_eq}
-use Rattle.sx_audit.specs.declared.tallying.Row.{Row}
+use Rattle.sx_audit.specs.declared.row.Row.{Row}
 use Rattle.sx_audit.specs.Kinds.{as_count}
 
 -- the names of the rows

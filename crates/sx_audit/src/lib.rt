@@ -8,6 +8,7 @@ mod laws;
 mod listed;
 pub mod makers;
 mod node_count;
+mod row;
 mod set_error;
 mod settings;
 mod show_error;

@@ -5,18 +5,12 @@ ghost use Rattle.sx_audit.specs.Kinds.{tally_kind, of_counts, counts_text};
 ghost use Rattle.sx_audit.specs.Rows.{names_of, counts_of, row_after};
 
 use crate::auditor::Auditor;
+use crate::row::{Row, count};
 use crate::set_error::SetError;
 use crate::settings::{are_distinct, names};
 use crate::texts::{put_number, put_word};
 use std::alloc::Global;
 use sx_term::{NoMemory, Text};
-
-/// A rule's name, and how many nodes were by that rule.
-#[derive(Drop)]
-pub(crate) struct Row {
-    name: Text,
-    count: u64,
-}
 
 /// Objects to no node, and counts those by each of its rules.
 #[derive(Drop)]
@@ -36,15 +30,6 @@ fn rows(alloc: Global, names: Vec<Text>) -> Result<Vec<Row>, NoMemory>
         rows.push(Row { name, count: 0 })?;
     }
     Ok(rows)
-}
-
-/// Counts a node by this rule where the row is that rule's.
-fn count(row: &mut Row, rule: &Text)
-    ensures { row.new ≡ row_after rule.now row.old }
-{
-    if row.name == *rule {
-        row.count = row.count.saturating_add(1);
-    }
 }
 
 /// Counts a node by this rule in each row.
