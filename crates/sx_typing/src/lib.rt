@@ -34,6 +34,7 @@ pub use laws::{
 };
 pub use places::{defect_place, unread_place};
 pub use reading::{main_sort, read_source};
+pub use searching::main_goal;
 pub use source::Source;
 pub use text_reading::read_text;
 pub use typed::Typed;

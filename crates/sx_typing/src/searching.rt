@@ -62,7 +62,7 @@ fn main_terms(
 }
 
 /// The goal of the main form with this environment and this subject.
-pub(crate) fn main_goal(
+pub fn main_goal(
     alloc: Global,
     language: &Language,
     environment: &Term,
