@@ -40,3 +40,4 @@ pub use import::Import;
 pub use laws::{one_unit, type_errors_are_final, units_are_made};
 pub use module_error::ModuleError;
 pub use module_source::ModuleSource;
+pub use showing::show;

@@ -15,7 +15,7 @@ use sx_print::print;
 use sx_term::{NoMemory, Term, Vars};
 
 /// The printed text of a term without variables.
-pub(crate) fn show(alloc: Global, grammar: &Grammar, term: &Term) -> Result<Vec<u8>, NoMemory>
+pub fn show(alloc: Global, grammar: &Grammar, term: &Term) -> Result<Vec<u8>, NoMemory>
     requires depth { depth_of (tree term.now) ≤ 1000 }
     requires fits { (sort : ℕ) ×
         Fits (numbered grammar.now.parts) [] (of_sort sort) (tree term.now) }
