@@ -1,0 +1,3 @@
+pub mod HeaderAnswers
+pub mod HeaderLines
+pub mod TakenNames
