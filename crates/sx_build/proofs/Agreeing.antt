@@ -42,9 +42,12 @@ use Rattle.sx_accepting.proofs.OneExtended.{extends_agree}
 use Rattle.sx_accepting.proofs.OneLanguageFile.{reads_language_nearly}
 use Rattle.sx_accepting.proofs.SameRefusals.{not_lacking, same_refusal, readings_as}
 use Rattle.sx_build.specs.ModuleFiles.{module_file}
-use Rattle.sx_build.specs.ModuleStops.{unread_body, module_stop}
-use Rattle.sx_build.specs.ReadModule.{Module, HasHeader, StatesModule, ReadsModule, StandsAlone}
-use Rattle.sx_build.specs.ReadModule.{IsAlone, bad_header}
+use Rattle.sx_headers.specs.TextStops.{unread_text}
+use Rattle.sx_build.specs.ModuleStops.{module_stop}
+use Rattle.sx_headers.specs.ReadModule.{Module, HasHeader, StatesModule, ReadsModule}
+use Rattle.sx_build.specs.Alone.{StandsAlone}
+use Rattle.sx_headers.specs.HeaderStops.{bad_header}
+use Rattle.sx_build.specs.Alone.{IsAlone}
 use Rattle.sx_build.specs.CompileModule.{module_in, Compiles, CompilingTries}
 use Rattle.sx_build.specs.BuildModule.{unit_plan, BuildsUnit, BuildsExtended, BuildsReached}
 use Rattle.sx_build.specs.BuildModule.{BuildsOver, BuildsRead}
@@ -126,8 +129,8 @@ module _ (file : List ℕ) (m : ModuleData) (b : Budgets) where
   alike_same e d s t (inl same) h k =
       inl (same_refusal (module_stop file) module_error.Memory refl e d s t same h k)
   alike_same e d s t (inr (inl show)) h k =
-      shown_as (unread_body file show.line show.column (unread.Ambiguous show.one show.other))
-      (unread_body file show.line show.column (unread.Ambiguous show.some show.more)) s t
+      shown_as (unread_text file show.line show.column (unread.Ambiguous show.one show.other))
+      (unread_text file show.line show.column (unread.Ambiguous show.some show.more)) s t
       (record { file = refl; place = refl; shown = tt }) refl show.three
       (sym (ap (module_stop file) show.first) ∙ h) (sym (ap (module_stop file) show.second) ∙ k)
   alike_same e d s t (inr (inr (l, show))) h k =

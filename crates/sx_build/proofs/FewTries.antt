@@ -21,7 +21,8 @@ use Rattle.sx_accepting.specs.ExtendedLanguages.{ExtendedData, unextended}
 use Rattle.sx_accepting.specs.Extending.{Extends}
 use Rattle.sx_accepting.specs.ReadLanguage.{Stated, base_in, ReadsLanguage}
 use Rattle.sx_build.specs.ModuleFiles.{module_file}
-use Rattle.sx_build.specs.ReadModule.{Module, ReadsModule, IsAlone, StandsAlone}
+use Rattle.sx_headers.specs.ReadModule.{Module, ReadsModule}
+use Rattle.sx_build.specs.Alone.{IsAlone, StandsAlone}
 use Rattle.sx_build.specs.CompileModule.{module_in, Compiles, CompilingTries}
 use Rattle.sx_build.specs.BuildModule.{unit_plan, BuildsUnit, BuildsExtended, BuildsReached}
 use Rattle.sx_build.specs.BuildModule.{BuildsOver, BuildsRead, BuildsModule}

@@ -19,7 +19,8 @@ use Rattle.sx_accepting.specs.LanguageFiles.{language_file}
 use Rattle.sx_accepting.specs.ReadLanguage.{StatesLanguage, base_in, ReadsLanguage}
 use Rattle.sx_accepting.proofs.OneExtended.{extended_is_accepted}
 use Rattle.sx_build.specs.ModuleFiles.{module_file}
-use Rattle.sx_build.specs.ReadModule.{ReadsModule, IsAlone}
+use Rattle.sx_headers.specs.ReadModule.{ReadsModule}
+use Rattle.sx_build.specs.Alone.{IsAlone}
 use Rattle.sx_build.specs.CompileModule.{module_in, Compiles, CompilingTries}
 use Rattle.sx_build.specs.BuildModule.{unit_plan, BuildsUnit, BuildsExtended, BuildsReached}
 use Rattle.sx_build.specs.BuildModule.{BuildsOver, BuildsRead}

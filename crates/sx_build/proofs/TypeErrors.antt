@@ -36,9 +36,12 @@ use Rattle.sx_accepting.specs.ReadLanguage.{Stated, base_in, ReadsLanguage}
 use Rattle.sx_accepting.proofs.TypeErrors.{reads_language_final}
 use Rattle.sx_accepting.proofs.UnsoundRules.{unsound_is_final}
 use Rattle.sx_build.specs.ModuleFiles.{module_file}
-use Rattle.sx_build.specs.ModuleStops.{uncut_body, unread_body, untyped, module_stop}
-use Rattle.sx_build.specs.ReadModule.{Module, StatesModule, ReadsModule, IsAlone, StandsAlone}
-use Rattle.sx_build.specs.ReadModule.{bad_header, not_yet}
+use Rattle.sx_headers.specs.TextStops.{uncut_text, unread_text}
+use Rattle.sx_build.specs.ModuleStops.{untyped, module_stop}
+use Rattle.sx_headers.specs.ReadModule.{Module, StatesModule, ReadsModule}
+use Rattle.sx_build.specs.Alone.{IsAlone, StandsAlone}
+use Rattle.sx_headers.specs.HeaderStops.{bad_header}
+use Rattle.sx_build.specs.Alone.{not_yet}
 use Rattle.sx_build.specs.CompileModule.{module_in, Compiles, CompilingTries}
 use Rattle.sx_build.specs.BuildModule.{unit_plan, BuildsUnit, BuildsExtended, BuildsReached}
 use Rattle.sx_build.specs.BuildModule.{BuildsOver, BuildsRead}
@@ -55,7 +58,7 @@ module _ (Q : Stop → Type 0) where
   -- ---- stops
 
   body_uncut : (file : List ℕ) (line column : ℕ) (e : TokenError) →
-      OnTypeError Q (uncut_body file line column e)
+      OnTypeError Q (uncut_text file line column e)
   body_uncut file line column token_error.Memory = tt
   body_uncut file line column (token_error.NotUtf8 place) = λ h. absurd h
   body_uncut file line column (token_error.BadToken place) = λ h. absurd h
@@ -63,7 +66,7 @@ module _ (Q : Stop → Type 0) where
   body_uncut file line column (token_error.OpenString place) = λ h. absurd h
 
   body_unread : (file : List ℕ) (line column : ℕ) (e : Unread) →
-      OnTypeError Q (Some (unread_body file line column e))
+      OnTypeError Q (Some (unread_text file line column e))
   body_unread file line column unread.TooHard = λ h. absurd h
   body_unread file line column (unread.NoReading place) = λ h. absurd h
   body_unread file line column (unread.TooDeep depth) = λ h. absurd h

@@ -14,7 +14,8 @@ use Rattle.sx_accepting.specs.ExtendedLanguages.{unextended}
 use Rattle.sx_accepting.specs.Extending.{Extends}
 use Rattle.sx_accepting.specs.ReadLanguage.{Stated, base_in, ReadsLanguage}
 use Rattle.sx_build.specs.ModuleFiles.{module_file}
-use Rattle.sx_build.specs.ReadModule.{Module, ReadsModule, IsAlone}
+use Rattle.sx_headers.specs.ReadModule.{Module, ReadsModule}
+use Rattle.sx_build.specs.Alone.{IsAlone}
 use Rattle.sx_build.specs.CompileModule.{module_in, Compiles, CompilingTries}
 
 -- the three files and the line

@@ -17,7 +17,7 @@ use Rattle.sx_uses.specs.ExtensionFile.{Extension}
 use Rattle.sx_accepting.specs.ExtendedLanguages.{ExtendedData}
 use Rattle.sx_accepting.specs.ReadLanguage.{Stated}
 use Rattle.sx_build.specs.ModuleStops.{module_stop}
-use Rattle.sx_build.specs.ReadModule.{Module}
+use Rattle.sx_headers.specs.ReadModule.{Module}
 
 -- ---- what is compiled
 

@@ -21,7 +21,8 @@ use Rattle.sx_uses.specs.Laws.{AnswerAlike}
 use Rattle.sx_accepting.specs.Laws.{StopsAtUnsound}
 use Rattle.sx_accepting.specs.ReadLanguage.{base_in, ReadsLanguage}
 use Rattle.sx_build.specs.ModuleFiles.{module_file}
-use Rattle.sx_build.specs.ReadModule.{Module, ReadsModule, StandsAlone}
+use Rattle.sx_headers.specs.ReadModule.{Module, ReadsModule}
+use Rattle.sx_build.specs.Alone.{StandsAlone}
 use Rattle.sx_build.specs.BuildModule.{BuildsModule}
 use Rattle.sx_build.specs.Reached.{IsReached, ExtendsReached, HasDialect, module_over}
 

@@ -1,5 +1,5 @@
 pub mod ModuleFiles
-pub mod ReadModule
+pub mod Alone
 pub mod ModuleStops
 pub mod CompileModule
 pub mod BuildModule

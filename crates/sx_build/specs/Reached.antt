@@ -11,7 +11,8 @@ use Rattle.sx_accepting.specs.Extending.{Extends}
 use Rattle.sx_accepting.specs.Laws.{IsAcceptedOver}
 use Rattle.sx_accepting.specs.ReadLanguage.{Stated, base_in, ReadsLanguage}
 use Rattle.sx_build.specs.ModuleFiles.{module_file}
-use Rattle.sx_build.specs.ReadModule.{Module, ReadsModule, StandsAlone}
+use Rattle.sx_headers.specs.ReadModule.{Module, ReadsModule}
+use Rattle.sx_build.specs.Alone.{StandsAlone}
 use Rattle.sx_build.specs.CompileModule.{module_in}
 
 -- the module in the file, which imports nothing; the language that its header names; and the

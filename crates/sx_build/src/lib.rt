@@ -14,12 +14,12 @@
 //!   all, or a rule of an extension is not sound.
 #![tactic(auto)]
 
+mod alone;
 mod asked;
 mod build_module;
 mod compile_module;
 mod laws;
 mod module_stops;
-mod read_module;
 mod use_marks;
 
 pub use build_module::plan_build_module;

@@ -6,7 +6,7 @@ use Rattle.sx_uses.specs.ExtensionFile.{extension_of}
 use Rattle.sx_accepting.specs.ExtendedLanguages.{base_of, extended_data, unextended}
 use Rattle.sx_accepting.specs.Extending.{Extends}
 use Rattle.sx_accepting.specs.ReadLanguage.{stated_of}
-use Rattle.sx_build.specs.ReadModule.{module_of}
+use Rattle.sx_headers.specs.ReadModule.{module_of}
 use Rattle.sx_build.specs.CompileModule.{module_in}
 use Rattle.sx_build.specs.BuildModule.{BuildsUnit}
 use Rattle.sx_build.proofs.build_module.build_all.Goals as goal

@@ -18,7 +18,7 @@ use Rattle.sx_accepting.specs.ExtendedLanguages.{extended_data}
 use Rattle.sx_dialects.specs.Dialects.{dialect_in}
 use Rattle.sx_accepting.specs.ReadLanguage.{stated_of}
 use Rattle.sx_build.specs.ModuleFiles.{module_file}
-use Rattle.sx_build.specs.ReadModule.{module_of}
+use Rattle.sx_headers.specs.ReadModule.{module_of}
 use Rattle.sx_build.specs.CompileModule.{empty_environment, use_mark, module_in, Compiles}
 use Rattle.sx_build.specs.CompileModule.{CompilingTries}
 use Rattle.sx_build.specs.BuildModule.{unit_plan, BuildsUnit}

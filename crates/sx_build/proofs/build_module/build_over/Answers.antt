@@ -4,7 +4,7 @@ use Rattle.sx_steps.specs.Steps.{Untried}
 use Rattle.sx_steps.specs.Work.{plan_of}
 use Rattle.sx_steps.proofs.StepsOn.{goes_from, stops_at, untried}
 use Rattle.sx_accepting.specs.ReadLanguage.{stated_of, ReadsLanguage}
-use Rattle.sx_build.specs.ReadModule.{module_of}
+use Rattle.sx_headers.specs.ReadModule.{module_of}
 use Rattle.sx_build.specs.BuildModule.{BuildsReached}
 use Rattle.sx_build.proofs.build_module.build_over.Goals as goal
 

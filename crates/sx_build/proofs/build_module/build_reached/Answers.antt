@@ -9,7 +9,7 @@ use Rattle.sx_uses.specs.ExtensionFile.{extension_of, extensions_of}
 use Rattle.sx_uses.specs.ReadUses.{ReadsUses}
 use Rattle.sx_accepting.specs.ReadLanguage.{stated_of}
 use Rattle.sx_build.specs.ModuleFiles.{module_file}
-use Rattle.sx_build.specs.ReadModule.{module_of}
+use Rattle.sx_headers.specs.ReadModule.{module_of}
 use Rattle.sx_build.specs.BuildModule.{BuildsExtended}
 use Rattle.sx_build.proofs.build_module.build_reached.Goals as goal
 

@@ -5,7 +5,8 @@ use Rattle.sx_steps.specs.Stop.{Gives}
 use Rattle.sx_steps.specs.Work.{plan_of}
 use Rattle.sx_steps.proofs.StepsOn.{goes_from, stops_at, untried}
 use Rattle.sx_build.specs.ModuleFiles.{module_file}
-use Rattle.sx_build.specs.ReadModule.{module_of, IsAlone}
+use Rattle.sx_headers.specs.ReadModule.{module_of}
+use Rattle.sx_build.specs.Alone.{IsAlone}
 use Rattle.sx_build.specs.BuildModule.{BuildsOver}
 use Rattle.sx_build.proofs.build_module.build_read.Goals as goal
 

@@ -8,7 +8,7 @@ use Rattle.sx_steps.specs.Stop.{Gives, Does}
 use Rattle.sx_steps.specs.Work.{plan_of}
 use Rattle.sx_steps.proofs.StepsOn.{goes_from, stops_at, untried, lacks_first}
 use Rattle.sx_build.specs.ModuleFiles.{module_file}
-use Rattle.sx_build.specs.ReadModule.{module_of, ReadsModule}
+use Rattle.sx_headers.specs.ReadModule.{module_of, ReadsModule}
 use Rattle.sx_build.specs.BuildModule.{BuildsRead, BuildsModule}
 use Rattle.sx_build.proofs.build_module.plan_build_module.Goals as goal
 
