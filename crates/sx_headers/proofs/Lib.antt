@@ -1,3 +1,5 @@
 pub mod HeaderAnswers
 pub mod HeaderLines
 pub mod TakenNames
+pub mod FirstLines
+pub mod OneHeaders

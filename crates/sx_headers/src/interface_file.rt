@@ -3,7 +3,8 @@
 ghost use Rattle.std.specs.Prelude.{◌≡◌, ◌≤◌, IfOk, length};
 ghost use Rattle.sx_outside.specs.Told.{WhereTold};
 ghost use Rattle.sx_steps.specs.Stop.{Gives, OnlyReads, IsNoFault};
-ghost use Rattle.sx_headers.specs.ReadInterface.{interface_of, StatesParts, ReadsInterface};
+ghost use Rattle.sx_headers.specs.ReadInterface.{interface_of, HasInterface, StatesParts};
+ghost use Rattle.sx_headers.specs.ReadInterface.{ReadsInterface};
 
 use crate::header_stops::bad_header;
 use std::alloc::Global;
@@ -29,6 +30,7 @@ fn state_interface(
     requires { length bytes.items ≤ 262144 }
     ensures step { Gives interface_of (StatesParts file.now name.now bytes.items) result }
     ensures short { IfOk result (λ i. length i.bytes.items ≤ 262144) }
+    ensures stated { IfOk result (λ i. HasInterface name.now i.bytes.items (interface_of i)) }
     ensures no_fault { IsNoFault result }
 {
     match read_interface(alloc, name, &bytes) {
@@ -53,6 +55,7 @@ pub fn read_interface_file<S: Shelf>(
     ensures step { WhereTold (S.content shelf.old)
         (λ files. Gives interface_of (ReadsInterface file.now name.now files) result) }
     ensures short { IfOk result (λ i. length i.bytes.items ≤ 262144) }
+    ensures stated { IfOk result (λ i. HasInterface name.now i.bytes.items (interface_of i)) }
     ensures reads { OnlyReads (S.content shelf.old) (S.content shelf.new)
         (S.read_faults shelf.old) (S.read_faults shelf.new)
         (S.write_faults shelf.old) (S.write_faults shelf.new) result }

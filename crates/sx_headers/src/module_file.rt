@@ -3,7 +3,7 @@
 ghost use Rattle.std.specs.Prelude.{◌≡◌, ◌≤◌, IfOk, length};
 ghost use Rattle.sx_outside.specs.Told.{WhereTold};
 ghost use Rattle.sx_steps.specs.Stop.{Gives, OnlyReads, IsNoFault};
-ghost use Rattle.sx_headers.specs.ReadModule.{module_of, StatesModule, ReadsModule};
+ghost use Rattle.sx_headers.specs.ReadModule.{module_of, HasHeader, StatesModule, ReadsModule};
 
 use crate::header_stops::bad_header;
 use std::alloc::Global;
@@ -29,6 +29,7 @@ fn state_module(
     requires { length bytes.items ≤ 262144 }
     ensures step { Gives module_of (StatesModule file.now name.now bytes.items) result }
     ensures short { IfOk result (λ m. length m.bytes.items ≤ 262144) }
+    ensures headed { IfOk result (λ m. HasHeader name.now m.bytes.items (module_of m)) }
     ensures no_fault { IsNoFault result }
 {
     match read_header(alloc, name, &bytes) {
@@ -53,6 +54,7 @@ pub fn read_module<S: Shelf>(
     ensures step { WhereTold (S.content shelf.old)
         (λ files. Gives module_of (ReadsModule file.now name.now files) result) }
     ensures short { IfOk result (λ m. length m.bytes.items ≤ 262144) }
+    ensures headed { IfOk result (λ m. HasHeader name.now m.bytes.items (module_of m)) }
     ensures reads { OnlyReads (S.content shelf.old) (S.content shelf.new)
         (S.read_faults shelf.old) (S.read_faults shelf.new)
         (S.write_faults shelf.old) (S.write_faults shelf.new) result }
