@@ -11,11 +11,7 @@ use sx_term::Text;
 use sx_words::{Defect, FileDefect};
 
 /// The header has no `import` line. Any other is not read yet.
-pub(crate) fn check_alone(
-    alloc: Global,
-    file: &Text,
-    source: &ModuleFile,
-) -> Result<(), StepError>
+pub(crate) fn check_alone(alloc: Global, file: &Text, source: &ModuleFile) -> Result<(), StepError>
     ensures step { Gives (λ done. done)
         (IsAlone file.now (header_view source.now.bytes.items source.now.header)) result }
     ensures no_fault { IsNoFault result }

@@ -8,13 +8,7 @@ use std::alloc::Global;
 use sx_outside::{MemShelf, MemSink};
 
 /// Puts the language of functions, two of its extensions, and a module.
-fn put_all(
-    alloc: Global,
-    before: &File,
-    last: &File,
-    module: &[u8],
-    shelf: &mut MemShelf,
-) -> bool {
+fn put_all(alloc: Global, before: &File, last: &File, module: &[u8], shelf: &mut MemShelf) -> bool {
     put(alloc, LAM.file, &[LAM.text], shelf)
         && put(alloc, before.name, &[before.text], shelf)
         && put(alloc, last.name, &[last.text], shelf)

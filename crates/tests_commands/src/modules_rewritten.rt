@@ -30,7 +30,12 @@ fn put_extensions(alloc: Global, before: &File, last: &File, shelf: &mut MemShel
 /// Puts a module with these `use` lines and this body.
 fn put_main(alloc: Global, uses: &[u8], body: &[u8], shelf: &mut MemShelf) -> bool {
     let header = b"module Main\nlanguage Lam\n";
-    put(alloc, "Main.mod", &[header, uses, b"---\n", body, b"\n"], shelf)
+    put(
+        alloc,
+        "Main.mod",
+        &[header, uses, b"---\n", body, b"\n"],
+        shelf,
+    )
 }
 
 /// Whether the module becomes what it is to become.
@@ -246,7 +251,12 @@ fn has_list(alloc: Global, uses: &[u8], body: &[u8], list: &[u8], told: &[u8]) -
         None => b"".as_slice(),
     };
     let is = put_extensions(alloc, &NONE, &TWICE, &mut shelf)
-        && put(alloc, LAM.file, &[head, STRING_FIRST, LAST_RULES], &mut shelf)
+        && put(
+            alloc,
+            LAM.file,
+            &[head, STRING_FIRST, LAST_RULES],
+            &mut shelf,
+        )
         && put_main(alloc, uses, body, &mut shelf)
         && ends(alloc, "build Main", &mut shelf, &mut out, 0, told)
         && holds(alloc, "Main.der", list, &shelf);
@@ -293,7 +303,14 @@ fn words_of_extensions(rt: HostRuntime) {
         bang(quest(num(1))) and quest(bang(num(1)))\n";
     let both = (&BANG, &QUEST);
     let hold = [
-        tells(alloc, (&NONE, &CAP), b"use Cap\n", b"\\ f : Int . f", 1, name),
+        tells(
+            alloc,
+            (&NONE, &CAP),
+            b"use Cap\n",
+            b"\\ f : Int . f",
+            1,
+            name,
+        ),
         tells(alloc, both, b"use Bang\nuse Quest\n", b"? 1 !", 1, two),
     ];
     assert_eq!(rt; hold, [true; 2]);
