@@ -1,0 +1,14 @@
+pub mod ShortTexts
+pub mod FirstBads
+pub mod ListLengths
+pub mod RuleViews
+pub mod Replayed
+pub mod BaseNames
+pub mod ImportNames
+pub mod Promise
+pub mod MainTerms
+pub mod NamedRules
+pub mod ShortInterfaces
+pub mod ImportLoops
+pub mod Outcomes
+pub mod Replaying

@@ -1,0 +1,161 @@
+-- `verify NAME` keeps its promise.
+use Rattle.std.proofs.Common.{◌≡◌, ℕ, List, [], ◌∷◌, ◌++◌, length, refl, sym, ap, ◌∙◌, subst, append_assoc}
+use Rattle.std.proofs.lemmas.List.{append-nil}
+use Rattle.std.specs.Prelude.{Ok, Some}
+use Rattle.sha2.specs.Sha256.{sha256}
+use Rattle.sx_rules.specs.EntryView.{entries}
+use Rattle.sx_rules.specs.Views.{modes_of}
+use Rattle.sx_lines.specs.Lines.{lines_from, texts}
+use Rattle.sx_interface.specs.Interfaces.{InterfaceParts, Mark}
+use Rattle.sx_interface.specs.Stated.{StatesInterface}
+use Rattle.sx_rules.specs.First.{Answer, DerivesGoal}
+use Rattle.sx_typing.specs.Outcomes.{bare, no_hypotheses}
+use Rattle.sx_outside.specs.Files.{Files, after}
+use Rattle.sx_steps.specs.Unit.{base_file, list_file, interface_file}
+use Rattle.sx_steps.specs.Work.{Plan}
+use Rattle.sx_steps.proofs.Ones.{ok_same}
+use Rattle.sx_steps.proofs.StepsOn.{went}
+use Rattle.sx_headers.specs.ReadInterface.{HeldInterface, HasInterface}
+use Rattle.sx_headers.specs.ReadModule.{Module, HasHeader}
+use Rattle.sx_verify.specs.BaseFits.{IsBaseOf}
+use Rattle.sx_verify.specs.Replays.{goal_in}
+use Rattle.sx_verify.specs.ReadImports.{ReadsImport, ReadsNext, ReadsAfter, ReadsImports}
+use Rattle.sx_verify.specs.Verified.{verified_plan}
+use Rattle.sx_verify.specs.VerifyModule.{Written, both, ReadsWritten, VerifiesModule}
+use Rattle.sx_verify.specs.VerifiedModule.{HoldsImport, HoldImports, HoldsFiles, VerifiedModule, VerifiesKeepPromise}
+use Rattle.sx_verify.proofs.Replayed.{replayed_derives}
+
+-- ---- imports
+
+import_held : (file : List ℕ) (files : Files) (mark : Mark) (it : InterfaceParts) → ReadsImport file files mark (Ok it) → HoldsImport files mark it
+import_held file files mark it read =
+    let held = went _ _ _ read in
+    let bytes = went _ _ _ held.begins in
+    let kept = went _ _ _ held.goes in
+    let same = ok_same it held.given.parts kept.goes in
+    let own : held.given.bytes ≡ bytes.given = bytes.goes.same in
+    record {
+      bytes = bytes.given;
+      held = bytes.begins.0;
+      states = record {
+        same = refl;
+        utf8 = bytes.goes.utf8;
+        states = subst (λ (parts : InterfaceParts). StatesInterface mark.name (texts (lines_from 1 bytes.given)) parts) (sym same) bytes.goes.states;
+      };
+      digest = kept.begins ∙ ap sha256 own;
+    }
+
+pub record Behind (files : Files) (read : List InterfaceParts) (marks : List Mark) (its : List InterfaceParts) : Type 0 where
+  pub more : List InterfaceParts
+  pub is : its ≡ read ++ more
+  pub held : HoldImports files marks more
+
+pub imports_held : (file : List ℕ) (files : Files) (read : List InterfaceParts) (marks : List Mark) (its : List InterfaceParts) →
+    ReadsAfter file files read marks (Ok its) → Behind files read marks its
+imports_held file files read [] its h =
+    record { more = []; is = ok_same its read h ∙ sym (append-nil read); held = tt }
+imports_held file files read (mark ∷ marks) its h =
+    let next = went (ReadsNext file files read mark) (λ next. ReadsAfter file files next marks) its h in
+    let one = went (ReadsImport file files mark) (λ it result. result ≡ Ok (read ++ it ∷ [])) next.given next.begins in
+    let so_far : next.given ≡ read ++ one.given ∷ [] = ok_same next.given (read ++ one.given ∷ []) one.goes in
+    let rest = imports_held file files next.given marks its next.goes in
+    record {
+      more = one.given ∷ rest.more;
+      is = rest.is ∙ ap (λ (l : List InterfaceParts). l ++ rest.more) so_far ∙ append_assoc read (one.given ∷ []) rest.more;
+      held = (import_held file files mark one.given one.begins, rest.held);
+    }
+
+-- ---- the files
+
+-- the written files fit one another
+pub record AreWritten (name : List ℕ) (files : Files) (w : Written) : Type 0 where
+  pub own : List ℕ
+  pub own_held : files (interface_file name) ≡ Some own
+  pub own_states : HasInterface name own (record { bytes = own; parts = w.interface })
+  pub base_held : files (base_file name) ≡ Some w.base.bytes
+  pub base_states : HasHeader name w.base.bytes w.base
+  pub fits : IsBaseOf w.interface w.base.header
+  pub base_digest : w.interface.base ≡ sha256 w.base.bytes
+
+pub are_written : (name : List ℕ) (files : Files) (w : Written) → ReadsWritten name files (Ok w) → AreWritten name files w
+are_written name files w read =
+    let interface = went _ _ _ read in
+    let own = went _ _ _ interface.begins in
+    let base = went _ _ _ interface.goes in
+    let base_bytes = went _ _ _ base.begins in
+    let fits = went _ _ _ base.goes in
+    let kept = went _ _ _ fits.goes in
+    let i : HeldInterface = interface.given in
+    let m : Module = base.given in
+    let is : w ≡ both i.parts m = ok_same w (both i.parts m) kept.goes in
+    let same : m.bytes ≡ base_bytes.given = base_bytes.goes.same in
+    subst (λ (x : Written). AreWritten name files x) (sym is) (record {
+      own = own.given;
+      own_held = own.begins.0;
+      own_states = record { same = refl; utf8 = own.goes.utf8; states = own.goes.states };
+      base_held = base_bytes.begins.0 ∙ ap Some (sym same);
+      base_states = subst (λ (bytes : List ℕ). HasHeader name bytes m) (sym same) base_bytes.goes;
+      fits = fits.begins;
+      base_digest = kept.begins;
+    })
+
+-- ---- all of it
+
+pub verify_promise : VerifiesKeepPromise
+verify_promise name old new plan verified files_are =
+    let written = went _ _ _ verified in
+    let w : Written = written.given in
+    let own = are_written name old w written.begins in
+    let language_held = went _ _ _ written.goes in
+    let digest = went _ _ _ language_held.goes in
+    let imports = went _ _ _ digest.goes in
+    let its = imports_held (interface_file name) old [] w.interface.imports imports.given imports.begins in
+    let language = went _ _ _ imports.goes in
+    let free = went _ _ _ language.goes in
+    let around = went _ _ _ free.goes in
+    let body = went _ _ _ around.goes in
+    let listed = went _ _ _ body.goes in
+    let list_held = went _ _ _ listed.begins in
+    let replayed = went _ _ _ listed.goes in
+    let signed = went _ _ _ replayed.goes in
+    let d = language.given.language in
+    let answer = replayed_derives (modes_of d.forms) (bare d.rules) (goal_in d around.given body.given)
+    (entries listed.given) (replayed.given ∷ []) replayed.begins in
+    let made : plan ≡ verified_plan name (length listed.given) = ok_same plan (verified_plan name (length listed.given)) signed.goes in
+    let files : HoldsFiles name old = record {
+      own = own.own;
+      interface = w.interface;
+      own_held = own.own_held;
+      own_states = own.own_states;
+      base = w.base;
+      base_held = own.base_held;
+      base_states = own.base_states;
+      fits = own.fits;
+      base_digest = own.base_digest;
+      bytes = language_held.given;
+      language = language.given;
+      language_held = language_held.begins.0;
+      language_states = language.begins;
+      language_digest = digest.begins;
+      imports = imports.given;
+      imports_held = subst (λ (x : List InterfaceParts). HoldImports old w.interface.imports x) (sym its.is) its.held;
+    } in
+    record {
+      files = files;
+      environment = around.given;
+      subject = body.given;
+      output = replayed.given;
+      proof = answer.0.0;
+      list_bytes = list_held.given;
+      list = listed.given;
+      around = around.begins.0;
+      body = body.begins;
+      list_held = list_held.begins.0;
+      list_states = list_held.goes;
+      derives = subst (λ (a : Answer). DerivesGoal (modes_of d.forms) (bare d.rules) no_hypotheses (goal_in d around.given body.given) a)
+          (λ i. (answer.0.0, answer.3 i)) answer.1;
+      in_order = answer.2;
+      signature = signed.begins;
+      same = files_are ∙ ap (λ (p : Plan). after p.files old) made;
+      line = ap (λ (p : Plan). p.lines) made;
+    }

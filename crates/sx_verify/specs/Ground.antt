@@ -1,0 +1,70 @@
+-- What a module is verified from: its language without extensions, and the environment of its
+-- imports by their signatures alone.
+use Rattle.std.specs.Prelude.{◌≡◌, ℕ, ◌≤◌, List, [], Option, Some, None, Result, Ok, Err}
+use Rattle.sx_term.specs.Tree.{Tree, depth_of}
+use Rattle.sx_token.specs.declared.token.Token.{Token}
+use Rattle.sx_grammar.specs.Reading.{Reading}
+use Rattle.sx_interface.specs.Interfaces.{InterfaceParts}
+use Rattle.sx_typing.specs.declared.typing_error.TypingError.{TypingError}
+use Rattle.sx_typing.specs.declared.typing_error.TypingError.TheVariants as typing_error
+use Rattle.sx_typing.specs.Goals.{IsBody}
+use Rattle.sx_typing.specs.Growing.{unextended}
+use Rattle.sx_typing.specs.Refused.{IsBadSource}
+use Rattle.sx_typing.specs.Source.{Source}
+use Rattle.sx_environment.specs.declared.import_error.ImportError.{ImportError}
+use Rattle.sx_environment.specs.Environments.{IsEnvironment}
+use Rattle.sx_environment.specs.ImportErrors.{HasNone}
+use Rattle.sx_environment.specs.SeenFrom.{SeenFrom}
+use Rattle.sx_steps.specs.declared.stop.Stop.{Stop}
+use Rattle.sx_steps.specs.Lower.{Lower}
+use Rattle.sx_accepting.specs.ReadLanguage.{Stated}
+use Rattle.sx_headers.specs.ReadModule.{Module}
+use Rattle.sx_headers.specs.TextStops.{uncut_text, unread_text}
+use Rattle.sx_verify.specs.ImportStops.{import_stop}
+
+-- ---- the environment
+
+-- what the imports are seen from: the language with this name, without extensions
+abbrev pub seen_in : List ℕ → Stated → SeenFrom
+seen_in name l = record {
+  dialect = unextended l.language;
+  language = record { name = name; digest = l.digest };
+  uses = [];
+}
+
+-- the environment of the imports, or the first refusal
+abbrev pub HasEnvironment : SeenFrom → List InterfaceParts → Result Tree ImportError → Type 0
+HasEnvironment s its (Ok t) = IsEnvironment s its t × (depth_of t ≤ 1000)
+HasEnvironment s its (Err e) = HasNone s its e
+
+-- so it is of the language with this name; the first file is that of the module
+abbrev pub MakesEnvironment : List ℕ → List ℕ → Stated → List InterfaceParts → Result Tree Stop →
+    Type 0
+MakesEnvironment file name l its =
+    Lower (import_stop file its) (HasEnvironment (seen_in name l) its)
+
+-- ---- the body
+
+-- the module in its language, with this environment
+abbrev pub source_in : Stated → Module → (environment : Tree) → Source
+source_in l m environment = record {
+  dialect = unextended l.language;
+  bytes = m.bytes;
+  header = m.header;
+  environment = environment;
+}
+
+-- the body of the source has only one reading, whose term is the subject, or it is refused
+abbrev pub HasSubject : Source → Result Tree TypingError → Type 0
+HasSubject s (Ok subject) = (ts : List Token) × (r : Reading) × IsBody s ts r subject
+HasSubject s (Err e) = IsBadSource s 0 e
+
+-- the stop of a body that is not read; no goal is searched
+abbrev pub body_stop : List ℕ → TypingError → Option Stop
+body_stop file (typing_error.Token line column e) = uncut_text file line column e
+body_stop file (typing_error.Read line column u) = Some (unread_text file line column u)
+body_stop file _ = None
+
+-- the term of the body in the file
+abbrev pub ReadsBody : List ℕ → Source → Result Tree Stop → Type 0
+ReadsBody file s = Lower (body_stop file) (HasSubject s)

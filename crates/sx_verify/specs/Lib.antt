@@ -1,0 +1,10 @@
+pub mod Lists
+pub mod Verified
+pub mod KeptValues
+pub mod BaseFits
+pub mod ReadImports
+pub mod ImportStops
+pub mod Ground
+pub mod Replays
+pub mod VerifyModule
+pub mod VerifiedModule
