@@ -5,5 +5,4 @@ pub mod ColonLaws
 pub mod KindLaws
 pub mod TurnLaws
 pub mod OneAnswer
-pub mod StageLaws
 pub mod FewLaws

@@ -10,7 +10,6 @@ use Rattle.std.proofs.lemmas.Slice.Eq.{bytes_eq-Decides}
 use Rattle.sx_lines.specs.Words.{after, is_name, is_name_byte, number_within}
 use Rattle.sx_lines.proofs.WordLaws.{after_front, front_of}
 use Rattle.sx_lines.proofs.DecimalLaws.{number_again, number_spelled}
-use Rattle.sx_words.specs.declared.stage.Stage.{Stage}
 use Rattle.sx_words.specs.declared.verb.Verb.{Verb}
 use Rattle.sx_words.specs.Commands.{Given, core, tries, nodes, audit, Settings, option_word, colon, NoColon, IsGiven, takes, is_new}
 use Rattle.sx_words.specs.Reading.{or_else, positive, count_of, at_colon, number_after, audit_after, option_of, next_option, is_option}
@@ -157,22 +156,22 @@ option_found word option e = core_case word option (bytes_eq word (codes "--core
 
 -- ---- an option where it may stand
 
-stand_case : (stage : Stage) (verb : Verb) (s : Settings) (x option : Given) (test : Bool) → takes stage verb x && is_new s x ≡ test → cond test (Some x) None ≡ Some option → (x ≡ option) × (takes stage verb x && is_new s x ≡ true)
-stand_case stage verb s x option true is e = (cc, is)
-stand_case stage verb s x option false is e = absurd cc
+stand_case : (verb : Verb) (s : Settings) (x option : Given) (test : Bool) → takes verb x && is_new s x ≡ test → cond test (Some x) None ≡ Some option → (x ≡ option) × (takes verb x && is_new s x ≡ true)
+stand_case verb s x option true is e = (cc, is)
+stand_case verb s x option false is e = absurd cc
 
-pub next_found : (stage : Stage) (verb : Verb) (s : Settings) (word : List ℕ) (option : Given) → next_option stage verb s word ≡ Some option → (word ≡ option_word option) × IsGiven option × (takes stage verb option ≡ true) × (is_new s option ≡ true)
+pub next_found : (verb : Verb) (s : Settings) (word : List ℕ) (option : Given) → next_option verb s word ≡ Some option → (word ≡ option_word option) × IsGiven option × (takes verb option ≡ true) × (is_new s option ≡ true)
 unfolding next_option
-next_found stage verb s word option e =
-    let p = and_then_some (option_of word) (λ (x : Given). cond (takes stage verb x && is_new s x) (Some x) None) option e in
-    let q = stand_case stage verb s p.0 option (takes stage verb p.0 && is_new s p.0) refl p.2 in
+next_found verb s word option e =
+    let p = and_then_some (option_of word) (λ (x : Given). cond (takes verb x && is_new s x) (Some x) None) option e in
+    let q = stand_case verb s p.0 option (takes verb p.0 && is_new s p.0) refl p.2 in
     let h = option_found word p.0 p.1 in
-    let t = and_parts (takes stage verb p.0) (is_new s p.0) q.1 in
-    subst (λ (x : Given). (word ≡ option_word x) × IsGiven x × (takes stage verb x ≡ true) × (is_new s x ≡ true)) q.0 (h.0, h.1, t.0, t.1)
+    let t = and_parts (takes verb p.0) (is_new s p.0) q.1 in
+    subst (λ (x : Given). (word ≡ option_word x) × IsGiven x × (takes verb x ≡ true) × (is_new s x ≡ true)) q.0 (h.0, h.1, t.0, t.1)
 
-pub next_again : (stage : Stage) (verb : Verb) (s : Settings) (option : Given) → IsGiven option → takes stage verb option ≡ true → is_new s option ≡ true → next_option stage verb s (option_word option) ≡ Some option
+pub next_again : (verb : Verb) (s : Settings) (option : Given) → IsGiven option → takes verb option ≡ true → is_new s option ≡ true → next_option verb s (option_word option) ≡ Some option
 unfolding next_option
-next_again stage verb s option h t new = rw (option_again option h) (rw (t, new) refl)
+next_again verb s option h t new = rw (option_again option h) (rw (t, new) refl)
 
 -- ---- names are no options
 

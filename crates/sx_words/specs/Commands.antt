@@ -5,8 +5,6 @@ use Rattle.std.specs.Prelude.{is_none, ◌⊎◌}
 use Rattle.std.specs.List.{AllByRecursion}
 use Rattle.std.specs.Str.{bytes_eq}
 use Rattle.sx_lines.specs.Words.{is_name}
-use Rattle.sx_words.specs.declared.stage.Stage.{Stage}
-use Rattle.sx_words.specs.declared.stage.Stage.TheVariants.{Now, Whole}
 use Rattle.sx_words.specs.declared.row.Row.{Row}
 use Rattle.sx_words.specs.declared.verb.Verb.{Verb}
 use Rattle.sx_words.specs.declared.verb.Verb.TheVariants.{Build, Compile, Check, Verify}
@@ -71,59 +69,32 @@ IsGiven (audit kind setting) = NoColon kind
 
 -- ---- what there is
 
--- The table of what there is: whether a command is there for modules or for extensions, and which
--- options it takes.
--- Of a command that is not there, nothing.
-abbrev pub row : Stage → Verb → Row
-row Now Build = record { modules = true; core = true; tries = true; nodes = true; audits = false }
-row Now Check = record {
-  modules = true;
-  core = false;
+-- the table of what there is: the options that each command takes
+abbrev pub row : Verb → Row
+row Build = record {
+  core = true;
   tries = true;
   nodes = true;
-  audits = false;
+  audits = true;
 }
-row Now Verify = record {
-  modules = false;
-  core = true;
-  tries = false;
-  nodes = false;
-  audits = false;
-}
-row Now verb = record {
-  modules = false;
-  core = false;
-  tries = false;
-  nodes = false;
-  audits = false;
-}
-row Whole Build = record { modules = true; core = true; tries = true; nodes = true; audits = true }
-row Whole Compile = record {
-  modules = true;
+row Compile = record {
   core = false;
   tries = true;
   nodes = true;
   audits = true;
 }
-row Whole Check = record {
-  modules = true;
+row Check = record {
   core = false;
   tries = true;
   nodes = true;
   audits = false;
 }
-row Whole Verify = record {
-  modules = true;
+row Verify = record {
   core = true;
   tries = false;
   nodes = false;
   audits = false;
 }
-
--- `sample` is there
-abbrev pub has_sample : Stage → Bool
-has_sample Now = false
-has_sample Whole = true
 
 -- the row has the option
 abbrev pub has_option : Row → Given → Bool
@@ -132,13 +103,9 @@ has_option r (tries n) = r.tries
 has_option r (nodes n) = r.nodes
 has_option r (audit kind setting) = r.audits
 
--- the command is there, for modules or extensions, or for core files
-abbrev pub has_verb : Stage → Verb → Bool
-has_verb stage verb = (row stage verb).modules || (row stage verb).core
-
 -- the command takes the option
-abbrev pub takes : Stage → Verb → Given → Bool
-takes stage verb option = has_option (row stage verb) option
+abbrev pub takes : Verb → Given → Bool
+takes verb option = has_option (row verb) option
 
 -- an auditor of the kind is named
 abbrev pub has_kind : List AuditWord → List ℕ → Bool
@@ -199,15 +166,11 @@ with_options place s (option ∷ options) = with_options (place + 1)
     (with_option place s option) options
 
 -- each option is one that the command takes, and may stand after what was said before it
-abbrev pub MayStand : Stage → Verb → ℕ → Settings → List Given → Type 0
-MayStand stage verb place s [] = Unit {0}
-MayStand stage verb place s (option ∷ options) =
-    (takes stage verb option ≡ true) × (is_new s option ≡ true) × IsGiven option ×
-    MayStand stage verb (place + 1) (with_option place s option) options
-
--- the name may come: `--core` stands, or the command is there for modules or extensions
-abbrev pub may_end : Stage → Verb → Settings → Bool
-may_end stage verb s = (row stage verb).modules || s.core
+abbrev pub MayStand : Verb → ℕ → Settings → List Given → Type 0
+MayStand verb place s [] = Unit {0}
+MayStand verb place s (option ∷ options) =
+    (takes verb option ≡ true) × (is_new s option ≡ true) × IsGiven option ×
+    MayStand verb (place + 1) (with_option place s option) options
 
 -- what is not said of tries and nodes is 1,000,000
 abbrev pub or_most : Option ℕ → ℕ
@@ -223,56 +186,44 @@ meant Verify s name = verifies s.core name
 -- ---- which words spell a command
 
 -- the command, then options, then a name; the first option is word 2
-pub record SpellsNamed (stage : Stage) (words : List (List ℕ)) (command : Meant) : Type 0 where
+pub record SpellsNamed (words : List (List ℕ)) (command : Meant) : Type 0 where
   pub verb : Verb
   pub options : List Given
   pub name : List ℕ
   pub parts : words ≡ verb_word verb ∷ (map option_word options ++ name ∷ [])
-  pub there : has_verb stage verb ≡ true
-  pub stand : MayStand stage verb 2 nothing_said options
-  pub ends : may_end stage verb (with_options 2 nothing_said options) ≡ true
+  pub stand : MayStand verb 2 nothing_said options
   pub named : is_name false name ≡ true
   pub is : command ≡ meant verb (with_options 2 nothing_said options) name
 
 -- `sample` and a number from 1 to 300
-pub record SpellsSample (stage : Stage) (words : List (List ℕ)) (command : Meant) : Type 0 where
+pub record SpellsSample (words : List (List ℕ)) (command : Meant) : Type 0 where
   pub number : ℕ
   pub least : 1 ≤ number
   pub most : number ≤ 300
   pub parts : words ≡ codes "sample" ∷ decimal number ∷ []
-  pub there : has_sample stage ≡ true
   pub is : command ≡ samples number
-
--- the words spell the command, which is there
-abbrev pub SpellsAt : Stage → List (List ℕ) → Meant → Type 0
-SpellsAt stage words command = SpellsNamed stage words command ⊎ SpellsSample stage words command
 
 -- the words spell the command
 abbrev pub Spells : List (List ℕ) → Meant → Type 0
-Spells words command = SpellsAt Whole words command
+Spells words command = SpellsNamed words command ⊎ SpellsSample words command
 
 -- ---- the first word that does not fit
 
 -- with the next word too, or at the end of the words where there is none, the words are those of no
 -- command
-abbrev pub NoneSpells : Stage → List (List ℕ) → List (List ℕ) → Type 0
-NoneSpells stage front [] = (command : Meant) → SpellsAt stage front command → ⊥
-NoneSpells stage front (word ∷ rest) = (more : List (List ℕ)) (command : Meant) →
-    SpellsAt stage (front ++ word ∷ more) command → ⊥
+abbrev pub NoneSpells : List (List ℕ) → List (List ℕ) → Type 0
+NoneSpells front [] = (command : Meant) → Spells front command → ⊥
+NoneSpells front (word ∷ rest) = (more : List (List ℕ)) (command : Meant) →
+    Spells (front ++ word ∷ more) command → ⊥
 
--- The word of this number is the first after which no command can follow that is there, or the
--- number is one more than that of the words where one is missing: the words before it begin those
--- of a command.
-pub record IsMisfitAt (stage : Stage) (words : List (List ℕ)) (number : ℕ) : Type 0 where
+-- The word of this number is the first after which no command can follow, or the number is one more
+-- than that of the words where one is missing: the words before it begin those of a command.
+pub record IsMisfit (words : List (List ℕ)) (number : ℕ) : Type 0 where
   pub front : List (List ℕ)
   pub rest : List (List ℕ)
   pub parts : words ≡ front ++ rest
   pub place : number ≡ length front + 1
   pub more : List (List ℕ)
   pub command : Meant
-  pub good : SpellsAt stage (front ++ more) command
-  pub bad : NoneSpells stage front rest
-
--- the first word after which no command can follow
-abbrev pub IsMisfit : List (List ℕ) → ℕ → Type 0
-IsMisfit words number = IsMisfitAt Whole words number
+  pub good : Spells (front ++ more) command
+  pub bad : NoneSpells front rest

@@ -4,11 +4,10 @@ use Rattle.std.specs.Prelude.{None, is_some, option_map, option_and_then, Result
 use Rattle.std.specs.Prelude.{if◌then◌else◌}
 use Rattle.std.specs.Str.{bytes_eq}
 use Rattle.sx_lines.specs.Words.{after, is_name, number_within}
-use Rattle.sx_words.specs.declared.stage.Stage.{Stage}
 use Rattle.sx_words.specs.declared.verb.Verb.{Verb}
 use Rattle.sx_words.specs.declared.verb.Verb.TheVariants.{Build, Compile, Check, Verify}
 use Rattle.sx_words.specs.Commands.{Given, core, tries, nodes, audit, Settings, Meant, samples}
-use Rattle.sx_words.specs.Commands.{verb_word, colon, has_verb, has_sample, takes, may_end, is_new}
+use Rattle.sx_words.specs.Commands.{verb_word, colon, takes, is_new}
 use Rattle.sx_words.specs.Commands.{nothing_said, with_option, meant}
 
 -- the first that there is
@@ -47,9 +46,9 @@ option_of word =
     (option_map (λ p. audit p.0 p.1) (audit_after word)))
 
 -- the option that a word spells, where it may stand there
-unfoldable pub next_option : Stage → Verb → Settings → List ℕ → Option Given
-next_option stage verb s word = option_and_then
-    (λ option. if takes stage verb option && is_new s option then Some option else None)
+unfoldable pub next_option : Verb → Settings → List ℕ → Option Given
+next_option verb s word = option_and_then
+    (λ option. if takes verb option && is_new s option then Some option else None)
     (option_of word)
 
 -- the word begins with `--`
@@ -57,11 +56,11 @@ unfoldable pub is_option : List ℕ → Bool
 is_option word = is_some (after (codes "--") word)
 
 -- the last word
-unfoldable pub last_word : Stage → Verb → ℕ → Settings → List ℕ → List (List ℕ) → Result Meant ℕ
-last_word stage verb place s word [] = if may_end stage verb s && is_name false word then Ok
+unfoldable pub last_word : Verb → ℕ → Settings → List ℕ → List (List ℕ) → Result Meant ℕ
+last_word verb place s word [] = if is_name false word then Ok
     (meant verb s word) else Err place
-last_word stage verb place s word (next ∷ rest) =
-    if may_end stage verb s && is_name false word then Err (place + 1) else Err place
+last_word verb place s word (next ∷ rest) =
+    if is_name false word then Err (place + 1) else Err place
 
 -- the option, and what comes after it
 abbrev pub then_option : ℕ → Option Given → (Given → Result Meant ℕ) → Result Meant ℕ
@@ -69,12 +68,12 @@ then_option place None next = Err place
 then_option place (Some option) next = next option
 
 -- options as long as a word begins with `--`, and the last word
-unfoldable pub after_verb : Stage → Verb → ℕ → Settings → List (List ℕ) → Result Meant ℕ
-after_verb stage verb place s [] = Err place
-after_verb stage verb place s (word ∷ words) =
-    if is_option word then then_option place (next_option stage verb s word)
-    (λ option. after_verb stage verb (place + 1) (with_option place s option) words)
-    else last_word stage verb place s word words
+unfoldable pub after_verb : Verb → ℕ → Settings → List (List ℕ) → Result Meant ℕ
+after_verb verb place s [] = Err place
+after_verb verb place s (word ∷ words) =
+    if is_option word then then_option place (next_option verb s word)
+    (λ option. after_verb verb (place + 1) (with_option place s option) words)
+    else last_word verb place s word words
 
 -- the sample of the size, where no word follows it
 abbrev pub sample_of : Option ℕ → List (List ℕ) → Result Meant ℕ
@@ -87,27 +86,22 @@ unfoldable pub after_sample : List (List ℕ) → Result Meant ℕ
 after_sample [] = Err 2
 after_sample (word ∷ rest) = sample_of (count_of 300 word) rest
 
--- the command whose word this is
-unfoldable pub verb_named : List ℕ → Option Verb
-verb_named word =
+-- the command that a word is
+unfoldable pub verb_of : List ℕ → Option Verb
+verb_of word =
     if bytes_eq word (verb_word Build) then Some Build
     else if bytes_eq word (verb_word Compile) then Some Compile
     else if bytes_eq word (verb_word Check) then Some Check
     else if bytes_eq word (verb_word Verify) then Some Verify
     else None
 
--- the command that a word is, where it is there
-unfoldable pub verb_of : Stage → List ℕ → Option Verb
-verb_of stage word = option_and_then (λ verb. if has_verb stage verb then Some verb else None)
-    (verb_named word)
-
 -- the command that the first word begins, and the words after it
-unfoldable pub command_from : Stage → List ℕ → Option Verb → List (List ℕ) → Result Meant ℕ
-command_from stage word (Some verb) words = after_verb stage verb 2 nothing_said words
-command_from stage word None words = if has_sample stage && bytes_eq word
-    (codes "sample") then after_sample words else Err 1
+unfoldable pub command_from : List ℕ → Option Verb → List (List ℕ) → Result Meant ℕ
+command_from word (Some verb) words = after_verb verb 2 nothing_said words
+command_from word None words =
+    if bytes_eq word (codes "sample") then after_sample words else Err 1
 
 -- the command that words spell, or the number of the first word that does not fit
-unfoldable pub command_of : Stage → List (List ℕ) → Result Meant ℕ
-command_of stage [] = Err 1
-command_of stage (word ∷ words) = command_from stage word (verb_of stage word) words
+unfoldable pub command_of : List (List ℕ) → Result Meant ℕ
+command_of [] = Err 1
+command_of (word ∷ words) = command_from word (verb_of word) words

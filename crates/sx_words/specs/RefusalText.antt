@@ -48,7 +48,6 @@ file_text (file.Notation text) = joined (text ∷ [])
 file_text file.Header = joined (codes "bad header" ∷ [])
 file_text (file.Version n) = joined (codes "version " ∷ decimal n ∷ [])
 file_text file.BadList = joined (codes "bad entry" ∷ [])
-file_text file.NotYet = joined (codes "not read yet" ∷ [])
 
 -- defects of texts and terms
 abbrev pub text_text : TextDefect → List ℕ
@@ -154,6 +153,7 @@ kept_text kept.LanguageDigest = joined (codes "language digest" ∷ [])
 kept_text kept.BaseDigest = joined (codes "base digest" ∷ [])
 kept_text (kept.ImportDigest name) = joined (codes "import " ∷ name ∷ codes " digest" ∷ [])
 kept_text kept.Signature = joined (codes "signature" ∷ [])
+kept_text kept.Stated = joined (codes "stated signature" ∷ [])
 
 -- files that do not go together
 abbrev pub closure_text : ClosureDefect → List ℕ

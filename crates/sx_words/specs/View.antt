@@ -7,14 +7,13 @@ use Rattle.sx_words.specs.declared.audit.Audit.{Audit}
 use Rattle.sx_words.specs.declared.command.Command.{Command}
 use Rattle.sx_words.specs.declared.command.Command.TheVariants as command
 use Rattle.sx_words.specs.declared.options.Options.{Options}
-use Rattle.sx_words.specs.declared.stage.Stage.{Stage}
 use Rattle.sx_words.specs.declared.given.Given as declared
 use Rattle.sx_words.specs.declared.given.Given.TheVariants as given
 use Rattle.sx_words.specs.declared.words_error.WordsError.{WordsError}
 use Rattle.sx_words.specs.declared.words_error.WordsError.TheVariants.{Memory, Words}
 use Rattle.sx_words.specs.Commands.{Given, core, tries, nodes, audit, AuditWord, Settings, Meant}
-use Rattle.sx_words.specs.Commands.{builds, compiles, checks, verifies, samples, SpellsAt}
-use Rattle.sx_words.specs.Commands.{IsMisfitAt, has_kind}
+use Rattle.sx_words.specs.Commands.{builds, compiles, checks, verifies, samples, Spells}
+use Rattle.sx_words.specs.Commands.{IsMisfit, has_kind}
 
 -- an option that names an auditor, without where it lies in memory
 abbrev pub audit_view : Audit → AuditWord
@@ -57,10 +56,10 @@ Refuses Memory read = Unit {0}
 Refuses (Words n) read = read ≡ Err n
 
 -- the command that the words spell, or the first word that does not fit
-abbrev pub IsAnswer : Stage → List (List ℕ) → Result Command WordsError → Type 0
-IsAnswer stage words (Ok c) = SpellsAt stage words (command_view c)
-IsAnswer stage words (Err Memory) = Unit {0}
-IsAnswer stage words (Err (Words n)) = IsMisfitAt stage words n
+abbrev pub IsAnswer : List (List ℕ) → Result Command WordsError → Type 0
+IsAnswer words (Ok c) = Spells words (command_view c)
+IsAnswer words (Err Memory) = Unit {0}
+IsAnswer words (Err (Words n)) = IsMisfit words n
 
 -- two texts, without where they lie in memory
 abbrev pub pair_view : Bor (List ℕ) × Bor (List ℕ) → List ℕ × List ℕ

@@ -17,6 +17,8 @@ pub enum Kept {
     ImportDigest(Text),
     /// The signature.
     Signature,
+    /// The stated signature.
+    Stated,
 }
 
 /// Why files do not go together.
@@ -53,6 +55,7 @@ fn put_kept(what: &Kept, into: &mut Vec<u8>) -> Result<(), NoMemory>
         Kept::BaseDigest => put_words(b"base digest", into),
         Kept::ImportDigest(name) => put_named(b"import ", name, b" digest", into),
         Kept::Signature => put_words(b"signature", into),
+        Kept::Stated => put_words(b"stated signature", into),
     }
 }
 

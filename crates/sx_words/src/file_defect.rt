@@ -30,8 +30,6 @@ pub enum FileDefect {
     Version(u64),
     /// A bad line of a derivation list. At `Place::Line`.
     BadList,
-    /// Nothing reads it yet.
-    NotYet,
 }
 
 /// Appends the defect's text.
@@ -53,6 +51,5 @@ pub(crate) fn put_file(
         FileDefect::Header => put_words(b"bad header", into),
         FileDefect::Version(n) => put_number(alloc, b"version ", *n, b"", into),
         FileDefect::BadList => put_words(b"bad entry", into),
-        FileDefect::NotYet => put_words(b"not read yet", into),
     }
 }

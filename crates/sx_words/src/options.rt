@@ -13,7 +13,6 @@ use crate::audit::Audit;
 use crate::command::Command;
 use crate::given::{Given, option_of};
 use crate::row::row_of;
-use crate::stage::Stage;
 use crate::verb::Verb;
 use indexmap::IndexSet;
 use std::alloc::Global;
@@ -57,18 +56,11 @@ impl Options {
     }
 }
 
-/// Whether the name may come after what was said.
-pub(crate) fn may_end(stage: Stage, verb: Verb, said: &Options) -> bool
-    ensures { result ≡ spec.may_end stage verb (settings_view said.now) }
-{
-    row_of(stage, verb).modules || said.core
-}
-
 /// Whether the command takes the option.
-fn takes(stage: Stage, verb: Verb, option: &Given<'_>) -> bool
-    ensures { result ≡ spec.takes stage verb (given_view option.now) }
+fn takes(verb: Verb, option: &Given<'_>) -> bool
+    ensures { result ≡ spec.takes verb (given_view option.now) }
 {
-    row_of(stage, verb).has_option(option)
+    row_of(verb).has_option(option)
 }
 
 /// Whether the option may stand after what was said.
@@ -87,20 +79,15 @@ fn is_new(said: &Options, option: &Given<'_>) -> bool
 
 /// The option that the word spells, where it may stand there.
 #[tactic(auto, unfolding(crate::specs::Reading::next_option))]
-pub(crate) fn option_after<'a>(
-    stage: Stage,
-    verb: Verb,
-    said: &Options,
-    word: &'a [u8],
-) -> Option<Given<'a>>
+pub(crate) fn option_after<'a>(verb: Verb, said: &Options, word: &'a [u8]) -> Option<Given<'a>>
     requires { HasKinds said.now }
     ensures value { option_map given_view result
-        ≡ next_option stage verb (settings_view said.now) word.entry.now }
+        ≡ next_option verb (settings_view said.now) word.entry.now }
     ensures utf8 { IsUtf8 word.entry.now → IfSome result IsGivenUtf8 }
 {
     match option_of(word) {
         Some(option) => {
-            if takes(stage, verb, &option) && is_new(said, &option) {
+            if takes(verb, &option) && is_new(said, &option) {
                 return Some(option);
             }
             None

@@ -4,16 +4,13 @@ ghost use Rattle.std.specs.Prelude.{◌≡◌, ◌+◌, ◌≤◌, ◌<◌, ◌^
 ghost use Rattle.std.specs.Prelude.{slice_index, is_some, Ok};
 ghost use Rattle.sx_lines.specs.Reading.{Gives};
 ghost use Rattle.sx_words.specs.Commands as command;
-ghost use Rattle.sx_words.specs.Commands.{Meant, Spells, SpellsAt, IsMisfitAt};
-ghost use Rattle.sx_words.specs.declared.stage.Stage.{Stage as StageOf};
+ghost use Rattle.sx_words.specs.Commands.{Meant, Spells, IsMisfit};
 ghost use Rattle.sx_words.specs.Reading as spec;
 ghost use Rattle.sx_words.specs.View.{command_view, settings_view, Refuses, IsAnswer};
 
 use crate::command::Command;
 use crate::given::count_of;
-use crate::options::{Options, command, may_end, option_after, say};
-use crate::row::row_of;
-use crate::stage::Stage;
+use crate::options::{Options, command, option_after, say};
 use crate::verb::Verb;
 use crate::words_error::WordsError;
 use std::alloc::Global;
@@ -32,7 +29,6 @@ fn is_option(word: &[u8]) -> bool
 #[tactic(auto, unfolding(crate::specs::Reading::last_word))]
 fn last_word(
     alloc: Global,
-    stage: Stage,
     verb: Verb,
     said: Options,
     name: &Text,
@@ -41,9 +37,9 @@ fn last_word(
 ) -> Result<Command, WordsError>
     requires { place + 1 < 2 ^ 64 }
     ensures { Gives command_view Refuses result
-        (spec.last_word stage verb place (settings_view said) name.now rest.now) }
+        (spec.last_word verb place (settings_view said) name.now rest.now) }
 {
-    if !(may_end(stage, verb, &said) && is_name(false, name.bytes())) {
+    if !is_name(false, name.bytes()) {
         drop(said);
         return Err(WordsError::Words(place));
     }
@@ -57,14 +53,9 @@ fn last_word(
 }
 
 /// The command that the words after its first one make.
-fn after_verb(
-    alloc: Global,
-    stage: Stage,
-    verb: Verb,
-    words: &[Text],
-) -> Result<Command, WordsError>
+fn after_verb(alloc: Global, verb: Verb, words: &[Text]) -> Result<Command, WordsError>
     ensures { Gives command_view Refuses result
-        (spec.after_verb stage verb 2 command.nothing_said words.now) }
+        (spec.after_verb verb 2 command.nothing_said words.now) }
 {
     let mut said = Options::new(alloc);
     let mut at = 0;
@@ -73,9 +64,9 @@ fn after_verb(
         let place = at as u64 + 2;
         if !is_option(word.bytes()) {
             let (_, rest) = words.split_at(at + 1);
-            return last_word(alloc, stage, verb, said, word, place, rest);
+            return last_word(alloc, verb, said, word, place, rest);
         }
-        match option_after(stage, verb, &said, word.bytes()) {
+        match option_after(verb, &said, word.bytes()) {
             Some(option) => match say(alloc, &mut said, option, place) {
                 Ok(()) => {}
                 Err(e) => {
@@ -121,10 +112,10 @@ fn after_sample(words: &[Text]) -> Result<Command, WordsError>
     }
 }
 
-/// The command whose word this is.
-#[tactic(auto, unfolding(crate::specs::Reading::verb_named))]
-fn verb_named(word: &[u8]) -> Option<Verb>
-    ensures { result ≡ spec.verb_named word.now }
+/// The command that a word is.
+#[tactic(auto, unfolding(crate::specs::Reading::verb_of))]
+fn verb_of(word: &[u8]) -> Option<Verb>
+    ensures { result ≡ spec.verb_of word.now }
 {
     if word == b"build".as_slice() {
         Some(Verb::Build)
@@ -139,52 +130,16 @@ fn verb_named(word: &[u8]) -> Option<Verb>
     }
 }
 
-/// Whether the command is there.
-fn has_verb(stage: Stage, verb: Verb) -> bool
-    ensures { result ≡ command.has_verb stage verb }
-{
-    let row = row_of(stage, verb);
-    row.modules || row.core
-}
-
-/// Whether `sample` is there.
-fn has_sample(stage: Stage) -> bool
-    ensures { result ≡ command.has_sample stage }
-{
-    matches!(stage, Stage::Whole)
-}
-
-/// The command that a word is, where it is there.
-#[tactic(auto, unfolding(crate::specs::Reading::verb_of))]
-fn verb_of(stage: Stage, word: &[u8]) -> Option<Verb>
-    ensures { result ≡ spec.verb_of stage word.now }
-{
-    match verb_named(word) {
-        Some(verb) => {
-            if has_verb(stage, verb) {
-                return Some(verb);
-            }
-            None
-        }
-        None => None,
-    }
-}
-
 /// The command that the words make whose first one is this.
 #[tactic(auto, unfolding(crate::specs::Reading::command_from))]
-fn command_from(
-    alloc: Global,
-    stage: Stage,
-    first: &Text,
-    rest: &[Text],
-) -> Result<Command, WordsError>
+fn command_from(alloc: Global, first: &Text, rest: &[Text]) -> Result<Command, WordsError>
     ensures { Gives command_view Refuses result
-        (spec.command_from stage first.now (spec.verb_of stage first.now) rest.now) }
+        (spec.command_from first.now (spec.verb_of first.now) rest.now) }
 {
-    match verb_of(stage, first.bytes()) {
-        Some(verb) => after_verb(alloc, stage, verb, rest),
+    match verb_of(first.bytes()) {
+        Some(verb) => after_verb(alloc, verb, rest),
         None => {
-            if !(has_sample(stage) && first.bytes() == b"sample".as_slice()) {
+            if first.bytes() != b"sample".as_slice() {
                 return Err(WordsError::Words(1));
             }
             after_sample(rest)
@@ -194,17 +149,16 @@ fn command_from(
 
 /// The command that the words make, read from the left.
 #[tactic(auto, unfolding(crate::specs::Reading::command_of))]
-fn command_of(alloc: Global, stage: Stage, words: &[Text]) -> Result<Command, WordsError>
-    ensures { Gives command_view Refuses result (spec.command_of stage words.now) }
+fn command_of(alloc: Global, words: &[Text]) -> Result<Command, WordsError>
+    ensures { Gives command_view Refuses result (spec.command_of words.now) }
 {
     match words.split_first() {
         None => Err(WordsError::Words(1)),
-        Some((first, rest)) => command_from(alloc, stage, first, rest),
+        Some((first, rest)) => command_from(alloc, first, rest),
     }
 }
 
-/// The command that the words spell, of those that are there by now: the words of the command line,
-/// without the program's name.
+/// The command that the words spell: the words of the command line, without the program's name.
 ///
 /// The first word is `build`, `compile`, `check`, `verify` or `sample`. Then come options, in any
 /// order and each at most once: `--tries=N` and `--nodes=N` of `build`, `compile` and `check`;
@@ -212,34 +166,23 @@ fn command_of(alloc: Global, stage: Stage, words: &[Text]) -> Result<Command, Wo
 /// `verify`, not with `--nodes` and `--audit`. The last word is a name, or for `sample` a number
 /// from 1 to 300. N is a number from 1 to 1,000,000 without a leading zero.
 ///
-/// `Words` comes exactly where the words spell no command that is there, with the number of the
-/// first word after which none can follow. The place of an auditor is below 2^32: where more words
-/// stand before it, memory is lacking.
-pub fn read_words_at(alloc: Global, stage: Stage, words: &[Text]) -> Result<Command, WordsError>
-    ensures answer { IsAnswer stage words.now result }
-    // What is spelled is read, unless memory runs out.
-    ensures only { (c : Meant) → SpellsAt stage words.now c →
-        Gives command_view Refuses result (Ok c) }
-{
-    command_of(alloc, stage, words)
-}
-
-/// The command that the words spell, of all commands, as `read_words_at` says.
+/// `Words` comes exactly where the words spell no command, with the number of the first word after
+/// which none can follow. The place of an auditor is below 2^32: where more words stand before it,
+/// memory is lacking.
 pub fn read_words(alloc: Global, words: &[Text]) -> Result<Command, WordsError>
-    ensures answer { IsAnswer Stage.Whole words.now result }
+    ensures answer { IsAnswer words.now result }
     // What is spelled is read, unless memory runs out.
     ensures only { (c : Meant) → Spells words.now c → Gives command_view Refuses result (Ok c) }
 {
-    read_words_at(alloc, Stage::Whole, words)
+    command_of(alloc, words)
 }
 
-/// Words have one answer at each stage: they spell one command, or they have one first word that
-/// does not fit.
+/// Words have one answer: they spell one command, or they have one first word that does not fit.
 pub fn one_answer_is_due()
-    ensures command { (stage : StageOf) (words : List (List ℕ)) (one other : Meant) →
-        SpellsAt stage words one → SpellsAt stage words other → one ≡ other }
-    ensures misfit { (stage : StageOf) (words : List (List ℕ)) (one other : ℕ) →
-        IsMisfitAt stage words one → IsMisfitAt stage words other → one ≡ other }
-    ensures either { (stage : StageOf) (words : List (List ℕ)) (c : Meant) (n : ℕ) →
-        SpellsAt stage words c → IsMisfitAt stage words n → ⊥ }
+    ensures command { (words : List (List ℕ)) (one other : Meant) →
+        Spells words one → Spells words other → one ≡ other }
+    ensures misfit { (words : List (List ℕ)) (one other : ℕ) →
+        IsMisfit words one → IsMisfit words other → one ≡ other }
+    ensures either { (words : List (List ℕ)) (c : Meant) (n : ℕ) →
+        Spells words c → IsMisfit words n → ⊥ }
 {}

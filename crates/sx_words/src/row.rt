@@ -1,18 +1,15 @@
-//! The table of what there is of each command.
+//! The table of the options that each command takes.
 
 ghost use Rattle.std.specs.Prelude.{◌≡◌};
 ghost use Rattle.sx_words.specs.Commands as spec;
 ghost use Rattle.sx_words.specs.View.{given_view};
 
 use crate::given::Given;
-use crate::stage::Stage;
 use crate::verb::Verb;
 
-/// What there is of a command: whether it is there for modules or for extensions, whether for core
-/// files, and the options that it takes.
+/// The options that a command takes.
 #[derive(Clone, Copy)]
 pub(crate) struct Row {
-    pub modules: bool,
     pub core: bool,
     pub tries: bool,
     pub nodes: bool,
@@ -33,61 +30,35 @@ impl Row {
     }
 }
 
-/// The rows of the commands that there are by now. A new command, or a new option, is said here.
-fn row_by_now(verb: Verb) -> Row
-    ensures { result ≡ spec.row Stage.Now verb }
+/// The row of the command in the table of what there is. A new command, or a new option, is said
+/// here.
+pub(crate) fn row_of(verb: Verb) -> Row
+    ensures { result ≡ spec.row verb }
 {
     match verb {
         Verb::Build => Row {
-            modules: true,
             core: true,
+            tries: true,
+            nodes: true,
+            audits: true,
+        },
+        Verb::Compile => Row {
+            core: false,
+            tries: true,
+            nodes: true,
+            audits: true,
+        },
+        Verb::Check => Row {
+            core: false,
             tries: true,
             nodes: true,
             audits: false,
         },
         Verb::Verify => Row {
-            modules: false,
             core: true,
             tries: false,
             nodes: false,
             audits: false,
         },
-        Verb::Check => Row {
-            modules: true,
-            core: false,
-            tries: true,
-            nodes: true,
-            audits: false,
-        },
-        Verb::Compile => Row {
-            modules: false,
-            core: false,
-            tries: false,
-            nodes: false,
-            audits: false,
-        },
-    }
-}
-
-/// The rows of all commands with all their options.
-fn whole_row(verb: Verb) -> Row
-    ensures { result ≡ spec.row Stage.Whole verb }
-{
-    Row {
-        modules: true,
-        core: matches!(verb, Verb::Build | Verb::Verify),
-        tries: !matches!(verb, Verb::Verify),
-        nodes: !matches!(verb, Verb::Verify),
-        audits: matches!(verb, Verb::Build | Verb::Compile),
-    }
-}
-
-/// The row of the command in the table of what there is.
-pub(crate) fn row_of(stage: Stage, verb: Verb) -> Row
-    ensures { result ≡ spec.row stage verb }
-{
-    match stage {
-        Stage::Now => row_by_now(verb),
-        Stage::Whole => whole_row(verb),
     }
 }

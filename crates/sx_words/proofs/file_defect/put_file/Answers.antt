@@ -29,6 +29,3 @@ returns-in-Version c = rw c.in-Version.is c.put_number-in-Version.ensures
 
 pub returns-in-BadList : goal.returns-in-BadList
 returns-in-BadList c = rw c.in-BadList.is c.put_words-in-BadList.ensures
-
-pub returns-in-NotYet : goal.returns-in-NotYet
-returns-in-NotYet c = rw c.in-NotYet.is c.put_words-in-NotYet.ensures
