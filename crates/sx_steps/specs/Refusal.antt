@@ -47,7 +47,6 @@ file_status (file_defect.Notation kind) = statuses.Refused
 file_status file_defect.Header = statuses.Refused
 file_status (file_defect.Version number) = statuses.Refused
 file_status file_defect.BadList = statuses.Refused
-file_status file_defect.NotYet = statuses.Refused
 
 -- the status of a defect
 abbrev pub defect_status : Defect → Status

@@ -55,8 +55,7 @@ fn file_status(defect: &FileDefect) -> Status
         | FileDefect::Notation(_)
         | FileDefect::Header
         | FileDefect::Version(_)
-        | FileDefect::BadList
-        | FileDefect::NotYet => Status::Refused,
+        | FileDefect::BadList => Status::Refused,
     }
 }
 
