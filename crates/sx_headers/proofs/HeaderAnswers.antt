@@ -32,15 +32,20 @@ module _ (file name bytes : List ℕ) (stop : Stop) where
   HasLine e = IfSome (line_of e)
       (IsFirstBad (λ l. StatesInterface name (texts l)) (lines_from 1 bytes))
 
-  by_version : (version : Option ℕ) (e : HeaderError) → other_version (lines_from 1 bytes) ≡ version →
-      Answers version e → HasLine e → header_stop file e ≡ Some stop → StatesParts file name bytes (Err stop)
+  by_version : (version : Option ℕ) (e : HeaderError) →
+      other_version (lines_from 1 bytes) ≡ version →
+      Answers version e → HasLine e → header_stop file e ≡ Some stop →
+      StatesParts file name bytes (Err stop)
   by_version version header_error.Memory is h line told = none_some _ stop told
   by_version (Some v) (header_error.NotUtf8 place) is h line told =
       inl (h.0, sym (some_same _ stop told) ∙ ap (not_utf8 file) h.1)
-  by_version None (header_error.NotUtf8 place) is h line told = inl (h.0, sym (some_same _ stop told) ∙ ap (not_utf8 file) h.1)
+  by_version None (header_error.NotUtf8 place) is h line told =
+      inl (h.0, sym (some_same _ stop told) ∙ ap (not_utf8 file) h.1)
   by_version (Some v) (header_error.Header n) is h line told = absurd h
-  by_version None (header_error.Header n) is h line told = inr (h.0, inr (is, (n, line, sym (some_same _ stop told))))
-  by_version (Some v) (header_error.Version n) is h line told = inr (h.0, inl (v, is, sym (some_same _ stop told) ∙ ap (is_other_version file) h.1))
+  by_version None (header_error.Header n) is h line told =
+      inr (h.0, inr (is, (n, line, sym (some_same _ stop told))))
+  by_version (Some v) (header_error.Version n) is h line told =
+      inr (h.0, inl (v, is, sym (some_same _ stop told) ∙ ap (is_other_version file) h.1))
   by_version None (header_error.Version n) is h line told = absurd h.1
 
   pub bad_parts : (e : HeaderError) → Answers (other_version (lines_from 1 bytes)) e → HasLine e →

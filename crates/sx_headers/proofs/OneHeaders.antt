@@ -1,5 +1,6 @@
 -- The steps that read headers and interfaces have one result each, read faults aside.
-use Rattle.std.proofs.Common.{◌≡◌, ℕ, suc, List, [], ◌∷◌, ◌++◌, length, refl, sym, ap, ◌∙◌, subst, inl, inr}
+use Rattle.std.proofs.Common.{◌≡◌, ℕ, suc, List, [], ◌∷◌, ◌++◌, length, refl, sym, ap, ◌∙◌, subst}
+use Rattle.std.proofs.Common.{inl, inr}
 use Rattle.std.specs.Prelude.{Result, Ok, Err, Option, Some, None, Contains}
 use Rattle.sx_lines.specs.Lines.{Lines, lines_from, texts}
 use Rattle.sx_lines.specs.Reading.{kept}
@@ -19,7 +20,8 @@ use Rattle.sx_steps.proofs.Ones.{IsOne, then_one, held_one, ok_same}
 use Rattle.sx_headers.specs.FreeImports.{IsTakenAt, HasFreeImports}
 use Rattle.sx_headers.specs.HeaderRows.{row_line, import_row}
 use Rattle.sx_headers.specs.HeaderStops.{bad_header, other_version as is_other_version}
-use Rattle.sx_headers.specs.ReadInterface.{HeldInterface, HasInterface, IsBadInterface, StatesParts, ReadsInterface}
+use Rattle.sx_headers.specs.ReadInterface.{HeldInterface, HasInterface, IsBadInterface, StatesParts}
+use Rattle.sx_headers.specs.ReadInterface.{ReadsInterface}
 use Rattle.sx_headers.specs.ReadModule.{Module, HasHeader, StatesModule, ReadsModule}
 use Rattle.sx_headers.proofs.FirstLines.{bad_states_none, one_first_bad}
 

@@ -1,3 +1,4 @@
+pub mod ModuleFiles
 pub mod HeaderStops
 pub mod ReadModule
 pub mod ReadInterface

@@ -34,7 +34,7 @@ fn first_taken(grammar: &Grammar, names: &[Text]) -> Option<usize>
 }
 
 /// No import of the module has a literal of the grammar as its name. The first that has one is
-/// refused, at its line of the file.
+/// refused, at its line of the file, which has at most 262,144 bytes.
 pub fn check_imports(
     alloc: Global,
     file: &Text,

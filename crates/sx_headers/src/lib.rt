@@ -2,8 +2,8 @@
 //!
 //! - `read_module`: the header in a module's file, or in its base file. `read_interface_file`: the
 //!   interface of a module.
-//! - `row_line`: the line of a row of a header. `check_imports`: the names of a module's imports are
-//!   no literals of its language.
+//! - `row_line`: the line of a row of a header. `check_imports`: the names of a module's imports
+//!   are no literals of its language.
 //! - `uncut_text`, `unread_text`: the stops of texts of modules that are not read.
 #![tactic(auto)]
 

@@ -13,7 +13,8 @@ returns-in-Ok-clause-step c =
     let number = c.in-Some.number in
     let uses = size_of c.args.source.now.header.uses c.len.result c.len.ensures in (
       number,
-      subst (λ (names : List (List ℕ)). IsTakenAt (literals_of c.args.grammar.now.parts) names number)
+      subst (λ (names : List (List ℕ)). IsTakenAt (literals_of c.args.grammar.now.parts) names
+          number)
           c.deref.ensures.value c.in-Some.ensures.taken,
       c.in-Ok.ensures ∙ ap (bad_header c.args.file.now) (c.row_line-line.ensures ∙ (λ i.
           number_at (kept (lines_from 1 (c.deref-in-Some.ensures.value i))) (2 + uses i + number))),

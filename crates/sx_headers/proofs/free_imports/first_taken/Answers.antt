@@ -6,7 +6,8 @@ use Rattle.sx_headers.proofs.free_imports.first_taken.Goals as goal
 
 pub returns-in-Some-clause-taken : goal.returns-in-Some-clause-taken
 returns-in-Some-clause-taken c =
-    taken_here (literals_of c.args.grammar.now.parts) c.args.names.now c.loop-i.i c.index-names-i.result
+    taken_here (literals_of c.args.grammar.now.parts) c.args.names.now c.loop-i.i
+    c.index-names-i.result
     c.loop-i-test.true c.index-names-i.is c.loop-i.invariant c.in-Some.field-0
     (c.in-Some.ensures ∙ ap Some c.bytes.ensures.value)
 

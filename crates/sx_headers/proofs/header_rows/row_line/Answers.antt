@@ -14,19 +14,23 @@ loop-init c =
 
 pub returns-in-Err : goal.returns-in-Err
 returns-in-Err c =
-    number_past (kept (left c.loop.rest)) c.in-Err.e.number (c.args.row - c.loop.counter) c.in-Err.ensures.first
+    number_past (kept (left c.loop.rest)) c.in-Err.e.number (c.args.row - c.loop.counter)
+    c.in-Err.ensures.first
     ∙ c.loop.invariant
 
 pub loop-preserved : goal.loop-preserved
 loop-preserved c =
-    number_next (kept (left c.loop.rest)) (kept (left c.in-Ok.more)) _ c.args.row c.loop.counter _ _ c.in-Ok.ensures.first
+    number_next (kept (left c.loop.rest)) (kept (left c.in-Ok.more)) _ c.args.row c.loop.counter _ _
+    c.in-Ok.ensures.first
     c.loop-test.true ∙ c.loop.invariant
 
 pub returns-in-Ok-next_kept : goal.returns-in-Ok-next_kept
 returns-in-Ok-next_kept c =
     let end = c.loop.auto.counter-end in
-    number_here (kept (left c.loop.rest)) (kept (left c.in-Ok-next_kept.field-0-1)) c.in-Ok-next_kept.line.number
-    (c.args.row - c.loop.counter) _ _ c.in-Ok-next_kept.ensures.first (omega (arith, c.loop-test.false)) ∙ c.loop.invariant
+    number_here (kept (left c.loop.rest)) (kept (left c.in-Ok-next_kept.field-0-1))
+    c.in-Ok-next_kept.line.number
+    (c.args.row - c.loop.counter) _ _ c.in-Ok-next_kept.ensures.first
+    (omega (arith, c.loop-test.false)) ∙ c.loop.invariant
 
 pub returns-in-Err-next_kept : goal.returns-in-Err-next_kept
 returns-in-Err-next_kept c =

@@ -8,4 +8,5 @@ use Rattle.sx_headers.proofs.header_rows.row_line.Given as goal
 -- the row stands as many lines after what is left as lines are to be taken
 abbrev pub invariant-loop : goal.invariant-loop
 invariant-loop l =
-    number_at (kept (left l.rest)) (l.row - l.counter) ≡ number_at (kept (lines_from 1 l.bytes)) l.row
+    number_at (kept (left l.rest)) (l.row - l.counter) ≡ number_at (kept (lines_from 1 l.bytes))
+    l.row

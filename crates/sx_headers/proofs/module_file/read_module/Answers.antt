@@ -7,8 +7,11 @@ use Rattle.sx_headers.proofs.module_file.read_module.Goals as goal
 
 pub returns-in-Ok-clause-step : goal.returns-in-Ok-clause-step
 returns-in-Ok-clause-step g c = λ files told.
-    goes_next module_of (Held most_bytes c.args.file.now files) (StatesModule c.args.file.now c.args.name.now) c.in-Ok.bytes.items c.state_module.result (c.in-Ok.ensures.step files told) c.state_module.ensures.step
+    goes_next module_of (Held most_bytes c.args.file.now files)
+    (StatesModule c.args.file.now c.args.name.now) c.in-Ok.bytes.items c.state_module.result
+    (c.in-Ok.ensures.step files told) c.state_module.ensures.step
 
 pub returns-in-Err-clause-step : goal.returns-in-Err-clause-step
 returns-in-Err-clause-step g c = λ files told.
-    stops_first (λ (bytes : Vec ℕ). bytes.items) module_of (Held most_bytes c.args.file.now files) (StatesModule c.args.file.now c.args.name.now) c.in-Err.e (c.in-Err.ensures.step files told)
+    stops_first (λ (bytes : Vec ℕ). bytes.items) module_of (Held most_bytes c.args.file.now files)
+    (StatesModule c.args.file.now c.args.name.now) c.in-Err.e (c.in-Err.ensures.step files told)
