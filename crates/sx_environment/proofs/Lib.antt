@@ -5,8 +5,9 @@ mod ImageNodes
 mod SeenTerms
 mod NameWords
 mod EnvironmentTerms
+pub mod BaseEnvironments
 mod Lists
 mod Refusing
 mod OneSeen
-mod OneEnvironment
+pub mod OneEnvironment
 mod RowLines

@@ -344,8 +344,7 @@ module _ (s : SeenFrom) where
             second = k.is ∙ (λ i. Read number (line i) (column i) (two.second i));
             it = it;
             is = at;
-            row = row;
-            three = three;
+            three = (row, three);
           })
 
       row_alike : (row : Row) → steps.AreAlike Alike (BadRow row)

@@ -15,6 +15,11 @@ use Rattle.sx_environment.specs.ImportErrors.{HasNone}
 use Rattle.sx_environment.specs.Seen.{text_of, line_of, parts_of, sort_of}
 use Rattle.sx_environment.specs.SeenFrom.{SeenFrom}
 
+-- a row of the import has more than two readings
+abbrev pub HasRowOfThree : SeenFrom → InterfaceParts → Type 0
+HasRowOfThree s it =
+    (row : Row) × HasThree (parts_of s row) (sort_of s) (text_of it row)
+
 -- both say that the same row of an import has more than one reading, and show two of them; it has
 -- more than two
 pub record ReadOthers (s : SeenFrom) (its : List InterfaceParts) (e d : ImportError) : Type 0 where
@@ -29,8 +34,7 @@ pub record ReadOthers (s : SeenFrom) (its : List InterfaceParts) (e d : ImportEr
   pub second : d ≡ Read import line column (Ambiguous some more)
   pub it : InterfaceParts
   pub is : slice_get its import ≡ Some it
-  pub row : Row
-  pub three : HasThree (parts_of s row) (sort_of s) (text_of it row)
+  pub three : HasRowOfThree s it
 
 -- the same refusal, but for the two readings that it shows of a text with more than two
 abbrev pub AreAlike : SeenFrom → List InterfaceParts → ImportError → ImportError → Type 0

@@ -1,11 +1,12 @@
 -- What the imports of a module are seen from.
-use Rattle.std.specs.Prelude.{◌≡◌, ◌+◌, ◌≤◌, true, false, List, length, map, Contains}
+use Rattle.std.specs.Prelude.{◌≡◌, true, false, List, map, Contains}
 use Rattle.std.specs.List.{AllByRecursion}
 use Rattle.sx_lines.specs.Words.{is_name}
 use Rattle.sx_grammar.specs.Grammar.{Text}
 use Rattle.sx_grammar.specs.Tables.{literals_of}
 use Rattle.sx_interface.specs.Interfaces.{InterfaceParts, Mark}
 use Rattle.sx_interface.specs.InterfaceView.{interface_view, mark_view}
+use Rattle.sx_interface.specs.Stated.{IsWithin}
 use Rattle.sx_typing.specs.Dialects.{DialectData, IsDialectOf, dialect_of}
 use Rattle.sx_unit.specs.declared.import.Import.{Import}
 use Rattle.sx_environment.specs.declared.surroundings.Surroundings.{Surroundings}
@@ -31,10 +32,8 @@ interfaces_of imports = map (λ i. interface_view i.interface) imports
 
 -- a file can hold the interface: neither the signature and the stated signature nor the list of its
 -- uses and imports is longer than a file may be
-pub record IsShort (it : InterfaceParts) : Type 0 where
-  pub signature : length it.signature ≤ 262144
-  pub stated : length it.stated ≤ 262144
-  pub marks : length it.uses + length it.imports ≤ 262144
+abbrev pub IsShort : InterfaceParts → Type 0
+IsShort it = IsWithin 262144 it
 
 -- the import has a name, which is none of the literals
 abbrev pub HasFreeName : List Text → InterfaceParts → Type 0

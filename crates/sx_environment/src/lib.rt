@@ -5,7 +5,8 @@
 //! - An import that uses just the same extensions is seen by its stated signature, as its author
 //!   wrote it, read by the grammar of the dialect; each other one by its signature, read by the
 //!   grammar of the language. The signature is the plain image of a stated one that is seen.
-//! - Laws: imports have one environment or one refusal; the lines that refusals tell are those of
+//! - Laws: imports have one environment or one refusal; the environment by the language alone is
+//!   the plain image of the one that is seen; the lines that refusals tell are those of
 //!   the interface's file.
 #![tactic(auto)]
 
@@ -21,5 +22,5 @@ mod surroundings;
 
 pub use building::environment;
 pub use import_error::ImportError;
-pub use laws::{one_environment, rows_have_lines};
+pub use laws::{base_environment_is_image, one_environment, rows_have_lines};
 pub use surroundings::Surroundings;
