@@ -1,10 +1,6 @@
 pub mod Headers
-pub mod Tables
-pub mod Visits
-pub mod Turning
-pub mod Orders
+pub mod Walks
 pub mod Agreeing
 pub mod Coming
 pub mod Lasting
-pub mod FewFiles
 pub mod TypeErrors

@@ -1,20 +1,14 @@
 -- A stop of reading extensions along their `use` lines is no type error.
 use Rattle.std.proofs.Common.{ℕ, List}
-use Rattle.std.specs.Prelude.{Ok, Err}
 use Rattle.sx_outline.specs.declared.outline_error.OutlineError.{OutlineError}
 use Rattle.sx_outline.specs.declared.outline_error.OutlineError.TheVariants as outline_error
-use Rattle.sx_imports.specs.Walk.{End, missing, cycle, too_many}
 use Rattle.sx_outside.specs.Files.{Files}
-use Rattle.sx_words.specs.declared.closure_defect.ClosureDefect.TheVariants as closure_defect
-use Rattle.sx_words.specs.declared.refusal.Defect.TheVariants as defect
 use Rattle.sx_steps.specs.Held.{Held, most_bytes}
-use Rattle.sx_steps.specs.Refusal.{about}
 use Rattle.sx_steps.specs.declared.stop.Stop.{Stop}
-use Rattle.sx_steps.specs.TypeErrors.{IsTypeError}
 use Rattle.sx_steps.proofs.TypeErrors.{OnTypeError, on_stop, no_type_error, Final, then_final}
 use Rattle.sx_steps.proofs.TypeErrors.{held_final}
-use Rattle.sx_uses.specs.ExtensionFile.{Extension, extension_file}
-use Rattle.sx_uses.specs.Reached.{Found, too_many_files, IsTold}
+use Rattle.sx_walking.proofs.TypeErrors.{reaches_final}
+use Rattle.sx_uses.specs.ExtensionFile.{extension_file, uses_of}
 use Rattle.sx_uses.specs.ReadExtension.{header_stop, wrong_language, StatesExtension, ReadsFile}
 use Rattle.sx_uses.specs.ReadExtension.{IsFor, ReadsExtension}
 use Rattle.sx_uses.specs.ReadUses.{ReadsUses}
@@ -26,23 +20,25 @@ module _ (Q : Stop → Type 0) where
   no_header file (outline_error.Notation line what) = λ h. absurd h
 
   states_final : (name bytes : List ℕ) → Final Q (StatesExtension name bytes)
-  states_final name bytes stop h = on_stop Q (header_stop (extension_file name) h.error) stop (no_header (extension_file name) h.error) h.is
+  states_final name bytes stop h = on_stop Q (header_stop (extension_file name) h.error) stop
+      (no_header (extension_file name) h.error) h.is
 
   pub reads_final : (files : Files) (name : List ℕ) → Final Q (ReadsFile files name)
   reads_final files name =
-      then_final Q (Held most_bytes (extension_file name) files) (StatesExtension name) (held_final Q most_bytes (extension_file name) files) (λ bytes held. states_final name bytes)
+      then_final Q (Held most_bytes (extension_file name) files) (StatesExtension name)
+      (held_final Q most_bytes (extension_file name) files)
+      (λ bytes held. states_final name bytes)
 
-  visits_final : (language : List ℕ) (files : Files) (name : List ℕ) → Final Q (ReadsExtension language files name)
+  visits_final : (language : List ℕ) (files : Files) (name : List ℕ) →
+      Final Q (ReadsExtension language files name)
   visits_final language files name =
       then_final Q (ReadsFile files name) (IsFor language name) (reads_final files name)
-      (λ given reads stop h. no_type_error Q (wrong_language (extension_file name) given.header.language) stop (λ e. e) h.1)
+      (λ given reads stop h.
+      no_type_error Q (wrong_language (extension_file name) given.header.language) stop (λ e. e)
+      h.1)
 
-  module _ (file language : List ℕ) (files : Files) where
-    told_final : (found : Found Extension) (end : End) (stop : Stop) → IsTold (ReadsExtension language files) file found end (Err stop) → IsTypeError stop → Q stop
-    told_final found (Ok order) stop h = absurd h
-    told_final found (Err (missing name)) stop h = visits_final language files name stop h
-    told_final found (Err (cycle names)) stop h = no_type_error Q (about file (defect.Closure (closure_defect.Cycle h.told))) stop (λ e. e) h.is
-    told_final found (Err too_many) stop h = no_type_error Q (too_many_files file) stop (λ e. e) h
-
-    pub uses_final : (roots : List (List ℕ)) → Final Q (ReadsUses file language roots files)
-    uses_final roots stop h = told_final h.found h.end stop h.told
+  pub uses_final : (file language : List ℕ) (files : Files) (roots : List (List ℕ)) →
+      Final Q (ReadsUses file language roots files)
+  uses_final file language files roots =
+      reaches_final Q uses_of (ReadsExtension language files) (visits_final language files) file
+      roots

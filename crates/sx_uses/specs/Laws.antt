@@ -5,8 +5,10 @@ use Rattle.sx_outside.specs.Files.{Files}
 use Rattle.sx_steps.specs.declared.stop.Stop.{Stop}
 use Rattle.sx_steps.specs.declared.step_error.StepError.{StepError}
 use Rattle.sx_steps.specs.Agree.{IsNoReadFault, IsSure, AnswersBy}
-use Rattle.sx_steps.specs.Refusal.{status_of, line_of}
 use Rattle.sx_steps.specs.Stop.{Gives}
+use Rattle.sx_walking.specs.Laws.{ComesAfter}
+pub use Rattle.sx_walking.specs.Laws.{AnswerAlike}
+use Rattle.sx_uses.specs.ExtensionKind.{name_of}
 use Rattle.sx_uses.specs.ExtensionFile.{Extension, uses_of}
 use Rattle.sx_uses.specs.ReadExtension.{ReadsFile, ReadsExtension}
 use Rattle.sx_uses.specs.ReadUses.{ReadsUses}
@@ -15,11 +17,6 @@ use Rattle.sx_uses.specs.ReadUses.{ReadsUses}
 abbrev pub FilesAgree : Type 0
 FilesAgree = (files : Files) (name : List ℕ) (x y : Result Extension Stop) →
     ReadsFile files name x → ReadsFile files name y → IsNoReadFault x → IsNoReadFault y → x ≡ y
-
--- the stops give the same status and the same line
-pub record AnswerAlike (s t : Stop) : Type 0 where
-  pub status : status_of s ≡ status_of t
-  pub line : line_of s ≡ line_of t
 
 -- by the roots and the files there is one result, but for read faults and out of memory: the same
 -- extensions in the same order, or stops that give the same status and the same line
@@ -37,9 +34,8 @@ abbrev pub names_of : List Extension → List (List ℕ)
 names_of xs = map (λ x. x.header.name) xs
 
 -- the extension stands after all that it uses, and none of its name stands before it
-pub record StandsAfterUses (before : List Extension) (x : Extension) : Type 0 where
-  pub once : ¬ (Contains (names_of before) x.header.name)
-  pub after_them : (name : List ℕ) → Contains (uses_of x) name → Contains (names_of before) name
+abbrev pub StandsAfterUses : (before : List Extension) → Extension → Type 0
+StandsAfterUses = ComesAfter name_of uses_of
 
 -- each of these was read from its file and is written for the language
 abbrev pub AreRead : (language : List ℕ) → Files → List Extension → Type 0

@@ -1,8 +1,5 @@
 pub mod ExtensionFile
 pub mod ReadExtension
-pub mod Reached
 pub mod ReadUses
-pub mod FileTable
-pub mod Opened
-pub mod Turns
+pub mod ExtensionKind
 pub mod Laws

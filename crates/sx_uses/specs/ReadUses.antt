@@ -4,7 +4,7 @@ use Rattle.sx_outside.specs.Files.{Files}
 use Rattle.sx_steps.specs.declared.stop.Stop.{Stop}
 use Rattle.sx_uses.specs.ExtensionFile.{Extension, uses_of}
 use Rattle.sx_uses.specs.ReadExtension.{ReadsExtension}
-use Rattle.sx_uses.specs.Reached.{Reaches}
+use Rattle.sx_walking.specs.Reached.{Reaches}
 
 -- the extensions that are reached from the roots by `use` lines, all of them written for the
 -- language; a cycle, and that there are too many, are told of the file

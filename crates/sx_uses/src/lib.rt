@@ -9,13 +9,10 @@
 #![tactic(auto)]
 
 mod extension_file;
-mod file_table;
+mod extension_kind;
 mod laws;
 mod read_extension;
-mod turn;
 mod uses_reading;
-mod visiting;
-mod walking;
 
 pub use extension_file::ExtensionFile;
 pub use laws::{files_agree, root_comes_last, uses_agree, uses_come_first};

@@ -1,59 +1,20 @@
 //! The step that reads the files of extensions along their `use` lines.
 
-ghost use Rattle.std.specs.Prelude.{◌≡◌, ◌≤◌, IfOk, IfSome, Ok, Some, length, map};
+ghost use Rattle.std.specs.Prelude.{◌≤◌, IfOk, IfSome, Ok, length};
 ghost use Rattle.std.specs.List.{AllByRecursion};
 ghost use Rattle.sx_outside.specs.Told.{WhereTold};
 ghost use Rattle.sx_steps.specs.Stop.{Gives, OnlyReads};
 ghost use Rattle.sx_uses.specs.ExtensionFile.{extension_of, extensions_of, IsStated};
-ghost use Rattle.sx_uses.specs.FileTable.{held_in};
 ghost use Rattle.sx_uses.specs.ReadExtension.{ReadsFile};
 ghost use Rattle.sx_uses.specs.ReadUses.{ReadsUses};
-ghost use Rattle.sx_uses.specs.Opened.{IsBegun, AreOnce, AreHeld};
 
 use crate::extension_file::ExtensionFile;
-use crate::file_table::FileTable;
-use crate::walking::{User, walk_uses};
+use crate::extension_kind::ExtensionKind;
 use std::alloc::Global;
 use sx_outside::Shelf;
 use sx_steps::StepError;
-use sx_term::{NoMemory, Text};
-
-/// A table with the file that was read before, if there is one.
-fn begin(alloc: Global, held: Option<ExtensionFile>) -> Result<FileTable, NoMemory>
-    ensures { IfOk result (λ files. IsBegun held (held_in files)) }
-{
-    let mut files = FileTable::new(alloc);
-    match held {
-        Some(file) => {
-            let name = file.header.name.copy(alloc)?;
-            files.put(&name, file)?;
-            Ok(files)
-        }
-        None => Ok(files),
-    }
-}
-
-/// Takes the files of these extensions out, which are held.
-fn take_files(
-    alloc: Global,
-    order: &[Text],
-    files: &mut FileTable,
-) -> Result<Vec<ExtensionFile>, NoMemory>
-    requires once { AreOnce order.now }
-    requires held { AreHeld (held_in files.now) order.now }
-    ensures { IfOk result (λ taken.
-        map Some (extensions_of taken) ≡ map (held_in files.old) order.now) }
-{
-    let mut taken = Vec::new(alloc);
-    for i in 0..order.len() {
-        let name = &order[i];
-        match files.take(name) {
-            Some(file) => taken.push(file)?,
-            None => unreachable!(),
-        }
-    }
-    Ok(taken)
-}
+use sx_term::Text;
+use sx_walking::read_reached;
 
 /// The extensions that are reached from the roots by `use` lines, each once and after those that it
 /// uses, in the order in which a depth-first walk leaves them; or the first refusal that the walk
@@ -81,9 +42,6 @@ pub fn read_uses<S: Shelf>(
         (S.read_faults shelf.old) (S.read_faults shelf.new)
         (S.write_faults shelf.old) (S.write_faults shelf.new) result }
 {
-    let mut files = begin(alloc, held)?;
-    match walk_uses(alloc, &User { file, language }, roots, &mut files, shelf) {
-        Ok(order) => Ok(take_files(alloc, &order, &mut files)?),
-        Err(e) => Err(e),
-    }
+    let kind = ExtensionKind { language };
+    read_reached(alloc, &kind, file, held, roots, shelf)
 }

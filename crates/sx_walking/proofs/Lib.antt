@@ -1,0 +1,10 @@
+pub mod Tables
+pub mod Visits
+pub mod Turning
+pub mod Orders
+pub mod Agreeing
+pub mod Coming
+pub mod Lasting
+pub mod FewFiles
+pub mod TypeErrors
+pub mod Reaching
