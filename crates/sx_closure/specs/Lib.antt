@@ -1,0 +1,5 @@
+pub mod ReadImport
+pub mod ReadModules
+pub mod ModuleKind
+pub mod Closures
+pub mod Laws
