@@ -17,6 +17,7 @@ pub fn dialect<'a>(language: &'a Language, extended: &'a Extended) -> Dialect<'a
     requires text { (name : List ℕ) × HasText name language.now }
     requires extended { HasHistory language.now extended.now }
     ensures is { IsDialectOf result }
+    ensures language { result.language.now ≡ language.entry.now }
     ensures data { dialect_of result ≡ dialect_in (language_data language.entry.now)
         (extended_data language.entry.now extended.entry.now) }
 {

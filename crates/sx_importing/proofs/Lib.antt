@@ -1,0 +1,5 @@
+pub mod Results
+pub mod Names
+pub mod AnyFile
+pub mod EachLoops
+pub mod OneImports
