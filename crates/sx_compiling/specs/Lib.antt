@@ -1,0 +1,9 @@
+pub mod ModuleStops
+pub mod Given
+pub mod CompileModule
+pub mod MakeUnit
+pub mod Reached
+pub mod Headline
+pub mod Laws
+pub mod CanMake
+pub mod UnitPlans
