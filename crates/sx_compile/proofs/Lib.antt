@@ -1,0 +1,8 @@
+mod Imported
+mod Stops
+mod Audited
+pub mod FoundModules
+pub mod Promise
+pub mod Agreeing
+pub mod TypeErrors
+pub mod FewTries
