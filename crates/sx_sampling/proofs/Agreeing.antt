@@ -1,0 +1,96 @@
+-- `sample N` has one result, but for read faults and for readings that a stop shows where it is
+-- free which these are.
+use Rattle.std.proofs.Common.{ℕ, refl, sym, ◌∙◌, inl, inr}
+use Rattle.std.specs.Prelude.{Ok, Err}
+use Rattle.sx_unit.specs.Written.{UnitData}
+use Rattle.sx_outside.specs.Files.{Files}
+use Rattle.sx_steps.specs.declared.stop.Stop.{Stop}
+use Rattle.sx_steps.specs.Agree.{AreReadings}
+use Rattle.sx_steps.specs.Steps.{NoTries, Untried}
+use Rattle.sx_steps.proofs.Ones.{IsOne, IsOneBy, and_then_by, answers_so, trying_same}
+use Rattle.sx_steps.proofs.Ones.{trying_nearly, no_tries_one}
+use Rattle.sx_accepting.specs.ReadLanguage.{Stated, ReadsLanguage}
+use Rattle.sx_accepting.proofs.OneLanguageFile.{reads_language_nearly}
+use Rattle.sx_headers.specs.ReadModule.{Module, ReadsModule}
+use Rattle.sx_headers.proofs.OneHeaders.{reads_module_one}
+use Rattle.sx_importing.specs.ReadImports.{ReadsImports}
+use Rattle.sx_importing.proofs.OneImports.{reads_imports_one}
+use Rattle.sx_compiling.specs.Laws.{UnitsAgree}
+use Rattle.sx_compiling.specs.Laws.{SameButShown as UnitShown}
+use Rattle.sx_compiling.specs.MakeUnit.{MakesUnit}
+use Rattle.sx_sample.specs.Holding.{files_of}
+use Rattle.sx_sampling.specs.SampleSteps.{sample_name, sample_file, sample_budgets, given_in}
+use Rattle.sx_sampling.specs.SampleSteps.{MakesOver, MakesRead, MakesSample, PlansSample}
+use Rattle.sx_sampling.specs.Found.{IsFound, given_from}
+use Rattle.sx_sampling.specs.Laws.{SameButShown, SamplesAgree}
+use Rattle.sx_sampling.proofs.FoundModules.{language_of}
+
+plans_one : (number : ℕ) (unit : UnitData) → IsOne (PlansSample number unit)
+plans_one number unit x y h k f g = h ∙ sym k
+
+module _ (units : UnitsAgree) (number : ℕ) where
+  abbrev files : Files
+  files = files_of number
+
+  abbrev Related : Stop → Stop → Type 0
+  Related = SameButShown number
+
+  alike : (s : Stop) → Related s s
+  alike s = inl (record { status = refl; line = refl })
+
+  -- the unit
+  module _ (f : IsFound number) where
+    of_unit : (s t : Stop) → UnitShown sample_budgets files (given_from f) s t → Related s t
+    of_unit s t (inl same) = inl same
+    of_unit s t (inr (are, free)) = inr (are, inr (f, free))
+
+    unit_by : IsOneBy Related (MakesUnit sample_budgets files (given_from f))
+    unit_by a b m n h k p q =
+        let one = units sample_budgets files (given_from f) a b m n (language_of number f) h k p q
+        in (
+          answers_so (UnitShown sample_budgets files (given_from f)) Related of_unit a b one.0,
+          one.1,
+        )
+
+  -- the files
+  module _ (m : Module) (reads : ReadsModule sample_file sample_name files (Ok m)) where
+    over_by : (l : Stated) → ReadsLanguage m.header.language files (Ok l) →
+        IsOneBy Related (MakesOver files m l)
+    over_by l states =
+        and_then_by Related (Untried (ReadsImports files m.header.imports))
+        (λ its. MakesUnit sample_budgets files (given_in m l its))
+        (trying_same Related alike NoTries (ReadsImports files m.header.imports) no_tries_one
+        (reads_imports_one files m.header.imports))
+        (λ its before h. unit_by (record {
+          read = m;
+          reads = reads;
+          language = l;
+          states = states;
+          imports = its;
+          imported = h.0;
+        }))
+
+    of_language : (s t : Stop) → ReadsLanguage m.header.language files (Err s) →
+        ReadsLanguage m.header.language files (Err t) → AreReadings s t → Related s t
+    of_language s t h k show = inr (show, inl (record { read = m; reads = reads; stops = h }))
+
+    read_by : IsOneBy Related (MakesRead files m)
+    read_by =
+        and_then_by Related (Untried (ReadsLanguage m.header.language files)) (MakesOver files m)
+        (trying_nearly Related alike (ReadsLanguage m.header.language files) of_language NoTries
+        no_tries_one (reads_language_nearly m.header.language files))
+        (λ l before h. over_by l h.0)
+
+  sample_by : IsOneBy Related (MakesSample files)
+  sample_by =
+      and_then_by Related (Untried (ReadsModule sample_file sample_name files)) (MakesRead files)
+      (trying_same Related alike NoTries (ReadsModule sample_file sample_name files) no_tries_one
+      (reads_module_one sample_file sample_name files))
+      (λ m before h. read_by m h.0)
+
+pub samples_agree : UnitsAgree → SamplesAgree
+samples_agree units number =
+    and_then_by (SameButShown number) (MakesSample (files_of number))
+    (λ unit. Untried (PlansSample number unit)) (sample_by units number)
+    (λ unit before made. trying_same (SameButShown number) (alike units number) NoTries
+    (PlansSample number unit) no_tries_one (plans_one number unit))

@@ -1,0 +1,7 @@
+pub mod Imported
+pub mod CleanReads
+pub mod FoundModules
+pub mod Promise
+pub mod Agreeing
+pub mod TypeErrors
+pub mod FewTries

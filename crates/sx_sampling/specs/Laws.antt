@@ -1,0 +1,65 @@
+-- What is proved of `sample N`.
+use Rattle.std.specs.Prelude.{◌≡◌, ◌⊎◌, ℕ, suc, ◌*◌, ◌≤◌, length, Result, Ok, Err}
+use Rattle.sx_steps.specs.declared.stop.Stop.{Stop}
+use Rattle.sx_steps.specs.declared.step_error.StepError.{StepError}
+use Rattle.sx_steps.specs.declared.step_error.StepError.TheVariants as errors
+use Rattle.sx_steps.specs.Agree.{AreReadings, IsSure, AnswersBy}
+use Rattle.sx_steps.specs.TypeErrors.{IsTypeError}
+use Rattle.sx_steps.specs.Work.{Plan}
+use Rattle.sx_uses.specs.Laws.{AnswerAlike}
+use Rattle.sx_accepting.specs.ReadLanguage.{ReadsLanguage}
+use Rattle.sx_headers.specs.ReadModule.{Module, ReadsModule}
+use Rattle.sx_compiling.specs.Laws.{HasNoType, HasUnsoundRule}
+use Rattle.sx_compiling.specs.Laws.{ShowsFree as ShowsFreeOfUnit}
+use Rattle.sx_compiling.specs.Reached.{HasDialect}
+use Rattle.sx_sample.specs.Holding.{files_of}
+use Rattle.sx_sampling.specs.SampleSteps.{sample_name, sample_file, sample_budgets, Samples}
+use Rattle.sx_sampling.specs.Found.{IsFound, given_from}
+
+-- ---- one result
+
+-- the stop is that of the file of the language
+pub record IsOfLanguage (number : ℕ) (stop : Stop) : Type 0 where
+  pub read : Module
+  pub reads : ReadsModule sample_file sample_name (files_of number) (Ok read)
+  pub stops : ReadsLanguage read.header.language (files_of number) (Err stop)
+
+-- the text of which the stop shows two readings is one where it is free which two these are: a
+-- line of the language's file, or a text of the sample, of its imports or of its extensions
+abbrev pub ShowsFree : (number : ℕ) → Stop → Type 0
+ShowsFree number s = IsOfLanguage number s
+    ⊎ ((f : IsFound number) × ShowsFreeOfUnit sample_budgets (files_of number) (given_from f) s)
+
+-- the stops give the same status and the same line, but for the two readings that they show of one
+-- such text
+abbrev pub SameButShown : (number : ℕ) → Stop → Stop → Type 0
+SameButShown number s t = AnswerAlike s t ⊎ (AreReadings s t × ShowsFree number s)
+
+-- by the number of names there is one result and one number of tries, but for read faults, out of
+-- memory and such readings
+abbrev pub SamplesAgree : Type 0
+SamplesAgree =
+    (number : ℕ) (a b : Result Plan StepError) (m n : ℕ) → Samples number a m →
+    Samples number b n → IsSure a → IsSure b → AnswersBy (SameButShown number) a b × (m ≡ n)
+
+-- ---- type errors
+
+-- it stops with a type error only where the sample has no type by the rules of its dialect, or a
+-- rule of one of its extensions is not sound
+abbrev pub TypeErrorsAreFinal : Type 0
+TypeErrorsAreFinal =
+    (number : ℕ) (stop : Stop) (tries : ℕ) → Samples number (Err (errors.Stopped stop)) tries →
+    IsTypeError stop → (f : IsFound number)
+    × (HasNoType sample_budgets (files_of number) (given_from f) stop
+    ⊎ HasUnsoundRule sample_budgets (files_of number) (given_from f) stop)
+
+-- ---- tries
+
+-- There is at most one walk for each rule of the extensions, which are with the language's rules
+-- at most 4,096, and one for the sample; and a walk makes at most 1,000,000 tries.
+pub record WalksAreWithin : Type 0 where
+  pub sampled : (number : ℕ) (plan : Plan) (tries : ℕ) → Samples number (Ok plan) tries →
+      (f : IsFound number) × (d : HasDialect sample_budgets (files_of number) (given_from f))
+      × (tries ≤ suc (length d.extended.set.kept.more) * 1000000)
+  pub all : (number : ℕ) (result : Result Plan StepError) (tries : ℕ) →
+      Samples number result tries → tries ≤ 4097 * 1000000

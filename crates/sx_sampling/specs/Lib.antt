@@ -1,0 +1,4 @@
+pub mod SampleSteps
+pub mod Found
+pub mod Sampled
+pub mod Laws
