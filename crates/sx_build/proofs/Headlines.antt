@@ -1,182 +1,197 @@
--- What is built stands by itself, and is the desugaring of its source.
-use Rattle.std.proofs.Common.{◌≡◌, ℕ, List, [], ◌∷◌, refl, sym, ap, ◌∙◌, subst}
-use Rattle.std.specs.Prelude.{Some}
-use Rattle.sx_term.specs.declared.role.Role.TheVariants.{Sub, Out}
-use Rattle.sx_term.specs.declared.sort.Sort.{Sort}
-use Rattle.sx_term.specs.Tree.{Tree}
+-- The units of a build have the headline.
+use Rattle.std.proofs.Common.{◌≡◌, ℕ, zero, suc, true, false, List, [], ◌∷◌, ◌++◌, map, refl, sym}
+use Rattle.std.proofs.Common.{ap, ◌∙◌, subst, append_assoc, arith}
+use Rattle.std.specs.Prelude.{Option, Some, None, option_map, Ok, Err, Contains}
+use Rattle.std.specs.List.{AllByRecursion}
+use Rattle.std.proofs.lemmas.List.{append-nil}
+use Rattle.sha2.specs.Sha256.{sha256}
 use Rattle.sx_lines.specs.Lines.{lines_from}
 use Rattle.sx_lines.specs.Reading.{kept}
-use Rattle.sx_token.specs.declared.token.Token.{Token}
-use Rattle.sx_grammar.specs.Grammar.{Text}
-use Rattle.sx_grammar.specs.Parts.{Parts, numbered}
-use Rattle.sx_grammar.specs.Reading.{ReadsWhole}
-use Rattle.sx_grammar.specs.Told.{shapes_of}
-use Rattle.sx_earley.specs.Tokens.{plain_tokens}
-use Rattle.sx_earley.specs.Completed.{number_of}
-use Rattle.sx_rules.specs.Derivations.{Derives}
-use Rattle.sx_rules.specs.First.{DerivesGoal}
-use Rattle.sx_rules.specs.Modes.{goal_of}
-use Rattle.sx_rules.specs.Orders.{Entry, order_of}
-use Rattle.sx_rules.specs.Rules.{Rule, Judgement}
-use Rattle.sx_rules.specs.Views.{FormData, modes_of, subjects_in}
-use Rattle.sx_plain.specs.Plain.{image}
-use Rattle.sx_rewrite.specs.Lowers.{IsImageOf}
-use Rattle.sx_rewrite.specs.Stored.{signature_of}
-use Rattle.sx_rewrite.proofs.Lowerings.{lowered_are_derivations}
-use Rattle.sx_extcheck.specs.declared.budgets.Budgets.{Budgets}
-use Rattle.sx_typing.specs.Body.{ReadsOnly}
-use Rattle.sx_typing.specs.Dialects.{DialectData, IsDialect}
-use Rattle.sx_typing.specs.MainGoals.{main_goal}
-use Rattle.sx_typing.specs.Outcomes.{bare, no_hypotheses}
-use Rattle.sx_typing.specs.Source.{main_sort}
-use Rattle.sx_typing.proofs.OneBody.{one_cut}
-use Rattle.sx_unit.specs.Modules.{ModuleData}
-use Rattle.sx_unit.specs.Texts.{print_text, print_line, base_text, interface_of, derivation_text}
-use Rattle.sx_unit.specs.Unit.{IsUnit}
-use Rattle.sx_unit.specs.Written.{UnitData}
+use Rattle.sx_lines.specs.Words.{is_name}
+use Rattle.sx_interface.specs.Stated.{IsDigest}
+use Rattle.sx_interface.specs.StatedHeader.{StatesHeader}
 use Rattle.sx_outside.specs.Files.{Files}
+use Rattle.sx_imports.specs.Walk.{Name, End, Walks}
+use Rattle.sx_imports.specs.Laws.{Reached, is_root, by_line}
+use Rattle.sx_imports.proofs.Wholes.{order_is_whole}
+use Rattle.sx_steps.specs.Held.{Held, most_bytes}
+use Rattle.sx_steps.specs.Unit.{interface_file}
+use Rattle.sx_steps.proofs.Ones.{ok_same, some_same, none_some}
 use Rattle.sx_steps.proofs.StepsOn.{went}
-use Rattle.sx_dialects.specs.Dialects.{dialect_in}
-use Rattle.sx_dialects.proofs.LanguagesBegun.{extended_is_dialect}
-use Rattle.sx_build.specs.CompileModule.{empty_environment}
-use Rattle.sx_build.specs.Headline.{ReadsOneWay, IsDesugared, Headline}
-use Rattle.sx_build.specs.Reached.{HasDialect, module_over}
-use Rattle.sx_build.proofs.BaseHeaders.{base_header, base_states}
-use Rattle.sx_build.proofs.Environments.{environment_stays}
-use Rattle.sx_build.proofs.LoweredGoals.{lowered_goal}
+use Rattle.sx_walking.specs.Reached.{Found, uses_in, IsFound, IsTold}
+use Rattle.sx_walking.proofs.Coming.{names_are}
+use Rattle.sx_headers.specs.ReadInterface.{HeldInterface, StatesParts, ReadsInterface}
+use Rattle.sx_headers.specs.ReadModule.{Module, HasHeader, StatesModule}
+use Rattle.sx_importing.specs.Each.{GivesNext, GivesAfter}
+use Rattle.sx_importing.specs.ReadImports.{ImportData, ReadsImport, ReadsImports}
+use Rattle.sx_compiling.specs.Headline.{UnitsHaveHeadline}
+use Rattle.sx_compiling.proofs.Digests.{digest_is}
+use Rattle.sx_headers.specs.ModuleFiles.{module_file}
+use Rattle.sx_closure.specs.ReadImport.{ReadsNamed, ReadsImport as ReadsOther}
+use Rattle.sx_closure.specs.ReadModules.{name_of, imports_of, ReachesModules, ReadsModules}
+use Rattle.sx_closure.proofs.Closing.{are_closure}
+use Rattle.sx_closure.proofs.Walks.{import_read, import_named as other_named}
+use Rattle.sx_build.specs.BuildModules.{given_in, language_in}
+use Rattle.sx_build.specs.BuiltModules.{BuiltHaveHeadline}
+use Rattle.sx_build.proofs.Languages.{have_language, has_bytes, given_language}
+use Rattle.sx_build.proofs.MadeFiles.{contains_map}
+use Rattle.sx_build.proofs.Members.{all_at}
 
--- a text with only one reading is read in exactly one way
-one_way : (p : Parts) (sort : Sort) (text : Text) (t : Tree) → ReadsOnly p sort text t →
-    ReadsOneWay p sort text t
-one_way p sort text t only =
-    let tokens = only.0 in
-    let reading = only.1 in
-    let read = only.2 in
-    record {
-      tokens = tokens;
-      reading = reading;
-      by = record { cut = read.cut; reads = read.answer.1.0 };
-      term = sym read.term;
-      only = λ others other by.
-          let same : others ≡ tokens = one_cut p text others tokens by.cut read.cut in (
-            same,
-            read.answer.1.1 other (subst (λ (ts : List Token). ReadsWhole (numbered p)
-                (plain_tokens [] ts) (number_of sort) other) same by.reads),
-          );
-    }
+-- ---- imports
 
--- the dialect of a module is one
-pub dialect_is : (name : List ℕ) (budgets : Budgets) (files : Files)
-    (d : HasDialect name budgets files) →
-    IsDialect (dialect_in d.from.language.language d.extended)
-dialect_is name budgets files d =
-    let stated = went _ _ _ d.from.states in
-    extended_is_dialect d.from.read.header.language stated.given d.from.language stated.goes budgets
-    d.from.extensions d.extended d.tries d.extends
+-- an import with this name, and with some digest
+record IsNamed (name : List ℕ) (i : ImportData) : Type 0 where
+  same : i.parts.name ≡ name
+  digest : IsDigest i.digest
 
--- ---- a unit of a module
+abbrev of_held : HeldInterface → ImportData
+of_held i = record { parts = i.parts; digest = sha256 i.bytes }
 
-module _ (m : ModuleData) (is : IsDialect m.source.dialect)
-    (empty : m.source.environment ≡ empty_environment m.source.dialect.language) (u : UnitData)
-    (unit : IsUnit m u) where
-  abbrev d : DialectData
-  d = m.source.dialect
+import_named : (files : Files) (name : List ℕ) (i : ImportData) →
+    ReadsImport files name (Ok i) → IsNamed name i
+import_named files name i read =
+    let held = went (ReadsInterface (interface_file name) name files)
+    (λ h result. result ≡ Ok (of_held h)) i read in
+    let bytes = went (Held most_bytes (interface_file name) files)
+    (StatesParts (interface_file name) name) held.given held.begins in
+    subst (IsNamed name) (sym (ok_same i (of_held held.given) held.goes)) (record {
+      same = bytes.goes.states.valid.same;
+      digest = digest_is held.given.bytes;
+    })
 
-  abbrev forms : List FormData
-  forms = d.language.forms
+-- the imports have these names in order, and digests
+record AreNamed (names : List (List ℕ)) (imports : List ImportData) : Type 0 where
+  same : map (λ i. i.parts.name) imports ≡ names
+  digests : AllByRecursion (λ i. IsDigest i.digest) imports
 
-  -- the judgement of the first derivation
-  abbrev first_judgement : Judgement
-  first_judgement = unit.first.derives.0
+module _ (files : Files) where
+  -- behind those that were given
+  record Follow (given : List ImportData) (names : List (List ℕ)) (all : List ImportData) :
+      Type 0 where
+    more : List ImportData
+    is : all ≡ given ++ more
+    named : AreNamed names more
 
-  lowered : Derives d.set.base no_hypotheses unit.judgement unit.proof
-      × IsImageOf d.set.table (subjects_in forms) unit.judgement first_judgement
-  lowered =
-      lowered_are_derivations (signature_of forms) (shapes_of d.language.parts) (shapes_of d.parts)
-      d.set is.accepted no_hypotheses (tt, tt) unit.answer.0 unit.proof first_judgement
-      unit.judgement
-      (subst (λ (rules : List Rule). Derives rules no_hypotheses first_judgement unit.answer.0)
-      is.rules_are unit.first.derives.3) unit.lowers
-
-  goal_is : goal_of (modes_of forms) unit.judgement ≡ main_goal forms d.language.main.form
-      m.source.environment unit.terms.subject
-  goal_is =
-      lowered_goal (image d.set.table) m.source.environment unit.subject unit.terms.subject
-      (subst (λ (t : Tree). image d.set.table t ≡ t) (sym empty) (environment_stays d is))
-      forms d.language.main.form is.main.form _ is.main.is is.main.typed first_judgement
-      unit.judgement unit.first.derives.1 lowered.1.same_form lowered.1.images unit.are.subject
-
-  derived : DerivesGoal (modes_of forms) (bare d.language.rules) no_hypotheses
-      (main_goal forms d.language.main.form m.source.environment unit.terms.subject)
-      (unit.proof, unit.terms.signature ∷ [])
-  derived = (
-    unit.judgement,
-    goal_is,
-    unit.are.signature,
-    subst (λ (rules : List Rule). Derives rules no_hypotheses unit.judgement unit.proof) is.base
-        lowered.0,
-  )
-
-  pub desugared : IsDesugared m.source (print_text d.parts unit.terms.stated) unit.proof
-      unit.judgement
-  desugared = record {
-    subject = unit.subject;
-    output = unit.output;
-    proof = unit.answer.0;
-    body = one_way d.parts (main_sort d.language Sub) m.source.header.body unit.subject
-        (unit.tokens, unit.reading, unit.read);
-    first = record {
-      derives = let found = unit.first.derives in (found.0, found.1, found.2 ∙ unit.gives, found.3);
-      is_wanted = tt;
-      least = unit.first.least;
-    };
-    lowers = unit.lowers;
-    signed = subst (λ (t : Tree). ReadsOneWay d.parts (main_sort d.language Out)
-        (print_text d.parts unit.terms.stated) t) unit.are.stated
-        (one_way d.parts (main_sort d.language Out) (print_text d.parts unit.terms.stated)
-        unit.terms.stated unit.written.stated_good.read);
+  follow : (given : List ImportData) (names : List (List ℕ)) (all : List ImportData) →
+      GivesAfter (ReadsImport files) given names (Ok all) → Follow given names all
+  follow given [] all reads = record {
+    more = [];
+    is = ok_same all given reads ∙ sym (append-nil given);
+    named = record { same = refl; digests = tt };
   }
+  follow given (name ∷ names) all reads =
+      let first = went (GivesNext (ReadsImport files) given name)
+      (λ next. GivesAfter (ReadsImport files) next names) all reads in
+      let one = went (ReadsImport files name) (λ i result. result ≡ Ok (given ++ i ∷ []))
+      first.given first.begins in
+      let i = one.given in
+      let named = import_named files name i one.begins in
+      let next = ok_same first.given (given ++ i ∷ []) one.goes in
+      let rest = follow first.given names all first.goes in
+      record {
+        more = i ∷ rest.more;
+        is = rest.is ∙ ap (λ (l : List ImportData). l ++ rest.more) next
+            ∙ append_assoc given (i ∷ []) rest.more;
+        named = record {
+          same = λ k. named.same k ∷ rest.named.same k;
+          digests = (named.digest, rest.named.digests);
+        };
+      }
 
--- ---- the headline
+  imports_named : (names : List (List ℕ)) (imports : List ImportData) →
+      ReadsImports files names (Ok imports) → AreNamed names imports
+  imports_named names imports reads =
+      let all = follow [] names imports reads in
+      subst (AreNamed names) (sym all.is) all.named
 
-pub headline : Headline
-unfolding derived
-headline name budgets old new lines is_a_name built =
-    let over = built.over in
-    let m = module_over over in
-    let is = dialect_is name budgets old over in
-    let unit = built.compiled in
-    let w = unit.written in
-    let t = unit.terms in
-    let l = over.from.language.language in
-    let shown = print_text l.parts t.subject in
-    let held = went _ _ _ over.from.reads in
-    let back = base_states name (kept (lines_from 1 held.given)) over.from.read.header shown
-    is_a_name held.goes.states in
-    record {
-      over = over;
-      base = base_text m t;
-      base_header = base_header over.from.read.header (print_line l.parts t.subject) back.0;
-      interface = interface_of m (base_text m t) (print_text l.parts t.signature)
-          (print_text m.source.dialect.parts t.stated);
-      list = derivation_text l.rules (order_of unit.proof);
-      base_held = built.base ∙ ap Some w.base;
-      base_headed = back.1;
-      plain = record { name = refl; language = refl; uses = refl; imports = refl };
-      interface_held = built.interface ∙ ap Some w.interface;
-      marked = record { name = refl; language = refl; uses = refl; digest = refl; imports = refl };
-      list_held = built.list ∙ ap Some (w.derivation ∙ ap (λ (es : List Entry).
-          derivation_text l.rules es) w.list);
-      derivation = record {
-        subject = t.subject;
-        signature = t.signature;
-        proof = unit.proof;
-        body = one_way l.parts (main_sort l Sub) (print_line l.parts t.subject) t.subject
-            w.body_good.read;
-        signed = one_way l.parts (main_sort l Out) (print_text l.parts t.signature) t.signature
-            w.signature_good.read;
-        derives = derived m is refl built.unit unit;
-        listed = refl;
-      };
-      desugared = desugared m is refl built.unit unit;
-    }
+-- ---- the names of modules
+
+-- what was read under a name states a header
+record IsHeaded (name : List ℕ) (m : Module) : Type 0 where
+  bytes : List ℕ
+  has : HasHeader name bytes m
+
+headed : (files : Files) (name : List ℕ) (m : Module) → ReadsNamed files name (Ok m) →
+    IsHeaded name m
+headed files name m reads =
+    let held = went (Held most_bytes (module_file name) files)
+    (StatesModule (module_file name) name) m reads in
+    record { bytes = held.given; has = held.goes }
+
+-- what was found that uses these
+record IsUser (found : Option Module) (lines : List Name) : Type 0 where
+  own : Module
+  is : found ≡ Some own
+  lines_are : imports_of own ≡ lines
+
+user_of : (found : Option Module) (lines : List Name) →
+    option_map imports_of found ≡ Some lines → IsUser found lines
+user_of (Some m) lines e =
+    record { own = m; is = refl; lines_are = some_same (imports_of m) lines e }
+user_of None lines e = absurd (none_some lines e)
+
+module _ (language : List ℕ) (files : Files) (root : Name)
+    (is_a_name : is_name false root ≡ true) where
+  -- so are those that are reached
+  reached_named : (found : Found Module) → IsFound (ReadsOther language files) found →
+      {name : Name} → Reached (uses_in imports_of found) (root ∷ []) name →
+      is_name false name ≡ true
+  reached_named found visited {name = name} (is_root (zero, below, same)) =
+      subst (λ (n : Name). is_name false n ≡ true) same is_a_name
+  reached_named found visited (is_root (suc k, below, same)) = absurd (omega (arith, below))
+  reached_named found visited (by_line {name = name} {other = other} before line) =
+      let user = user_of (found name) line.lines line.is in
+      let m = user.own in
+      let read = import_read language files name m (visited name m user.is) in
+      all_at (λ n. is_name false n ≡ true) (imports_of m) other
+      (headed files name m read).has.states.imports
+      (subst (λ (l : List Name). Contains l other) (sym user.lines_are) line.among)
+
+  module _ (ms : List Module) (m : Module) (among : Contains ms m) where
+    told_named : (file : List ℕ) (found : Found Module) →
+        IsFound (ReadsOther language files) found → (end : End) →
+        Walks (uses_in imports_of found) 256 (root ∷ []) end →
+        IsTold (ReadsOther language files) file found end (Ok ms) →
+        is_name false (name_of m) ≡ true
+    told_named file found visited (Ok order) walks told =
+        let same = names_are name_of imports_of (ReadsOther language files)
+        (λ n x h. other_named language files n x h) found visited order ms told in
+        reached_named found visited
+        (((order_is_whole (uses_in imports_of found) 256 (root ∷ []) order walks).1 (name_of m)).0
+        (subst (λ (l : List Name). Contains l (name_of m)) same
+        (contains_map name_of ms m among)))
+    told_named file found visited (Err why) walks told = absurd told
+
+modules_named : (name : List ℕ) (files : Files) (ms : List Module) →
+    is_name false name ≡ true → ReadsModules name files (Ok ms) → (m : Module) → Contains ms m →
+    is_name false (name_of m) ≡ true
+modules_named name files ms is_a_name reads m among =
+    let w = went (ReadsNamed files name) (λ m. ReachesModules m.header.language name files) ms
+    reads in
+    let r = w.goes in
+    told_named w.given.header.language files name is_a_name ms m among (module_file name) r.found
+    r.visited r.end r.walks r.told
+
+-- ---- the modules
+
+pub built_have_headline : UnitsHaveHeadline → BuiltHaveHeadline
+built_have_headline units name budgets auditors old new lines is_a_name b m among from to x i =
+    let own = name_of m in
+    let read = all_at (λ (n : Module). ReadsNamed old (name_of n) (Ok n)) b.modules m
+    (are_closure name old b.modules b.reads).1 among in
+    let has = (headed old own m read).has in
+    let named = imports_named new m.header.imports i.imports i.reads in
+    let language = language_in b.modules in
+    let same = all_at (λ (n : Module). n.header.language ≡ language) b.modules m
+    (have_language name old b.modules b.reads) among in
+    units own budgets old (given_in b.language m i.imports) i.unit
+    (modules_named name old b.modules is_a_name b.reads m among)
+    (given_language language b.language (has_bytes language old b.language b.states) m same
+    i.imports)
+    (record {
+      states = subst
+          (λ (t : List ℕ). StatesHeader own (kept (lines_from 1 t)) m.header)
+          (sym has.same) has.states;
+      imports = named.same;
+      digests = named.digests;
+    }) i.compiled

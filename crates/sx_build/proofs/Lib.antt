@@ -1,12 +1,17 @@
-mod Environments
-mod LoweredGoals
-mod ModulesGiven
-mod FirstLines
-mod BaseHeaders
-mod Counted
+mod MadeFiles
+mod Finding
+mod Imported
+mod Ordered
+mod MakingOn
+mod Members
+mod Languages
+mod Once
+mod ReadAgain
+mod MadeInOrder
+mod Turns
 pub mod Promise
-pub mod Headlines
 pub mod Agreeing
 pub mod TypeErrors
-mod RuleTries
-mod FewTries
+pub mod Counted
+pub mod Headlines
+mod Denying

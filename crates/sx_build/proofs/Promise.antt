@@ -1,100 +1,200 @@
 -- `build NAME` keeps its promise.
-use Rattle.std.proofs.Common.{◌≡◌, ℕ, List, ap, ◌∙◌}
-use Rattle.std.specs.Prelude.{Ok}
+use Rattle.std.proofs.Common.{◌≡◌, ℕ, zero, suc, List, [], ◌∷◌, ◌++◌, map, refl, sym, ap, ◌∙◌}
+use Rattle.std.proofs.Common.{subst, append_assoc, arith}
+use Rattle.std.specs.Prelude.{Ok, Contains}
+use Rattle.std.specs.List.{AllByRecursion}
+use Rattle.std.proofs.lemmas.List.{map-append}
+use Rattle.sx_audit.specs.Meaning.{Meaning}
 use Rattle.sx_extcheck.specs.declared.budgets.Budgets.{Budgets}
-use Rattle.sx_unit.specs.Unit.{IsUnit}
-use Rattle.sx_unit.specs.Written.{UnitData}
 use Rattle.sx_outside.specs.Files.{Files, after}
-use Rattle.sx_steps.specs.Held.{Held, most_bytes}
-use Rattle.sx_steps.specs.Steps.{Trying, Untried}
+use Rattle.sx_steps.specs.Steps.{Untried}
 use Rattle.sx_steps.specs.Unit.{base_file, list_file, interface_file}
 use Rattle.sx_steps.specs.Work.{Plan}
 use Rattle.sx_steps.proofs.Ones.{ok_same}
-use Rattle.sx_steps.proofs.StepsOn.{went, went_on}
-use Rattle.sx_steps.proofs.Units.{written}
-use Rattle.sx_uses.specs.ReadUses.{ReadsUses}
-use Rattle.sx_accepting.specs.ExtendedLanguages.{ExtendedData, unextended}
-use Rattle.sx_accepting.specs.Extending.{Extends}
-use Rattle.sx_accepting.specs.LanguageFiles.{language_file}
-use Rattle.sx_accepting.specs.ReadLanguage.{StatesLanguage, base_in, ReadsLanguage}
-use Rattle.sx_accepting.proofs.OneExtended.{extended_is_accepted}
-use Rattle.sx_build.specs.ModuleFiles.{module_file}
-use Rattle.sx_headers.specs.ReadModule.{ReadsModule}
-use Rattle.sx_build.specs.Alone.{IsAlone}
-use Rattle.sx_build.specs.CompileModule.{module_in, Compiles, CompilingTries}
-use Rattle.sx_build.specs.BuildModule.{unit_plan, BuildsUnit, BuildsExtended, BuildsReached}
-use Rattle.sx_build.specs.BuildModule.{BuildsOver, BuildsRead}
-use Rattle.sx_build.specs.Reached.{IsReached, ExtendsReached, HasDialect, module_over}
-use Rattle.sx_build.specs.BuiltModule.{BuiltModule, BuildsKeepPromise}
+use Rattle.sx_steps.proofs.StepsOn.{went_on}
+use Rattle.sx_walking.specs.Laws.{AllComeAfter}
+use Rattle.sx_walking.specs.Opened.{AreOnce}
+use Rattle.sx_accepting.specs.ReadLanguage.{Stated, ReadsLanguage}
+use Rattle.sx_auditing.proofs.Once.{all-front}
+use Rattle.sx_headers.specs.ReadModule.{Module}
+use Rattle.sx_closure.specs.ReadModules.{name_of, imports_of, ReadsModules}
+use Rattle.sx_closure.proofs.Closing.{are_closure}
+use Rattle.sx_build.specs.BuildModules.{Progress, begun, MakesAfter, whole_plan, language_in}
+use Rattle.sx_build.specs.BuildModules.{BuildsOver, BuildsRead}
+use Rattle.sx_build.specs.BuiltModules.{AreBuilt, HoldsTexts, IsNoFileOf, BuiltModules}
+use Rattle.sx_build.specs.BuiltModules.{BuildsKeepPromise}
+use Rattle.sx_build.specs.MadeModules.{Made, with_made}
+use Rattle.sx_build.proofs.Languages.{HasBytes, have_language, has_bytes}
+use Rattle.sx_build.proofs.MadeFiles.{IsOther, stays, base_stands, list_stands, interface_stands}
+use Rattle.sx_build.proofs.MadeFiles.{contains_more}
+use Rattle.sx_build.proofs.MadeInOrder.{AreMade, all_more, made_named}
+use Rattle.sx_build.proofs.Members.{all_by, all_at}
+use Rattle.sx_build.proofs.Once.{names_once, front_once}
+use Rattle.sx_build.proofs.ReadAgain.{imports_again}
 
--- what is reached and accepted gives a dialect
-abbrev pub dialect_by : (name : List ℕ) (budgets : Budgets) (files : Files)
-    (r : IsReached name files) (x : ExtendedData) (tries : ℕ) →
-    ExtendsReached name budgets files r (Ok x) tries → HasDialect name budgets files
-dialect_by name budgets files r x tries extends =
-    let stated = went (Held most_bytes (language_file r.read.header.language) files)
-    (StatesLanguage r.read.header.language) r.language r.states in
+-- ---- the files
+
+other_by : (file : List ℕ) (m : Made) → IsNoFileOf file m → IsOther file m.name
+other_by file m none = record { base = none.base; list = none.list; interface = none.interface }
+
+module _ (made : List Made) (old new : Files) (once : AreOnce (map (λ x. x.name) made))
+    (is : new ≡ with_made made old) where
+  holds_one : (m : Made) → Contains made m → HoldsTexts new m
+  holds_one m among = record {
+    base = ap (λ (fs : Files). fs (base_file m.name)) is ∙ base_stands made old m once among;
+    list = ap (λ (fs : Files). fs (list_file m.name)) is ∙ list_stands made old m once among;
+    interface = ap (λ (fs : Files). fs (interface_file m.name)) is
+        ∙ interface_stands made old m once among;
+  }
+
+  holds_all : AllByRecursion (HoldsTexts new) made
+  holds_all = all_by (HoldsTexts new) made holds_one
+
+  others_stay : (file : List ℕ) → AllByRecursion (IsNoFileOf file) made → new file ≡ old file
+  others_stay file none =
+      ap (λ (fs : Files). fs file) is
+      ∙ stays made old file
+      (λ m among. other_by file m (all_at (IsNoFileOf file) made m none among))
+
+-- ---- the interfaces of imports
+
+-- one of these has the name
+record HasNamed (name : List ℕ) (made : List Made) : Type 0 where
+  own : Made
+  among : Contains made own
+  named : own.name ≡ name
+
+made_so : (made : List Made) (name : List ℕ) → Contains (map (λ x. x.name) made) name →
+    HasNamed name made
+made_so [] name (k, below, same) = absurd (omega (arith, below))
+made_so (x ∷ made) name (zero, below, same) =
+    record { own = x; among = (0, omega arith, refl); named = same }
+made_so (x ∷ made) name (suc k, below, same) =
+    let more = made_so made name (k, omega (arith, below), same) in
     record {
-      from = r;
-      extended = x;
-      tries = tries;
-      extends = extends;
-      accepted = extended_is_accepted r.read.header.language stated.given r.language stated.goes
-          budgets r.extensions x tries extends;
+      own = more.own;
+      among = contains_more x made more.own more.among;
+      named = more.named;
     }
 
--- where the plan is that of the unit of the module in its dialect
-kept_by : (name : List ℕ) (budgets : Budgets) (old new : Files) (plan : Plan)
-    (over : HasDialect name budgets old) (unit : UnitData) → IsUnit (module_over over) unit →
-    plan ≡ unit_plan name unit → new ≡ after plan.files old →
-    BuiltModule name budgets old new plan.lines
-kept_by name budgets old new plan over unit compiled made files_are =
-    let stands = written name unit.base unit.derivation unit.interface old in
-    let files : new ≡ after ((unit_plan name unit).files) old =
-    files_are ∙ ap (λ (p : Plan). after p.files old) made in
-    record {
-      over = over;
-      unit = unit;
-      compiled = compiled;
-      base = ap (λ (fs : Files). fs (base_file name)) files ∙ stands.0;
-      list = ap (λ (fs : Files). fs (list_file name)) files ∙ stands.1;
-      interface = ap (λ (fs : Files). fs (interface_file name)) files ∙ stands.2;
-      others = λ other a b c. ap (λ (fs : Files). fs other) files ∙ stands.3 other a b c;
-      line = ap (λ (p : Plan). p.lines) made;
-    }
+module _ (budgets : Budgets) (old new : Files) (l : Stated) (whole : List Module)
+    (order : AllComeAfter name_of imports_of whole) (all : List Made)
+    (holds : AllByRecursion (HoldsTexts new) all) where
+  -- those before are made, and these are left
+  record AreLeft (done ms : List Module) (before made : List Made) : Type 0 where
+    modules : whole ≡ done ++ ms
+    mades : all ≡ before ++ made
+    named : map (λ x. x.name) before ≡ map name_of done
 
-pub build_promise : BuildsKeepPromise
-build_promise name budgets old new plan tries built files_are =
-    let file = module_file name in
-    let read = went_on (Untried (ReadsModule file name old)) (BuildsRead name budgets old) plan
-    tries built in
-    let m = read.given in
-    let alone = went_on (Untried (IsAlone file m.header))
-    (λ done. BuildsOver name budgets old m) plan read.after read.goes in
-    let over = went_on (Untried (ReadsLanguage m.header.language old))
-    (BuildsReached name budgets old m) plan alone.after alone.goes in
-    let l = over.given in
-    let reached = went_on
-    (Untried (ReadsUses file m.header.language m.header.uses old))
-    (BuildsExtended name budgets m l) plan over.after over.goes in
-    let xs = reached.given in
-    let extended = went_on (Extends (base_in l) budgets xs (unextended l.language))
-    (λ x. BuildsUnit name budgets (module_in m l xs x)) plan reached.after reached.goes in
-    let compiling = module_in m l xs extended.given in
-    let compiled = went_on
-    (Trying (CompilingTries budgets compiling) (Compiles file budgets compiling))
-    (λ unit. Untried (λ result. result ≡ Ok (unit_plan name unit))) plan extended.after
-    extended.goes in
-    let from : IsReached name old = record {
-      read = m;
-      reads = read.begins.0;
-      alone = alone.begins.0;
-      language = l;
-      states = over.begins.0;
-      extensions = xs;
-      reached = reached.begins.0;
-    } in
-    kept_by name budgets old new plan
-    (dialect_by name budgets old from extended.given extended.before extended.begins)
-    compiled.given compiled.begins.0.is
-    (ok_same plan (unit_plan name compiled.given) compiled.goes.0) files_are
+  -- what a module before holds is there in the end
+  holds_same : (done ms : List Module) (before made : List Made) →
+      AreLeft done ms before made → (name : List ℕ) → Contains (map name_of done) name →
+      with_made before old (interface_file name) ≡ new (interface_file name)
+  holds_same done ms before made left name among =
+      let has = made_so before name
+      (subst (λ (ns : List (List ℕ)). Contains ns name) (sym left.named) among) in
+      let x = has.own in
+      let once = subst (λ (ns : List (List ℕ)). AreOnce ns) (sym left.named)
+      (front_once whole done ms left.modules order) in
+      let stands = interface_stands before old x once has.among in
+      let there = all_at (HoldsTexts new) before x
+      (all-front (HoldsTexts new) before made
+      (subst (λ (xs : List Made). AllByRecursion (HoldsTexts new) xs) left.mades holds))
+      has.among in
+      subst (λ (n : List ℕ). with_made before old (interface_file n) ≡ new (interface_file n))
+      has.named (stands ∙ sym there.interface)
+
+  next_left : (done ms : List Module) (before made : List Made) (m : Module) (x : Made) →
+      x.name ≡ name_of m → AreLeft done (m ∷ ms) before (x ∷ made) →
+      AreLeft (done ++ m ∷ []) ms (before ++ x ∷ []) made
+  next_left done ms before made m x same left = record {
+    modules = left.modules ∙ sym (append_assoc done (m ∷ []) ms);
+    mades = left.mades ∙ sym (append_assoc before (x ∷ []) made);
+    named = map-append (λ y. y.name) before (x ∷ [])
+        ∙ (λ i. left.named i ++ same i ∷ []) ∙ sym (map-append name_of done (m ∷ []));
+  }
+
+  built_by : (done ms : List Module) (before made : List Made) (from to : List Meaning) →
+      AreLeft done ms before made → AreMade budgets old l before from to ms made →
+      AreBuilt budgets old new l from to ms made
+  built_by done [] before [] from to left h = h
+  built_by done (m ∷ ms) before (x ∷ made) from to left (next, one, rest) = (
+    next,
+    record {
+      imports = one.imports;
+      reads = imports_again (with_made before old) new m.header.imports one.imports
+          (λ name among. holds_same done (m ∷ ms) before (x ∷ made) left name
+          ((order done ms m left.modules).after_them name among)) one.reads;
+      unit = one.unit;
+      compiled = one.compiled;
+      is = one.is;
+      shown = one.shown;
+    },
+    built_by (done ++ m ∷ []) ms (before ++ x ∷ []) made next to
+        (next_left done ms before made m x (ap (λ (y : Made). y.name) one.is) left) rest,
+  )
+  built_by done (m ∷ ms) before [] from to left h = absurd h
+  built_by done [] before (x ∷ made) from to left h = absurd h
+
+-- ---- the command
+
+module _ (name : List ℕ) (budgets : Budgets) (auditors : List Meaning) (old new : Files)
+    (ms : List Module) (reads : ReadsModules name old (Ok ms)) (l : Stated)
+    (states : ReadsLanguage (language_in ms) old (Ok l)) where
+  bytes : HasBytes (language_in ms) l
+  bytes = has_bytes (language_in ms) old l states
+
+  -- what was made so far, as the end
+  abbrev end_of : List Made → List Meaning → Progress
+  end_of made left = record { made = made; auditors = left }
+
+  -- where these were built, and the plan is theirs
+  kept_by : (made : List Made) (left : List Meaning) (plan : Plan) →
+      AreMade budgets old l [] auditors left ms made → plan ≡ whole_plan (end_of made left) →
+      new ≡ after plan.files old → BuiltModules name budgets auditors old new plan.lines
+  kept_by made left plan makes is files_are =
+      let closure = (are_closure name old ms reads).0 in
+      let names = made_named budgets old (language_in ms) l bytes [] auditors left ms made makes in
+      let once : AreOnce (map (λ x. x.name) made) =
+      subst (λ (ns : List (List ℕ)). AreOnce ns) (sym names) (names_once ms closure.order) in
+      let files : new ≡ with_made made old =
+      files_are ∙ ap (λ (p : Plan). after p.files old) is in
+      let holds = holds_all made old new once files in
+      record {
+        modules = ms;
+        reads = reads;
+        closure = closure;
+        language = l;
+        states = states;
+        made = made;
+        left = left;
+        built = built_by budgets old new l ms closure.order made holds [] ms [] made auditors left
+            (record { modules = refl; mades = refl; named = refl }) makes;
+        files = holds;
+        others = others_stay made old new once files;
+        told = ap (λ (p : Plan). p.lines) is;
+      }
+
+  -- where all were made so
+  made_by : (end : Progress) (plan : Plan) (tries : ℕ) →
+      MakesAfter budgets old l (begun auditors) ms (Ok end) tries → plan ≡ whole_plan end →
+      new ≡ after plan.files old → BuiltModules name budgets auditors old new plan.lines
+  made_by end plan tries makes planned files_are =
+      let more = all_more budgets old (language_in ms) l bytes (begun auditors) ms end tries
+      (have_language name old ms reads) makes in
+      kept_by more.made end.auditors plan more.built
+      (planned ∙ ap (λ (made : List Made). whole_plan (end_of made end.auditors)) more.is)
+      files_are
+
+pub builds_keep_promise : BuildsKeepPromise
+builds_keep_promise name budgets auditors old new plan tries builds files_are =
+    let read = went_on (Untried (ReadsModules name old)) (BuildsRead budgets auditors old) plan
+    tries builds in
+    let ms = read.given in
+    let stated = went_on (Untried (ReadsLanguage (language_in ms) old))
+    (BuildsOver budgets auditors old ms) plan read.after read.goes in
+    let l = stated.given in
+    let all = went_on (MakesAfter budgets old l (begun auditors) ms)
+    (λ end. Untried (λ result. result ≡ Ok (whole_plan end))) plan stated.after stated.goes in
+    made_by name budgets auditors old new ms read.begins.0 l stated.begins.0 all.given plan
+    all.before all.begins (ok_same plan (whole_plan all.given) all.goes.0) files_are

@@ -1,194 +1,196 @@
--- A build stops with a type error only where the module has no type, or where a rule of an
--- extension is not sound.
-use Rattle.std.proofs.Common.{◌≡◌, ℕ, List, [], inl, inr, ◌⊎◌, refl, sym}
-use Rattle.std.specs.Prelude.{Ok, Some}
-use Rattle.sx_token.specs.declared.token_error.TokenError.{TokenError}
-use Rattle.sx_token.specs.declared.token_error.TokenError.TheVariants as token_error
-use Rattle.sx_grammar.specs.Told.{shapes_of}
-use Rattle.sx_outside.specs.Files.{Files}
-use Rattle.sx_rules.specs.Modes.{AllModed}
-use Rattle.sx_rules.specs.Views.{modes_of}
-use Rattle.sx_rules.proofs.Refusals.{good_moded}
+-- `build NAME` stops with a type error only where one of the modules has no type, or where a rule
+-- of one of its extensions is not sound.
+use Rattle.std.proofs.Common.{◌≡◌, ℕ, List, [], ◌∷◌, ◌++◌, inl, inr, ◌⊎◌, sym}
+use Rattle.std.specs.Prelude.{Ok}
+use Rattle.std.specs.Str.Lossy.{utf8_valid_len}
+use Rattle.sha2.specs.Sha256.{sha256}
+use Rattle.sx_audit.specs.Meaning.{Meaning}
 use Rattle.sx_extcheck.specs.declared.budgets.Budgets.{Budgets}
-use Rattle.sx_notation.specs.declared.unread.Unread.{Unread}
-use Rattle.sx_notation.specs.declared.unread.Unread.TheVariants as unread
-use Rattle.sx_typing.specs.Dialects.{DialectData, IsDialect}
-use Rattle.sx_typing.specs.Goals.{rules_of}
-use Rattle.sx_typing.specs.Refused.{IsUntyped}
-use Rattle.sx_unit.specs.declared.module_error.ModuleError.{ModuleError}
-use Rattle.sx_unit.specs.declared.module_error.ModuleError.TheVariants as module_error
-use Rattle.sx_unit.specs.Modules.{ModuleData}
-use Rattle.sx_unit.specs.Refused.{IsBadModule}
-use Rattle.sx_unit.proofs.Units.{final as module_errors_are_final}
+use Rattle.sx_unit.specs.Written.{UnitData}
+use Rattle.sx_outside.specs.Files.{Files}
 use Rattle.sx_steps.specs.declared.stop.Stop.{Stop}
 use Rattle.sx_steps.specs.Held.{Held, most_bytes}
-use Rattle.sx_steps.specs.Steps.{NoTries, Trying, Untried}
+use Rattle.sx_steps.specs.Steps.{NoTries, Untried}
 use Rattle.sx_steps.specs.Stops.{not_utf8}
+use Rattle.sx_steps.specs.Unit.{interface_file}
 use Rattle.sx_steps.proofs.Ones.{ok_no_err}
-use Rattle.sx_steps.proofs.StepsOn.{went}
-use Rattle.sx_steps.proofs.TypeErrors.{OnTypeError, on_stop, no_type_error, Final, FinalTrying}
-use Rattle.sx_steps.proofs.TypeErrors.{then_final, trying_final, and_then_final, held_final}
-use Rattle.sx_uses.specs.ReadUses.{ReadsUses}
-use Rattle.sx_uses.proofs.TypeErrors.{uses_final}
-use Rattle.sx_accepting.specs.ExtendedLanguages.{unextended}
-use Rattle.sx_accepting.specs.Extending.{Extends}
-use Rattle.sx_accepting.specs.ReadLanguage.{Stated, base_in, ReadsLanguage}
+use Rattle.sx_steps.proofs.TypeErrors.{no_type_error, Final, FinalTrying, then_final}
+use Rattle.sx_steps.proofs.TypeErrors.{trying_final, and_then_final, held_final}
+use Rattle.sx_walking.proofs.TypeErrors.{reaches_final}
+use Rattle.sx_accepting.specs.ReadLanguage.{Stated, ReadsLanguage}
 use Rattle.sx_accepting.proofs.TypeErrors.{reads_language_final}
-use Rattle.sx_accepting.proofs.UnsoundRules.{unsound_is_final}
-use Rattle.sx_build.specs.ModuleFiles.{module_file}
-use Rattle.sx_headers.specs.TextStops.{uncut_text, unread_text}
-use Rattle.sx_build.specs.ModuleStops.{untyped, module_stop}
-use Rattle.sx_headers.specs.ReadModule.{Module, StatesModule, ReadsModule}
-use Rattle.sx_build.specs.Alone.{IsAlone, StandsAlone}
-use Rattle.sx_headers.specs.HeaderStops.{bad_header}
-use Rattle.sx_build.specs.Alone.{not_yet}
-use Rattle.sx_build.specs.CompileModule.{module_in, Compiles, CompilingTries}
-use Rattle.sx_build.specs.BuildModule.{unit_plan, BuildsUnit, BuildsExtended, BuildsReached}
-use Rattle.sx_build.specs.BuildModule.{BuildsOver, BuildsRead}
-use Rattle.sx_build.specs.Reached.{IsReached, HasDialect, module_over}
-use Rattle.sx_build.specs.Laws.{HasNoType, HasUnsoundRule, TypeErrorsAreFinal}
-use Rattle.sx_build.proofs.Headlines.{dialect_is}
-use Rattle.sx_build.proofs.Promise.{dialect_by}
+use Rattle.sx_auditing.specs.Shows.{Shows, objection}
+use Rattle.sx_headers.specs.HeaderStops.{bad_header, other_version}
+use Rattle.sx_headers.specs.ReadInterface.{HeldInterface, StatesParts, ReadsInterface}
+use Rattle.sx_headers.specs.ReadModule.{Module, StatesModule}
+use Rattle.sx_importing.specs.Each.{GivesNext, GivesAfter}
+use Rattle.sx_importing.specs.ReadImports.{ImportData, ReadsImport, ReadsImports}
+use Rattle.sx_compiling.specs.Laws.{HasNoType, HasUnsoundRule}
+use Rattle.sx_compiling.specs.Laws.{TypeErrorsAreFinal as UnitsFinal}
+use Rattle.sx_compiling.specs.MakeUnit.{MakesUnit}
+use Rattle.sx_compiling.specs.Reached.{HasLanguage}
+use Rattle.sx_closure.specs.Closures.{HaveLanguage}
+use Rattle.sx_headers.specs.ModuleFiles.{module_file}
+use Rattle.sx_closure.specs.ReadImport.{language_differs, ReadsNamed, ReadsImport as ReadsOther}
+use Rattle.sx_closure.specs.ReadImport.{HasLanguage as HasSame}
+use Rattle.sx_closure.specs.ReadModules.{imports_of, ReachesModules, ReadsModules}
+use Rattle.sx_build.specs.BuildModules.{Progress, begun, grown, ShowsUnit, MakesWith}
+use Rattle.sx_build.specs.BuildModules.{MakesNext, MakesAfter, whole_plan, language_in, BuildsOver}
+use Rattle.sx_build.specs.BuildModules.{BuildsRead}
+use Rattle.sx_build.specs.Laws.{IsFound, IsTurn, given_at, TypeErrorsAreFinal}
+use Rattle.sx_build.specs.MadeModules.{with_made}
+use Rattle.sx_build.proofs.Languages.{HasBytes, have_language, has_bytes, given_language}
+use Rattle.sx_build.proofs.Turns.{IsAt, at_begin, at_next, turn_of}
 
--- the rules of a dialect can be followed
-is_moded : (d : DialectData) → IsDialect d → AllModed (modes_of d.language.forms) (rules_of d)
-is_moded d is = good_moded (shapes_of d.parts) d.language.forms [] d.rules is.rule_set.1
+-- ---- steps
 
 module _ (Q : Stop → Type 0) where
-  -- ---- stops
-
-  body_uncut : (file : List ℕ) (line column : ℕ) (e : TokenError) →
-      OnTypeError Q (uncut_text file line column e)
-  body_uncut file line column token_error.Memory = tt
-  body_uncut file line column (token_error.NotUtf8 place) = λ h. absurd h
-  body_uncut file line column (token_error.BadToken place) = λ h. absurd h
-  body_uncut file line column token_error.TooManyTokens = λ h. absurd h
-  body_uncut file line column (token_error.OpenString place) = λ h. absurd h
-
-  body_unread : (file : List ℕ) (line column : ℕ) (e : Unread) →
-      OnTypeError Q (Some (unread_text file line column e))
-  body_unread file line column unread.TooHard = λ h. absurd h
-  body_unread file line column (unread.NoReading place) = λ h. absurd h
-  body_unread file line column (unread.TooDeep depth) = λ h. absurd h
-  body_unread file line column (unread.Ambiguous one other) = λ h. absurd h
-
-  module _ (file : List ℕ) (m : ModuleData) (b : Budgets) (is : IsDialect m.source.dialect)
-      (so : (stop : Stop) → stop.file ≡ file → IsUntyped m.source → Q stop) where
-    no_module : (e : ModuleError) → IsBadModule m b e → OnTypeError Q (module_stop file e)
-    no_module module_error.Memory h = tt
-    no_module (module_error.Token line column e) h = body_uncut file line column e
-    no_module (module_error.Read line column e) h = body_unread file line column e
-    no_module (module_error.TypeError line column text) h = λ error.
-        so (untyped file line column text) refl
-        (module_errors_are_final m b line column text (is_moded m.source.dialect is) h)
-    no_module (module_error.BudgetSpent n) h = λ error. absurd error
-    no_module module_error.DepthSpent h = λ error. absurd error
-    no_module (module_error.TooDeep n) h = λ error. absurd error
-    no_module (module_error.TooBig n) h = λ error. absurd error
-    no_module (module_error.RewriteSpent n) h = λ error. absurd error
-    no_module module_error.RewriteDeep h = λ error. absurd error
-    no_module (module_error.Print part defect) h = λ error. absurd error
-    no_module (module_error.Captured word) h = λ error. absurd error
-
-    compiles_final : Final Q (Compiles file b m)
-    compiles_final stop h =
-        on_stop Q (module_stop file h.error) stop (no_module h.error h.refused) h.is
-
-  -- ---- steps
-
   states_final : (file name bytes : List ℕ) → Final Q (StatesModule file name bytes)
-  states_final file name bytes stop (inl h) = no_type_error Q (not_utf8 file _) stop (λ h. h) h.1
+  states_final file name bytes stop (inl h) =
+      no_type_error Q (not_utf8 file (utf8_valid_len bytes)) stop (λ h. h) h.1
   states_final file name bytes stop (inr h) =
       no_type_error Q (bad_header file h.1.0) stop (λ h. h) h.1.2
 
-  reads_final : (file name : List ℕ) (files : Files) → Final Q (ReadsModule file name files)
-  reads_final file name files =
-      then_final Q (Held most_bytes file files) (StatesModule file name)
-      (held_final Q most_bytes file files) (λ bytes held. states_final file name bytes)
+  named_final : (files : Files) (name : List ℕ) → Final Q (ReadsNamed files name)
+  named_final files name =
+      then_final Q (Held most_bytes (module_file name) files)
+      (StatesModule (module_file name) name) (held_final Q most_bytes (module_file name) files)
+      (λ bytes held. states_final (module_file name) name bytes)
 
-  alone_final : (file : List ℕ) (m : Module) → Final Q (IsAlone file m.header)
-  alone_final file m stop h = no_type_error Q (not_yet file) stop (λ h. h) h.1
+  other_final : (language : List ℕ) (files : Files) (name : List ℕ) →
+      Final Q (ReadsOther language files name)
+  other_final language files name =
+      then_final Q (ReadsNamed files name) (HasSame language name) (named_final files name)
+      (λ given reads stop h.
+      no_type_error Q (language_differs (module_file name) given.header.language) stop (λ e. e) h.1)
 
-  unit_final : (name : List ℕ) (m : ModuleData) (b : Budgets) → IsDialect m.source.dialect →
-      ((stop : Stop) → stop.file ≡ module_file name → IsUntyped m.source → Q stop) →
-      FinalTrying Q (BuildsUnit name b m)
-  unit_final name m b is so =
-      and_then_final Q (Trying (CompilingTries b m) (Compiles (module_file name) b m))
-      (λ unit. Untried (λ result. result ≡ Ok (unit_plan name unit)))
-      (trying_final Q (CompilingTries b m) (Compiles (module_file name) b m)
-      (compiles_final (module_file name) m b is so))
-      (λ unit before compiled. trying_final Q NoTries
-      (λ result. result ≡ Ok (unit_plan name unit))
-      (λ stop h. absurd (ok_no_err (unit_plan name unit) stop (sym h))))
+  modules_final : (name : List ℕ) (files : Files) → Final Q (ReadsModules name files)
+  modules_final name files =
+      then_final Q (ReadsNamed files name) (λ m. ReachesModules m.header.language name files)
+      (named_final files name)
+      (λ m reads. reaches_final Q imports_of (ReadsOther m.header.language files)
+      (other_final m.header.language files) (module_file name) (name ∷ []))
+
+  parts_final : (file name bytes : List ℕ) → Final Q (StatesParts file name bytes)
+  parts_final file name bytes stop (inl h) =
+      no_type_error Q (not_utf8 file (utf8_valid_len bytes)) stop (λ h. h) h.1
+  parts_final file name bytes stop (inr (utf8, inl h)) =
+      no_type_error Q (other_version file h.0) stop (λ h. h) h.2
+  parts_final file name bytes stop (inr (utf8, inr h)) =
+      no_type_error Q (bad_header file h.1.0) stop (λ h. h) h.1.2
+
+  import_final : (files : Files) (name : List ℕ) → Final Q (ReadsImport files name)
+  import_final files name =
+      then_final Q (ReadsInterface (interface_file name) name files)
+      (λ (i : HeldInterface) result.
+      result ≡ Ok (record { parts = i.parts; digest = sha256 i.bytes }))
+      (then_final Q (Held most_bytes (interface_file name) files)
+      (StatesParts (interface_file name) name)
+      (held_final Q most_bytes (interface_file name) files)
+      (λ bytes held. parts_final (interface_file name) name bytes))
+      (λ i read stop h. absurd (ok_no_err _ stop (sym h)))
+
+  imports_final : (files : Files) (given : List ImportData) (names : List (List ℕ)) →
+      Final Q (GivesAfter (ReadsImport files) given names)
+  imports_final files given [] = λ stop h. absurd (ok_no_err given stop (sym h))
+  imports_final files given (name ∷ names) =
+      then_final Q (GivesNext (ReadsImport files) given name)
+      (λ next. GivesAfter (ReadsImport files) next names)
+      (then_final Q (ReadsImport files name) (λ i result. result ≡ Ok (given ++ i ∷ []))
+      (import_final files name)
+      (λ i read stop h. absurd (ok_no_err (given ++ i ∷ []) stop (sym h))))
+      (λ next read. imports_final files next names)
+
+  shows_final : (l : Stated) (before : Progress) (m : Module) (unit : UnitData) →
+      Final Q (ShowsUnit l before m unit)
+  shows_final l before m unit =
+      then_final Q
+      (Shows (module_file m.header.name) l.language.rules before.auditors unit.list)
+      (λ auditors result. result ≡ Ok (grown before m unit auditors))
+      (λ stop h. no_type_error Q
+      (objection (module_file m.header.name) h.shows.1.one _ h.shows.1.node) stop (λ e. e)
+      h.shows.2)
+      (λ auditors shown stop h. absurd (ok_no_err (grown before m unit auditors) stop (sym h)))
 
 -- ---- the command
 
-module _ (name : List ℕ) (budgets : Budgets) (files : Files) where
+module _ (units : UnitsFinal) (name : List ℕ) (budgets : Budgets) (auditors : List Meaning)
+    (files : Files) where
   abbrev Q : Stop → Type 0
-  Q stop = HasNoType name budgets files stop ⊎ HasUnsoundRule name budgets files stop
+  Q stop = (t : IsTurn name budgets auditors files) ×
+      (HasNoType budgets files (given_at t) stop ⊎ HasUnsoundRule budgets files (given_at t) stop)
 
-  over_unit : (d : HasDialect name budgets files) →
-      FinalTrying Q (BuildsUnit name budgets (module_over d))
-  over_unit d =
-      unit_final Q name (module_over d) budgets (dialect_is name budgets files d)
-      (λ stop file none. inl (record { over = d; untyped = none; file = file }))
+  -- one module
+  with_final : (t : IsTurn name budgets auditors files) → HasLanguage (given_at t) →
+      FinalTrying Q (MakesWith budgets files t.found.language t.progress t.own t.imports)
+  with_final t language =
+      and_then_final Q (MakesUnit budgets files (given_at t))
+      (λ unit. Untried (ShowsUnit t.found.language t.progress t.own unit))
+      (λ stop tries h error. (t, units budgets files (given_at t) stop tries language h error))
+      (λ unit before made. trying_final Q NoTries
+      (ShowsUnit t.found.language t.progress t.own unit)
+      (shows_final Q t.found.language t.progress t.own unit))
 
-  all_final : (r : IsReached name files) →
-      FinalTrying Q (BuildsExtended name budgets r.read r.language r.extensions)
-  all_final r =
-      let stated = went _ _ _ r.states in
-      and_then_final Q
-      (Extends (base_in r.language) budgets r.extensions (unextended r.language.language))
-      (λ x. BuildsUnit name budgets (module_in r.read r.language r.extensions x))
-      (λ stop tries h error. inr (record {
-        from = r;
-        unsound = unsound_is_final r.read.header.language stated.given r.language stated.goes
-            budgets r.extensions stop tries h error;
-      }))
-      (λ x before h. over_unit (dialect_by name budgets files r x before h))
+  -- all modules
+  module _ (f : IsFound name files) where
+    bytes : HasBytes (language_in f.modules) f.language
+    bytes = has_bytes (language_in f.modules) files f.language f.states
 
-  module _ (m : Module) (reads : ReadsModule (module_file name) name files (Ok m))
-      (alone : StandsAlone m.header) where
-    reached_final : (l : Stated) → ReadsLanguage m.header.language files (Ok l) →
-        FinalTrying Q (BuildsReached name budgets files m l)
-    reached_final l states =
-        and_then_final Q
-        (Untried (ReadsUses (module_file name) m.header.language m.header.uses files))
-        (BuildsExtended name budgets m l)
-        (trying_final Q NoTries
-        (ReadsUses (module_file name) m.header.language m.header.uses files)
-        (uses_final Q (module_file name) m.header.language files m.header.uses))
-        (λ xs before reached. all_final (record {
-          read = m;
-          reads = reads;
-          alone = alone;
-          language = l;
-          states = states;
-          extensions = xs;
-          reached = reached.0;
-        }))
+    next_final : (m : Module) (ms : List Module) (progress : Progress) →
+        m.header.language ≡ language_in f.modules →
+        IsAt name budgets auditors files f (m ∷ ms) progress →
+        FinalTrying Q (MakesNext budgets files f.language progress m)
+    next_final m ms progress same at =
+        and_then_final Q (Untried (ReadsImports (with_made progress.made files) m.header.imports))
+        (MakesWith budgets files f.language progress m)
+        (trying_final Q NoTries (ReadsImports (with_made progress.made files) m.header.imports)
+        (imports_final Q (with_made progress.made files) [] m.header.imports))
+        (λ imports before h. with_final
+        (turn_of name budgets auditors files f m ms progress at imports h.0)
+        (given_language (language_in f.modules) f.language bytes m same imports))
 
-    over_final : FinalTrying Q (BuildsOver name budgets files m)
+    after_final : (ms : List Module) (progress : Progress) →
+        HaveLanguage (language_in f.modules) ms →
+        IsAt name budgets auditors files f ms progress →
+        FinalTrying Q (MakesAfter budgets files f.language progress ms)
+    after_final [] progress same at =
+        trying_final Q NoTries (λ result. result ≡ Ok progress)
+        (λ stop h. absurd (ok_no_err progress stop (sym h)))
+    after_final (m ∷ ms) progress same at =
+        and_then_final Q (MakesNext budgets files f.language progress m)
+        (λ next. MakesAfter budgets files f.language next ms)
+        (next_final m ms progress same.0 at)
+        (λ next one made. after_final ms next same.1
+        (at_next name budgets auditors files f m ms progress next one at made))
+
+    over_final : FinalTrying Q (BuildsOver budgets auditors files f.modules f.language)
     over_final =
-        and_then_final Q (Untried (ReadsLanguage m.header.language files))
-        (BuildsReached name budgets files m)
-        (trying_final Q NoTries (ReadsLanguage m.header.language files)
-        (reads_language_final Q m.header.language files))
-        (λ l before states. reached_final l states.0)
+        and_then_final Q (MakesAfter budgets files f.language (begun auditors) f.modules)
+        (λ end. Untried (λ result. result ≡ Ok (whole_plan end)))
+        (after_final f.modules (begun auditors) (have_language name files f.modules f.reads)
+        (at_begin name budgets auditors files f))
+        (λ end tries made. trying_final Q NoTries (λ result. result ≡ Ok (whole_plan end))
+        (λ stop h. absurd (ok_no_err (whole_plan end) stop (sym h))))
 
-  read_final : (m : Module) → ReadsModule (module_file name) name files (Ok m) →
-      FinalTrying Q (BuildsRead name budgets files m)
-  read_final m reads =
-      and_then_final Q (Untried (IsAlone (module_file name) m.header))
-      (λ done. BuildsOver name budgets files m)
-      (trying_final Q NoTries (IsAlone (module_file name) m.header)
-      (alone_final Q (module_file name) m))
-      (λ done before alone. over_final m reads alone.0)
+  -- the files
+  read_final : (ms : List Module) → ReadsModules name files (Ok ms) →
+      FinalTrying Q (BuildsRead budgets auditors files ms)
+  read_final ms reads =
+      and_then_final Q (Untried (ReadsLanguage (language_in ms) files))
+      (BuildsOver budgets auditors files ms)
+      (trying_final Q NoTries (ReadsLanguage (language_in ms) files)
+      (reads_language_final Q (language_in ms) files))
+      (λ l before h. over_final (record {
+        modules = ms;
+        reads = reads;
+        language = l;
+        states = h.0;
+      }))
 
-pub type_errors_are_final : TypeErrorsAreFinal
-type_errors_are_final name budgets files =
-    and_then_final (Q name budgets files) (Untried (ReadsModule (module_file name) name files))
-    (BuildsRead name budgets files)
-    (trying_final (Q name budgets files) NoTries (ReadsModule (module_file name) name files)
-    (reads_final (Q name budgets files) (module_file name) name files))
-    (λ m before reads. read_final name budgets files m reads.0)
+pub type_errors_are_final : UnitsFinal → TypeErrorsAreFinal
+type_errors_are_final units name budgets auditors files =
+    and_then_final (Q units name budgets auditors files) (Untried (ReadsModules name files))
+    (BuildsRead budgets auditors files)
+    (trying_final (Q units name budgets auditors files) NoTries (ReadsModules name files)
+    (modules_final (Q units name budgets auditors files) name files))
+    (λ ms before h. read_final units name budgets auditors files ms h.0)

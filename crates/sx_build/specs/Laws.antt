@@ -1,114 +1,106 @@
 -- What is proved of `build NAME`.
-use Rattle.std.specs.Prelude.{◌≡◌, ◌⊎◌, ℕ, suc, ◌*◌, ◌≤◌, List, length, Result, Ok, Err}
+use Rattle.std.specs.Prelude.{◌≡◌, ◌⊎◌, ℕ, ◌*◌, ◌≤◌, List, ◌∷◌, ◌++◌, length, Result, Ok, Err}
+use Rattle.sx_audit.specs.Meaning.{Meaning}
 use Rattle.sx_extcheck.specs.declared.budgets.Budgets.{Budgets}
-use Rattle.sx_typing.specs.Alike.{BodyHasThree}
-use Rattle.sx_typing.specs.Refused.{IsUntyped}
-use Rattle.sx_unit.specs.Alike.{PartHasThree}
-use Rattle.sx_unit.specs.Modules.{ModuleData}
-use Rattle.sx_unit.specs.Unit.{HasLowering}
 use Rattle.sx_outside.specs.Files.{Files}
-use Rattle.sx_words.specs.declared.refusal.Defect.{Defect}
-use Rattle.sx_words.specs.declared.refusal.Defect.TheVariants as defect
-use Rattle.sx_words.specs.declared.print_defect.PrintDefect.TheVariants as print_defect
-use Rattle.sx_words.specs.declared.text_defect.TextDefect.TheVariants as text_defect
 use Rattle.sx_steps.specs.declared.stop.Stop.{Stop}
 use Rattle.sx_steps.specs.declared.step_error.StepError.{StepError}
 use Rattle.sx_steps.specs.declared.step_error.StepError.TheVariants as errors
 use Rattle.sx_steps.specs.Agree.{AreReadings, IsSure, AnswersBy}
 use Rattle.sx_steps.specs.TypeErrors.{IsTypeError}
 use Rattle.sx_steps.specs.Work.{Plan}
-use Rattle.sx_uses.specs.Laws.{AnswerAlike}
-use Rattle.sx_accepting.specs.Laws.{StopsAtUnsound}
-use Rattle.sx_accepting.specs.ReadLanguage.{base_in, ReadsLanguage}
-use Rattle.sx_build.specs.ModuleFiles.{module_file}
-use Rattle.sx_headers.specs.ReadModule.{Module, ReadsModule}
-use Rattle.sx_build.specs.Alone.{StandsAlone}
-use Rattle.sx_build.specs.BuildModule.{BuildsModule}
-use Rattle.sx_build.specs.Reached.{IsReached, ExtendsReached, HasDialect, module_over}
+use Rattle.sx_walking.specs.Laws.{AnswerAlike}
+use Rattle.sx_accepting.specs.ReadLanguage.{Stated, ReadsLanguage}
+use Rattle.sx_headers.specs.ReadModule.{Module}
+use Rattle.sx_importing.specs.ReadImports.{ImportData, ReadsImports}
+use Rattle.sx_compiling.specs.Given.{Given}
+use Rattle.sx_compiling.specs.Laws.{HasNoType, HasUnsoundRule}
+use Rattle.sx_compiling.specs.Laws.{ShowsFree as ShowsFreeOfUnit}
+use Rattle.sx_closure.specs.ReadModules.{ReadsModules}
+use Rattle.sx_build.specs.BuildModules.{Progress, begun, given_in, language_in, MakesAfter}
+use Rattle.sx_build.specs.BuildModules.{BuildsModule}
+use Rattle.sx_build.specs.MadeModules.{with_made}
+
+-- ---- what a module is made from
+
+-- the modules of the closure, and their language
+pub record IsFound (name : List ℕ) (files : Files) : Type 0 where
+  pub modules : List Module
+  pub reads : ReadsModules name files (Ok modules)
+  pub language : Stated
+  pub states : ReadsLanguage (language_in modules) files (Ok language)
+
+-- It is the turn of one of the modules: those before it were made, and then the interfaces of its
+-- imports were read, as they are once the files of those were written.
+pub record IsTurn (name : List ℕ) (budgets : Budgets) (auditors : List Meaning) (files : Files) :
+    Type 0 where
+  pub found : IsFound name files
+  pub before : List Module
+  pub own : Module
+  pub behind : List Module
+  pub stands : found.modules ≡ before ++ own ∷ behind
+  pub progress : Progress
+  pub tries : ℕ
+  pub makes : MakesAfter budgets files found.language (begun auditors) before (Ok progress) tries
+  pub imports : List ImportData
+  pub imported : ReadsImports (with_made progress.made files) own.header.imports (Ok imports)
+
+-- what the unit of this one is made from
+abbrev pub given_at : {name : List ℕ} {budgets : Budgets} {auditors : List Meaning}
+    {files : Files} → IsTurn name budgets auditors files → Given
+given_at t = given_in t.found.language t.own t.imports
 
 -- ---- one result
 
--- the text of which the defect shows two readings has more than two: the body of the module, or
--- what is printed of it
-abbrev pub ShowsOfThree : ModuleData → Budgets → Defect → Type 0
-ShowsOfThree m b (defect.Text (text_defect.Ambiguous one other)) = BodyHasThree m.source
-ShowsOfThree m b (defect.Print part (print_defect.Ambiguous one other)) =
-    (l : HasLowering m b) × PartHasThree m l.terms part
-ShowsOfThree m b _ = ⊥
-
--- it is so of the stop of the module in its dialect
-pub record IsOfThree (name : List ℕ) (budgets : Budgets) (files : Files) (stop : Stop) : Type 0
-  where
-    pub over : HasDialect name budgets files
-    pub file : stop.file ≡ module_file name
-    pub three : ShowsOfThree (module_over over) budgets stop.refusal.defect
-
 -- the stop is that of the file of the language
 pub record IsOfLanguage (name : List ℕ) (files : Files) (stop : Stop) : Type 0 where
-  pub read : Module
-  pub reads : ReadsModule (module_file name) name files (Ok read)
-  pub alone : StandsAlone read.header
-  pub stops : ReadsLanguage read.header.language files (Err stop)
+  pub modules : List Module
+  pub reads : ReadsModules name files (Ok modules)
+  pub stops : ReadsLanguage (language_in modules) files (Err stop)
 
--- the stop is that of one of the extensions, which is read or accepted after those before it
-pub record IsOfExtension (name : List ℕ) (budgets : Budgets) (files : Files) (stop : Stop) : Type 0
-  where
-    pub from : IsReached name files
-    pub tries : ℕ
-    pub stops : ExtendsReached name budgets files from (Err (errors.Stopped stop)) tries
-
--- the text of which the stop shows two readings is one where it is free which two these are: a text
--- of the module that has more than two, or a line of the language's file or of an extension's
-abbrev pub ShowsFree : (name : List ℕ) → Budgets → Files → Stop → Type 0
-ShowsFree name budgets files s = IsOfThree name budgets files s ⊎ IsOfLanguage name files s
-    ⊎ IsOfExtension name budgets files s
+-- the text of which the stop shows two readings is one where it is free which two these are: a line
+-- of the language's file, or a text of the unit of one of the modules, of its imports or of its
+-- extensions
+abbrev pub ShowsFree : (name : List ℕ) → Budgets → List Meaning → Files → Stop → Type 0
+ShowsFree name budgets auditors files s = IsOfLanguage name files s
+    ⊎ ((t : IsTurn name budgets auditors files) × ShowsFreeOfUnit budgets files (given_at t) s)
 
 -- the stops give the same status and the same line, but for the two readings that they show of one
 -- such text
-abbrev pub SameButShown : (name : List ℕ) → Budgets → Files → Stop → Stop → Type 0
-SameButShown name budgets files s t =
-    AnswerAlike s t ⊎ (AreReadings s t × ShowsFree name budgets files s)
+abbrev pub SameButShown : (name : List ℕ) → Budgets → List Meaning → Files → Stop → Stop → Type 0
+SameButShown name budgets auditors files s t =
+    AnswerAlike s t ⊎ (AreReadings s t × ShowsFree name budgets auditors files s)
 
--- by the name, the budgets and the files there is one result and one number of tries, but for read
--- faults, out of memory and such readings
+-- by the name, the budgets, the auditors and the files there is one result and one number of tries,
+-- but for read faults, out of memory and such readings
 abbrev pub BuildsAgree : Type 0
 BuildsAgree =
-    (name : List ℕ) (budgets : Budgets) (files : Files) (a b : Result Plan StepError) (m n : ℕ) →
-    BuildsModule name budgets files a m → BuildsModule name budgets files b n →
-    IsSure a → IsSure b → AnswersBy (SameButShown name budgets files) a b × (m ≡ n)
+    (name : List ℕ) (budgets : Budgets) (auditors : List Meaning) (files : Files)
+    (a b : Result Plan StepError) (m n : ℕ) → BuildsModule name budgets auditors files a m →
+    BuildsModule name budgets auditors files b n → IsSure a → IsSure b →
+    AnswersBy (SameButShown name budgets auditors files) a b × (m ≡ n)
 
 -- ---- type errors
 
--- the module in its dialect has a body whose goal has no derivation; the stop names its file
-pub record HasNoType (name : List ℕ) (budgets : Budgets) (files : Files) (stop : Stop) : Type 0
-  where
-    pub over : HasDialect name budgets files
-    pub untyped : IsUntyped (module_over over).source
-    pub file : stop.file ≡ module_file name
-
--- one of the extensions that are reached has a rule that is sound by nothing; the stop names its
--- file and the rule
-pub record HasUnsoundRule (name : List ℕ) (budgets : Budgets) (files : Files) (stop : Stop) :
-    Type 0 where
-  pub from : IsReached name files
-  pub unsound : StopsAtUnsound (base_in from.language) budgets from.extensions stop
-
--- a build stops with a type error only where the module has no type by the rules of its dialect, or
--- a rule of one of its extensions is not sound
+-- it stops with a type error only where one of the modules, after those before it were made, has no
+-- type by the rules of its dialect, or a rule of one of its extensions is not sound
 abbrev pub TypeErrorsAreFinal : Type 0
 TypeErrorsAreFinal =
-    (name : List ℕ) (budgets : Budgets) (files : Files) (stop : Stop) (tries : ℕ) →
-    BuildsModule name budgets files (Err (errors.Stopped stop)) tries → IsTypeError stop →
-    HasNoType name budgets files stop ⊎ HasUnsoundRule name budgets files stop
+    (name : List ℕ) (budgets : Budgets) (auditors : List Meaning) (files : Files) (stop : Stop)
+    (tries : ℕ) → BuildsModule name budgets auditors files (Err (errors.Stopped stop)) tries →
+    IsTypeError stop → (t : IsTurn name budgets auditors files)
+    × (HasNoType budgets files (given_at t) stop ⊎ HasUnsoundRule budgets files (given_at t) stop)
 
 -- ---- tries
 
--- There is at most one walk for each rule of the extensions, which are with the language's rules at
--- most 4,096, and one for the module; and a walk makes no more tries than it may spend.
+-- Of each module there is at most one walk for each rule of its extensions, which are with the
+-- language's rules at most 4,096, and one for itself; and a walk makes no more tries than it may
+-- spend. There are at most 256 modules.
 pub record WalksAreWithin : Type 0 where
-  pub built : (name : List ℕ) (budgets : Budgets) (files : Files) (plan : Plan) (tries : ℕ) →
-      BuildsModule name budgets files (Ok plan) tries →
-      (d : HasDialect name budgets files)
-      × (tries ≤ suc (length d.extended.set.kept.more) * budgets.tries)
-  pub all : (name : List ℕ) (budgets : Budgets) (files : Files) (result : Result Plan StepError)
-      (tries : ℕ) → BuildsModule name budgets files result tries → tries ≤ 4097 * budgets.tries
+  pub built : (name : List ℕ) (budgets : Budgets) (auditors : List Meaning) (files : Files)
+      (plan : Plan) (tries : ℕ) → BuildsModule name budgets auditors files (Ok plan) tries →
+      (f : IsFound name files) × (tries ≤ length f.modules * (4097 * budgets.tries))
+  pub all : (name : List ℕ) (budgets : Budgets) (auditors : List Meaning) (files : Files)
+      (result : Result Plan StepError) (tries : ℕ) →
+      BuildsModule name budgets auditors files result tries →
+      tries ≤ 256 * (4097 * budgets.tries)

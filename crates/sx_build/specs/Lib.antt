@@ -1,9 +1,6 @@
-pub mod ModuleFiles
-pub mod Alone
-pub mod ModuleStops
-pub mod CompileModule
-pub mod BuildModule
-pub mod Reached
-pub mod BuiltModule
-pub mod Headline
+pub mod MadeModules
+pub mod BuildModules
+pub mod Buildings
+pub mod BuiltModules
+pub mod Denied
 pub mod Laws

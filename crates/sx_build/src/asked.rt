@@ -1,14 +1,14 @@
-//! What is asked of the build of a module.
+//! What is asked of a build.
 
 use std::alloc::Global;
+use sx_accepting::LanguageFile;
 use sx_extcheck::Budgets;
-use sx_term::Text;
 
-/// The name of the module, the name of its file, and the budgets.
+/// Where memory is taken from, the language of the modules, and how many tries and nodes each
+/// derivation may take.
 #[derive(Clone, Copy)]
 pub(crate) struct Asked<'a> {
     pub(crate) alloc: Global,
-    pub(crate) name: &'a Text,
-    pub(crate) file: &'a Text,
+    pub(crate) language: &'a LanguageFile,
     pub(crate) budgets: Budgets,
 }

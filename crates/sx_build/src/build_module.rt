@@ -1,252 +1,162 @@
 //! The steps of `build NAME`.
 
-ghost use Rattle.std.specs.Prelude.{◌≡◌, ◌≤◌, ℕ, List, IfOk, length, map};
+ghost use Rattle.std.specs.Prelude.{◌≡◌, [], ℕ, List, map};
 ghost use Rattle.std.specs.List.{AllByRecursion};
-ghost use Rattle.sx_interface.specs.HeaderView.{header_view};
-ghost use Rattle.sx_notation.specs.Language.{IsLanguage, language_data};
 ghost use Rattle.sx_outside.specs.Told.{WhereTold};
-ghost use Rattle.sx_steps.specs.Stop.{OnlyReads, IsNoFault, Does};
+ghost use Rattle.sx_steps.specs.Stop.{Does, OnlyReads};
 ghost use Rattle.sx_steps.specs.Work.{plan_of};
-ghost use Rattle.sx_uses.specs.ExtensionFile.{extension_of, IsStated};
-ghost use Rattle.sx_dialects.specs.Dialects.{HasHistory};
-ghost use Rattle.sx_accepting.specs.ExtendedLanguages.{extended_data};
-ghost use Rattle.sx_accepting.specs.ReadLanguage.{stated_of, HasText};
-ghost use Rattle.sx_build.specs.ModuleFiles.{module_file};
+ghost use Rattle.sx_accepting.specs.ReadLanguage.{stated_of};
 ghost use Rattle.sx_headers.specs.ReadModule.{module_of};
-ghost use Rattle.sx_build.specs.CompileModule.{module_in};
-ghost use Rattle.sx_build.specs.BuildModule as spec;
+ghost use Rattle.sx_build.specs.BuildModules as spec;
+ghost use Rattle.sx_closure.specs.Closures.{IsClosure};
+ghost use Rattle.sx_closure.specs.ReadModules.{IsStated};
+ghost use Rattle.sx_build.specs.Buildings.{mades_view, CanMakeAll};
 
-use crate::alone::check_alone;
 use crate::asked::Asked;
-use crate::compile_module::{build_unit, empty_environment};
-use crate::use_marks::use_marks;
+use crate::budgeted::Budgeted;
+use crate::building::Building;
+use crate::making::make_next;
+use crate::whole_work::whole_work;
 use std::alloc::Global;
 use std::sync::ledger::Ledger;
-use sx_accepting::{Extended, LanguageFile, extend_language, read_language_file};
-use sx_dialects::dialect;
+use sx_accepting::read_language_file;
+use sx_audit::Auditor;
+use sx_closure::read_modules;
 use sx_extcheck::Budgets;
-use sx_headers::{ModuleFile, read_module};
+use sx_headers::ModuleFile;
 use sx_outside::Shelf;
-use sx_steps::{StepError, Work, with_suffix};
-use sx_term::{NoMemory, Steps, Text};
-use sx_typing::Source;
-use sx_unit::ModuleSource;
-use sx_uses::{ExtensionFile, read_uses};
+use sx_steps::{StepError, Work};
+use sx_term::{Steps, Text};
 
-/// The steps from the language with the extensions, which are those of these files.
-fn build_extended<L: Ledger>(
+/// Makes the modules in order, each after all that it imports.
+fn make_all<S: Shelf, L: Ledger>(
     asked: &Asked,
-    source: &ModuleFile,
-    language: &LanguageFile,
-    files: &[ExtensionFile],
-    extended: &Extended,
-    steps: &mut Steps<L>,
-) -> Result<Work, StepError>
-    requires file { asked.now.file.now ≡ module_file asked.now.name.now }
-    requires short { length source.now.bytes.items ≤ 262144 }
-    requires language { IsLanguage language.now.language }
-    requires text { (name : List ℕ) × HasText name language.now.language }
-    requires extends { HasHistory language.now.language extended.now }
-    ensures step { Does plan_of (spec.BuildsUnit asked.now.name.now asked.now.budgets
-        (module_in (module_of source.now) (stated_of language.now) (map extension_of files.now)
-        (extended_data language.now.language extended.now))) result steps.old steps.new }
-    ensures no_fault { IsNoFault result }
-{
-    let uses = match use_marks(asked.alloc, files) {
-        Ok(uses) => uses,
-        Err(_) => return Err(StepError::Memory),
-    };
-    let environment = empty_environment(asked.alloc, &language.language);
-    let given = ModuleSource {
-        source: Source {
-            dialect: dialect(&language.language, extended),
-            header: &source.header,
-            bytes: &source.bytes,
-            environment: &environment,
-        },
-        digest: &language.digest,
-        uses: &uses,
-        imports: &[],
-    };
-    build_unit(asked, &given, steps)
-}
-
-/// The steps from the files of all extensions that are reached.
-fn build_all<L: Ledger>(
-    asked: &Asked,
-    source: &ModuleFile,
-    language: &LanguageFile,
-    files: &[ExtensionFile],
-    steps: &mut Steps<L>,
-) -> Result<Work, StepError>
-    requires file { asked.now.file.now ≡ module_file asked.now.name.now }
-    requires short { length source.now.bytes.items ≤ 262144 }
-    requires language { IsLanguage language.now.language }
-    requires text { (name : List ℕ) × HasText name language.now.language }
-    requires files { AllByRecursion IsStated (map extension_of files.now) }
-    requires few { length files.now ≤ 256 }
-    ensures step { Does plan_of (spec.BuildsExtended asked.now.name.now asked.now.budgets
-        (module_of source.now) (stated_of language.now) (map extension_of files.now)) result
-        steps.old steps.new }
-    ensures no_fault { IsNoFault result }
-{
-    match extend_language(asked.alloc, &language.language, files, asked.budgets, steps) {
-        Ok(extended) => {
-            let work = build_extended(asked, source, language, files, &extended, steps);
-            drop(extended);
-            work
-        }
-        Err(e) => Err(e),
-    }
-}
-
-/// The names in order, anew.
-fn copies(alloc: Global, names: &[Text]) -> Result<Vec<Text>, NoMemory>
-    ensures { IfOk result (λ copies. copies.items ≡ names.now) }
-{
-    let mut copies = Vec::new(alloc);
-    for name in names {
-        copies.push(name.copy(alloc)?)?;
-    }
-    Ok(copies)
-}
-
-/// The steps from the names from which extensions are sought, which the module uses.
-fn build_reached<S: Shelf, L: Ledger>(
-    asked: &Asked,
-    source: &ModuleFile,
-    language: &LanguageFile,
-    roots: Vec<Text>,
+    sources: &[ModuleFile],
+    building: &mut Building,
     shelf: &mut S,
     steps: &mut Steps<L>,
-) -> Result<Work, StepError>
-    requires file { asked.now.file.now ≡ module_file asked.now.name.now }
-    requires short { length source.now.bytes.items ≤ 262144 }
-    requires language { IsLanguage language.now.language }
-    requires text { (name : List ℕ) × HasText name language.now.language }
-    requires roots { roots.items ≡ source.now.header.uses.items }
-    ensures step { WhereTold (S.content shelf.old)
-        (λ files. Does plan_of (spec.BuildsReached asked.now.name.now asked.now.budgets files
-        (module_of source.now) (stated_of language.now)) result steps.old steps.new) }
+) -> Result<(), StepError>
+    requires can { CanMakeAll (map module_of sources.now) asked.now.language.now }
+    requires begun { mades_view building.old.made.items ≡ [] }
+    ensures step { WhereTold (S.content shelf.old) (λ files. Does (λ done. record {
+      made = mades_view building.new.made.items;
+      auditors = map (λ b. meaning b) building.new.auditors.items;
+    })
+        (spec.MakesAfter asked.now.budgets files (stated_of asked.now.language.now)
+        (spec.begun (map (λ b. meaning b) building.old.auditors.items))
+        (map module_of sources.now)) result steps.old steps.new) }
     ensures reads { OnlyReads (S.content shelf.old) (S.content shelf.new)
         (S.read_faults shelf.old) (S.read_faults shelf.new)
         (S.write_faults shelf.old) (S.write_faults shelf.new) result }
 {
-    let written_for = &source.header.language;
-    match read_uses(asked.alloc, asked.file, written_for, None, roots, shelf) {
-        Ok(files) => {
-            let work = build_all(asked, source, language, &files, steps);
-            drop(files);
-            work
+    for i in 0..sources.len() {
+        let source = &sources[i];
+        match make_next(asked, source, building, shelf, steps) {
+            Ok(()) => {}
+            Err(e) => return Err(e),
         }
-        Err(e) => Err(e),
     }
+    Ok(())
 }
 
-/// The steps from the language that the module's header names.
-fn build_language<S: Shelf, L: Ledger>(
-    asked: &Asked,
-    source: &ModuleFile,
-    language: &LanguageFile,
-    shelf: &mut S,
-    steps: &mut Steps<L>,
-) -> Result<Work, StepError>
-    requires file { asked.now.file.now ≡ module_file asked.now.name.now }
-    requires short { length source.now.bytes.items ≤ 262144 }
-    requires language { IsLanguage language.now.language }
-    requires text { (name : List ℕ) × HasText name language.now.language }
-    ensures step { WhereTold (S.content shelf.old)
-        (λ files. Does plan_of (spec.BuildsReached asked.now.name.now asked.now.budgets files
-        (module_of source.now) (stated_of language.now)) result steps.old steps.new) }
-    ensures reads { OnlyReads (S.content shelf.old) (S.content shelf.new)
-        (S.read_faults shelf.old) (S.read_faults shelf.new)
-        (S.write_faults shelf.old) (S.write_faults shelf.new) result }
-{
-    match copies(asked.alloc, &source.header.uses) {
-        Ok(roots) => build_reached(asked, source, language, roots, shelf, steps),
-        Err(_) => Err(StepError::Memory),
-    }
-}
-
-/// The steps from a module that stands alone.
+/// The steps over the language of the modules.
 fn build_over<S: Shelf, L: Ledger>(
     asked: &Asked,
-    source: &ModuleFile,
+    sources: &[ModuleFile],
+    auditors: Vec<Box<dyn Auditor>>,
     shelf: &mut S,
     steps: &mut Steps<L>,
 ) -> Result<Work, StepError>
-    requires file { asked.now.file.now ≡ module_file asked.now.name.now }
-    requires short { length source.now.bytes.items ≤ 262144 }
-    ensures step { WhereTold (S.content shelf.old)
-        (λ files. Does plan_of (spec.BuildsOver asked.now.name.now asked.now.budgets files
-        (module_of source.now)) result steps.old steps.new) }
-    ensures reads { OnlyReads (S.content shelf.old) (S.content shelf.new)
-        (S.read_faults shelf.old) (S.read_faults shelf.new)
-        (S.write_faults shelf.old) (S.write_faults shelf.new) result }
-{
-    match read_language_file(asked.alloc, &source.header.language, shelf) {
-        Ok(language) => {
-            let work = build_language(asked, source, &language, shelf, steps);
-            drop(language);
-            work
-        }
-        Err(e) => Err(e),
-    }
-}
-
-/// The steps from the module in its file.
-fn build_read<S: Shelf, L: Ledger>(
-    asked: &Asked,
-    source: &ModuleFile,
-    shelf: &mut S,
-    steps: &mut Steps<L>,
-) -> Result<Work, StepError>
-    requires file { asked.now.file.now ≡ module_file asked.now.name.now }
-    requires short { length source.now.bytes.items ≤ 262144 }
-    ensures step { WhereTold (S.content shelf.old)
-        (λ files. Does plan_of (spec.BuildsRead asked.now.name.now asked.now.budgets files
-        (module_of source.now)) result steps.old steps.new) }
-    ensures reads { OnlyReads (S.content shelf.old) (S.content shelf.new)
-        (S.read_faults shelf.old) (S.read_faults shelf.new)
-        (S.write_faults shelf.old) (S.write_faults shelf.new) result }
-{
-    match check_alone(asked.alloc, asked.file, source) {
-        Ok(()) => build_over(asked, source, shelf, steps),
-        Err(e) => Err(e),
-    }
-}
-
-/// The steps of `build NAME`, with so many tries to spend for each walk and so many nodes for each
-/// derivation that is lowered: the module's file, that of its language, the headers of the
-/// extensions that it uses; then each extension is read and accepted, and the module is compiled in
-/// the dialect that they make.
-pub fn plan_build_module<S: Shelf, L: Ledger>(
-    alloc: Global,
-    name: &Text,
-    budgets: Budgets,
-    shelf: &mut S,
-    steps: &mut Steps<L>,
-) -> Result<Work, StepError>
-    ensures step { WhereTold (S.content shelf.old)
-        (λ files. Does plan_of (spec.BuildsModule name.now budgets files) result
+    requires { CanMakeAll (map module_of sources.now) asked.now.language.now }
+    ensures step { WhereTold (S.content shelf.old) (λ files. Does plan_of
+        (spec.BuildsOver asked.now.budgets (map (λ b. meaning b) auditors.items) files
+        (map module_of sources.now) (stated_of asked.now.language.now)) result
         steps.old steps.new) }
     ensures reads { OnlyReads (S.content shelf.old) (S.content shelf.new)
         (S.read_faults shelf.old) (S.read_faults shelf.new)
         (S.write_faults shelf.old) (S.write_faults shelf.new) result }
 {
-    let file = with_suffix(alloc, name, ".mod")?;
-    match read_module(alloc, &file, name, shelf) {
-        Ok(source) => {
+    let mut building = Building {
+        made: Vec::new(asked.alloc),
+        auditors,
+    };
+    match make_all(asked, sources, &mut building, shelf, steps) {
+        Ok(()) => match whole_work(asked.alloc, building) {
+            Ok(work) => Ok(work),
+            Err(_) => Err(StepError::Memory),
+        },
+        Err(e) => {
+            drop(building);
+            Err(e)
+        }
+    }
+}
+
+/// The steps over the modules of the closure, which are some.
+fn build_read<S: Shelf, L: Ledger>(
+    given: &Budgeted,
+    sources: &[ModuleFile],
+    auditors: Vec<Box<dyn Auditor>>,
+    shelf: &mut S,
+    steps: &mut Steps<L>,
+) -> Result<Work, StepError>
+    requires stated { AllByRecursion IsStated (map module_of sources.now) }
+    requires closure { (name : List ℕ) × IsClosure name (map module_of sources.now) }
+    ensures step { WhereTold (S.content shelf.old) (λ files. Does plan_of
+        (spec.BuildsRead given.now.budgets (map (λ b. meaning b) auditors.items) files
+        (map module_of sources.now)) result steps.old steps.new) }
+    ensures reads { OnlyReads (S.content shelf.old) (S.content shelf.new)
+        (S.read_faults shelf.old) (S.read_faults shelf.new)
+        (S.write_faults shelf.old) (S.write_faults shelf.new) result }
+{
+    match read_language_file(given.alloc, &sources[0].header.language, shelf) {
+        Ok(language) => {
             let asked = Asked {
-                alloc,
-                name,
-                file: &file,
-                budgets,
+                alloc: given.alloc,
+                language: &language,
+                budgets: given.budgets,
             };
-            let work = build_read(&asked, &source, shelf, steps);
-            drop(source);
+            let work = build_over(&asked, sources, auditors, shelf, steps);
+            drop(language);
             work
         }
-        Err(e) => Err(e),
+        Err(e) => {
+            drop(auditors);
+            Err(e)
+        }
+    }
+}
+
+/// The steps of `build NAME`, with so many tries to spend for each walk and so many nodes for each
+/// derivation that is lowered. The files of the modules are read along their `import` lines, and
+/// that of their language; then each module is made, after all that it imports and with the
+/// interfaces that these were given, and its derivation is shown to the auditors. All files are
+/// planned, in order, then the line of each module, and then the auditors' texts.
+pub fn plan_build_module<S: Shelf, L: Ledger>(
+    alloc: Global,
+    name: &Text,
+    budgets: Budgets,
+    auditors: Vec<Box<dyn Auditor>>,
+    shelf: &mut S,
+    steps: &mut Steps<L>,
+) -> Result<Work, StepError>
+    ensures step { WhereTold (S.content shelf.old)
+        (λ files. Does plan_of (spec.BuildsModule name.now budgets
+        (map (λ b. meaning b) auditors.items) files) result steps.old steps.new) }
+    ensures reads { OnlyReads (S.content shelf.old) (S.content shelf.new)
+        (S.read_faults shelf.old) (S.read_faults shelf.new)
+        (S.write_faults shelf.old) (S.write_faults shelf.new) result }
+{
+    match read_modules(alloc, name, shelf) {
+        Ok(sources) => {
+            let given = Budgeted { alloc, budgets };
+            let work = build_read(&given, &sources, auditors, shelf, steps);
+            drop(sources);
+            work
+        }
+        Err(e) => {
+            drop(auditors);
+            Err(e)
+        }
     }
 }

@@ -1,28 +1,30 @@
-//! The build of a module: the steps of `build NAME` for a module without `import` lines.
+//! The build of a module and of all that it imports: the steps of `build NAME`.
 //!
-//! - `plan_build_module`: what is to be written, or why nothing is. The module's file is read, then
-//!   that of its language, then the headers of the extensions that it uses; each of these is read
-//!   and accepted; the module is compiled in the dialect that they make; and its three files and
-//!   the line are planned.
-//! - `builds_agree`: by the name and the files there is one result and one number of tries; read
-//!   faults, out of memory and the readings that a refusal shows aside. `walks_are_within`: there
-//!   is one walk for each rule of the extensions and one for the module, and none makes more tries
-//!   than it may spend.
-//! - `built_has_headline`: the three files that are left say of one another, by the language alone,
-//!   what a build promises, and are the desugaring of what the source says by its extensions.
-//! - `type_errors_are_final`: a type error comes only where the body's goal has no derivation at
-//!   all, or a rule of an extension is not sound.
+//! - `plan_build_module`: what is to be written, or why nothing is. The modules are read along their
+//!   `import` lines, then their language; each is made after all that it imports, with their
+//!   interfaces, and its derivation is shown to the auditors; and all files and lines are planned.
+//! - `builds_keep_promise`, `built_have_headline`: the files that are left hold the texts of the
+//!   units of all these modules, and those of each say of one another what is promised.
+//! - `builds_agree`: by the name, the budgets, the auditors and the files there is one result and
+//!   one number of tries; read faults, out of memory and the readings that a refusal shows aside.
+//!   `walks_are_within`: no walk makes more tries than it may spend.
+//! - `type_errors_are_final`: a type error comes only where the goal of one of the modules has no
+//!   derivation at all, or a rule of one of its extensions is not sound.
+//! - `denied_are_unwritten`: no list that is written has a rule that an auditor denies.
 #![tactic(auto)]
 
-mod alone;
 mod asked;
+mod budgeted;
 mod build_module;
-mod compile_module;
+mod building;
+mod imports_made;
 mod laws;
-mod module_stops;
-mod use_marks;
+mod made;
+mod making;
+mod whole_work;
 
 pub use build_module::plan_build_module;
 pub use laws::{
-    builds_agree, builds_keep_promise, built_has_headline, type_errors_are_final, walks_are_within,
+    builds_agree, builds_keep_promise, built_have_headline, denied_are_unwritten,
+    type_errors_are_final, walks_are_within,
 };

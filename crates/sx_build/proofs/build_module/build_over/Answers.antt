@@ -1,30 +1,45 @@
-use Rattle.std.proofs.Common.{◌∙◌, refl, arith}
-use Rattle.std.specs.Prelude.{Err}
+use Rattle.std.proofs.Common.{◌≡◌, map, refl, ap, arith, inl}
+use Rattle.std.specs.Prelude.{Ok, Err}
 use Rattle.sx_steps.specs.Steps.{Untried}
 use Rattle.sx_steps.specs.Work.{plan_of}
-use Rattle.sx_steps.proofs.StepsOn.{goes_from, stops_at, untried}
-use Rattle.sx_accepting.specs.ReadLanguage.{stated_of, ReadsLanguage}
+use Rattle.sx_steps.specs.declared.step_error.StepError.TheVariants.{Memory}
+use Rattle.sx_steps.proofs.StepsOn.{goes_from}
+use Rattle.sx_accepting.specs.ReadLanguage.{stated_of}
 use Rattle.sx_headers.specs.ReadModule.{module_of}
-use Rattle.sx_build.specs.BuildModule.{BuildsReached}
+use Rattle.sx_build.specs.BuildModules.{Progress, begun, MakesAfter, whole_plan}
+use Rattle.sx_build.specs.Buildings.{mades_view}
 use Rattle.sx_build.proofs.build_module.build_over.Goals as goal
 
-pub returns-in-Ok-clause-step : goal.returns-in-Ok-clause-step
-returns-in-Ok-clause-step g c = λ files told.
-    let name = c.args.asked.now.name.now in
-    let b = c.args.asked.now.budgets in
-    let m = module_of c.args.source.now in
-    goes_from plan_of (Untried (ReadsLanguage m.header.language files))
-    (BuildsReached name b files m) (stated_of c.in-Ok.language) c.build_language-work.result
-    c.args.steps.now c.args.steps.now c.build_language-work.new.steps
-    (0, (c.in-Ok.ensures.step files told, refl), omega arith)
-    (c.build_language-work.ensures.step files (c.in-Ok.ensures.reads.content ∙ told))
+pub returns-in-Ok-whole_work-clause-step : goal.returns-in-Ok-whole_work-clause-step
+returns-in-Ok-whole_work-clause-step g c = λ files told.
+    let asked = c.args.asked.now in
+    let start = begun (map (λ b. (goal.Auditor-dyn g (b.vtable, b.value)).meaning b.value)
+    c.args.auditors.items) in
+    let end : Progress = record {
+      made = mades_view c.make_all.new.building.made.items;
+      auditors = map (λ b. (goal.Auditor-dyn g (b.vtable, b.value)).meaning b.value)
+          c.make_all.new.building.auditors.items;
+    } in
+    goes_from plan_of
+    (MakesAfter asked.budgets files (stated_of asked.language.now) start
+    (map module_of c.args.sources.now))
+    (λ end. Untried (λ result. result ≡ Ok (whole_plan end))) end (Ok c.in-Ok-whole_work.work)
+    c.args.steps.now c.make_all.new.steps c.make_all.new.steps (c.in-Ok.ensures.step files told)
+    (0, (ap Ok c.in-Ok-whole_work.ensures, refl), omega arith)
 
-pub returns-in-Err-clause-step : goal.returns-in-Err-clause-step
-returns-in-Err-clause-step g c = λ files told.
-    let name = c.args.asked.now.name.now in
-    let b = c.args.asked.now.budgets in
-    let m = module_of c.args.source.now in
-    stops_at stated_of plan_of (Untried (ReadsLanguage m.header.language files))
-    (BuildsReached name b files m) c.in-Err.e c.args.steps.now c.args.steps.now
-    (untried stated_of (ReadsLanguage m.header.language files) (Err c.in-Err.e) c.args.steps.now
-    (c.in-Err.ensures.step files told))
+pub returns-in-Err-whole_work-clause-step : goal.returns-in-Err-whole_work-clause-step
+returns-in-Err-whole_work-clause-step g c = λ files told.
+    let asked = c.args.asked.now in
+    let start = begun (map (λ b. (goal.Auditor-dyn g (b.vtable, b.value)).meaning b.value)
+    c.args.auditors.items) in
+    let end : Progress = record {
+      made = mades_view c.make_all.new.building.made.items;
+      auditors = map (λ b. (goal.Auditor-dyn g (b.vtable, b.value)).meaning b.value)
+          c.make_all.new.building.auditors.items;
+    } in
+    goes_from plan_of
+    (MakesAfter asked.budgets files (stated_of asked.language.now) start
+    (map module_of c.args.sources.now))
+    (λ end. Untried (λ result. result ≡ Ok (whole_plan end))) end (Err Memory)
+    c.args.steps.now c.make_all.new.steps c.make_all.new.steps (c.in-Ok.ensures.step files told)
+    (0, inl refl, omega arith)

@@ -1,0 +1,172 @@
+use Rattle.std.proofs.Common.{◌≡◌, ℕ, ◌+◌, ◌<◌, List, [], ◌∷◌, ◌++◌, map, refl, sym, ap, ◌∙◌, subst}
+use Rattle.std.proofs.Common.{arith}
+use Rattle.std.proofs.lemmas.List.{length-map}
+use Rattle.sx_accepting.specs.ReadLanguage.{stated_of, HasText}
+use Rattle.sx_headers.specs.ReadModule.{Module, module_of}
+use Rattle.sx_importing.proofs.Results.{reads_on_from, reads_err}
+use Rattle.sx_walking.specs.Opened.{AreOnce}
+use Rattle.sx_closure.specs.ReadModules.{IsStated}
+use Rattle.sx_build.specs.BuildModules.{Progress, begun, language_in, MakesAfter}
+use Rattle.sx_build.specs.Buildings.{mades_view, AreDistinct}
+use Rattle.sx_build.specs.MadeModules.{Made}
+use Rattle.sx_build.proofs.MakingOn.{goes_on, goes_stop, goes_end}
+use Rattle.sx_build.proofs.Ordered.{holds_at, source_at, names_next, imports_among, name_is_new}
+use Rattle.sx_build.proofs.Ordered.{once_snoc}
+use Rattle.sx_build.proofs.build_module.make_all.Goals as goal
+
+pub loop-i-init : goal.loop-i-init
+loop-i-init g c =
+    let asked = c.args.asked.now in
+    let l = stated_of asked.language.now in
+    let sources = c.args.sources.now in
+    let ms = map module_of sources in
+    let start : Progress =
+    begun (map (λ b. (goal.Auditor-dyn g (b.vtable, b.value)).meaning b.value)
+    c.args.building.now.auditors.items) in
+    record {
+      step = λ files told. (
+        0,
+        omega arith,
+        λ r more h. subst (λ (n : ℕ). MakesAfter asked.budgets files l start ms r n) (omega arith)
+            (subst (λ (made : List Made). MakesAfter asked.budgets files l
+            (let p : Progress = record { made = made; auditors = start.auditors } in p) ms r more)
+            c.requires.begun h),
+      );
+      names = ap (λ (mades : List Made). map (λ (x : Made). x.name) mades) c.requires.begun;
+      distinct = subst AreDistinct (sym c.requires.begun) tt;
+      content = refl;
+      reads = refl;
+      writes = refl;
+    }
+
+pub make_next-requires : goal.make_next-requires
+make_next-requires g c =
+    let asked = c.args.asked.now in
+    let l = stated_of asked.language.now in
+    let sources = c.args.sources.now in
+    let ms = map module_of sources in
+    let start : Progress =
+    begun (map (λ b. (goal.Auditor-dyn g (b.vtable, b.value)).meaning b.value)
+    c.args.building.now.auditors.items) in
+    let i = c.loop-i.i in
+    let source = c.index-sources-i.result in
+    let m = module_of source in
+    let below = subst (λ (n : ℕ). i < n) (sym (length-map sources module_of))
+    c.loop-i-test.true in
+    let is = source_at sources i source c.loop-i-test.true c.index-sources-i.is in
+    let can = c.requires.can in
+    let same = holds_at (λ (x : Module). x.header.language ≡ language_in ms) module_of sources i
+    source c.loop-i-test.true c.index-sources-i.is can.same in
+    record {
+      stated = holds_at IsStated module_of sources i source c.loop-i-test.true c.index-sources-i.is
+          can.stated;
+      language = record {
+        language = can.fit;
+        text = subst (λ (n : List ℕ). HasText n asked.language.now.language) (sym same) can.text;
+      };
+      distinct = c.loop-i.invariant.distinct;
+      among = imports_among sources can.order i source below is
+          (map (λ (x : Made). x.name) (mades_view c.loop-i.building.made.items))
+          c.loop-i.invariant.names;
+    }
+
+pub loop-i-preserved : goal.loop-i-preserved
+loop-i-preserved g c =
+    let asked = c.args.asked.now in
+    let l = stated_of asked.language.now in
+    let sources = c.args.sources.now in
+    let ms = map module_of sources in
+    let start : Progress =
+    begun (map (λ b. (goal.Auditor-dyn g (b.vtable, b.value)).meaning b.value)
+    c.args.building.now.auditors.items) in
+    let i = c.loop-i.i in
+    let source = c.index-sources-i.result in
+    let m = module_of source in
+    let below = subst (λ (n : ℕ). i < n) (sym (length-map sources module_of))
+    c.loop-i-test.true in
+    let is = source_at sources i source c.loop-i-test.true c.index-sources-i.is in
+    let now : Progress = record {
+      made = mades_view c.loop-i.building.made.items;
+      auditors = map (λ b. (goal.Auditor-dyn g (b.vtable, b.value)).meaning b.value)
+          c.loop-i.building.auditors.items;
+    } in
+    let next : Progress = record {
+      made = mades_view c.make_next.new.building.made.items;
+      auditors = map (λ b. (goal.Auditor-dyn g (b.vtable, b.value)).meaning b.value)
+          c.make_next.new.building.auditors.items;
+    } in
+    let before = c.loop-i.invariant in
+    let so_far = map (λ (x : Made). x.name) now.made in
+    record {
+      step = λ files told.
+          let all = before.step files told in
+          let one = c.in-Ok.ensures.step files (before.content ∙ told) in (
+            all.0 + one.0,
+            one.2 ∙ ap (λ (n : ℕ). n + one.0) all.1 ∙ omega arith,
+            goes_on asked.budgets files l start ms now i all.0 m below is all.2 next one.0 one.1,
+          );
+      names = c.in-Ok.ensures.names
+          ∙ ap (λ (ns : List (List ℕ)). ns ++ m.header.name ∷ []) before.names
+          ∙ sym (names_next ms i m below is);
+      distinct = subst AreOnce (sym c.in-Ok.ensures.names)
+          (once_snoc so_far m.header.name before.distinct
+          (name_is_new sources c.requires.can.order i source below is so_far before.names));
+      content = c.in-Ok.ensures.reads.content ∙ before.content;
+      reads = c.in-Ok.ensures.reads.kept (λ fault. fault) ∙ before.reads;
+      writes = c.in-Ok.ensures.reads.writes ∙ before.writes;
+    }
+
+pub returns-in-Err-clause-step : goal.returns-in-Err-clause-step
+returns-in-Err-clause-step g c = λ files told.
+    let asked = c.args.asked.now in
+    let l = stated_of asked.language.now in
+    let sources = c.args.sources.now in
+    let ms = map module_of sources in
+    let start : Progress =
+    begun (map (λ b. (goal.Auditor-dyn g (b.vtable, b.value)).meaning b.value)
+    c.args.building.now.auditors.items) in
+    let i = c.loop-i.i in
+    let source = c.index-sources-i.result in
+    let m = module_of source in
+    let below = subst (λ (n : ℕ). i < n) (sym (length-map sources module_of))
+    c.loop-i-test.true in
+    let is = source_at sources i source c.loop-i-test.true c.index-sources-i.is in
+    let now : Progress = record {
+      made = mades_view c.loop-i.building.made.items;
+      auditors = map (λ b. (goal.Auditor-dyn g (b.vtable, b.value)).meaning b.value)
+          c.loop-i.building.auditors.items;
+    } in
+    let before = c.loop-i.invariant in
+    let all = before.step files told in
+    let one = c.in-Err.ensures.step files (before.content ∙ told) in (
+      all.0 + one.0,
+      goes_stop asked.budgets files l start ms now i all.0 m below is all.2 c.in-Err.e one.0 one.1,
+      one.2 ∙ ap (λ (n : ℕ). n + one.0) all.1 ∙ omega arith,
+    )
+
+pub returns-in-Err-clause-reads : goal.returns-in-Err-clause-reads
+returns-in-Err-clause-reads g c =
+    let before = c.loop-i.invariant in
+    reads_on_from _ _ _ _ _ _ _ _ _ _ before.content before.reads before.writes
+    (reads_err {X = Unit {0}} _ _ _ _ _ _ c.in-Err.e c.in-Err.ensures.reads)
+
+pub returns-clause-step : goal.returns-clause-step
+returns-clause-step g c = λ files told.
+    let asked = c.args.asked.now in
+    let l = stated_of asked.language.now in
+    let sources = c.args.sources.now in
+    let ms = map module_of sources in
+    let start : Progress =
+    begun (map (λ b. (goal.Auditor-dyn g (b.vtable, b.value)).meaning b.value)
+    c.args.building.now.auditors.items) in
+    let now : Progress = record {
+      made = mades_view c.loop-i.building.made.items;
+      auditors = map (λ b. (goal.Auditor-dyn g (b.vtable, b.value)).meaning b.value)
+          c.loop-i.building.auditors.items;
+    } in
+    let all = c.loop-i.invariant.step files told in (
+      all.0,
+      goes_end asked.budgets files l start ms now c.loop-i.i all.0
+          (omega (arith, length-map sources module_of, c.loop-i-test.false)) all.2,
+      all.1,
+    )

@@ -1,0 +1,32 @@
+use Rattle.std.proofs.Common.{◌≡◌, ℕ, ◌+◌, map, take}
+use Rattle.sx_outside.specs.Told.{WhereTold}
+use Rattle.sx_accepting.specs.ReadLanguage.{stated_of}
+use Rattle.sx_headers.specs.ReadModule.{module_of}
+use Rattle.sx_closure.specs.ReadModules.{name_of}
+use Rattle.sx_build.specs.BuildModules.{begun}
+use Rattle.sx_build.specs.Buildings.{mades_view, AreDistinct}
+use Rattle.sx_build.proofs.MakingOn.{GoesOn}
+use Rattle.sx_build.proofs.build_module.make_all.Given as goal
+
+-- what comes of the modules that are left comes of all; the modules that were made are those before
+-- them, each once; and no read failed
+abbrev pub invariant-loop-i : goal.invariant-loop-i
+invariant-loop-i g l = record {
+  step : WhereTold (g.S.Shelf.content l.initial.shelf) (λ files. (tries : ℕ)
+      × (l.steps ≡ l.initial.steps + tries)
+      × GoesOn l.asked.budgets files (stated_of l.asked.language.now)
+      (begun (map (λ b. (goal.Auditor-dyn g (b.vtable, b.value)).meaning b.value)
+      l.initial.building.auditors.items))
+      (map module_of l.sources)
+      (record {
+        made = mades_view l.building.made.items;
+        auditors = map (λ b. (goal.Auditor-dyn g (b.vtable, b.value)).meaning b.value)
+            l.building.auditors.items;
+      }) l.i tries);
+  names : map (λ m. m.name) (mades_view l.building.made.items)
+      ≡ map name_of (take l.i (map module_of l.sources));
+  distinct : AreDistinct (mades_view l.building.made.items);
+  content : g.S.Shelf.content l.shelf ≡ g.S.Shelf.content l.initial.shelf;
+  reads : g.S.Shelf.read_faults l.shelf ≡ g.S.Shelf.read_faults l.initial.shelf;
+  writes : g.S.Shelf.write_faults l.shelf ≡ g.S.Shelf.write_faults l.initial.shelf;
+}
