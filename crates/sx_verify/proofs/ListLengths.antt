@@ -1,5 +1,5 @@
 -- How many entries a list has.
-use Rattle.std.proofs.Common.{◌≡◌, ℕ, ◌≤◌, List, length, ap, arith}
+use Rattle.std.proofs.Common.{ℕ, ◌≤◌, List, length, ap, arith}
 use Rattle.std.proofs.lemmas.List.{length-map}
 use Rattle.sx_lines.specs.Lines.{lines_from, texts}
 use Rattle.sx_rules.specs.declared.entry.Entry.{Entry as EntryOf}

@@ -1,11 +1,11 @@
 -- The terms at the places of a language's main form.
-use Rattle.std.proofs.Common.{◌≡◌, ℕ, ◌<◌, ◌≤◌, List, [], ◌∷◌, length, refl, sym, ap, ◌∙◌, subst, arith}
-use Rattle.std.specs.Prelude.{Ok, Result}
+use Rattle.std.proofs.Common.{◌≡◌, ℕ, List, [], ◌∷◌, length, sym, ap, subst}
+use Rattle.std.specs.Prelude.{Ok}
 use Rattle.sx_term.specs.declared.role.Role.TheVariants.{In, Sub, Out}
 use Rattle.sx_term.specs.declared.sort.Sort.{Sort}
 use Rattle.sx_term.specs.declared.sort.Sort.TheVariants.{Plain, Typed}
-use Rattle.sx_term.specs.Sorts.{Shape, HasSort}
-use Rattle.sx_term.specs.Tree.{Tree, depth_of}
+use Rattle.sx_term.specs.Sorts.{HasSort}
+use Rattle.sx_term.specs.Tree.{Tree}
 use Rattle.sx_grammar.specs.Grammar.{of_sort}
 use Rattle.sx_grammar.specs.Parts.{numbered}
 use Rattle.sx_grammar.specs.Print.{Fits}
@@ -34,29 +34,44 @@ module _ (d : LanguageData) (is : IsMain d.parts d.forms d.main) where
   output_is = main_sort_is d.forms d.main.form is.form Out (Plain is.signature) is.is is.output
 
   -- an output can be printed
-  pub output_fits : (t : Tree) → IsTermOf d Out t → (sort : ℕ) × Fits (numbered d.parts) [] (of_sort sort) t
-  output_fits t good =
-      (is.signature, sorted_terms d.parts [] t (Plain is.signature) (subst (λ (s : Sort). HasSort (shapes_of d.parts) [] t s) output_is good.0))
+  pub output_fits : (t : Tree) → IsTermOf d Out t →
+      (sort : ℕ) × Fits (numbered d.parts) [] (of_sort sort) t
+  output_fits t good = (
+    is.signature,
+    sorted_terms d.parts [] t (Plain is.signature)
+        (subst (λ (s : Sort). HasSort (shapes_of d.parts) [] t s) output_is good.0),
+  )
 
   pub goal_shallow : (goal : Goal) → IsMainGoal d goal → AreShallow goal.terms
   goal_shallow goal main =
       subst (λ (g : Goal). AreShallow g.terms) (sym main.is)
-      (main_goals_are_shallow (places_at d.forms d.main.form) main.environment main.subject main.input.1 main.typed.1)
+      (main_goals_are_shallow (places_at d.forms d.main.form) main.environment main.subject
+      main.input.1 main.typed.1)
 
   -- what replaying gives is the one output
-  pub only_one : (goal : Goal) → IsMainGoal d goal → IsRuleSet (shapes_of d.parts) d.forms d.rules → (list : List Entry) (outs : List Tree) →
-      IsReplayAnswer (modes_of d.forms) (bare d.rules) no_hypotheses goal list (Ok outs) → (t : Tree) × (outs ≡ t ∷ []) × IsTermOf d Out t
+  pub only_one : (goal : Goal) → IsMainGoal d goal → IsRuleSet (shapes_of d.parts) d.forms d.rules →
+      (list : List Entry) (outs : List Tree) →
+      IsReplayAnswer (modes_of d.forms) (bare d.rules) no_hypotheses goal list (Ok outs) →
+      (t : Tree) × (outs ≡ t ∷ []) × IsTermOf d Out t
   only_one goal main set list outs answer =
       let shapes = shapes_of d.parts in
-      let input = subst (λ (s : Sort). HasSort shapes [] main.environment s) (main_sort_is d.forms d.main.form is.form In (Plain is.environment) is.is is.input) main.input.0 in
-      let typed = subst (λ (s : Sort). HasSort shapes [] main.subject s) (main_sort_is d.forms d.main.form is.form Sub (Typed is.subject) is.is is.typed) main.typed.0 in
-      let fit = main_goals_fit shapes d.forms [] d.main.form is.form (Plain is.environment) (Typed is.subject) (Plain is.signature) main.environment main.subject
+      let input = subst (λ (s : Sort). HasSort shapes [] main.environment s)
+      (main_sort_is d.forms d.main.form is.form In (Plain is.environment) is.is is.input)
+      main.input.0 in
+      let typed = subst (λ (s : Sort). HasSort shapes [] main.subject s)
+      (main_sort_is d.forms d.main.form is.form Sub (Typed is.subject) is.is is.typed)
+      main.typed.0 in
+      let fit = main_goals_fit shapes d.forms [] d.main.form is.form (Plain is.environment)
+      (Typed is.subject) (Plain is.signature) main.environment main.subject
       is.is is.input is.typed is.output input typed in
-      let here = subst (λ (g : Goal). IsReplayAnswer (modes_of d.forms) (bare d.rules) no_hypotheses g list (Ok outs)) main.is answer in
+      let here = subst (λ (g : Goal). IsReplayAnswer (modes_of d.forms) (bare d.rules) no_hypotheses
+      g list (Ok outs)) main.is answer in
       let front = here.front in
-      let sorted = outputs_are_sorted shapes d.forms d.rules set [] (goal_in d main.environment main.subject) (front.0, outs) fit.0 front.1 in
+      let sorted = outputs_are_sorted shapes d.forms d.rules set []
+      (goal_in d main.environment main.subject) (front.0, outs) fit.0 front.1 in
       let one = fit.2 outs sorted in
-      let shallow = replayed_shallow (modes_of d.forms) (bare d.rules) (goal_in d main.environment main.subject) list outs here in (
+      let shallow = replayed_shallow (modes_of d.forms) (bare d.rules)
+      (goal_in d main.environment main.subject) list outs here in (
         one.0,
         one.1,
         (

@@ -1,28 +1,22 @@
--- What a module is verified from: its language without extensions, and the environment of its
--- imports by their signatures alone.
-use Rattle.std.specs.Prelude.{◌≡◌, ℕ, ◌≤◌, List, [], Option, Some, None, Result, Ok, Err}
-use Rattle.sx_term.specs.Tree.{Tree, depth_of}
+-- What a module is verified from: its language without extensions, by which its body is read.
+use Rattle.std.specs.Prelude.{ℕ, List, [], Option, Some, None, Result, Ok, Err}
+use Rattle.sx_term.specs.Tree.{Tree}
 use Rattle.sx_token.specs.declared.token.Token.{Token}
 use Rattle.sx_grammar.specs.Reading.{Reading}
-use Rattle.sx_interface.specs.Interfaces.{InterfaceParts}
 use Rattle.sx_typing.specs.declared.typing_error.TypingError.{TypingError}
 use Rattle.sx_typing.specs.declared.typing_error.TypingError.TheVariants as typing_error
 use Rattle.sx_typing.specs.Goals.{IsBody}
 use Rattle.sx_typing.specs.Growing.{unextended}
 use Rattle.sx_typing.specs.Refused.{IsBadSource}
 use Rattle.sx_typing.specs.Source.{Source}
-use Rattle.sx_environment.specs.declared.import_error.ImportError.{ImportError}
-use Rattle.sx_environment.specs.Environments.{IsEnvironment}
-use Rattle.sx_environment.specs.ImportErrors.{HasNone}
 use Rattle.sx_environment.specs.SeenFrom.{SeenFrom}
 use Rattle.sx_steps.specs.declared.stop.Stop.{Stop}
 use Rattle.sx_steps.specs.Lower.{Lower}
 use Rattle.sx_accepting.specs.ReadLanguage.{Stated}
 use Rattle.sx_headers.specs.ReadModule.{Module}
 use Rattle.sx_headers.specs.TextStops.{uncut_text, unread_text}
-use Rattle.sx_verify.specs.ImportStops.{import_stop}
 
--- ---- the environment
+-- ---- what the imports are seen from
 
 -- what the imports are seen from: the language with this name, without extensions
 abbrev pub seen_in : List ℕ → Stated → SeenFrom
@@ -31,17 +25,6 @@ seen_in name l = record {
   language = record { name = name; digest = l.digest };
   uses = [];
 }
-
--- the environment of the imports, or the first refusal
-abbrev pub HasEnvironment : SeenFrom → List InterfaceParts → Result Tree ImportError → Type 0
-HasEnvironment s its (Ok t) = IsEnvironment s its t × (depth_of t ≤ 1000)
-HasEnvironment s its (Err e) = HasNone s its e
-
--- so it is of the language with this name; the first file is that of the module
-abbrev pub MakesEnvironment : List ℕ → List ℕ → Stated → List InterfaceParts → Result Tree Stop →
-    Type 0
-MakesEnvironment file name l its =
-    Lower (import_stop file its) (HasEnvironment (seen_in name l) its)
 
 -- ---- the body
 

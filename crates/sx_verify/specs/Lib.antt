@@ -1,10 +1,12 @@
 pub mod Lists
 pub mod Verified
-pub mod KeptValues
 pub mod BaseFits
-pub mod ReadImports
-pub mod ImportStops
+pub mod KeptImports
 pub mod Ground
 pub mod Replays
 pub mod VerifyModule
+pub mod AskedFiles
+pub mod WrittenFiles
+pub mod OverFiles
 pub mod VerifiedModule
+pub mod Laws

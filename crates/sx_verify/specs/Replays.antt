@@ -8,12 +8,11 @@ use Rattle.sx_grammar.specs.Told.{shapes_of}
 use Rattle.sx_rules.specs.declared.entry.Entry.{Entry}
 use Rattle.sx_rules.specs.EntryView.{entries}
 use Rattle.sx_rules.specs.Modes.{Goal}
-use Rattle.sx_rules.specs.Views.{modes_of}
+use Rattle.sx_rules.specs.Views.{FormData, NamedRule, modes_of}
 use Rattle.sx_notation.specs.Language.{LanguageData}
 use Rattle.sx_typing.specs.MainGoals.{main_goal}
 use Rattle.sx_typing.specs.Outcomes.{bare, no_hypotheses}
 use Rattle.sx_typing.specs.Source.{main_sort}
-use Rattle.sx_replay.specs.declared.replay_error.ReplayError.{ReplayError}
 use Rattle.sx_replay.specs.Replay.{IsReplayAnswer}
 use Rattle.sx_steps.specs.declared.stop.Stop.{Stop}
 use Rattle.sx_steps.specs.Lower.{Lower}
@@ -36,14 +35,16 @@ pub record IsMainGoal (d : LanguageData) (goal : Goal) : Type 0 where
   pub typed : IsTermOf d Sub subject
   pub is : goal ≡ goal_in d environment subject
 
--- what replaying the list by the language's rules alone answers: the one output
-abbrev pub HasOutput : LanguageData → Goal → List Entry → Result Tree ReplayError → Type 0
-HasOutput d goal list (Ok output) =
-    IsReplayAnswer (modes_of d.forms) (bare d.rules) no_hypotheses goal (entries list)
-    (Ok (output ∷ []))
-HasOutput d goal list (Err e) =
-    IsReplayAnswer (modes_of d.forms) (bare d.rules) no_hypotheses goal (entries list) (Err e)
+-- the outputs of the derivation of the goal, by these rules alone, that has the list of the file,
+-- or
+-- why it fits none
+abbrev pub ReplaysGoal : (file : List ℕ) → List FormData → List NamedRule → Goal → List Entry →
+    Result (List Tree) Stop → Type 0
+ReplaysGoal file forms rules goal list = Lower (replay_stop file)
+    (IsReplayAnswer (modes_of forms) (bare rules) no_hypotheses goal (entries list))
 
--- the output of the derivation of the goal that has the list of the file, or why it fits none
-abbrev pub Replays : List ℕ → LanguageData → Goal → List Entry → Result Tree Stop → Type 0
-Replays file d goal list = Lower (replay_stop file) (HasOutput d goal list)
+-- so it is by the rules of the language, with one output
+abbrev pub Replays : (file : List ℕ) → LanguageData → Goal → List Entry → Result Tree Stop → Type 0
+Replays file d goal list (Ok output) =
+    ReplaysGoal file d.forms d.rules goal list (Ok (output ∷ []))
+Replays file d goal list (Err stop) = ReplaysGoal file d.forms d.rules goal list (Err stop)

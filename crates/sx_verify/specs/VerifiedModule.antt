@@ -1,10 +1,10 @@
 -- What `verify NAME` promises of a module.
 use Rattle.std.specs.Prelude.{◌≡◌, ℕ, List, [], ◌∷◌, length, map, Ok, Some}
-use Rattle.std.specs.List.{AllByRecursion}
 use Rattle.sha2.specs.Sha256.{sha256}
 use Rattle.sx_term.specs.declared.role.Role.TheVariants.{Sub}
 use Rattle.sx_term.specs.Tree.{Tree}
 use Rattle.sx_lines.specs.Lines.{lines_from, texts}
+use Rattle.sx_grammar.specs.Tables.{literals_of}
 use Rattle.sx_rules.specs.declared.entry.Entry.{Entry}
 use Rattle.sx_rules.specs.Derivations.{Proof}
 use Rattle.sx_rules.specs.EntryView.{entries}
@@ -16,6 +16,7 @@ use Rattle.sx_interface.specs.Interfaces.{InterfaceParts, Mark}
 use Rattle.sx_typing.specs.Body.{ReadsOnly}
 use Rattle.sx_typing.specs.Outcomes.{bare, no_hypotheses}
 use Rattle.sx_typing.specs.Source.{main_sort}
+use Rattle.sx_unit.specs.Captured.{AreFree}
 use Rattle.sx_unit.specs.Texts.{print_text}
 use Rattle.sx_environment.specs.Environments.{IsEnvironment}
 use Rattle.sx_outside.specs.Files.{Files, after}
@@ -23,7 +24,7 @@ use Rattle.sx_steps.specs.Unit.{base_file, list_file, interface_file}
 use Rattle.sx_steps.specs.Work.{Plan}
 use Rattle.sx_accepting.specs.LanguageFiles.{language_file}
 use Rattle.sx_accepting.specs.ReadLanguage.{Stated, IsStated}
-use Rattle.sx_headers.specs.ReadInterface.{HeldInterface, HasInterface}
+use Rattle.sx_headers.specs.ReadInterface.{HasInterface}
 use Rattle.sx_headers.specs.ReadModule.{Module, HasHeader}
 use Rattle.sx_verify.specs.BaseFits.{IsBaseOf}
 use Rattle.sx_verify.specs.Ground.{seen_in}
@@ -71,11 +72,11 @@ abbrev pub IsEnvironmentOf : {name : List ℕ} {files : Files} → HoldsFiles na
 IsEnvironmentOf h environment =
     IsEnvironment (seen_in h.interface.language.name h.language) h.imports environment
 
--- The body of the base file has exactly one reading by the language's grammar. The list of NAME.der
--- is that of a derivation, by the language's rules alone, of the main judgement of the environment
--- of the imports, the term of the body and an output, and the print of this is the signature of
--- NAME.int. The digests that are kept are those of the files. All files are as before, and the line
--- tells the number of nodes.
+-- No import has a literal as its name, and the body of the base file has exactly one reading by the
+-- language's grammar. The list of NAME.der is that of a derivation, by the language's rules alone,
+-- of the main judgement of the environment of the imports, the term of the body and an output, and
+-- the print of this is the signature of NAME.int. The digests that are kept are those of the files.
+-- All files are as before, and the line tells the number of nodes.
 pub record VerifiedModule (name : List ℕ) (old new : Files) (lines : List ℕ) : Type 0 where
   pub files : HoldsFiles name old
   pub environment : Tree
@@ -84,6 +85,7 @@ pub record VerifiedModule (name : List ℕ) (old new : Files) (lines : List ℕ)
   pub proof : Proof
   pub list_bytes : List ℕ
   pub list : List Entry
+  pub free : AreFree (literals_of files.language.language.parts) files.base.header.imports
   pub around : IsEnvironmentOf files environment
   pub body : ReadsOnly files.language.language.parts (main_sort files.language.language Sub)
       files.base.header.body subject

@@ -20,11 +20,12 @@ use Rattle.sx_accepting.specs.ReadLanguage.{Stated, StatesLanguage}
 use Rattle.sx_headers.specs.FreeImports.{HasFreeImports}
 use Rattle.sx_headers.specs.ReadInterface.{HeldInterface, ReadsInterface}
 use Rattle.sx_headers.specs.ReadModule.{Module, ReadsModule}
+use Rattle.sx_importing.specs.KeptValues.{KeepsText, KeepsDigest}
+use Rattle.sx_importing.specs.MakeEnvironment.{SeesImports}
 use Rattle.sx_verify.specs.BaseFits.{FitsBeside}
-use Rattle.sx_verify.specs.Ground.{MakesEnvironment, source_in, ReadsBody}
-use Rattle.sx_verify.specs.KeptValues.{KeepsText, KeepsDigest}
+use Rattle.sx_verify.specs.Ground.{seen_in, source_in, ReadsBody}
 use Rattle.sx_verify.specs.Lists.{ReadsEntries}
-use Rattle.sx_verify.specs.ReadImports.{ReadsImports}
+use Rattle.sx_verify.specs.KeptImports.{ReadsAllKept}
 use Rattle.sx_verify.specs.Replays.{goal_in, Replays}
 use Rattle.sx_verify.specs.Verified.{verified_plan}
 
@@ -79,7 +80,7 @@ VerifiesBody name files w l environment =
 abbrev pub VerifiesOver : (name : List ℕ) → Files → Written → Stated → List InterfaceParts →
     Result Plan Stop → Type 0
 VerifiesOver name files w l its =
-    Then (MakesEnvironment (base_file name) w.interface.language.name l its)
+    Then (SeesImports (base_file name) (seen_in w.interface.language.name l) its)
     (VerifiesBody name files w l)
 
 -- no import has a literal of the language as its name, and then the environment
@@ -101,7 +102,7 @@ VerifiesLanguage name files w bytes its =
 abbrev pub VerifiesImports : (name : List ℕ) → Files → Written → (bytes : List ℕ) →
     Result Plan Stop → Type 0
 VerifiesImports name files w bytes =
-    Then (ReadsImports (interface_file name) files w.interface.imports)
+    Then (ReadsAllKept (interface_file name) files w.interface.imports)
     (VerifiesLanguage name files w bytes)
 
 -- the digest of the language's file is compared, and then the imports

@@ -1,25 +1,32 @@
-//! The verification of a module: what the steps of `verify NAME` are, and the pieces of them.
+//! The verification of a module.
 //!
-//! - What `verify NAME` does, step by step, and what it promises, which follows from its steps
-//!   (`verifies_keep_promise`). The steps as one call are not there yet.
-//! - `read_entries`, `bad_replay`, `verified_work`: a derivation list in its file, why it fits no
-//!   derivation, and the line.
+//! - `plan_verify`: the steps of `verify NAME`. Laws: what they promise, which follows from the
+//!   steps (`verifies_keep_promise`), that they have one result (`verifies_agree`), and that no stop
+//!   is a type error (`verifies_without_type_errors`).
+//! - `read_entries`, `replay_goal`, `bad_replay`, `verified_work`: a derivation list in its file,
+//!   its replay for a goal, why it fits no derivation, and the line. They serve core files too.
 #![tactic(auto)]
 
+mod asked;
 mod base_fits;
-mod environments;
-mod import_stops;
-mod imports_reading;
-mod kept_values;
+mod body_reading;
+mod kept_imports;
 mod language_stating;
 mod laws;
 mod list_reading;
 mod list_replaying;
+mod over;
+mod own_dialect;
 mod replay_stops;
 mod signatures;
 mod verified_lines;
+mod verify_module;
+mod verify_over;
+mod written_files;
 
-pub use laws::verifies_keep_promise;
+pub use laws::{verifies_agree, verifies_keep_promise, verifies_without_type_errors};
 pub use list_reading::read_entries;
-pub use replay_stops::bad_replay;
+pub use list_replaying::replay_goal;
+pub use replay_stops::{bad_entry, bad_replay};
 pub use verified_lines::verified_work;
+pub use verify_module::plan_verify;

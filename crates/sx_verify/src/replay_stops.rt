@@ -12,7 +12,7 @@ use sx_term::{NoMemory, Text};
 use sx_words::{Defect, FileDefect, ListDefect, Place, TextDefect};
 
 /// The refusal of a list with a bad line.
-pub(crate) fn bad_entry(alloc: Global, file: &Text, line: u32) -> Result<Stop, NoMemory>
+pub fn bad_entry(alloc: Global, file: &Text, line: u32) -> Result<Stop, NoMemory>
     ensures { IfOk result (λ stop. stop ≡ stops.bad_entry file.now line) }
 {
     refused_at(

@@ -8,11 +8,11 @@ ghost use Rattle.sx_notation.specs.Language.{IsLanguage, language_data};
 ghost use Rattle.sx_unit.specs.Texts.{print_text};
 ghost use Rattle.sx_words.specs.declared.closure_defect.Kept.TheVariants.{Signature};
 ghost use Rattle.sx_steps.specs.Stop.{Gives, IsNoFault};
-ghost use Rattle.sx_verify.specs.KeptValues.{KeepsText};
+ghost use Rattle.sx_importing.specs.KeptValues.{KeepsText};
 ghost use Rattle.sx_verify.specs.Replays.{IsTermOf};
 
-use crate::kept_values::keep_text;
 use std::alloc::Global;
+use sx_importing::keep_text;
 use sx_notation::Language;
 use sx_steps::StepError;
 use sx_term::{NoMemory, Term, Text};

@@ -5,4 +5,5 @@ use Rattle.sx_verify.proofs.signatures.shown.Goals as goal
 
 pub show-requires-clause-fits : goal.show-requires-clause-fits
 show-requires-clause-fits c =
-    output_fits (language_data c.args.language.now) c.requires.language.main (tree c.args.output.now) c.requires.output
+    output_fits (language_data c.args.language.now) c.requires.language.main
+    (tree c.args.output.now) c.requires.output
