@@ -1,0 +1,18 @@
+//! What is proved of `verify` over the files that a build leaves.
+
+ghost use Rattle.sx_rebuilding.specs.VerifyAgain.{VerifyFollowsBuild};
+
+use sx_interface::interfaces_are_within;
+use sx_verify::verifies_agree;
+
+/// Where `build NAME`, with at most 1,000,000 nodes to spend for each derivation, ended with a
+/// plan, and the files are as it leaves them, `verify M` of each module M that was built ends with
+/// a plan too, but for read faults and out of memory. So what a build leaves of a module is not
+/// refused: the files fit one another, the language and the interfaces of the imports, the body has
+/// one reading by the language alone, and the list is replayed within the limits.
+pub fn verify_follows_build()
+    ensures { VerifyFollowsBuild }
+{
+    interfaces_are_within();
+    verifies_agree();
+}
