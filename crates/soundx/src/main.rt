@@ -6,13 +6,19 @@ ghost use Rattle.std.specs.Prelude.{◌≡◌, ◌<◌};
 use std::marker::Brand;
 use std::process::ExitCode;
 use std::sync::ledger::{Blank, Ledger};
+use sx_audit::{Auditor, makers};
 use sx_host::{ArgumentsError, Folder, Input, Output, read_arguments};
 use sx_outside::Sink;
-use sx_term::{Steps, Text};
+use sx_term::{NoMemory, Steps, Text};
 use sx_top::{Status, run};
 
 /// Runs the words over the current folder, standard input and standard output.
-fn run_with<L: Ledger>(rt: &HostRuntime, words: &[Text], blank: Blank) -> Status
+fn run_with<L: Ledger>(
+    rt: &HostRuntime,
+    words: &[Text],
+    auditors: Vec<Box<dyn Auditor>>,
+    blank: Blank,
+) -> Status
     requires name { blank.name ≡ L.name }
     requires parts { blank.parts ≡ L.parts }
     requires some { 0 < blank.parts }
@@ -27,8 +33,24 @@ fn run_with<L: Ledger>(rt: &HostRuntime, words: &[Text], blank: Blank) -> Status
         &mut folder,
         &mut input,
         &mut output,
+        auditors,
         &mut steps,
     )
+}
+
+/// Runs the words with one auditor of each kind, none of which a word has set.
+fn run_words(rt: &HostRuntime, words: &[Text]) -> Result<Status, NoMemory> {
+    let alloc = rt.alloc();
+    let deny: Box<dyn Auditor> = Box::new(alloc, makers::deny(alloc)?)?;
+    let depth: Box<dyn Auditor> = Box::new(alloc, makers::depth(alloc)?)?;
+    let nodes: Box<dyn Auditor> = Box::new(alloc, makers::nodes(alloc)?)?;
+    let tally: Box<dyn Auditor> = Box::new(alloc, makers::tally(alloc)?)?;
+    let mut auditors = Vec::new(alloc);
+    auditors.push(deny)?;
+    auditors.push(depth)?;
+    auditors.push(nodes)?;
+    auditors.push(tally)?;
+    Ok(run_with::<Brand>(rt, words, auditors, Blank::new(1)))
 }
 
 /// Says that the words are no texts.
@@ -39,7 +61,7 @@ fn refuse_words(rt: &HostRuntime) -> Status {
 
 fn main(rt: HostRuntime) -> ExitCode {
     let status = match read_arguments(&rt) {
-        Ok(words) => run_with::<Brand>(&rt, &words, Blank::new(1)),
+        Ok(words) => run_words(&rt, &words).unwrap_or(Status::NoMemory),
         Err(ArgumentsError::Memory) => Status::NoMemory,
         Err(ArgumentsError::NoText) => refuse_words(&rt),
     };

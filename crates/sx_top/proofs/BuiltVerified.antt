@@ -14,7 +14,7 @@ use Rattle.sx_top.specs.FindFirst.{no_hypotheses, rules_of}
 use Rattle.sx_top.specs.Search.{goal_events}
 use Rattle.sx_top.specs.ReadCore.{core_file}
 use Rattle.sx_top.specs.BuildCore.{core_plan}
-use Rattle.sx_top.specs.VerifyCore.{verified_plan}
+use Rattle.sx_verify.specs.Verified.{verified_plan}
 use Rattle.sx_top.specs.VerifyLaws.{BuiltIsVerified}
 use Rattle.sx_steps.proofs.StepsOn.{went}
 use Rattle.sx_top.proofs.Propers.{proper}

@@ -14,9 +14,11 @@ use Rattle.sx_outside.specs.declared.answer.WriteAnswer.{WriteAnswer}
 use Rattle.sx_outside.specs.declared.answer.WriteAnswer.TheVariants as write
 use Rattle.sx_steps.specs.Work.{Plan, plan_of}
 use Rattle.sx_steps.specs.Stop.{OnlyReads, Does}
-use Rattle.sx_top.specs.Commands.{by_now, Spelled}
+use Rattle.sx_audit.specs.Meaning.{Meaning}
+use Rattle.sx_top.specs.Calls.{Call}
+use Rattle.sx_words.specs.Commands.{Spells}
 use Rattle.sx_top.specs.Course.{Seen, seen, Course, lacking, stopped, short, failed, written, answered, status_after, Begins, Leaves}
-use Rattle.sx_top.specs.Outcome.{budgets_of, Outcome, Runs, Promises}
+use Rattle.sx_top.specs.Outcome.{budgets_of, NamesFor, Outcome, Runs, Promises}
 use Rattle.sx_top.specs.Performing.{Performs}
 use Rattle.sx_top.specs.Telling.{IsTold}
 use Rattle.sx_steps.specs.declared.stop.Stop.{Stop}
@@ -28,7 +30,10 @@ use Rattle.sx_steps.specs.declared.step_error.StepError.{StepError}
 use Rattle.sx_steps.specs.declared.step_error.StepError.TheVariants as errors
 use Rattle.sx_steps.specs.declared.work.Work.{Work}
 use Rattle.sx_steps.proofs.StepsOn.{went_on}
-use Rattle.sx_build.proofs.Promise.{build_promise as build_module_promise}
+use Rattle.sx_build.proofs.Promise.{builds_keep_promise}
+use Rattle.sx_compile.proofs.Promise.{compiles_keep_promise}
+use Rattle.sx_sampling.proofs.Promise.{samples_keep_promise}
+use Rattle.sx_verify.proofs.Promise.{verify_promise as verify_module_promise}
 use Rattle.sx_check.proofs.Promise.{check_promise}
 use Rattle.sx_top.proofs.BuildPromise.{build_promise}
 use Rattle.sx_top.proofs.VerifyPromise.{verify_promise}
@@ -45,29 +50,29 @@ begins_with Holds result (failed plan number answer) begins holds = subst Holds 
 begins_with Holds result (written plan answer) begins holds = subst Holds (sym begins) holds
 
 -- a run that had a plan, after reads that did not fail
-pub ends_performed : (words : List (List ℕ)) (plan : Plan) (status : Status) (files between files' : Option Files) (bytes bytes' : Option (List ℕ)) (reads read reads' writes wrote writes' sends sends' before after : ℕ) →
-    between ≡ files → read ≡ reads → wrote ≡ writes → ComesTo words files before after (Ok plan) → Performs plan status (seen between bytes read wrote sends) (seen files' bytes' reads' writes' sends') →
-    Ends words status (seen files bytes reads writes sends) (seen files' bytes' reads' writes' sends') before after
-ends_performed words plan status files between files' bytes bytes' reads read reads' writes wrote writes' sends sends' before after same still kept comes performs = record {
+pub ends_performed : (given : Call) (plan : Plan) (status : Status) (files between files' : Option Files) (bytes bytes' : Option (List ℕ)) (reads read reads' writes wrote writes' sends sends' before after : ℕ) →
+    between ≡ files → read ≡ reads → wrote ≡ writes → ComesTo given files before after (Ok plan) → Performs plan status (seen between bytes read wrote sends) (seen files' bytes' reads' writes' sends') →
+    Ends given status (seen files bytes reads writes sends) (seen files' bytes' reads' writes' sends') before after
+ends_performed given plan status files between files' bytes bytes' reads read reads' writes wrote writes' sends sends' before after same still kept comes performs = record {
   course = performs.course;
   is = performs.is;
-  begins = begins_with (ComesTo words files before after) (Ok plan) performs.course performs.begins comes;
+  begins = begins_with (ComesTo given files before after) (Ok plan) performs.course performs.begins comes;
   leaves =
       let old : seen between bytes read wrote sends ≡ seen files bytes reads writes sends = λ i. seen (same i) bytes (still i) (kept i) sends in
       subst (λ (s : Seen). Leaves performs.course s (seen files' bytes' reads' writes' sends')) old performs.leaves;
 }
 
 -- a run that had none
-pub ends_told : (words : List (List ℕ)) (e : StepError) (status : Status) (files files' : Option Files) (bytes bytes' : Option (List ℕ)) (reads reads' writes writes' sends sends' before after : ℕ) →
-    OnlyReads {X = Work} files files' reads reads' writes writes' (Err e) → WhereTold files (λ held. Does plan_of (Outcome words held) (Err e) before after) → IsTold e status bytes bytes' sends sends' →
-    Ends words status (seen files bytes reads writes sends) (seen files' bytes' reads' writes' sends') before after
-ends_told words errors.Memory status files files' bytes bytes' reads reads' writes writes' sends sends' before after so outcome told = record {
+pub ends_told : (given : Call) (e : StepError) (status : Status) (files files' : Option Files) (bytes bytes' : Option (List ℕ)) (reads reads' writes writes' sends sends' before after : ℕ) →
+    OnlyReads {X = Work} files files' reads reads' writes writes' (Err e) → WhereTold files (λ held. Does plan_of (Outcome given held) (Err e) before after) → IsTold e status bytes bytes' sends sends' →
+    Ends given status (seen files bytes reads writes sends) (seen files' bytes' reads' writes' sends') before after
+ends_told given errors.Memory status files files' bytes bytes' reads reads' writes writes' sends sends' before after so outcome told = record {
   course = lacking;
   is = sym told.0;
   begins = outcome;
   leaves = λ i. seen (so.content i) (told.1 i) (so.kept (λ fault. fault) i) (so.writes i) (told.2 i);
 }
-ends_told words (errors.Stopped stop) status files files' bytes bytes' reads reads' writes writes' sends sends' before after so outcome told = record {
+ends_told given (errors.Stopped stop) status files files' bytes bytes' reads reads' writes writes' sends sends' before after so outcome told = record {
   course = stopped stop told.0;
   is = told.1;
   begins = outcome;
@@ -98,7 +103,6 @@ file_of_stop (file_defect.Notation kind) = tt
 file_of_stop file_defect.Header = tt
 file_of_stop (file_defect.Version number) = tt
 file_of_stop file_defect.BadList = tt
-file_of_stop file_defect.NotYet = tt
 
 defect_of_stop : (what : Defect) → IsOfStop (defect_status what)
 unfolding IsOfStop
@@ -125,21 +129,36 @@ answered_done stop write.NoMemory is = cc
 -- ---- promises
 
 -- each command keeps its promise
-kept : (command : Meant) (plan : Plan) (old new : Files) (made : ℕ) → Runs command old (Ok plan) made → new ≡ after plan.files old → Promises command old new plan.lines
-kept (builds true name tries nodes audits) plan old new made runs is = build_promise name tries old new plan made runs is
-kept (builds false name tries nodes audits) plan old new made runs is = build_module_promise name (budgets_of tries nodes) old new plan made runs is
-kept (compiles name tries nodes audits) plan old new made runs is = absurd runs
-kept (checks name tries nodes) plan old new made runs is = check_promise name (budgets_of tries nodes) old new plan made runs is
-kept (verifies true name) plan old new made runs is = verify_promise replayed_derives name old new plan runs.0 is
-kept (verifies false name) plan old new made runs is = absurd runs
-kept (samples number) plan old new made runs is = absurd runs
+kept : (command : Meant) (named : List Meaning) (plan : Plan) (old new : Files) (made : ℕ) →
+    Runs command named old (Ok plan) made → new ≡ after plan.files old →
+    Promises command named old new plan.lines
+kept (builds true name tries nodes audits) named plan old new made runs is =
+    build_promise name tries old new plan made runs is
+kept (builds false name tries nodes audits) named plan old new made runs is =
+    builds_keep_promise name (budgets_of tries nodes) named old new plan made runs is
+kept (compiles name tries nodes audits) named plan old new made runs is =
+    compiles_keep_promise name (budgets_of tries nodes) named old new plan made runs is
+kept (checks name tries nodes) named plan old new made runs is =
+    check_promise name (budgets_of tries nodes) old new plan made runs is
+kept (verifies true name) named plan old new made runs is =
+    verify_promise replayed_derives name old new plan runs.0 is
+kept (verifies false name) named plan old new made runs is =
+    verify_module_promise name old new plan runs.0 is
+kept (samples number) named plan old new made runs is =
+    samples_keep_promise number old new plan made runs is
 
-kept_by : (words : List (List ℕ)) (plan : Plan) (old new : Files) (tries : ℕ) → Outcome words old (Ok plan) tries → new ≡ after plan.files old → (command : Meant) → Spelled words command → Promises command old new plan.lines
+kept_by : (given : Call) (plan : Plan) (old new : Files) (tries : ℕ) →
+    Outcome given old (Ok plan) tries → new ≡ after plan.files old → (command : Meant) →
+    Spells given.words command → (named : List Meaning) ×
+    NamesFor given.auditors command (Ok named) × Promises command named old new plan.lines
 unfolding Outcome
-kept_by words plan old new tries outcome is command read =
+kept_by given plan old new tries outcome is command read =
     let steps = went_on _ _ _ tries outcome in
-    let same = one_command by_now words steps.given command steps.begins.0 read in
-    subst (λ (k : Meant). Promises k old new plan.lines) same (kept steps.given plan old new steps.after steps.goes is)
+    let runs = went_on _ _ _ steps.after steps.goes in
+    let same = one_command given.words steps.given command steps.begins.0 read in
+    subst (λ (k : Meant). (named : List Meaning) × NamesFor given.auditors k (Ok named) ×
+    Promises k named old new plan.lines) same
+    (runs.given, runs.begins.0, kept steps.given runs.given plan old new runs.after runs.goes is)
 
 -- files that are told stay told
 stays : (course : Course) (old new : Seen) → Leaves course old new → Told (λ before now. Unit {0}) old.files new.files
@@ -149,21 +168,21 @@ stays (short plan number) old new leaves = told_goes _ _ old.files new.files lea
 stays (failed plan number answer) old new leaves = told_goes _ _ old.files new.files leaves.files (λ before now told is. tt)
 stays (written plan answer) old new leaves = told_goes _ _ old.files new.files leaves.files (λ before now told is. tt)
 
-no_promise : (words : List (List ℕ)) (course : Course) (status : Status) (old new : Seen) → Leaves course old new → (status ≡ statuses.Done → ⊥) → Told (KeepsPromise words status old.bytes new.bytes) old.files new.files
-no_promise words course status old new leaves never = told_goes _ _ old.files new.files (stays course old new leaves) (λ before now told is done. absurd (never done))
+no_promise : (given : Call) (course : Course) (status : Status) (old new : Seen) → Leaves course old new → (status ≡ statuses.Done → ⊥) → Told (KeepsPromise given status old.bytes new.bytes) old.files new.files
+no_promise given course status old new leaves never = told_goes _ _ old.files new.files (stays course old new leaves) (λ before now told is done. absurd (never done))
 
-promise_by : (words : List (List ℕ)) (course : Course) (status : Status) (old new : Seen) (first last : ℕ) → status_after course ≡ status → Begins (ComesTo words old.files first last) course → Leaves course old new → Told (KeepsPromise words status old.bytes new.bytes) old.files new.files
-promise_by words lacking status old new first last is begins leaves = no_promise words lacking status old new leaves (λ done. let at : statuses.NoMemory ≡ statuses.Done = is ∙ done in cc)
-promise_by words (stopped stop answer) status old new first last is begins leaves = no_promise words (stopped stop answer) status old new leaves (λ done. answered_done stop answer (is ∙ done))
-promise_by words (short plan number) status old new first last is begins leaves = no_promise words (short plan number) status old new leaves (λ done. let at : statuses.NoMemory ≡ statuses.Done = is ∙ done in cc)
-promise_by words (failed plan number answer) status old new first last is begins leaves = no_promise words (failed plan number answer) status old new leaves (λ done. let at : statuses.WriteFault ≡ statuses.Done = is ∙ done in cc)
-promise_by words (written plan write.Done) status old new first last is begins leaves =
-    told_goes _ _ old.files new.files leaves.files (λ before now told wrote done command spelled. (plan.lines, (let b = begins before told in kept_by words plan before now b.0 b.1 wrote command spelled), leaves.lines.bytes))
-promise_by words (written plan write.Failed) status old new first last is begins leaves = no_promise words (written plan write.Failed) status old new leaves (λ done. let at : statuses.WriteFault ≡ statuses.Done = is ∙ done in cc)
-promise_by words (written plan write.NoMemory) status old new first last is begins leaves = no_promise words (written plan write.NoMemory) status old new leaves (λ done. let at : statuses.NoMemory ≡ statuses.Done = is ∙ done in cc)
+promise_by : (given : Call) (course : Course) (status : Status) (old new : Seen) (first last : ℕ) → status_after course ≡ status → Begins (ComesTo given old.files first last) course → Leaves course old new → Told (KeepsPromise given status old.bytes new.bytes) old.files new.files
+promise_by given lacking status old new first last is begins leaves = no_promise given lacking status old new leaves (λ done. let at : statuses.NoMemory ≡ statuses.Done = is ∙ done in cc)
+promise_by given (stopped stop answer) status old new first last is begins leaves = no_promise given (stopped stop answer) status old new leaves (λ done. answered_done stop answer (is ∙ done))
+promise_by given (short plan number) status old new first last is begins leaves = no_promise given (short plan number) status old new leaves (λ done. let at : statuses.NoMemory ≡ statuses.Done = is ∙ done in cc)
+promise_by given (failed plan number answer) status old new first last is begins leaves = no_promise given (failed plan number answer) status old new leaves (λ done. let at : statuses.WriteFault ≡ statuses.Done = is ∙ done in cc)
+promise_by given (written plan write.Done) status old new first last is begins leaves =
+    told_goes _ _ old.files new.files leaves.files (λ before now told wrote done command spelled. let b = begins before told in let k = kept_by given plan before now b.0 b.1 wrote command spelled in (k.0, plan.lines, k.1, k.2, leaves.lines.bytes))
+promise_by given (written plan write.Failed) status old new first last is begins leaves = no_promise given (written plan write.Failed) status old new leaves (λ done. let at : statuses.WriteFault ≡ statuses.Done = is ∙ done in cc)
+promise_by given (written plan write.NoMemory) status old new first last is begins leaves = no_promise given (written plan write.NoMemory) status old new leaves (λ done. let at : statuses.NoMemory ≡ statuses.Done = is ∙ done in cc)
 
-pub promise_kept : (words : List (List ℕ)) (status : Status) (old new : Seen) (first last : ℕ) → Ends words status old new first last → Told (KeepsPromise words status old.bytes new.bytes) old.files new.files
-promise_kept words status old new first last ends = promise_by words ends.course status old new first last ends.is ends.begins ends.leaves
+pub promise_kept : (given : Call) (status : Status) (old new : Seen) (first last : ℕ) → Ends given status old new first last → Told (KeepsPromise given status old.bytes new.bytes) old.files new.files
+promise_kept given status old new first last ends = promise_by given ends.course status old new first last ends.is ends.begins ends.leaves
 
 -- ---- faults
 
@@ -179,8 +198,8 @@ read_by (written plan write.Failed) status old new is leaves fault = let at : st
 read_by (written plan write.NoMemory) status old new is leaves fault = let at : statuses.NoMemory ≡ statuses.ReadFault = is ∙ fault in absurd cc
 
 -- the status of a failed read has its cause
-pub read_cause : (words : List (List ℕ)) (status : Status) (old new : Seen) (first last : ℕ) → Ends words status old new first last → status ≡ statuses.ReadFault → Rose old.reads new.reads
-read_cause words status old new first last ends fault = read_by ends.course status old new ends.is ends.leaves fault
+pub read_cause : (given : Call) (status : Status) (old new : Seen) (first last : ℕ) → Ends given status old new first last → status ≡ statuses.ReadFault → Rose old.reads new.reads
+read_cause given status old new first last ends fault = read_by ends.course status old new ends.is ends.leaves fault
 
 write_by : (course : Course) (status : Status) (old new : Seen) → status_after course ≡ status → Leaves course old new → status ≡ statuses.WriteFault → Rose old.writes new.writes ⊎ Rose old.sends new.sends
 write_by lacking status old new is leaves fault = let at : statuses.NoMemory ≡ statuses.WriteFault = is ∙ fault in absurd cc
@@ -194,8 +213,8 @@ write_by (written plan write.Failed) status old new is leaves fault = inr (leave
 write_by (written plan write.NoMemory) status old new is leaves fault = let at : statuses.NoMemory ≡ statuses.WriteFault = is ∙ fault in absurd cc
 
 -- so has that of a failed write
-pub write_cause : (words : List (List ℕ)) (status : Status) (old new : Seen) (first last : ℕ) → Ends words status old new first last → status ≡ statuses.WriteFault → Rose old.writes new.writes ⊎ Rose old.sends new.sends
-write_cause words status old new first last ends fault = write_by ends.course status old new ends.is ends.leaves fault
+pub write_cause : (given : Call) (status : Status) (old new : Seen) (first last : ℕ) → Ends given status old new first last → status ≡ statuses.WriteFault → Rose old.writes new.writes ⊎ Rose old.sends new.sends
+write_cause given status old new first last ends fault = write_by ends.course status old new ends.is ends.leaves fault
 
 -- what stays does not rise
 no_rise : {A : Type 0} (before after : ℕ) → before < after → after ≡ before → A
@@ -209,8 +228,8 @@ failed_by (failed plan number answer) status old new is leaves less = sym is
 failed_by (written plan answer) status old new is leaves less = no_rise old.writes new.writes less leaves.writes
 
 -- a failed write of a file gives its status
-pub write_forces : (words : List (List ℕ)) (status : Status) (old new : Seen) (first last : ℕ) → Ends words status old new first last → old.writes < new.writes → status ≡ statuses.WriteFault
-write_forces words status old new first last ends less = failed_by ends.course status old new ends.is ends.leaves less
+pub write_forces : (given : Call) (status : Status) (old new : Seen) (first last : ℕ) → Ends given status old new first last → old.writes < new.writes → status ≡ statuses.WriteFault
+write_forces given status old new first last ends less = failed_by ends.course status old new ends.is ends.leaves less
 
 sent_by : (course : Course) (status : Status) (old new : Seen) → status_after course ≡ status → Leaves course old new → old.sends < new.sends → status ≡ statuses.WriteFault
 sent_by lacking status old new is leaves less = no_rise old.sends new.sends less (ap (λ (s : Seen). s.sends) leaves)
@@ -224,8 +243,8 @@ sent_by (written plan write.Failed) status old new is leaves less = sym is
 sent_by (written plan write.NoMemory) status old new is leaves less = no_rise old.sends new.sends less (leaves.lines.faults.kept (λ same. cc))
 
 -- so does a failed write on the sink
-pub send_forces : (words : List (List ℕ)) (status : Status) (old new : Seen) (first last : ℕ) → Ends words status old new first last → old.sends < new.sends → status ≡ statuses.WriteFault
-send_forces words status old new first last ends less = sent_by ends.course status old new ends.is ends.leaves less
+pub send_forces : (given : Call) (status : Status) (old new : Seen) (first last : ℕ) → Ends given status old new first last → old.sends < new.sends → status ≡ statuses.WriteFault
+send_forces given status old new first last ends less = sent_by ends.course status old new ends.is ends.leaves less
 
 is_read : (status : Status) → (status ≡ statuses.ReadFault) ⊎ (status ≡ statuses.ReadFault → ⊥)
 is_read statuses.Done = inr (λ same. cc)
@@ -253,20 +272,20 @@ reads_by (failed plan number answer) status old new is leaves less = no_rise old
 reads_by (written plan answer) status old new is leaves less = no_rise old.reads new.reads less leaves.reads
 
 -- a failed read gives its status, where its line was sent
-pub read_forces : (words : List (List ℕ)) (status : Status) (old new : Seen) (first last : ℕ) → Ends words status old new first last → old.reads < new.reads → IsAfterRead status old.sends new.sends
-read_forces words status old new first last ends less = reads_by ends.course status old new ends.is ends.leaves less
+pub read_forces : (given : Call) (status : Status) (old new : Seen) (first last : ℕ) → Ends given status old new first last → old.reads < new.reads → IsAfterRead status old.sends new.sends
+read_forces given status old new first last ends less = reads_by ends.course status old new ends.is ends.leaves less
 
-complete_by : (words : List (List ℕ)) (course : Course) (status : Status) (old new : Seen) (first last : ℕ) (files : Files) → status_after course ≡ status → Begins (ComesTo words old.files first last) course → Leaves course old new → old.files ≡ Some files → HasNoDefect words files
+complete_by : (given : Call) (course : Course) (status : Status) (old new : Seen) (first last : ℕ) (files : Files) → status_after course ≡ status → Begins (ComesTo given old.files first last) course → Leaves course old new → old.files ≡ Some files → HasNoDefect given files
     → (Rose old.reads new.reads → ⊥) → (Rose old.writes new.writes → ⊥) → (Rose old.sends new.sends → ⊥) → IsDoneOrShort status
-complete_by words lacking status old new first last files is begins leaves told none no_read no_write no_send = inr (sym is)
-complete_by words (stopped stop answer) status old new first last files is begins leaves told none no_read no_write no_send = absurd (no_read (let b = begins files told in leaves.reads.rose (none stop b.0 b.1)))
-complete_by words (short plan number) status old new first last files is begins leaves told none no_read no_write no_send = inr (sym is)
-complete_by words (failed plan number answer) status old new first last files is begins leaves told none no_read no_write no_send = absurd (no_write (leaves.writes.rose tt))
-complete_by words (written plan write.Done) status old new first last files is begins leaves told none no_read no_write no_send = inl (sym is)
-complete_by words (written plan write.Failed) status old new first last files is begins leaves told none no_read no_write no_send = absurd (no_send (leaves.lines.faults.rose refl))
-complete_by words (written plan write.NoMemory) status old new first last files is begins leaves told none no_read no_write no_send = inr (sym is)
+complete_by given lacking status old new first last files is begins leaves told none no_read no_write no_send = inr (sym is)
+complete_by given (stopped stop answer) status old new first last files is begins leaves told none no_read no_write no_send = absurd (no_read (let b = begins files told in leaves.reads.rose (none stop b.0 b.1)))
+complete_by given (short plan number) status old new first last files is begins leaves told none no_read no_write no_send = inr (sym is)
+complete_by given (failed plan number answer) status old new first last files is begins leaves told none no_read no_write no_send = absurd (no_write (leaves.writes.rose tt))
+complete_by given (written plan write.Done) status old new first last files is begins leaves told none no_read no_write no_send = inl (sym is)
+complete_by given (written plan write.Failed) status old new first last files is begins leaves told none no_read no_write no_send = absurd (no_send (leaves.lines.faults.rose refl))
+complete_by given (written plan write.NoMemory) status old new first last files is begins leaves told none no_read no_write no_send = inr (sym is)
 
--- words and files without a defect, and no fault
-pub is_complete : (words : List (List ℕ)) (status : Status) (old new : Seen) (first last : ℕ) (files : Files) → Ends words status old new first last → old.files ≡ Some files → HasNoDefect words files
+-- given and files without a defect, and no fault
+pub is_complete : (given : Call) (status : Status) (old new : Seen) (first last : ℕ) (files : Files) → Ends given status old new first last → old.files ≡ Some files → HasNoDefect given files
     → (Rose old.reads new.reads → ⊥) → (Rose old.writes new.writes → ⊥) → (Rose old.sends new.sends → ⊥) → IsDoneOrShort status
-is_complete words status old new first last files ends told none no_read no_write no_send = complete_by words ends.course status old new first last files ends.is ends.begins ends.leaves told none no_read no_write no_send
+is_complete given status old new first last files ends told none no_read no_write no_send = complete_by given ends.course status old new first last files ends.is ends.begins ends.leaves told none no_read no_write no_send

@@ -13,7 +13,7 @@ use Rattle.sx_core.specs.CoreRead.{IsCoreAnswer}
 use Rattle.sx_core.specs.File.{CoreFile, words_text, judgement_text}
 use Rattle.sx_core.specs.Table.{Row, row_text, declaration_row, rule_rows, rows_of}
 use Rattle.sx_top.specs.CoreTexts.{roles_of, subjects, subject_text, term_lines}
-use Rattle.sx_top.proofs.ShortTexts.{AreShort, lines_short, kept_short}
+use Rattle.sx_verify.proofs.ShortTexts.{AreShort, lines_short, kept_short}
 
 subjects_short : (roles : List Role) (terms : List Tree) → length (term_lines (subjects roles terms)) ≤ length (words_text (map core terms))
 subjects_short [] terms = omega arith

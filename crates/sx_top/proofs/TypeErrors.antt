@@ -28,20 +28,29 @@ use Rattle.sx_steps.specs.Unit.{base_file, list_file, interface_file}
 use Rattle.sx_steps.proofs.Ones.{err_same, ok_no_err}
 use Rattle.sx_steps.proofs.StepsOn.{went}
 use Rattle.sx_steps.proofs.TypeErrors.{OnTypeError, on_stop, no_type_error, no_rules, Final, FinalTrying, then_final, trying_final, and_then_final, held_final}
-use Rattle.sx_build.proofs.TypeErrors.{type_errors_are_final as module_errors_are_final}
+use Rattle.sx_build.specs.Laws.{TypeErrorsAreFinal as BuildsFinal}
 use Rattle.sx_check.proofs.TypeErrors.{check_errors_are_final}
+use Rattle.sx_compile.specs.Laws.{TypeErrorsAreFinal as CompilesFinal}
+use Rattle.sx_sampling.specs.Laws.{TypeErrorsAreFinal as SamplesFinal}
+use Rattle.sx_verify.specs.Lists.{bad_entry, replay_stop, StatesEntries, ReadsEntries}
+use Rattle.sx_verify.specs.Verified.{verified_plan}
+use Rattle.sx_verify.proofs.TypeErrors.{verifies_without_type_errors}
 use Rattle.sx_top.specs.BuildCore.{core_plan, BuildsGoal, BuildsWhole}
-use Rattle.sx_top.specs.Commands.{Commands, Spelled}
-use Rattle.sx_top.specs.CoreStops.{variable_name, bad_entry, differs}
+use Rattle.sx_words.specs.Commands.{Spells}
+use Rattle.sx_top.specs.Commands.{Commands}
+use Rattle.sx_top.specs.CoreStops.{variable_name, differs}
 use Rattle.sx_top.specs.CoreTexts.{subject_text, term_lines}
 use Rattle.sx_top.specs.FindFirst.{no_hypotheses, rules_of}
 use Rattle.sx_top.specs.Laws.{HasNoDerivation, IsUntyped, TypeErrorsAreFinal}
-use Rattle.sx_top.specs.LowerStops.{core_stop, replay_stop}
-use Rattle.sx_top.specs.Outcome.{budgets_of, Runs, Outcome}
+use Rattle.sx_top.specs.LowerStops.{core_stop}
+use Rattle.sx_audit.specs.Meaning.{Meaning}
+use Rattle.sx_top.specs.Calls.{Call}
+use Rattle.sx_top.specs.Outcome.{budgets_of, audits_of, NamesFor, Runs, RunsFor, Outcome}
+use Rattle.sx_top.proofs.Misnamed.{misnamed}
 use Rattle.sx_top.specs.ReadCore.{core_file, rule_names, Reads}
 use Rattle.sx_top.specs.Search.{goal_events, passed, ComesTo, Searches, HasWalked}
-use Rattle.sx_top.specs.VerifyCore.{verified_plan, Replays, VerifiesOutputs, VerifiesEntries, VerifiesList, VerifiesSubject, VerifiesWhole}
-use Rattle.sx_top.specs.Written.{Equals, Compares, StatesEntries, ReadsEntries}
+use Rattle.sx_top.specs.VerifyCore.{Replays, VerifiesOutputs, VerifiesEntries, VerifiesList, VerifiesSubject, VerifiesWhole}
+use Rattle.sx_top.specs.Written.{Equals, Compares}
 use Rattle.sx_top.proofs.Propers.{proper}
 
 module _ (Q : Stop → Type 0) where
@@ -153,26 +162,61 @@ module _ (name : List ℕ) (budget : ℕ) (files : Files) where
 
 -- ---- commands
 
-runs_final : (command : Meant) (files : Files) → FinalTrying (IsUntyped command files) (Runs command files)
-runs_final (builds true name tries nodes audits) files stop made h error = builds_final name tries files stop made h error
-runs_final (builds false name tries nodes audits) files stop made h error = module_errors_are_final name (budgets_of tries nodes) files stop made h error
-runs_final (compiles name tries nodes audits) files stop made h error = absurd h
-runs_final (checks name tries nodes) files stop made h error = check_errors_are_final name (budgets_of tries nodes) files stop made h error
-runs_final (verifies true name) files stop made h error = verifies_final (λ (s : Stop). ⊥) name files stop h.0 error
-runs_final (verifies false name) files stop made h error = absurd h
-runs_final (samples number) files stop made h error = absurd h
+runs_final : BuildsFinal → CompilesFinal → SamplesFinal → (command : Meant) (named : List Meaning)
+    (files : Files) → FinalTrying (IsUntyped command named files) (Runs command named files)
+runs_final builds_end compiles_final samples_final (builds true name tries nodes audits) named files stop made h error =
+    builds_final name tries files stop made h error
+runs_final builds_end compiles_final samples_final (builds false name tries nodes audits) named files stop made h error =
+    builds_end name (budgets_of tries nodes) named files stop made h error
+runs_final builds_end compiles_final samples_final (compiles name tries nodes audits) named files stop made h error =
+    compiles_final name (budgets_of tries nodes) named files stop made h error
+runs_final builds_end compiles_final samples_final (checks name tries nodes) named files stop made h error =
+    check_errors_are_final name (budgets_of tries nodes) files stop made h error
+runs_final builds_end compiles_final samples_final (verifies true name) named files stop made h error =
+    verifies_final (λ (s : Stop). ⊥) name files stop h.0 error
+runs_final builds_end compiles_final samples_final (verifies false name) named files stop made h error =
+    verifies_without_type_errors name files stop h.0 error
+runs_final builds_end compiles_final samples_final (samples number) named files stop made h error =
+    samples_final number stop made h error
 
-module _ (words : List (List ℕ)) (files : Files) where
+-- naming auditors is no type error
+names_final : (Q : Stop → Type 0) (handed : List Meaning) (command : Meant) →
+    Final Q (NamesFor handed command)
+names_final Q handed command stop h =
+    let place = misnamed handed (audits_of command) stop h in
+    no_type_error Q (bad_word place.0) stop (λ e. e) place.1
+
+module _ (builds_end : BuildsFinal) (compiles_final : CompilesFinal)
+    (samples_final : SamplesFinal) (c : Call) (files : Files) where
   -- the words spell a command that is so
-  abbrev Spells : Stop → Type 0
-  Spells stop = (command : Meant) × Spelled words command × IsUntyped command files stop
+  abbrev IsSpelledSo : Stop → Type 0
+  IsSpelledSo stop = (command : Meant) × (named : List Meaning) × Spells c.words command ×
+      NamesFor c.auditors command (Ok named) × IsUntyped command named files stop
 
-  outcome_final : FinalTrying Spells (AndThen (Untried (Commands words)) (λ command. Runs command files))
+  runs_for_final : (command : Meant) → Spells c.words command →
+      FinalTrying IsSpelledSo (RunsFor c.auditors files command)
+  runs_for_final command spelled =
+      and_then_final IsSpelledSo (Untried (NamesFor c.auditors command))
+      (λ named. Runs command named files)
+      (trying_final IsSpelledSo NoTries (NamesFor c.auditors command)
+      (names_final IsSpelledSo c.auditors command))
+      (λ named before are stop made h error. (
+        command,
+        named,
+        spelled,
+        are.0,
+        runs_final builds_end compiles_final samples_final command named files stop made h error,
+      ))
+
+  outcome_final : FinalTrying IsSpelledSo (AndThen (Untried (Commands c.words))
+      (RunsFor c.auditors files))
   outcome_final =
-      and_then_final Spells (Untried (Commands words)) (λ command. Runs command files)
-      (trying_final Spells NoTries (Commands words) (λ stop h. no_type_error Spells (bad_word h.0) stop (λ e. e) h.2))
-      (λ command before spelled stop made h error. (command, spelled.0, runs_final command files stop made h error))
+      and_then_final IsSpelledSo (Untried (Commands c.words)) (RunsFor c.auditors files)
+      (trying_final IsSpelledSo NoTries (Commands c.words)
+      (λ stop h. no_type_error IsSpelledSo (bad_word h.0) stop (λ e. e) h.2))
+      (λ command before spelled. runs_for_final command spelled.0)
 
-pub type_errors_are_final : TypeErrorsAreFinal
+pub type_errors_are_final : BuildsFinal → CompilesFinal → SamplesFinal → TypeErrorsAreFinal
 unfolding Outcome
-type_errors_are_final words files = outcome_final words files
+type_errors_are_final builds_end compiles_final samples_final c files =
+    outcome_final builds_end compiles_final samples_final c files

@@ -12,7 +12,8 @@ use Rattle.sx_replay.specs.Replay.{IsReplayAnswer}
 use Rattle.sx_top.specs.CoreTexts.{term_lines}
 use Rattle.sx_top.specs.FindFirst.{no_hypotheses, rules_of}
 use Rattle.sx_steps.specs.Work.{Plan}
-use Rattle.sx_top.specs.VerifyCore.{verified_plan, VerifiesWhole, VerifiedUnit}
+use Rattle.sx_verify.specs.Verified.{verified_plan}
+use Rattle.sx_top.specs.VerifyCore.{VerifiesWhole, VerifiedUnit}
 use Rattle.sx_steps.proofs.StepsOn.{went}
 
 -- what is replayed is the list of a derivation with the outputs

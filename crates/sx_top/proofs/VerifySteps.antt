@@ -1,13 +1,10 @@
 -- How `verify --core` goes through its steps.
-use Rattle.std.proofs.Common.{◌≡◌, ℕ, ◌<◌, ◌≤◌, Bool, true, false, List, [], ◌∷◌, ◌++◌, map, length, Option, Some, None, refl, sym, ap, ◌∙◌, subst, arith}
+use Rattle.std.proofs.Common.{◌≡◌, ℕ, ◌<◌, ◌≤◌, Bool, true, false, List, [], ◌∷◌, ◌++◌, map, Option, Some, None, refl, sym, ap, ◌∙◌, subst, arith}
 use Rattle.std.specs.Prelude.{Result, Ok, ◌-◌, ◌^◌, nat_lt, slice_get}
 use Rattle.std.proofs.lemmas.Bool.{ltb-true, ltb-false}
-use Rattle.std.proofs.lemmas.List.{length-map}
 use Rattle.sx_outside.specs.Files.{Files}
 use Rattle.sx_outside.specs.Faults.{Rose}
 use Rattle.sx_term.specs.Tree.{Tree, depth_of}
-use Rattle.sx_lines.specs.Lines.{lines_from, texts}
-use Rattle.sx_rules.specs.declared.entry.Entry.{Entry as EntryOf}
 use Rattle.sx_rules.specs.declared.rule.Rule.{Rule as RuleOf}
 use Rattle.sx_rules.specs.Rules.{Rule, Hypotheses}
 use Rattle.sx_rules.specs.Instances.{bound_by}
@@ -17,7 +14,6 @@ use Rattle.sx_rules.specs.Good.{names_of}
 use Rattle.sx_rules.specs.Derivations.{Proof, by, given, AreShallow}
 use Rattle.sx_rules.specs.First.{Answer, DerivesGoal}
 use Rattle.sx_rules.specs.Orders.{Entry, order_of}
-use Rattle.sx_rules.specs.ListText.{entry_line, StatesList}
 use Rattle.sx_rules.proofs.Texts.{outputs_have_texts}
 use Rattle.sx_core.specs.Problem.{Problem, problem}
 use Rattle.sx_core.specs.declared.problem.CoreProblem.{CoreProblem}
@@ -30,7 +26,6 @@ use Rattle.sx_top.specs.Proper.{IsProper}
 use Rattle.sx_steps.specs.Stop.{IsNoFault, OnlyReads}
 use Rattle.sx_steps.specs.declared.step_error.StepError.{StepError}
 use Rattle.sx_top.proofs.Propers.{terms_of}
-use Rattle.sx_top.proofs.ShortTexts.{lines_few}
 
 -- ---- equals for equals
 
@@ -82,14 +77,6 @@ bare_rules (r ∷ rs) = ap (λ (others : List Rule). rule_of r ∷ others) (bare
 pub by_plain : (p : CoreProblem) (P : List Rule → Hypotheses → Type 0) (hyps : Hypotheses) → hyps ≡ no_hypotheses → P (map rule_of p.rules.rules.items) hyps → P (rules_of (problem p)) no_hypotheses
 by_plain p P hyps none holds =
     subst (λ (h : Hypotheses). P (rules_of (problem p)) h) none (subst (λ (rs : List Rule). P rs hyps) (bare_rules p.rules.rules.items) holds)
-
--- a list has no more entries than its text has bytes
-pub few_entries : (names : List (List ℕ)) (bytes : List ℕ) (list : List EntryOf) → StatesList names (texts (lines_from 1 bytes)) list → length list ≤ length bytes
-few_entries names bytes list states =
-    let l = lines_few 1 bytes in
-    let m = ap length states.spelled in
-    let n = length-map list (entry_line names) in
-    omega arith
 
 -- ---- outputs
 

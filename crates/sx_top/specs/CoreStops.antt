@@ -1,10 +1,7 @@
 -- The stops of the commands on core files.
 use Rattle.std.specs.Prelude.{ℕ, ◌+◌, List, ◌++◌, codes, decimal, Some, None}
-use Rattle.sx_words.specs.declared.place.Place.TheVariants.{Line}
-use Rattle.sx_words.specs.declared.file_defect.FileDefect.TheVariants as file_defect
 use Rattle.sx_words.specs.declared.goal_defect.GoalDefect.{GoalDefect}
 use Rattle.sx_words.specs.declared.goal_defect.GoalDefect.TheVariants as goal_defect
-use Rattle.sx_words.specs.declared.list_defect.ListDefect.{ListDefect}
 use Rattle.sx_words.specs.declared.closure_defect.ClosureDefect.TheVariants as closure_defect
 use Rattle.sx_words.specs.declared.refusal.Defect.TheVariants as defect
 use Rattle.sx_derive.specs.Stuck.{Blame, Reason, no_rule, unequal, mismatch}
@@ -13,7 +10,6 @@ use Rattle.sx_rules.specs.Modes.{Goal}
 use Rattle.sx_core.specs.Problem.{Problem}
 use Rattle.sx_steps.specs.declared.stop.Stop.{Stop}
 use Rattle.sx_steps.specs.Refusal.{about}
-use Rattle.sx_steps.specs.Stops.{at}
 use Rattle.sx_top.specs.CoreTexts.{rule_name}
 use Rattle.sx_top.specs.GoalTexts.{goal_text}
 
@@ -44,14 +40,6 @@ abbrev pub underivable : List ℕ → Problem → Blame → Stop
 underivable file problem blame = stuck file problem.forms problem.rules blame.goal blame.reason
 
 -- ---- written files
-
--- the first line of a derivation list that is not as defined
-abbrev pub bad_entry : List ℕ → ℕ → Stop
-bad_entry file line = at (Line line) file (defect.File file_defect.BadList)
-
--- the list fits no derivation
-abbrev pub unfit_list : List ℕ → ListDefect → Stop
-unfit_list file what = about file (defect.List what)
 
 -- the file is not the text that the goal and the replay give
 abbrev pub differs : List ℕ → Stop

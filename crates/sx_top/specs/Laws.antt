@@ -1,6 +1,7 @@
 -- Laws of what runs come to.
 use Rattle.std.specs.Prelude.{◌≡◌, ◌⊎◌, ℕ, true, false, List, Result, Ok, Err, None}
 use Rattle.sx_outside.specs.Files.{Files}
+use Rattle.sx_extcheck.specs.declared.budgets.Budgets.{Budgets}
 use Rattle.sx_rules.specs.Views.{modes_of}
 use Rattle.sx_rules.specs.First.{IsUnderivable}
 use Rattle.sx_core.specs.Problem.{Problem}
@@ -11,11 +12,22 @@ use Rattle.sx_steps.specs.declared.step_error.StepError.TheVariants as errors
 use Rattle.sx_steps.specs.Agree.{IsSure, AnswersBy}
 use Rattle.sx_steps.specs.TypeErrors.{IsTypeError}
 use Rattle.sx_steps.specs.Work.{Plan}
-use Rattle.sx_build.specs.Laws.{SameButShown, HasNoType, HasUnsoundRule as UsesUnsoundRule}
+use Rattle.sx_build.specs.Laws.{SameButShown, IsTurn, given_at}
 use Rattle.sx_check.specs.Laws.{SameButLines, HasUnsoundRule}
-use Rattle.sx_top.specs.Commands.{Spelled}
+use Rattle.sx_verify.specs.Laws.{SameButShown as VerifiesSame}
+use Rattle.sx_compiling.specs.Laws.{HasNoType as UnitHasNoType}
+use Rattle.sx_compiling.specs.Laws.{HasUnsoundRule as UnitHasUnsoundRule}
+use Rattle.sx_compile.specs.Found.{IsFound, given_from}
+use Rattle.sx_compile.specs.Laws.{SameButShown as CompilesSame}
+use Rattle.sx_sample.specs.Holding.{files_of}
+use Rattle.sx_sampling.specs.SampleSteps.{sample_budgets}
+use Rattle.sx_sampling.specs.Found.{IsFound as IsSampleFound, given_from as given_from_sample}
+use Rattle.sx_sampling.specs.Laws.{SameButShown as SamplesSame}
+use Rattle.sx_audit.specs.Meaning.{Meaning}
+use Rattle.sx_top.specs.Calls.{Call}
+use Rattle.sx_words.specs.Commands.{Spells}
 use Rattle.sx_top.specs.FindFirst.{no_hypotheses, rules_of}
-use Rattle.sx_top.specs.Outcome.{budgets_of, Outcome}
+use Rattle.sx_top.specs.Outcome.{budgets_of, NamesFor, Outcome}
 use Rattle.sx_top.specs.ReadCore.{core_file, Reads}
 
 -- ---- one outcome
@@ -34,31 +46,38 @@ IsOfCore (samples number) = ⊥
 -- read faults and out of memory aside
 abbrev pub OneCoreOutcome : Type 0
 OneCoreOutcome =
-    (words : List (List ℕ)) → ((command : Meant) → Spelled words command → IsOfCore command) →
+    (c : Call) → ((command : Meant) → Spells c.words command → IsOfCore command) →
     (files : Files) (a b : Result Plan StepError) (m n : ℕ) →
-    Outcome words files a m → Outcome words files b n → IsSure a → IsSure b → (a ≡ b) × (m ≡ n)
+    Outcome c files a m → Outcome c files b n → IsSure a → IsSure b → (a ≡ b) × (m ≡ n)
 
--- the stops of the command are the same; for a module or an extension they give the same status and
--- the same line, but for readings that they show where it is free which these are
-abbrev pub SameFor : Meant → Files → Stop → Stop → Type 0
-SameFor (builds false name tries nodes audits) files s t =
-    SameButShown name (budgets_of tries nodes) files s t
-SameFor (checks name tries nodes) files s t =
+-- the stops of the command with these auditors are the same; for a module or an extension they give
+-- the same status and the same line, but for readings that they show where it is free which these
+-- are
+abbrev pub SameFor : Meant → List Meaning → Files → Stop → Stop → Type 0
+SameFor (builds false name tries nodes audits) named files s t =
+    SameButShown name (budgets_of tries nodes) named files s t
+SameFor (compiles name tries nodes audits) named files s t =
+    CompilesSame name (budgets_of tries nodes) files s t
+SameFor (checks name tries nodes) named files s t =
     SameButLines name (budgets_of tries nodes) files s t
-SameFor command files s t = s ≡ t
+SameFor (verifies false name) named files s t = VerifiesSame name files s t
+SameFor (samples number) named files s t = SamplesSame number s t
+SameFor (builds true name tries nodes audits) named files s t = s ≡ t
+SameFor (verifies true name) named files s t = s ≡ t
 
--- the stops are the same, or so for the command that the words spell
-abbrev pub SameStops : (words : List (List ℕ)) → Files → Stop → Stop → Type 0
-SameStops words files s t = (s ≡ t) ⊎
-    ((command : Meant) × Spelled words command × SameFor command files s t)
+-- the stops are the same, or so for the command that the words spell and the auditors that it names
+abbrev pub SameStops : Call → Files → Stop → Stop → Type 0
+SameStops c files s t = (s ≡ t) ⊎
+    ((command : Meant) × (named : List Meaning) × Spells c.words command ×
+    NamesFor c.auditors command (Ok named) × SameFor command named files s t)
 
 -- words and files have one outcome and one number of tries, but for read faults, out of memory and
 -- such readings
 abbrev pub OneOutcome : Type 0
 OneOutcome =
-    (words : List (List ℕ)) (files : Files) (a b : Result Plan StepError) (m n : ℕ) →
-    Outcome words files a m → Outcome words files b n → IsSure a → IsSure b →
-    AnswersBy (SameStops words files) a b × (m ≡ n)
+    (c : Call) (files : Files) (a b : Result Plan StepError) (m n : ℕ) →
+    Outcome c files a m → Outcome c files b n → IsSure a → IsSure b →
+    AnswersBy (SameStops c files) a b × (m ≡ n)
 
 -- ---- type errors
 
@@ -69,21 +88,44 @@ pub record HasNoDerivation (name : List ℕ) (files : Files) : Type 0 where
   pub none : IsUnderivable (modes_of problem.forms) (rules_of problem) no_hypotheses problem.goal
       None
 
+-- one of the modules of the closure, after those before it were made, has no type, or a rule of one
+-- of its extensions is not sound
+abbrev pub BuildsUntyped : (name : List ℕ) → Budgets → List Meaning → Files → Stop → Type 0
+BuildsUntyped name budgets auditors files stop = (t : IsTurn name budgets auditors files) ×
+    (UnitHasNoType budgets files (given_at t) stop
+    ⊎ UnitHasUnsoundRule budgets files (given_at t) stop)
+
+-- what the module is compiled from is found, and the module has no type, or a rule of one of its
+-- extensions is not sound
+abbrev pub CompilesUntyped : (name : List ℕ) → Budgets → Files → Stop → Type 0
+CompilesUntyped name budgets files stop = (f : IsFound name files) ×
+    (UnitHasNoType budgets files (given_from f) stop
+    ⊎ UnitHasUnsoundRule budgets files (given_from f) stop)
+
+-- the sample's module has no type, or a rule of its extension is not sound
+abbrev pub SampleUntyped : (number : ℕ) → Stop → Type 0
+SampleUntyped number stop = (f : IsSampleFound number) ×
+    (UnitHasNoType sample_budgets (files_of number) (given_from_sample f) stop
+    ⊎ UnitHasUnsoundRule sample_budgets (files_of number) (given_from_sample f) stop)
+
 -- The goal that the command derives has no derivation, or the rule that the stop is about, of an
--- extension that it checks or uses, is not sound. `verify --core` derives no goal.
-abbrev pub IsUntyped : Meant → Files → Stop → Type 0
-IsUntyped (builds true name tries nodes audits) files stop = HasNoDerivation name files
-IsUntyped (builds false name tries nodes audits) files stop =
-    HasNoType name (budgets_of tries nodes) files stop
-    ⊎ UsesUnsoundRule name (budgets_of tries nodes) files stop
-IsUntyped (checks name tries nodes) files stop =
+-- extension that it checks or uses, is not sound. `verify` derives no goal.
+abbrev pub IsUntyped : Meant → List Meaning → Files → Stop → Type 0
+IsUntyped (builds true name tries nodes audits) named files stop = HasNoDerivation name files
+IsUntyped (builds false name tries nodes audits) named files stop =
+    BuildsUntyped name (budgets_of tries nodes) named files stop
+IsUntyped (compiles name tries nodes audits) named files stop =
+    CompilesUntyped name (budgets_of tries nodes) files stop
+IsUntyped (checks name tries nodes) named files stop =
     HasUnsoundRule name (budgets_of tries nodes) files stop
-IsUntyped command files stop = ⊥
+IsUntyped (samples number) named files stop = SampleUntyped number stop
+IsUntyped (verifies of_core name) named files stop = ⊥
 
 -- a run stops with a type error only where the command's goal has no derivation at all, or the rule
 -- that the stop is about is not sound
 abbrev pub TypeErrorsAreFinal : Type 0
 TypeErrorsAreFinal =
-    (words : List (List ℕ)) (files : Files) (stop : Stop) (tries : ℕ) →
-    Outcome words files (Err (errors.Stopped stop)) tries → IsTypeError stop →
-    (command : Meant) × Spelled words command × IsUntyped command files stop
+    (c : Call) (files : Files) (stop : Stop) (tries : ℕ) →
+    Outcome c files (Err (errors.Stopped stop)) tries → IsTypeError stop →
+    (command : Meant) × (named : List Meaning) × Spells c.words command ×
+    NamesFor c.auditors command (Ok named) × IsUntyped command named files stop

@@ -1,3 +1,4 @@
+pub mod Calls
 pub mod Commands
 pub mod CoreTexts
 pub mod GoalTexts
@@ -18,4 +19,6 @@ pub mod Ending
 pub mod Performing
 pub mod Telling
 pub mod VerifyLaws
+pub mod Denied
+pub mod GivenAgain
 pub mod Laws

@@ -6,11 +6,8 @@ use Rattle.sx_core.specs.Problem.{Problem}
 use Rattle.sx_derive.specs.Blames.{blame_of}
 use Rattle.sx_derive.specs.declared.derive_error.DeriveError.{DeriveError}
 use Rattle.sx_derive.specs.declared.derive_error.DeriveError.TheVariants as derive_error
-use Rattle.sx_replay.specs.declared.replay_error.ReplayError.{ReplayError}
-use Rattle.sx_replay.specs.declared.replay_error.ReplayError.TheVariants as replay_error
-use Rattle.sx_words.specs.declared.list_defect.ListDefect.TheVariants as list_defect
 use Rattle.sx_steps.specs.declared.stop.Stop.{Stop}
-use Rattle.sx_top.specs.CoreStops.{variable_name, underivable, unfit_list}
+use Rattle.sx_top.specs.CoreStops.{variable_name, underivable}
 use Rattle.sx_steps.specs.Stops.{kind_text, not_utf8, bad_line, too_deep, too_big, bad_rules}
 use Rattle.sx_steps.specs.Stops.{tries_spent, depth_spent}
 
@@ -22,16 +19,6 @@ core_stop file (core_error.NotUtf8 before) = Some (not_utf8 file before)
 core_stop file (core_error.Notation line what) = Some (bad_line file line (kind_text what))
 core_stop file (core_error.TooDeep line depth) = Some (too_deep file depth)
 core_stop file (core_error.Rules e) = bad_rules file variable_name e
-
--- the stop of a list's refusal; out of memory has none
-abbrev pub replay_stop : List ℕ → ReplayError → Option Stop
-replay_stop file replay_error.Memory = None
-replay_stop file (replay_error.WrongAt entry) = Some (unfit_list file (list_defect.WrongAt entry))
-replay_stop file replay_error.EndsEarly = Some (unfit_list file list_defect.EndsEarly)
-replay_stop file (replay_error.LongList entry) = Some (unfit_list file (list_defect.LongList entry))
-replay_stop file (replay_error.TooDeep depth) = Some (too_deep file depth)
-replay_stop file (replay_error.TooBig size) = Some (too_big file size)
-replay_stop file (replay_error.DeepList entry) = Some (unfit_list file (list_defect.DeepList entry))
 
 -- the stop of a search without an answer; out of memory has none
 abbrev pub derive_stop : List ℕ → Problem → DeriveError → Option Stop

@@ -1,5 +1,5 @@
 -- The steps of `verify --core NAME`, and what it promises.
-use Rattle.std.specs.Prelude.{◌≡◌, ℕ, List, [], ◌∷◌, ◌++◌, length, Result, Ok, Some, codes, decimal}
+use Rattle.std.specs.Prelude.{◌≡◌, ℕ, List, length, Result, Ok, Some}
 use Rattle.sx_outside.specs.Files.{Files}
 use Rattle.sx_term.specs.Tree.{Tree}
 use Rattle.sx_lines.specs.Lines.{lines_from, texts}
@@ -15,22 +15,14 @@ use Rattle.sx_replay.specs.Replay.{IsReplayAnswer}
 use Rattle.sx_steps.specs.declared.stop.Stop.{Stop}
 use Rattle.sx_steps.specs.Steps.{Then}
 use Rattle.sx_steps.specs.Lower.{Lower}
-use Rattle.sx_top.specs.LowerStops.{replay_stop}
+use Rattle.sx_verify.specs.Lists.{replay_stop, ReadsEntries}
+use Rattle.sx_verify.specs.Verified.{verified_line, verified_plan}
 use Rattle.sx_top.specs.ReadCore.{core_file, rule_names, Reads}
 use Rattle.sx_steps.specs.Unit.{base_file, list_file, interface_file}
-use Rattle.sx_top.specs.Written.{Compares, ReadsEntries}
+use Rattle.sx_top.specs.Written.{Compares}
 use Rattle.sx_top.specs.FindFirst.{no_hypotheses, rules_of}
 use Rattle.sx_top.specs.CoreTexts.{subject_text, term_lines}
 use Rattle.sx_steps.specs.Work.{Plan}
-
--- the line that tells how many entries the list has
-abbrev pub verified_line : List ℕ → ℕ → List ℕ
-verified_line name nodes =
-    codes "verified " ++ name ++ codes ": " ++ decimal nodes ++ codes " nodes" ++ 10 ∷ []
-
--- no file, and the line
-abbrev pub verified_plan : List ℕ → ℕ → Plan
-verified_plan name nodes = record { files = []; lines = verified_line name nodes }
 
 -- the outputs of the derivation with the list, or why it fits none
 abbrev pub Replays : List ℕ → Problem → List EntryOf → Result (List Tree) Stop → Type 0

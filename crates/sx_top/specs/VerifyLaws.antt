@@ -17,7 +17,8 @@ use Rattle.sx_top.specs.ReadCore.{core_file, Reads}
 use Rattle.sx_top.specs.Search.{Searches}
 use Rattle.sx_top.specs.CoreTexts.{term_lines}
 use Rattle.sx_top.specs.BuildCore.{core_plan}
-use Rattle.sx_top.specs.VerifyCore.{verified_plan, VerifiesWhole}
+use Rattle.sx_verify.specs.Verified.{verified_plan}
+use Rattle.sx_top.specs.VerifyCore.{VerifiesWhole}
 
 -- what a walk finds is within the limits of replaying: no term that it makes passes one, and no
 -- entry stands deeper than 3,000

@@ -1,8 +1,9 @@
 //! The top call.
 
-ghost use Rattle.std.specs.Prelude.{◌≡◌, ◌⊎◌, ◌<◌};
+ghost use Rattle.std.specs.Prelude.{◌≡◌, ◌⊎◌, ◌<◌, map};
 ghost use Rattle.sx_outside.specs.Told.{Told, WhereTold};
 ghost use Rattle.sx_outside.specs.Faults.{Rose};
+ghost use Rattle.sx_top.specs.Calls.{call};
 ghost use Rattle.sx_top.specs.Course.{seen};
 ghost use Rattle.sx_top.specs.Ending.{Ends, KeepsPromise, IsAfterRead, HasNoDefect, IsDoneOrShort};
 
@@ -11,23 +12,27 @@ use crate::plan::plan;
 use crate::tell::tell;
 use std::alloc::Global;
 use std::sync::ledger::Ledger;
+use sx_audit::Auditor;
 use sx_outside::{Shelf, Sink, Source};
 use sx_steps::Status;
 use sx_term::{Steps, Text};
 
 /// Does what the words say, which are the command line without the program's name.
 /// Reads and writes files on the shelf, and writes lines on `out`. No command takes from `input`.
+/// Of the auditors that are handed in, those that the words name are set as these say and shown what
+/// is derived of modules; all are dropped before it returns.
 pub fn run<S: Shelf, I: Source, K: Sink, L: Ledger>(
     alloc: Global,
     words: &[Text],
     shelf: &mut S,
     input: &mut I,
     out: &mut K,
+    auditors: Vec<Box<dyn Auditor>>,
     steps: &mut Steps<L>,
 ) -> Status
     // By the words and the files: the status, what stands on the shelf, what the sink got, which
     // counts of faults rose, and by how many tries the steps rose.
-    ensures ends { Ends words.now result
+    ensures ends { Ends (call words.now (map (λ b. meaning b) auditors.items)) result
         (seen (S.content shelf.old) (K.content out.old) (S.read_faults shelf.old)
         (S.write_faults shelf.old) (K.faults out.old))
         (seen (S.content shelf.new) (K.content out.new) (S.read_faults shelf.new)
@@ -35,7 +40,9 @@ pub fn run<S: Shelf, I: Source, K: Sink, L: Ledger>(
         steps.old steps.new }
 
     // When it is done, the command keeps its promise.
-    ensures promise { Told (KeepsPromise words.now result (K.content out.old) (K.content out.new))
+    ensures promise { Told (KeepsPromise
+        (call words.now (map (λ b. meaning b) auditors.items)) result
+        (K.content out.old) (K.content out.new))
         (S.content shelf.old) (S.content shelf.new) }
 
     // A fault has its cause.
@@ -58,14 +65,15 @@ pub fn run<S: Shelf, I: Source, K: Sink, L: Ledger>(
 
     // Where nothing is wrong with the words and the files, and no fault came, it is done, or memory
     // lacked.
-    ensures complete { WhereTold (S.content shelf.old) (λ files. HasNoDefect words.now files
+    ensures complete { WhereTold (S.content shelf.old) (λ files. HasNoDefect
+        (call words.now (map (λ b. meaning b) auditors.items)) files
         → (Rose (S.read_faults shelf.old) (S.read_faults shelf.new) → ⊥)
         → (Rose (S.write_faults shelf.old) (S.write_faults shelf.new) → ⊥)
         → (Rose (K.faults out.old) (K.faults out.new) → ⊥)
         → IsDoneOrShort result) }
 {
     let _ = input;
-    match plan(alloc, words, shelf, steps) {
+    match plan(alloc, words, auditors, shelf, steps) {
         Ok(work) => {
             let status = perform(alloc, &work, shelf, out);
             drop(work);

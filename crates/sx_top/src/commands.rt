@@ -1,22 +1,15 @@
-//! The words, and the commands that there are so far.
+//! The words, and the command that they spell.
 
 ghost use Rattle.std.specs.Prelude.{◌≡◌, IfOk};
 ghost use Rattle.sx_words.specs.View.{command_view};
-ghost use Rattle.sx_top.specs.Commands.{by_now as stage_by_now, Commands};
+ghost use Rattle.sx_top.specs.Commands.{Commands};
 ghost use Rattle.sx_steps.specs.Refusal as refusals;
 ghost use Rattle.sx_steps.specs.Stop.{Gives, IsNoFault};
 
 use std::alloc::Global;
 use sx_steps::{StepError, Stop, about};
 use sx_term::{NoMemory, Text};
-use sx_words::{Command, Defect, FileDefect, Stage, WordsError, read_words_at};
-
-/// Which commands there are so far. The one place that says so.
-fn by_now() -> Stage
-    ensures { result ≡ stage_by_now }
-{
-    Stage::Now
-}
+use sx_words::{Command, Defect, FileDefect, WordsError, read_words};
 
 /// The refusal of words that are no command.
 fn bad_word(alloc: Global, place: u64) -> Result<Stop, NoMemory>
@@ -26,12 +19,12 @@ fn bad_word(alloc: Global, place: u64) -> Result<Stop, NoMemory>
     Ok(about(file, Defect::File(FileDefect::Word(place))))
 }
 
-/// The command that the words spell, of those that there are so far.
+/// The command that the words spell.
 pub fn read_command(alloc: Global, words: &[Text]) -> Result<Command, StepError>
     ensures step { Gives command_view (Commands words.now) result }
     ensures no_fault { IsNoFault result }
 {
-    match read_words_at(alloc, by_now(), words) {
+    match read_words(alloc, words) {
         Ok(command) => Ok(command),
         Err(WordsError::Memory) => Err(StepError::Memory),
         Err(WordsError::Words(place)) => Err(StepError::Stopped(bad_word(alloc, place)?)),

@@ -1,9 +1,16 @@
 //! What holds of runs.
 
+ghost use Rattle.sx_top.specs.Denied.{DeniedAreUnwritten};
+ghost use Rattle.sx_top.specs.GivenAgain.{CompileRepeatsBuild, VerifyFollowsBuild};
 ghost use Rattle.sx_top.specs.Laws.{OneCoreOutcome, OneOutcome, TypeErrorsAreFinal};
 ghost use Rattle.sx_top.specs.Search.{WalksAreWithin};
 
+use sx_auditing::denied_are_kept;
+use sx_build::builds_agree;
+use sx_compile::compiles_agree;
 use sx_outline::one_extension_header;
+use sx_sampling::samples_agree;
+use sx_verify::verifies_agree;
 
 /// By the words and the files there is one outcome, but for read faults and out of memory: what is
 /// to be written, or one refusal, and one number of tries. Two readings that a refusal shows of a
@@ -14,15 +21,49 @@ pub fn one_outcome()
     ensures whole { OneOutcome }
 {
     one_extension_header();
+    builds_agree();
+    compiles_agree();
+    verifies_agree();
+    samples_agree();
 }
 
 /// A type error comes only where the command's goal has no derivation at all, of whatever depth and
 /// size, or where the rule that it is about, of an extension that is checked or used, is not sound.
 pub fn type_errors_are_final()
     ensures { TypeErrorsAreFinal }
-{}
+{
+    sx_build::type_errors_are_final();
+    sx_compile::type_errors_are_final();
+    sx_sampling::type_errors_are_final();
+}
 
 /// The walk of a core problem's goal makes no more tries than it may spend.
 pub fn walks_are_within()
     ensures { WalksAreWithin }
 {}
+
+/// Where a word names an auditor, and the first that is handed in under this name has the settings
+/// and the step of the kind `deny`, no list that the command writes has a rule that the word lists.
+pub fn denied_are_unwritten()
+    ensures { DeniedAreUnwritten }
+{
+    sx_build::denied_are_unwritten();
+    sx_compile::denied_are_unwritten();
+    denied_are_kept();
+}
+
+/// Over the files that a build without auditors left, `compile` of each of the modules that were
+/// built, with the same tries and nodes, changes no file, but for read faults and out of memory.
+pub fn compile_repeats_build()
+    ensures { CompileRepeatsBuild }
+{
+    sx_rebuilding::compile_repeats_build();
+}
+
+/// Over the files that a build left, `verify` of each of the modules that were built is not refused,
+/// but for read faults and out of memory.
+pub fn verify_follows_build()
+    ensures { VerifyFollowsBuild }
+{
+    sx_rebuilding::verify_follows_build();
+}

@@ -1,51 +1,30 @@
 //! The steps of `verify --core NAME`.
 
-ghost use Rattle.std.specs.Prelude.{◌≡◌, ◌++◌, ◌∷◌, [], ◌<◌, ◌-◌, ◌^◌, IfOk, Some, codes, decimal};
-ghost use Rattle.std.specs.Prelude.{length, map};
+ghost use Rattle.std.specs.Prelude.{◌≡◌, ◌<◌, ◌-◌, ◌^◌, IfOk, length, map};
 ghost use Rattle.sx_outside.specs.Told.{WhereTold};
 ghost use Rattle.sx_term.specs.Term.{tree};
 ghost use Rattle.sx_core.specs.Problem.{problem as problem_data};
-ghost use Rattle.sx_top.specs.LowerStops.{replay_stop};
 ghost use Rattle.sx_top.specs.Proper.{IsProper};
 ghost use Rattle.sx_steps.specs.Unit.{list_file};
-ghost use Rattle.sx_steps.specs.Refusal.{status_of};
 ghost use Rattle.sx_steps.specs.Stop.{Gives, OnlyReads, IsNoFault};
 ghost use Rattle.sx_top.specs.Terms.{AreTerms};
-ghost use Rattle.sx_top.specs.VerifyCore.{verified_line, verified_plan, Replays, VerifiesOutputs};
+ghost use Rattle.sx_top.specs.VerifyCore.{Replays, VerifiesOutputs};
 ghost use Rattle.sx_top.specs.VerifyCore.{VerifiesEntries, VerifiesList, VerifiesSubject};
 ghost use Rattle.sx_top.specs.VerifyCore.{VerifiesWhole};
 ghost use Rattle.sx_steps.specs.Work.{plan_of};
-ghost use Rattle.sx_steps.specs.declared.status.Status.TheVariants as statuses;
 
 use crate::read_core::read_problem;
 use crate::search::nothing_given;
 use crate::texts::{base_text, interface_text};
-use crate::written::{compare, read_entries};
+use crate::written::compare;
 use std::alloc::Global;
 use sx_core::CoreProblem;
 use sx_outside::Shelf;
-use sx_replay::{ReplayError, replay};
+use sx_replay::replay;
 use sx_rules::Entry;
-use sx_steps::{StepError, Stop, Work, about, with_suffix};
-use sx_term::{NoMemory, Term, Text};
-use sx_words::{Defect, ListDefect, TextDefect};
-
-/// Why the list in the file is not that of a derivation.
-fn bad_replay(alloc: Global, file: &Text, error: ReplayError) -> Result<Stop, NoMemory>
-    ensures stop { IfOk result (λ stop. replay_stop file.now error ≡ Some stop) }
-    ensures refused { IfOk result (λ stop. status_of stop ≡ statuses.Refused) }
-{
-    let defect = match error {
-        ReplayError::Memory => return Err(NoMemory::Memory),
-        ReplayError::WrongAt(entry) => Defect::List(ListDefect::WrongAt(u64::from(entry))),
-        ReplayError::EndsEarly => Defect::List(ListDefect::EndsEarly),
-        ReplayError::LongList(entry) => Defect::List(ListDefect::LongList(u64::from(entry))),
-        ReplayError::TooDeep(depth) => Defect::Text(TextDefect::TooDeep(depth)),
-        ReplayError::TooBig(size) => Defect::Text(TextDefect::TooBig(size)),
-        ReplayError::DeepList(entry) => Defect::List(ListDefect::DeepList(u64::from(entry))),
-    };
-    Ok(about(file.copy(alloc)?, defect))
-}
+use sx_steps::{StepError, Work, with_suffix};
+use sx_term::{Term, Text};
+use sx_verify::{bad_replay, read_entries, verified_work};
 
 /// The outputs of the derivation of the goal that has the list of the file.
 fn replay_list(
@@ -68,30 +47,6 @@ fn replay_list(
     }
 }
 
-/// The line that tells how many entries the list has.
-fn line_of_list(alloc: Global, name: &Text, nodes: u64) -> Result<Vec<u8>, NoMemory>
-    ensures { IfOk result (λ bytes. bytes.items ≡ verified_line name.now nodes) }
-{
-    let mut bytes = Vec::from_slice(alloc, b"verified ")?;
-    bytes.extend_from_slice(name.bytes())?;
-    bytes.extend_from_slice(b": ")?;
-    let digits = nodes.to_string(alloc)?;
-    bytes.extend_from_slice(digits.as_bytes())?;
-    bytes.extend_from_slice(b" nodes\n")?;
-    Ok(bytes)
-}
-
-/// No file to write, and the line.
-fn make_verified(alloc: Global, name: &Text, nodes: u64) -> Result<Work, NoMemory>
-    ensures { IfOk result (λ work. plan_of work ≡ verified_plan name.now nodes) }
-{
-    let lines = line_of_list(alloc, name, nodes)?;
-    Ok(Work {
-        files: Vec::new(alloc),
-        lines,
-    })
-}
-
 /// The outputs are those of the file.
 fn verify_outputs<S: Shelf>(
     alloc: Global,
@@ -111,7 +66,7 @@ fn verify_outputs<S: Shelf>(
     let text = interface_text(alloc, outputs)?;
     let file = with_suffix(alloc, name, ".int")?;
     match compare(alloc, &file, &text, shelf) {
-        Ok(()) => Ok(make_verified(alloc, name, nodes)?),
+        Ok(()) => Ok(verified_work(alloc, name, nodes)?),
         Err(e) => Err(e),
     }
 }

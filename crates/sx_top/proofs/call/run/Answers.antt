@@ -4,7 +4,7 @@ use Rattle.sx_top.proofs.call.run.Goals as goal
 
 pub returns-in-Ok-clause-ends : goal.returns-in-Ok-clause-ends
 returns-in-Ok-clause-ends g c =
-    ends_performed c.args.words.now (plan_of c.in-Ok.work) c.perform-status.result _ _ _ _ _ _ _ _ _ _ _ _ _ _ _ c.in-Ok.ensures.reads.content (c.in-Ok.ensures.reads.kept (λ fault. fault)) c.in-Ok.ensures.reads.writes c.in-Ok.ensures.outcome c.perform-status.ensures
+    ends_performed _ (plan_of c.in-Ok.work) c.perform-status.result _ _ _ _ _ _ _ _ _ _ _ _ _ _ _ c.in-Ok.ensures.reads.content (c.in-Ok.ensures.reads.kept (λ fault. fault)) c.in-Ok.ensures.reads.writes c.in-Ok.ensures.outcome c.perform-status.ensures
 
 pub returns-in-Ok-clause-promise : goal.returns-in-Ok-clause-promise
 returns-in-Ok-clause-promise g c = promise_kept _ _ _ _ _ _ (returns-in-Ok-clause-ends g c)
@@ -28,7 +28,7 @@ pub returns-in-Ok-clause-complete : goal.returns-in-Ok-clause-complete
 returns-in-Ok-clause-complete g c = λ files. is_complete _ _ _ _ _ _ files (returns-in-Ok-clause-ends g c)
 
 pub returns-in-Err-clause-ends : goal.returns-in-Err-clause-ends
-returns-in-Err-clause-ends g c = ends_told c.args.words.now c.in-Err.error c.tell-status.result _ _ _ _ _ _ _ _ _ _ _ _ c.in-Err.ensures.reads c.in-Err.ensures.outcome c.tell-status.ensures
+returns-in-Err-clause-ends g c = ends_told _ c.in-Err.error c.tell-status.result _ _ _ _ _ _ _ _ _ _ _ _ c.in-Err.ensures.reads c.in-Err.ensures.outcome c.tell-status.ensures
 
 pub returns-in-Err-clause-promise : goal.returns-in-Err-clause-promise
 returns-in-Err-clause-promise g c = promise_kept _ _ _ _ _ _ (returns-in-Err-clause-ends g c)

@@ -6,4 +6,6 @@ pub returns-clause-core : goal.returns-clause-core
 returns-clause-core c = core_outcome_by one_answer c.one_extension_header.ensures
 
 pub returns-clause-whole : goal.returns-clause-whole
-returns-clause-whole c = one_outcome_by one_answer c.one_extension_header.ensures
+returns-clause-whole c =
+    one_outcome_by one_answer c.one_extension_header.ensures c.builds_agree.ensures
+    c.compiles_agree.ensures c.verifies_agree.ensures c.samples_agree.ensures

@@ -5,20 +5,26 @@ use Rattle.sx_steps.specs.Steps.{Untried}
 use Rattle.sx_steps.specs.Work.{plan_of}
 use Rattle.sx_steps.proofs.StepsOn.{stops_at, goes_from, untried}
 use Rattle.sx_top.specs.Commands.{Commands}
-use Rattle.sx_top.specs.Outcome.{Outcome, Runs}
-use Rattle.sx_top.proofs.There.{spelled_there}
+use Rattle.sx_top.specs.Outcome.{Outcome}
+use Rattle.sx_top.proofs.CommandSteps.{spelled_within}
 use Rattle.sx_top.proofs.plan.plan.Goals as goal
 
-pub run_command-requires : goal.run_command-requires
-run_command-requires g c = spelled_there c.args.words.now (command_view c.in-Ok.command) c.in-Ok.ensures.step
+pub run_named-work-requires : goal.run_named-work-requires
+run_named-work-requires g c =
+    spelled_within c.args.words.now (command_view c.in-Ok.command) c.in-Ok.ensures.step
 
 pub returns-in-Ok-clause-outcome : goal.returns-in-Ok-clause-outcome
 unfolding Outcome
 returns-in-Ok-clause-outcome g c = λ files told.
-    goes_from plan_of (Untried (Commands c.args.words.now)) (λ command. Runs command files) (command_view c.in-Ok.command) c.run_command.result c.args.steps.now c.args.steps.now c.run_command.new.steps (0, (c.in-Ok.ensures.step, refl), omega arith)
-    (c.run_command.ensures.step files told)
+    goes_from plan_of (Untried (Commands c.args.words.now))
+    _ (command_view c.in-Ok.command)
+    c.run_named-work.result c.args.steps.now c.args.steps.now c.run_named-work.new.steps
+    (0, (c.in-Ok.ensures.step, refl), omega arith) (c.run_named-work.ensures.step files told)
 
 pub returns-in-Err-clause-outcome : goal.returns-in-Err-clause-outcome
 unfolding Outcome
 returns-in-Err-clause-outcome g c = λ files told.
-    stops_at command_view plan_of (Untried (Commands c.args.words.now)) (λ command. Runs command files) c.in-Err.e c.args.steps.now c.args.steps.now (untried command_view (Commands c.args.words.now) (Err c.in-Err.e) c.args.steps.now c.in-Err.ensures.step)
+    stops_at command_view plan_of (Untried (Commands c.args.words.now))
+    _ c.in-Err.e c.args.steps.now
+    c.args.steps.now (untried command_view (Commands c.args.words.now) (Err c.in-Err.e)
+    c.args.steps.now c.in-Err.ensures.step)

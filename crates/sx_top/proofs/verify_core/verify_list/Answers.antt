@@ -10,7 +10,7 @@ use Rattle.sx_steps.specs.Unit.{list_file}
 use Rattle.sx_steps.specs.Stop.{Gives}
 use Rattle.sx_top.specs.VerifyCore.{VerifiesEntries}
 use Rattle.sx_steps.specs.Work.{plan_of}
-use Rattle.sx_top.specs.Written.{ReadsEntries}
+use Rattle.sx_verify.specs.Lists.{ReadsEntries}
 use Rattle.sx_steps.proofs.StepsOn.{goes_next, stops_first}
 use Rattle.sx_top.proofs.VerifySteps.{names_are, same_two}
 use Rattle.sx_top.proofs.verify_core.verify_list.Goals as goal

@@ -1,0 +1,7 @@
+use Rattle.sx_top.proofs.Denying.{denied_unwritten}
+use Rattle.sx_top.proofs.laws.denied_are_unwritten.Goals as goal
+
+pub returns : goal.returns
+returns c =
+    denied_unwritten c.denied_are_unwritten.ensures c.denied_are_unwritten-2.ensures
+    c.denied_are_kept.ensures
