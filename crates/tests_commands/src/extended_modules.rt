@@ -230,9 +230,9 @@ end
 }
 
 #[test]
-fn imports_that_are_not_read_yet(rt: HostRuntime) {
+fn an_import_that_is_absent(rt: HostRuntime) {
     let module = b"module Main\nlanguage Lam\nuse Let\nimport Other\n---\n1\n";
-    let told = b"soundx: Main.mod: not read yet\n";
+    let told = b"soundx: Other.mod: absent\n";
     assert!(rt; is_refused(rt.alloc(), &NONE, &LET, module, 1, told));
 }
 

@@ -1,6 +1,6 @@
 //! Interfaces of modules, and the digests in them.
 
-use crate::samples::{EXTENDED_INTERFACE, FIRST_INTERFACE, INTERFACE};
+use crate::interface_samples::{EXTENDED_INTERFACE, FIRST_INTERFACE, INTERFACE};
 use std::alloc::Global;
 use sx_interface::{
     HeaderError, Interface, digest, read_digest, read_interface, write_digest, write_interface,

@@ -14,21 +14,39 @@ mod extensions_checked;
 #[cfg(test)]
 mod faults;
 #[cfg(test)]
+mod faults_of_builds;
+#[cfg(test)]
 mod files;
 #[cfg(test)]
+mod files_cut_off;
+#[cfg(test)]
 mod headers;
+#[cfg(test)]
+mod interface_samples;
 #[cfg(test)]
 mod interfaces;
 #[cfg(test)]
 mod language;
 #[cfg(test)]
+mod modules_audited;
+#[cfg(test)]
 mod modules_built;
+#[cfg(test)]
+mod modules_compiled;
+#[cfg(test)]
+mod modules_imported;
 #[cfg(test)]
 mod modules_planned;
 #[cfg(test)]
 mod modules_refused;
 #[cfg(test)]
 mod modules_rewritten;
+#[cfg(test)]
+mod modules_sampled;
+#[cfg(test)]
+mod modules_verified;
+#[cfg(test)]
+mod own_auditor;
 #[cfg(test)]
 mod refusal_lines;
 #[cfg(test)]
@@ -37,6 +55,8 @@ mod run;
 mod runs_refused;
 #[cfg(test)]
 mod samples;
+#[cfg(test)]
+mod scenes;
 #[cfg(test)]
 mod shelves;
 #[cfg(test)]

@@ -1,8 +1,9 @@
 //! Runs of `build` on modules that are built.
 
 use crate::files::{append, holds, holds_module};
+use crate::interface_samples::{ARROWS_INTERFACE, LAM_INTERFACE};
 use crate::run::ends;
-use crate::samples::{ARROWS_INTERFACE, LAM, LAM_INTERFACE, LAST, LEFT};
+use crate::samples::{LAM, LAST, LEFT};
 use std::alloc::Global;
 use sx_outside::{MemShelf, MemSink};
 

@@ -36,7 +36,7 @@ fn planned<L: Ledger>(
         tries: 100,
         nodes: 100,
     };
-    plan_build_module(alloc, name, budgets, shelf, &mut steps)
+    plan_build_module(alloc, name, budgets, Vec::new(alloc), shelf, &mut steps)
 }
 
 /// What is wanted of a plan: its first two files and its lines, or the line of a stop.

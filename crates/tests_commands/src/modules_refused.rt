@@ -60,7 +60,7 @@ fn module_files_that_are_refused(rt: HostRuntime) {
 #[test]
 fn modules_that_need_other_files(rt: HostRuntime) {
     let alloc = rt.alloc();
-    let yet = b"soundx: Main.mod: not read yet\n";
+    let no_import = b"soundx: A.mod: absent\n";
     let none = b"soundx: Let.ext: absent\n";
     let uses = b"module Main\nlanguage Lam\nuse Let\n---\n1\n";
     let imports = b"module Main\nlanguage Lam\nimport A\n---\n1\n";
@@ -68,7 +68,7 @@ fn modules_that_need_other_files(rt: HostRuntime) {
     let absent = b"soundx: Lim.lang: absent\n";
     let hold = [
         is_file_refused(alloc, "build Main", uses, none),
-        is_file_refused(alloc, "build Main", imports, yet),
+        is_file_refused(alloc, "build Main", imports, no_import),
         is_file_refused(alloc, "build Main", other, absent),
     ];
     assert_eq!(rt; hold, [true; 3]);

@@ -78,12 +78,12 @@ fn lines_with_places(rt: HostRuntime) {
     let spot = Place::Spot { line: 3, column: 7 };
     let token = Defect::Text(TextDefect::BadToken);
     let at = b"soundx: M.mod: line 3 column 7: bad token\n";
-    let yet = Defect::File(FileDefect::NotYet);
+    let absent = Defect::File(FileDefect::Absent);
     let header = Defect::File(FileDefect::Header);
     let line = b"soundx: M.mod: line 4: bad header\n";
     let hold = [
         has_line(alloc, spot, token, at),
-        has_line(alloc, Place::Nowhere, yet, b"soundx: M.mod: not read yet\n"),
+        has_line(alloc, Place::Nowhere, absent, b"soundx: M.mod: absent\n"),
         has_line(alloc, Place::Line(4), header, line),
     ];
     assert_eq!(rt; hold, [true; 3]);

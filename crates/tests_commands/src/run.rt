@@ -5,6 +5,7 @@ ghost use Rattle.std.specs.Prelude.{◌≡◌, ◌<◌};
 use std::alloc::Global;
 use std::marker::Brand;
 use std::sync::ledger::{Blank, Ledger};
+use sx_audit::{Auditor, makers};
 use sx_outside::{CleanSource, MemShelf, MemSink};
 use sx_term::{Steps, Text};
 use sx_top::{Status, run};
@@ -30,6 +31,7 @@ fn run_with<L: Ledger>(
     words: &[Text],
     shelf: &mut MemShelf,
     out: &mut MemSink,
+    auditors: Vec<Box<dyn Auditor>>,
     blank: Blank,
 ) -> Status
     requires name { blank.name ≡ L.name }
@@ -38,19 +40,41 @@ fn run_with<L: Ledger>(
 {
     let mut steps = Steps::<L>::new(blank);
     let mut input = CleanSource::new(Vec::new(alloc));
-    run(alloc, words, shelf, &mut input, out, &mut steps)
+    run(alloc, words, shelf, &mut input, out, auditors, &mut steps)
 }
 
-/// The exit code of the run of the command line, unless memory is lacking for its words.
-fn code_of(alloc: Global, line: &str, shelf: &mut MemShelf, out: &mut MemSink) -> Option<u8> {
+/// The exit code of the run of the command line with these auditors, unless memory is lacking for
+/// its words.
+pub fn code_with(
+    alloc: Global,
+    line: &str,
+    auditors: Vec<Box<dyn Auditor>>,
+    shelf: &mut MemShelf,
+    out: &mut MemSink,
+) -> Option<u8> {
     let mut words = Vec::new(alloc);
     let code = if put_words(alloc, line, &mut words) {
-        Some(run_with::<Brand>(alloc, &words, shelf, out, Blank::new(1)).code())
+        Some(run_with::<Brand>(alloc, &words, shelf, out, auditors, Blank::new(1)).code())
     } else {
+        drop(auditors);
         None
     };
     drop(words);
     code
+}
+
+/// The exit code of the run of the command line with one auditor of each kind.
+pub fn code_of(alloc: Global, line: &str, shelf: &mut MemShelf, out: &mut MemSink) -> Option<u8> {
+    let deny: Box<dyn Auditor> = Box::new(alloc, makers::deny(alloc).ok()?).ok()?;
+    let depth: Box<dyn Auditor> = Box::new(alloc, makers::depth(alloc).ok()?).ok()?;
+    let nodes: Box<dyn Auditor> = Box::new(alloc, makers::nodes(alloc).ok()?).ok()?;
+    let tally: Box<dyn Auditor> = Box::new(alloc, makers::tally(alloc).ok()?).ok()?;
+    let mut auditors = Vec::new(alloc);
+    auditors.push(deny).ok()?;
+    auditors.push(depth).ok()?;
+    auditors.push(nodes).ok()?;
+    auditors.push(tally).ok()?;
+    code_with(alloc, line, auditors, shelf, out)
 }
 
 /// Whether the run of the command line ends with this exit code, and the sink has got this.

@@ -106,11 +106,18 @@ fn words_that_are_no_command(rt: HostRuntime) {
 fn commands_that_there_are_none_of(rt: HostRuntime) {
     let alloc = rt.alloc();
     let hold = [
-        are_refused(alloc, "compile One", b"soundx: words: word 1\n"),
-        are_refused(alloc, "verify One", b"soundx: words: word 2\n"),
+        are_refused(alloc, "sample 0", b"soundx: words: word 2\n"),
+        are_refused(alloc, "replay One", b"soundx: words: word 1\n"),
+        are_refused(alloc, "verify --tries=5 One", b"soundx: words: word 2\n"),
+        are_refused(alloc, "compile --core One", b"soundx: words: word 2\n"),
         are_refused(
             alloc,
-            "build --audit=deny:R One",
+            "build --audit=bogus:1 One",
+            b"soundx: words: word 2\n",
+        ),
+        are_refused(
+            alloc,
+            "compile --audit=depth:0 One",
             b"soundx: words: word 2\n",
         ),
         are_refused(alloc, "check --core One", b"soundx: words: word 2\n"),
@@ -120,5 +127,5 @@ fn commands_that_there_are_none_of(rt: HostRuntime) {
             b"soundx: words: word 3\n",
         ),
     ];
-    assert_eq!(rt; hold, [true; 5]);
+    assert_eq!(rt; hold, [true; 8]);
 }

@@ -2,7 +2,7 @@
 
 use std::alloc::Global;
 use sx_term::Text;
-use sx_words::{Audit, Command, Stage, WordsError, read_words, read_words_at};
+use sx_words::{Audit, Command, WordsError, read_words};
 
 /// Appends the words of a line, which one blank divides; whether memory was there for them.
 fn put_words(alloc: Global, line: &[u8], words: &mut Vec<Text>) -> bool {
@@ -34,19 +34,6 @@ fn misfit(alloc: Global, line: &[u8]) -> u64 {
     let mut place = u64::MAX;
     if put_words(alloc, line, &mut words) {
         let read = read_words(alloc, words.as_slice());
-        place = place_of(&read);
-        drop(read);
-    }
-    drop(words);
-    place
-}
-
-/// The same, at an earlier stage.
-fn misfit_at(alloc: Global, stage: Stage, line: &[u8]) -> u64 {
-    let mut words = Vec::new(alloc);
-    let mut place = u64::MAX;
-    if put_words(alloc, line, &mut words) {
-        let read = read_words_at(alloc, stage, words.as_slice());
         place = place_of(&read);
         drop(read);
     }
@@ -119,28 +106,23 @@ fn words_of_a_sample(rt: HostRuntime) {
 }
 
 #[test]
-fn words_by_now(rt: HostRuntime) {
+fn options_of_commands(rt: HostRuntime) {
     let alloc = rt.alloc();
-    let stage = Stage::Now;
     let places = [
-        misfit_at(alloc, stage, b"build Main"),
-        misfit_at(alloc, stage, b"build --tries=5 Main"),
-        misfit_at(alloc, stage, b"build --core --tries=5 One"),
-        misfit_at(alloc, stage, b"verify --core One"),
-        misfit_at(alloc, stage, b"verify Main"),
-        misfit_at(alloc, stage, b"verify --tries=5 Main"),
-        misfit_at(alloc, stage, b"build --nodes=5 Main"),
-        misfit_at(alloc, stage, b"build --core --nodes=5 One"),
-        misfit_at(alloc, stage, b"build --audit=deny:R Main"),
-        misfit_at(alloc, stage, b"build --core --core One"),
-        misfit_at(alloc, stage, b"build --core One Two"),
-        misfit_at(alloc, stage, b"build Main --tries=5"),
-        misfit_at(alloc, stage, b"check --tries=1 --nodes=1 Let"),
-        misfit_at(alloc, stage, b"check --core Let"),
-        misfit_at(alloc, stage, b"compile Main"),
-        misfit_at(alloc, stage, b"sample 1"),
+        misfit(alloc, b"build --tries=5 Main"),
+        misfit(alloc, b"build --core --tries=5 One"),
+        misfit(alloc, b"verify Main"),
+        misfit(alloc, b"verify --tries=5 Main"),
+        misfit(alloc, b"build --nodes=5 Main"),
+        misfit(alloc, b"build --core --nodes=5 One"),
+        misfit(alloc, b"build --audit=deny:R Main"),
+        misfit(alloc, b"build --core --core One"),
+        misfit(alloc, b"build --core One Two"),
+        misfit(alloc, b"build Main --tries=5"),
+        misfit(alloc, b"compile --audit=deny:R --tries=5 Main"),
+        misfit(alloc, b"verify --core --audit=deny:R One"),
     ];
-    assert_eq!(rt; places, [0, 0, 0, 0, 2, 2, 0, 3, 2, 3, 4, 3, 0, 2, 1, 1]);
+    assert_eq!(rt; places, [0, 0, 0, 2, 0, 3, 0, 3, 4, 3, 0, 3]);
 }
 
 /// Whether the auditor is that of the test.

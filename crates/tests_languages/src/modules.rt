@@ -59,7 +59,7 @@ fn planned<L: Ledger>(
         tries: 100,
         nodes: 100,
     };
-    plan_build_module(alloc, name, budgets, shelf, &mut steps)
+    plan_build_module(alloc, name, budgets, Vec::new(alloc), shelf, &mut steps)
 }
 
 /// The plan of `Main` from the shelf.

@@ -12,6 +12,8 @@ mod core_files;
 #[cfg(test)]
 mod lists;
 #[cfg(test)]
+mod named;
+#[cfg(test)]
 mod replays;
 #[cfg(test)]
 mod rule_sets;
@@ -23,6 +25,8 @@ mod searches;
 mod shared_terms;
 #[cfg(test)]
 mod shown;
+#[cfg(test)]
+mod shown_units;
 #[cfg(test)]
 mod stop;
 #[cfg(test)]

@@ -23,7 +23,7 @@ use sx_rules::{Entry, Goal, Hyps, Proof, RuleSet, preorder};
 use sx_term::Steps;
 
 /// Whether the derivation is no deeper than so many levels.
-fn is_shallow(proof: &Proof, levels: u32) -> bool
+pub(crate) fn is_shallow(proof: &Proof, levels: u32) -> bool
     ensures { IsTrue result → height_of (view.proof proof.now) ≤ levels }
 {
     if levels == 0 {
