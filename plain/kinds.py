@@ -48,7 +48,6 @@ KINDS = [(name, re.compile(pattern, re.S)) for name, pattern in (
     ("entry too deep", rb"soundx: \S+\.der: entry \d+ is deeper than 3000$"),
     ("differs", rb"soundx: \S+: differs$"),
     ("bad header", rb"soundx: \S+: line \d+: bad header$"),
-    ("not read yet", rb"soundx: \S+: not read yet$"),
     ("bad literal", rb"soundx: \S+\.lang: bad literal .*$"),
     ("sort twice", rb"soundx: \S+\.lang: sort \S+ stands twice$"),
     ("unknown sort", rb"soundx: \S+\.lang: unknown sort \S+$"),

@@ -1,7 +1,7 @@
 """`build` and `compile`: modules are read, typed, lowered and printed."""
 
 from auditors import named, show
-from closure import Closure, Module, module_alone
+from closure import Closure, module_alone
 from environments import environment, extension_marks
 from extensions import extended
 from held_language import HeldLanguage, signature_sort, subject_sort
@@ -144,12 +144,3 @@ def compile_one(command):
     held = HeldLanguage(module.header.language).read()
     imports = [read_interface(name) for name in module.header.imports]
     return answer([(module, treat(module, held, imports, command, auditors))], auditors)
-
-
-def build_without_imports(command):
-    """`build` where imports are not read yet."""
-    module = Module(command.name)
-    if module.header.imports:
-        raise Stop(b"not read yet", file=module.file)
-    held = HeldLanguage(module.header.language).read()
-    return answer([(module, treat(module, held, [], command, []))], [])

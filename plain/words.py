@@ -13,11 +13,6 @@ OPTIONS = {
     b"verify": (b"--core",),
     b"sample": (),
 }
-OPTIONS_BY_NOW = {
-    b"build": (b"--core", b"--tries", b"--nodes"),
-    b"check": (b"--tries", b"--nodes"),
-    b"verify": (b"--core",),
-}
 
 
 def bad_word(place):
@@ -94,21 +89,16 @@ class Command:
         return is_file_name(word)
 
 
-def read_words(words, by_now):
-    """The command that the words spell: its word, options while a word begins with `--`, a last word.
-
-    Where only that counts which the proved program knows by now, some commands and options are none."""
-    options = OPTIONS_BY_NOW if by_now else OPTIONS
-    if not words or words[0] not in options:
+def read_words(words):
+    """The command that the words spell: its word, options while a word begins with `--`, a last word."""
+    if not words or words[0] not in OPTIONS:
         raise bad_word(1)
-    command = Command(words[0], options[words[0]])
+    command = Command(words[0], OPTIONS[words[0]])
     at = 1
     while at < len(words) and words[at].startswith(b"--"):
         if not command.take_option(words[at], at + 1):
             raise bad_word(at + 1)
         at += 1
-    if by_now and command.what == "verify" and not command.core:
-        raise bad_word(at + 1)
     if at == len(words) or not command.take_last(words[at]):
         raise bad_word(at + 1)
     if at + 1 < len(words):
