@@ -2,7 +2,7 @@ use Rattle.std.proofs.Common.{◌≡◌, ◌↔◌, ℕ, zero, suc, ◌+◌, ◌
 use Rattle.std.specs.Global.{Vec}
 use Rattle.std.specs.List.{slice_get}
 use Rattle.std.proofs.lemmas.Bool.{cases_lt}
-use Rattle.std.proofs.lemmas.Option.{same_Some, none-some}
+use Rattle.std.proofs.lemmas.Option.{same_Some, none-some, slice_get_within}
 use Rattle.sx_grammar.specs.Grammar.{Grammar, Token, is_variable, of_sort}
 use Rattle.sx_grammar.specs.declared.head.Head.{Head}
 use Rattle.sx_grammar.specs.Reading.{Marked}
@@ -18,9 +18,9 @@ use Rattle.std.proofs.lemmas.List.Elements.{Contains-push_cases}
 use Rattle.sx_earley.specs.declared.span.Span.{Span}
 use Rattle.sx_earley.specs.declared.span.SpanOf.TheVariants.{Node}
 use Rattle.sx_forest.specs.declared.ordered.Ordered.{Ordered}
-use Rattle.sx_forest.specs.Rows.{FitsPart, IsIn, IsRow, AreRows, row_in, row_at, list_in, stretch_in, stretch_at, Spreads, AreStretches}
-use Rattle.sx_forest.specs.Table.{IsFirstList, IsFirstTable}
-use Rattle.sx_forest.proofs.Pushing.{got_before, got_last, longer_pushed, each_pushed}
+use Rattle.sx_forest.specs.Rows.{IsRow, AreRows, row_in, row_at, list_at, stretch_in, stretch_at, Spreads, AreStretches}
+use Rattle.sx_forest.specs.Table.{IsFirstList}
+use Rattle.sx_forest.proofs.Pushing.{got_before, got_last, longer_pushed}
 
 -- one more row
 pub rows_on : (g : Grammar) (tokens : List Token) (lists : List (Vec Entry)) (head : Head) (count n from to : ℕ) (stretches : List Stretch) (rows new : List Row) (r : Row) →
@@ -72,20 +72,6 @@ stretches_on g tokens lists head n from to stretches new r long so e made = reco
         let same : n ≡ k = omega arith in
         subst Made same (rw (old n (omega (arith, long)), newest) made)
 
--- one more entry over which a part may lead
-pub part_on : (g : Grammar) (sort least to n : ℕ) (old new : Stretch) (entries : List Entry) (e : Entry) → slice_get entries n ≡ Some e → ((p : ℕ) → IsIn old p → IsIn new p) →
-    (FitsPart g e.maker sort least → e.to ≤ to → IsIn new e.to) →
-    ((i : ℕ) (x : Entry) → i < n → slice_get entries i ≡ Some x → FitsPart g x.maker sort least → x.to ≤ to → IsIn old x.to) →
-    (i : ℕ) (x : Entry) → i < n + 1 → slice_get entries i ≡ Some x → FitsPart g x.maker sort least → x.to ≤ to → IsIn new x.to
-part_on g sort least to n old new entries e there kept here before i x low at fits high = by_place (cases_lt i n)
-  where
-    by_place : (i < n) ⊎ (n ≤ i) → IsIn new x.to
-    by_place (inl below) = kept x.to (before i x below at fits high)
-    by_place (inr above) =
-        let same : i ≡ n = omega arith in
-        let is : e ≡ x = same_Some e x (sym there ∙ subst (λ k. slice_get entries k ≡ Some x) same at) in
-        subst (λ y. FitsPart g y.maker sort least → y.to ≤ to → IsIn new y.to) is here fits high
-
 nothing_there : {X : Type 0} (i : ℕ) (x : X) → slice_get [] i ≡ Some x → ⊥
 nothing_there i x e = none-some x e
 
@@ -117,13 +103,23 @@ first_some tokens place s xs items o none e some marks =
     only_one zero x at = (refl, s, (marks s).0 some, sym (same_Some (of_variable s place) x at))
     only_one (suc i) x at = absurd (nothing_there i x at)
 
--- one more list
-pub first_on : (tokens : List Token) (n : ℕ) (lists new : List (Vec Entry)) (v : Vec Entry) → IsFirstTable tokens n lists → new ≡ lists ++ v ∷ [] →
-    IsFirstList tokens n v.items → IsFirstTable tokens (n + 1) new
-first_on tokens n lists new v first e here = record {
-  long = omega (arith, longer_pushed lists new v e, first.long);
-  each = each_pushed (λ k o. IsFirstList tokens k (list_in o)) lists new v e first.each (subst (λ k. IsFirstList tokens k v.items) (sym first.long) here);
-}
+-- past the tokens there is none
+pub first_past : (tokens : List Token) (place : ℕ) (items : List Entry) → length tokens ≤ place → items ≡ [] → IsFirstList tokens place items
+first_past tokens place items long e = rw e (record {
+  only = λ i x at. absurd (nothing_there i x at);
+  every = λ sort marked. let low = slice_get_within tokens place _ marked.1 in absurd (omega arith);
+})
+
+-- one more place
+pub first_put : (tokens : List Token) (n : ℕ) (old new : List (Vec Entry)) → ((p : ℕ) → p < n → IsFirstList tokens p (list_at old p)) → IsFirstList tokens n (list_at new n) →
+    ((p : ℕ) → (p ≡ n → ⊥) → list_at new p ≡ list_at old p) → (p : ℕ) → p < n + 1 → IsFirstList tokens p (list_at new p)
+first_put tokens n old new before here others p low = by_place (cases_lt p n)
+  where
+    by_place : (p < n) ⊎ (n ≤ p) → IsFirstList tokens p (list_at new p)
+    by_place (inl below) = subst (λ l. IsFirstList tokens p l) (sym (others p (λ e. omega arith))) (before p below)
+    by_place (inr above) =
+        let same : n ≡ p = omega arith in
+        subst (λ q. IsFirstList tokens q (list_at new q)) same here
 
 abbrev pub no_span : Span
 no_span = record { of = Node 0; from = 0; to = 0 }

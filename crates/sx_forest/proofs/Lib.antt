@@ -14,7 +14,11 @@ pub mod Spans
 pub mod Filling
 pub mod Apart
 pub mod Sorting
+pub mod Putting
 pub mod Tabling
+pub mod Reaching
+pub mod Telling
+pub mod Leading
 pub mod WholeSpans
 pub mod Whole
 pub mod Retelling

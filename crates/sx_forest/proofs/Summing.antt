@@ -23,7 +23,7 @@ pub sum_on : (g : Grammar) (sort least : ℕ) (next : List Ways) (from : ℕ) (e
 sum_on g sort least next from entries n t u v low sum one e =
     rw (e, add-one) (sum_more (get_or entries n no_entry) sum (slice_get-get_or entries n no_entry low) one)
 
-same_or_not : (a b : ℕ) → (a ≡ b) ⊎ (a ≡ b → ⊥)
+pub same_or_not : (a b : ℕ) → (a ≡ b) ⊎ (a ≡ b → ⊥)
 same_or_not a b = by_order (cases_lt a b) (cases_lt b a)
   where
     by_order : (a < b) ⊎ (b ≤ a) → (b < a) ⊎ (a ≤ b) → (a ≡ b) ⊎ (a ≡ b → ⊥)
@@ -40,11 +40,11 @@ made_or_not (Some p) sort least = by_both (same_or_not p.sort sort) (cases_lt p.
     by_both (inl e) (inr high) = inl (e, high)
     by_both (inr differ) h = inr (λ k. differ k.0)
 
-fits_or_not : (g : Grammar) (m : Maker) (sort least : ℕ) → FitsPart g m sort least ⊎ (FitsPart g m sort least → ⊥)
+pub fits_or_not : (g : Grammar) (m : Maker) (sort least : ℕ) → FitsPart g m sort least ⊎ (FitsPart g m sort least → ⊥)
 fits_or_not g (Variable other) sort least = same_or_not other sort
 fits_or_not g (By head) sort least = made_or_not (production_of g head) sort least
 
-nothing_after : (u : Tally) → times u no_way ≡ no_way
+pub nothing_after : (u : Tally) → times u no_way ≡ no_way
 nothing_after no_way = refl
 nothing_after (one_way d) = refl
 nothing_after (more_ways d) = refl

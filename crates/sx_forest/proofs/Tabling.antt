@@ -1,4 +1,4 @@
-use Rattle.std.proofs.Common.{◌≡◌, ℕ, zero, suc, ◌+◌, ◌-◌, ◌^◌, ◌<◌, ◌≤◌, List, [], ◌∷◌, ◌++◌, ◌⊎◌, inl, inr, ⊎_elim, Some, refl, sym, subst, ap, ◌∙◌, length, Contains, get_or, arith, add-one}
+use Rattle.std.proofs.Common.{◌≡◌, ℕ, zero, suc, ◌+◌, ◌-◌, ◌^◌, ◌<◌, ◌≤◌, List, [], ◌∷◌, ◌⊎◌, inl, inr, ⊎_elim, Some, refl, sym, subst, ap, ◌∙◌, length, Contains, get_or, arith, add-one}
 use Rattle.std.specs.Global.{Vec}
 use Rattle.std.specs.List.{slice_get}
 use Rattle.std.proofs.lemmas.Bool.{cases_lt}
@@ -22,17 +22,9 @@ use Rattle.sx_forest.specs.Tallies.{tally_of}
 use Rattle.sx_forest.specs.Rows.{list_at, AllLater}
 use Rattle.sx_forest.specs.Table.{IsSoundBy, IsTable, HasEntry, HasBefore, IsPut, IsAdded, IsFirstTable, IsFull}
 use Rattle.sx_forest.specs.Ordering.{IsSoFar, AreOrdered, sort_in}
-use Rattle.sx_forest.proofs.Pushing.{got_before, got_last, got_cases}
+use Rattle.sx_forest.proofs.Putting.{still_has, now_has, got_either}
 use Rattle.sx_forest.proofs.Rows.{span_forward}
 use Rattle.sx_forest.proofs.Spans.{span_sound}
-
-same_or_not : (a b : ℕ) → (a ≡ b) ⊎ (a ≡ b → ⊥)
-same_or_not a b = by_order (cases_lt a b) (cases_lt b a)
-  where
-    by_order : (a < b) ⊎ (b ≤ a) → (b < a) ⊎ (a ≤ b) → (a ≡ b) ⊎ (a ≡ b → ⊥)
-    by_order (inl low) h = inr (λ e. omega arith)
-    by_order (inr high) (inl low) = inr (λ e. omega arith)
-    by_order (inr high) (inr low) = inl (omega arith)
 
 module _ (g : Grammar) (tokens : List Token) (start : ℕ) where
   later_by : (m : Maker) (place to : ℕ) (t : Tally) → IsSoundBy g tokens start m place to t → place ≤ to
@@ -43,46 +35,17 @@ module _ (g : Grammar) (tokens : List Token) (start : ℕ) where
   all_later lists table = λ place i e at. later_by e.maker place e.to (tally_of e.ways) (table.sound place i e at)
 
   module _ (old new : List (Vec Entry)) (place : ℕ) (e : Entry) (put : IsPut old new place e) where
-    -- what was there still is
-    still_at : (p i : ℕ) (x : Entry) → slice_get (list_at old p) i ≡ Some x → slice_get (list_at new p) i ≡ Some x
-    still_at p i x at = by_place (same_or_not p place)
-      where
-        by_place : (p ≡ place) ⊎ (p ≡ place → ⊥) → slice_get (list_at new p) i ≡ Some x
-        by_place (inl same) =
-            let low = slice_get_within (list_at old p) i x at in
-            let there : list_at new p ≡ list_at old p ++ e ∷ [] = subst (λ q. list_at new q ≡ list_at old q ++ e ∷ []) (sym same) put.there in
-            ap (λ l. slice_get l i) there ∙ (got_before (list_at old p) (e ∷ []) i low ∙ at)
-        by_place (inr differ) = ap (λ l. slice_get l i) (put.others p differ) ∙ at
-
-    pub still_has : (p : ℕ) (m : Maker) (to : ℕ) → HasEntry old p m to → HasEntry new p m to
-    still_has p m to h = (h.0, h.1, still_at p h.0 h.1 h.2, h.3, h.4)
-
-    pub now_has : HasEntry new place e.maker e.to
-    now_has = (length (list_at old place), e, ap (λ l. slice_get l (length (list_at old place))) put.there ∙ got_last (list_at old place) e, refl, refl)
-
-    -- what is there was there, or is the new entry
-    got_either : (p i : ℕ) (x : Entry) → slice_get (list_at new p) i ≡ Some x →
-        (slice_get (list_at old p) i ≡ Some x) ⊎ ((p ≡ place) × (i ≡ length (list_at old place)) × (e ≡ x))
-    got_either p i x at = by_place (same_or_not p place)
-      where
-        by_place : (p ≡ place) ⊎ (p ≡ place → ⊥) → (slice_get (list_at old p) i ≡ Some x) ⊎ ((p ≡ place) × (i ≡ length (list_at old place)) × (e ≡ x))
-        by_place (inl same) =
-            let there : list_at new p ≡ list_at old p ++ e ∷ [] = subst (λ q. list_at new q ≡ list_at old q ++ e ∷ []) (sym same) put.there in
-            ⊎_elim (λ h. inl h.1) (λ h. inr (same, h.0 ∙ ap (λ q. length (list_at old q)) same, h.1))
-            (got_cases (list_at old p) e x i (subst (λ l. slice_get l i ≡ Some x) there at))
-        by_place (inr differ) = inl (subst (λ l. slice_get l i ≡ Some x) (put.others p differ) at)
-
     -- a table with one more entry, which ends no earlier than those by heads that begin there
     pub table_on : IsTable g tokens start old → (HasEntry old place e.maker e.to → ⊥) → IsSoundBy g tokens start e.maker place e.to (tally_of e.ways) →
         ((head : Head) × (e.maker ≡ By head)) → ((i : ℕ) (x : Entry) (head : Head) → slice_get (list_at old place) i ≡ Some x → x.maker ≡ By head → x.to ≤ e.to) → IsTable g tokens start new
     table_on table fresh sound by last = record {
       sound = λ p i x at. ⊎_elim (λ h. table.sound p i x h)
           (λ h. subst (λ y. IsSoundBy g tokens start y.maker p y.to (tally_of y.ways)) h.2
-          (subst (λ q. IsSoundBy g tokens start e.maker q e.to (tally_of e.ways)) (sym h.0) sound)) (got_either p i x at);
-      once = λ p i j a b at bt makers ends. by_both p i j a b makers ends (got_either p i a at) (got_either p j b bt);
-      variables = λ p sort marked. still_has p (Variable sort) (suc p) (table.variables p sort marked);
-      heads = λ p i x low at. ⊎_elim (λ h. table.heads p i x low h) (λ h. (by.0, ap (λ y. y.maker) (sym h.2) ∙ by.1)) (got_either p i x at);
-      sorted = λ p i j a b low up at bt. in_ends p i j a b low up (got_either p i a at) (got_either p j b bt);
+          (subst (λ q. IsSoundBy g tokens start e.maker q e.to (tally_of e.ways)) (sym h.0) sound)) (got_either old new place e put p i x at);
+      once = λ p i j a b at bt makers ends. by_both p i j a b makers ends (got_either old new place e put p i a at) (got_either old new place e put p j b bt);
+      variables = λ p sort marked. still_has old new place e put p (Variable sort) (suc p) (table.variables p sort marked);
+      heads = λ p i x low at. ⊎_elim (λ h. table.heads p i x low h) (λ h. (by.0, ap (λ y. y.maker) (sym h.2) ∙ by.1)) (got_either old new place e put p i x at);
+      sorted = λ p i j a b low up at bt. in_ends p i j a b low up (got_either old new place e put p i a at) (got_either old new place e put p j b bt);
     }
       where
         in_ends : (p i j : ℕ) (a b : Entry) → 0 < i → i ≤ j →
@@ -239,7 +202,7 @@ module _ (g : Grammar) (tokens : List Token) (start : ℕ) (rank : ℕ → ℕ) 
       (λ h.
       let maker : By (head_of o.span.of) ≡ By head = ap (λ x. x.maker) h.2 ∙ by in
       (n, o, omega arith, at, by_head (head_of o.span.of) head maker, sym h.0, ap (λ x. x.to) h.2))
-      (got_either g tokens start old new o.span.from (record { maker = By (head_of o.span.of); to = o.span.to; ways = ways }) put place i e got)
+      (got_either old new o.span.from (record { maker = By (head_of o.span.of); to = o.span.to; ways = ways }) put place i e got)
     where
       by_head : (a b : Head) → By a ≡ By b → a ≡ b
       by_head a b e = cc
@@ -265,8 +228,8 @@ module _ (g : Grammar) (tokens : List Token) (start : ℕ) (rank : ℕ → ℕ) 
       record {
         table = table_on g tokens start old new s.from e added.put so.table (fresh old n o at so) sound (head_of s.of, refl) (ends_on old n o at so);
         long = added.put.same ∙ so.long;
-        has = has_on new n o at (now_has g tokens start old new s.from e added.put)
-            (λ q o' low at'. still_has g tokens start old new s.from e added.put o'.span.from (By (head_of o'.span.of)) o'.span.to (so.has q o' low at'));
+        has = has_on new n o at (now_has old new s.from e added.put)
+            (λ q o' low at'. still_has old new s.from e added.put o'.span.from (By (head_of o'.span.of)) o'.span.to (so.has q o' low at'));
         only = only_on old new n o ways at so added.put;
       }
 

@@ -5,6 +5,7 @@ pub mod Names
 pub mod Places
 pub mod Fitting
 pub mod Rows
+pub mod Reached
 pub mod Table
 pub mod Ordering
 pub mod Verdict

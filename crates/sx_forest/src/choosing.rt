@@ -25,7 +25,7 @@ fn is_usable(grammar: &Grammar, entry: Entry, sort: u32, least: u8, next: &Row, 
     ensures { IsTrue result ↔ IsUsable (plain grammar.now) sort least
         (ways_of next.now) from entry }
 {
-    fits(grammar, entry, sort, least) && is_some(both(entry.ways, at(next, from, entry.to)))
+    fits(grammar, entry.maker, sort, least) && is_some(both(entry.ways, at(next, from, entry.to)))
 }
 
 /// The first entry from an index on that reads the part where the row reads the rest, with its

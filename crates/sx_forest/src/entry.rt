@@ -4,7 +4,7 @@ use crate::ways::Ways;
 use sx_grammar::Head;
 
 /// What reads a part: a metavariable of the sort with this number, or a head.
-#[derive(Clone, Copy)]
+#[derive(Clone, Copy, PartialEq, Eq)]
 pub(crate) enum Maker {
     Variable(u32),
     By(Head),

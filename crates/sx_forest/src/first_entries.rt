@@ -1,10 +1,11 @@
 //! The table before any span is counted.
 
-ghost use Rattle.std.specs.Prelude.{◌≡◌, ◌≤◌, ◌+◌, ◌↔◌, ℕ, Some, IfOk, length};
+ghost use Rattle.std.specs.Prelude.{◌≡◌, ◌≤◌, ◌<◌, ◌+◌, ◌↔◌, ℕ, [], Some, IfOk, OnOk, length};
 ghost use Rattle.sx_grammar.specs.Grammar.{is_variable, of_sort};
 ghost use Rattle.sx_grammar.specs.Reading.{Marked};
 ghost use Rattle.sx_grammar.specs.Tables.{GrammarData};
 ghost use Rattle.sx_earley.specs.Shown.{tokens_of};
+ghost use Rattle.sx_forest.specs.Rows.{list_at};
 ghost use Rattle.sx_forest.specs.Table.{IsFirstList, IsFirstTable};
 
 use crate::entries::Entries;
@@ -28,21 +29,29 @@ pub(crate) fn variable_at(shown: &[Shown], place: usize) -> Option<u32>
     }
 }
 
-/// The entries from a place before any span is counted: that of the metavariable that stands there.
-fn first_list(alloc: Global, shown: &[Shown], place: usize) -> Result<Vec<Entry>, NoMemory>
-    requires { place ≤ 10000 }
-    ensures { IfOk result (λ v. (d : GrammarData) →
-        IsFirstList (tokens_of d shown.now) place v.items) }
+/// Adds the entry of the metavariable that stands at the place, if one does.
+fn add_variable(table: &mut Entries, shown: &[Shown], place: usize) -> Result<(), NoMemory>
+    requires inside { place < length shown.now }
+    requires short { length shown.now ≤ 10000 }
+    requires long { length table.old.lists.items ≡ length shown.now + 1 }
+    requires none { list_at table.old.lists.items place ≡ [] }
+    ensures same { length table.new.lists.items ≡ length table.old.lists.items }
+    ensures there { OnOk result ((d : GrammarData) →
+        IsFirstList (tokens_of d shown.now) place (list_at table.new.lists.items place)) }
+    ensures others { (p : ℕ) → (p ≡ place → ⊥) →
+        list_at table.new.lists.items p ≡ list_at table.old.lists.items p }
 {
-    let mut entries = Vec::new(alloc);
-    if let Some(sort) = variable_at(shown, place) {
-        entries.push(Entry {
-            maker: Maker::Variable(sort),
-            to: place as u32 + 1,
-            ways: Ways::One(1),
-        })?;
+    match variable_at(shown, place) {
+        Some(sort) => table.put(
+            place as u32,
+            Entry {
+                maker: Maker::Variable(sort),
+                to: place as u32 + 1,
+                ways: Ways::One(1),
+            },
+        ),
+        None => Ok(()),
     }
-    Ok(entries)
 }
 
 /// The entries before any span is counted, from each place.
@@ -51,9 +60,9 @@ pub(crate) fn first_entries(alloc: Global, shown: &[Shown]) -> Result<Entries, N
     ensures { IfOk result (λ t. (d : GrammarData) →
         IsFirstTable (tokens_of d shown.now) (length shown.now + 1) t.lists.items) }
 {
-    let mut lists = Vec::new(alloc);
-    for place in 0..shown.len() + 1 {
-        lists.push(first_list(alloc, shown, place)?)?;
+    let mut table = Entries::blank(alloc, shown.len() + 1)?;
+    for place in 0..shown.len() {
+        add_variable(&mut table, shown, place)?;
     }
-    Ok(Entries { lists })
+    Ok(table)
 }

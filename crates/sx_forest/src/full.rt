@@ -28,7 +28,7 @@ fn add_span(
 ) -> Result<(), NoMemory>
     requires short { span.to ≤ 10000 }
     requires along { span.from ≤ span.to }
-    requires inside { span.from < length table.old.lists.items }
+    requires inside { span.to < length table.old.lists.items }
     requires shown { AreBelow (length (texts grammar.now)) shown.now }
     requires later { AllLater table.old.lists.items }
     requires sorted { AllSorted table.old.lists.items }

@@ -8,7 +8,7 @@ ghost use Rattle.sx_forest.specs.Tallies.{tally_of, ways_at, ways_of};
 ghost use Rattle.sx_forest.specs.Rows.{FitsPart, IsEntryTally, SumTo, AreSorted};
 
 use crate::entry::{Entry, Maker};
-use crate::row::{Row, at, is_ahead};
+use crate::row::{Row, at, is_ahead, is_past};
 use crate::ways::{Ways, both, either};
 use sx_earley::makes;
 use sx_grammar::Grammar;
@@ -27,11 +27,11 @@ pub(crate) fn is_some(ways: Ways) -> bool
     !is_nothing(ways)
 }
 
-/// Whether the entry's maker makes the sort at least the level.
-pub(crate) fn fits(grammar: &Grammar, entry: Entry, sort: u32, least: u8) -> bool
-    ensures { IsTrue result ↔ FitsPart (plain grammar.now) entry.maker sort least }
+/// Whether the maker makes the sort at least the level.
+pub(crate) fn fits(grammar: &Grammar, maker: Maker, sort: u32, least: u8) -> bool
+    ensures { IsTrue result ↔ FitsPart (plain grammar.now) maker sort least }
 {
-    match entry.maker {
+    match maker {
         Maker::Variable(other) => other == sort,
         Maker::By(head) => makes(grammar, head, sort, least),
     }
@@ -47,15 +47,42 @@ fn entry_ways(grammar: &Grammar, entry: Entry, sort: u32, least: u8, next: &Row,
     if is_nothing(rest) {
         return Ways::Nothing;
     }
-    if fits(grammar, entry, sort, least) {
+    if fits(grammar, entry.maker, sort, least) {
         both(entry.ways, rest)
     } else {
         Ways::Nothing
     }
 }
 
+/// An index such that the entries from it on end after the row has ways; the entries from the
+/// second on are in the order of their ends.
+fn past_index(entries: &[Entry], next: &Row, from: u32) -> usize
+    requires sorted { AreSorted entries.now }
+    requires later { (i : ℕ) (e : Entry) → slice_get entries.now i ≡ Some e → from ≤ e.to }
+    requires some { 1 ≤ length entries.now }
+    ensures low { 1 ≤ result }
+    ensures high { result ≤ length entries.now }
+    ensures past { (i : ℕ) (e : Entry) → result ≤ i → slice_get entries.now i ≡ Some e →
+        ways_at (ways_of next.now) (e.to - from) ≡ no_way }
+{
+    let mut low = 1;
+    let mut high = entries.len();
+    if !is_past(next, from, entries[high - 1].to) {
+        return high;
+    }
+    while low < high {
+        let middle = low + (high - low) / 2;
+        if is_past(next, from, entries[middle].to) {
+            high = middle;
+        } else {
+            low = middle + 1;
+        }
+    }
+    high
+}
+
 /// The ways by the entries after the first, and then those of the row. It goes from the last entry
-/// back to one that ends before the row has ways.
+/// that ends where the row has ways back to one that ends before them.
 fn later_ways(
     grammar: &Grammar,
     entries: &[Entry],
@@ -73,7 +100,7 @@ fn later_ways(
         (length entries.now) (plus t (tally_of result)) }
 {
     let mut all = Ways::Nothing;
-    let mut left = entries.len();
+    let mut left = past_index(entries, next, from);
     while left > 1 {
         let entry = entries[left - 1];
         if is_ahead(next, from, entry.to) {

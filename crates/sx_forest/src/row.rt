@@ -59,3 +59,11 @@ pub(crate) fn is_ahead(row: &Row, from: u32, place: u32) -> bool
 {
     place < from || place - from < row.skipped
 }
+
+/// Whether the place is after the last that may have ways, in a row of a span that begins at
+/// another.
+pub(crate) fn is_past(row: &Row, from: u32, place: u32) -> bool
+    ensures { IsTrue result → (p : ℕ) → place ≤ p → ways_at (ways_of row.now) (p - from) ≡ no_way }
+{
+    from <= place && (place - from) as usize >= row.skipped as usize + row.ways.len()
+}

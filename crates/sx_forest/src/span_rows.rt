@@ -10,6 +10,7 @@ ghost use Rattle.sx_forest.specs.Rows.{AllLater, AllSorted, IsRow, count_of, row
 ghost use Rattle.sx_forest.specs.Rows.{IsSpanWays};
 
 use crate::entries::Entries;
+use crate::narrowing::narrowed;
 use crate::part_ways::is_nothing;
 use crate::row::{Row, at, last_row};
 use crate::spreading::{stretch_of, stretches};
@@ -28,9 +29,9 @@ fn is_idle(ways: &[Ways], here: Ways) -> bool
     ways.is_empty() && is_nothing(here)
 }
 
-/// The row before the symbol, where `next` is that after it: the ways from the places of the
-/// stretch, from the first that has any on.
-fn row_before(
+/// The ways from the places of the stretch, from the first that has any on, where `next` is the row
+/// after the symbol.
+fn row_from(
     alloc: Global,
     grammar: &Grammar,
     shown: &[Shown],
@@ -64,6 +65,35 @@ fn row_before(
         }
     }
     Ok(Row { skipped, ways })
+}
+
+/// The row before the symbol, where `next` is that after it: the ways from those places of
+/// the stretch from which the symbol leads to where the row after it has any.
+fn row_before(
+    alloc: Global,
+    grammar: &Grammar,
+    shown: &[Shown],
+    table: &Entries,
+    expected: Option<NumberedSymbol>,
+    next: &Row,
+    from: u32,
+    to: u32,
+    stretch: Stretch,
+) -> Result<Row, NoMemory>
+    requires short { to ≤ 10000 }
+    requires below { IfSome expected (IsBelow (length (texts grammar.now))) }
+    requires shown { AreBelow (length (texts grammar.now)) shown.now }
+    requires later { AllLater table.now.lists.items }
+    requires sorted { AllSorted table.now.lists.items }
+    ensures { IfOk result (λ r. IsRow (plain grammar.now)
+        (tokens_of grammar.now shown.now) table.now.lists.items
+        (option_map (symbol (texts grammar.now)) expected) from to stretch (ways_of next.now)
+        (ways_of r)) }
+{
+    let places = narrowed(grammar, table, expected, next, from, to, stretch);
+    row_from(
+        alloc, grammar, shown, table, expected, next, from, to, places,
+    )
 }
 
 /// How many symbols the head's production has.
@@ -109,7 +139,7 @@ pub(crate) fn all_rows(
         (tokens_of grammar.now shown.now) table.now.lists.items head from to v.items) }
 {
     let count = symbol_count(grammar, head);
-    let stretches = stretches(alloc, grammar, shown, table, head, count, from, to)?;
+    let stretches = stretches(alloc, grammar, table, head, count, from, to)?;
     let mut rows = Vec::new(alloc);
     rows.push(last_row(alloc, from, to)?)?;
     for done in 0..count {

@@ -1,6 +1,6 @@
 //! Stretches of places.
 
-ghost use Rattle.std.specs.Prelude.{ℕ, ◌+◌, ◌<◌, ◌≤◌, ◌^◌, ◌↔◌};
+ghost use Rattle.std.specs.Prelude.{ℕ, suc, ◌+◌, ◌<◌, ◌≤◌, ◌^◌, ◌↔◌};
 ghost use Rattle.sx_forest.specs.Rows.{IsIn};
 
 /// The places from the first on and before the end; none where the end is not after the first.
@@ -9,6 +9,12 @@ pub(crate) struct Stretch {
     pub(crate) first: u32,
     pub(crate) end: u32,
 }
+
+/// No places.
+pub(crate) const NOWHERE: Stretch = Stretch {
+    first: u32::MAX,
+    end: 0,
+};
 
 /// The stretch, grown so that it has the place.
 pub(crate) fn with(stretch: Stretch, place: u32) -> Stretch
@@ -41,4 +47,48 @@ pub(crate) fn clipped(stretch: Stretch, from: u32, to: u32) -> Stretch
         own.end = to + 1;
     }
     own
+}
+
+/// A stretch with the places of both.
+pub(crate) fn joined(one: Stretch, other: Stretch) -> Stretch
+    ensures one { (p : ℕ) → IsIn one p → IsIn result p }
+    ensures other { (p : ℕ) → IsIn other p → IsIn result p }
+{
+    let mut grown = one;
+    if other.first < one.first {
+        grown.first = other.first;
+    }
+    if one.end < other.end {
+        grown.end = other.end;
+    }
+    grown
+}
+
+/// The places of both.
+pub(crate) fn common(one: Stretch, other: Stretch) -> Stretch
+    ensures { (p : ℕ) → IsIn result p ↔ (IsIn one p × IsIn other p) }
+{
+    let mut own = one;
+    if one.first < other.first {
+        own.first = other.first;
+    }
+    if other.end < one.end {
+        own.end = other.end;
+    }
+    own
+}
+
+/// The places after those of the stretch, up to an end.
+pub(crate) fn after_token(stretch: Stretch, to: u32) -> Stretch
+    requires { to ≤ 10000 }
+    ensures { (p : ℕ) → IsIn stretch p → suc p ≤ to → IsIn result (suc p) }
+{
+    let own = clipped(stretch, 0, to);
+    if own.end <= own.first {
+        return NOWHERE;
+    }
+    Stretch {
+        first: own.first + 1,
+        end: own.end + 1,
+    }
 }

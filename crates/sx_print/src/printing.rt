@@ -33,7 +33,8 @@ pub fn print(
     requires printable { IsPrintable (numbered grammar.now.parts) (length vars.now) least
         (tree term.now) }
 
-    // The printed tokens are appended. Their text is the same at each place: a place decides only how variables are marked.
+    // The printed tokens are appended. Their text is the same at each place: a place decides only
+    // how variables are marked.
     ensures text { OnOk result ((place : Stem) →
         into.new.items ≡ into.old.items ++ text_of
         (plain.print (numbered grammar.now.parts) vars.now (tree term.now) place least)) }
@@ -45,11 +46,13 @@ pub fn print(
     ensures cut { OnOk result ((place : Stem) →
         Fits (numbered grammar.now.parts) [] place (tree term.now) →
         HasLexemes (literals_of grammar.now.parts) (tree term.now) →
-        let printed = plain.print (numbered grammar.now.parts) vars.now (tree term.now) place least in
+        let printed = plain.print (numbered grammar.now.parts) vars.now (tree term.now) place
+        least in
         IsCutInto (literals_of grammar.now.parts) printed (text_of printed)) }
     ensures read { (sort : ℕ) → Fits (numbered grammar.now.parts) [] (of_sort sort)
         (tree term.now) →
-        let printed = plain.print (numbered grammar.now.parts) vars.now (tree term.now) (of_sort sort) least in
+        let printed = plain.print (numbered grammar.now.parts) vars.now (tree term.now)
+        (of_sort sort) least in
         HasReading (numbered grammar.now.parts) vars.now printed sort least (tree term.now) }
 
     ensures err { OnErr result (into.new.items ≡ into.old.items) }

@@ -9,10 +9,12 @@ use Rattle.sx_forest.proofs.Summing.{no_entry, sum_on, sum_again, nothing_more, 
 use Rattle.sx_forest.proofs.part_ways.later_ways.Goals as goal
 
 pub loop-left-init : goal.loop-left-init
-loop-left-init c = record {
-  low = c.requires.some;
-  high = omega arith;
-  on = λ t sum. subst (λ u. SumTo (plain c.args.grammar.now) c.args.sort c.args.least (ways_of c.args.next.now) c.args.from c.args.entries.now (length c.args.entries.now) u) (sym (nothing_more t)) sum;
+loop-left-init c = let left = c.past_index-left.ensures in let entries = c.args.entries.now in record {
+  low = left.low;
+  high = left.high;
+  on = λ t sum. subst (λ u. SumTo (plain c.args.grammar.now) c.args.sort c.args.least (ways_of c.args.next.now) c.args.from entries (length entries) u) (sym (nothing_more t))
+      (skip_to (plain c.args.grammar.now) c.args.sort c.args.least (ways_of c.args.next.now) c.args.from entries c.past_index-left.result t sum (length entries) left.high (omega arith)
+      (λ i e after under at. left.past i e after at));
 }
 
 pub loop-left-preserved : goal.loop-left-preserved

@@ -30,6 +30,6 @@ returns c =
     let are : AreRows g ts lists c.args.head count count from to all rows = subst (λ n. AreRows g ts lists c.args.head count n from to all rows) end c.loop-done.invariant in
     record {
       stretches = all;
-      spread = subst (λ n. AreStretches g ts lists c.args.head n from to all) c.symbol_count-count.ensures c.in_ok-stretches.ensures;
+      spread = subst (λ n. AreStretches g ts lists c.args.head n from to all) c.symbol_count-count.ensures (c.in_ok-stretches.ensures ts);
       are = subst (λ n. AreRows g ts lists c.args.head n n from to all rows) c.symbol_count-count.ensures are;
     }

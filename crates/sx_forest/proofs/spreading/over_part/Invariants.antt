@@ -1,12 +1,10 @@
-use Rattle.std.proofs.Common.{◌≡◌, ◌<◌, ◌≤◌, ℕ, Some}
-use Rattle.std.specs.List.{slice_get}
+use Rattle.std.proofs.Common.{◌<◌, ◌≤◌, ℕ}
 use Rattle.sx_earley.specs.Shown.{plain}
-use Rattle.sx_forest.specs.declared.entry.Entry.{Entry}
+use Rattle.sx_forest.specs.declared.entry.Maker.{Maker}
 use Rattle.sx_forest.specs.Rows.{FitsPart, IsIn}
+use Rattle.sx_forest.specs.Reached.{HasReach, reaches_at}
 use Rattle.sx_forest.proofs.spreading.over_part.Given as goal
 
-abbrev pub invariant-loop-entry : goal.invariant-loop-entry
-invariant-loop-entry l = record {
-  kept : (p : ℕ) → IsIn l.fn.stretch p → IsIn l.grown p;
-  over : (i : ℕ) (e : Entry) → i < l.entry-index → slice_get l.entries i ≡ Some e → FitsPart (plain l.grammar) e.maker l.sort l.least → e.to ≤ l.to → IsIn l.grown e.to;
-}
+abbrev pub invariant-loop-place : goal.invariant-loop-place
+invariant-loop-place l = (place : ℕ) (m : Maker) (p : ℕ) → l.fn.stretch.first ≤ place → place < l.place →
+    HasReach (reaches_at l.table.ends.lists.items place) m p → FitsPart (plain l.grammar) m l.sort l.least → IsIn l.grown p

@@ -1,5 +1,6 @@
-use Rattle.std.proofs.Common.{◌≡◌, ◌<◌, length}
-use Rattle.sx_earley.specs.Shown.{plain, tokens_of}
+use Rattle.std.proofs.Common.{◌≡◌, ◌<◌, List, length}
+use Rattle.sx_grammar.specs.Grammar.{Token}
+use Rattle.sx_earley.specs.Shown.{plain}
 use Rattle.sx_forest.specs.Rows.{AreStretches}
 use Rattle.sx_forest.proofs.spreading.stretches.Given as goal
 
@@ -7,5 +8,5 @@ abbrev pub invariant-loop-dot : goal.invariant-loop-dot
 invariant-loop-dot l = record {
   ahead : 0 < l.dot;
   long : length l.all.items ≡ l.dot;
-  are : AreStretches (plain l.grammar) (tokens_of l.grammar l.shown) l.table.lists.items l.head l.dot l.from l.to l.all.items;
+  are : (tokens : List Token) → AreStretches (plain l.grammar) tokens l.table.lists.items l.head l.dot l.from l.to l.all.items;
 }

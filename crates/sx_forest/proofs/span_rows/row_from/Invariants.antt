@@ -3,7 +3,7 @@ use Rattle.sx_grammar.specs.Numbered.{symbol}
 use Rattle.sx_earley.specs.Shown.{plain, texts, tokens_of}
 use Rattle.sx_forest.specs.Tallies.{ways_of}
 use Rattle.sx_forest.proofs.Skipping.{IsRowSoFar}
-use Rattle.sx_forest.proofs.span_rows.row_before.Given as goal
+use Rattle.sx_forest.proofs.span_rows.row_from.Given as goal
 
 abbrev pub invariant-loop-place : goal.invariant-loop-place
 invariant-loop-place l =
