@@ -8,7 +8,8 @@ use Rattle.std.proofs.lemmas.Slice.Eq.{bytes_eq-Decides}
 use Rattle.sx_grammar.specs.Grammar.{Text}
 use Rattle.sx_grammar.specs.Distinct.{distinct}
 use Rattle.sx_grammar.proofs.Finding.{contains_place, filter_at}
-use Rattle.std.proofs.lemmas.List.{take_all}
+use Rattle.std.proofs.lemmas.List.{take_all, append_assoc}
+use Rattle.std.proofs.lemmas.List.Elements.{filter-append}
 
 head_or_tail : (x : Text) (xs : List Text) (y : Text) → Contains (x ∷ xs) y → (x ≡ y) ⊎ Contains xs y
 head_or_tail x xs y (zero, lt, e) = inl e
@@ -101,18 +102,30 @@ distinct_from (y ∷ xs) x has = ⊎_elim
     (head_or_tail y (filter (λ z. not (bytes_eq y z)) (distinct xs)) x has)
 
 -- a new text goes last
-pub distinct_more : (xs : List Text) (n : ℕ) (x : Text) (known : List Text) (found : Option ℕ) → known ≡ distinct (take n xs) → slice_get xs n ≡ Some x
-    → MatchOption found (¬ (Contains known x)) (λ i. slice_get known i ≡ Some x) → is_some found ≡ false → known ++ x ∷ [] ≡ distinct (take (n + 1) xs)
-distinct_more xs n x known (Some i) same at exact none = absurd (false≢true (sym none))
-distinct_more xs n x known None same at exact none =
-    ap (λ l. l ++ x ∷ []) same ∙ sym (distinct_new (take n xs) x (λ has. distinct_has (take n xs) x has (subst (λ l. ¬ (Contains l x)) same exact))) ∙ ap distinct (sym (take_seam xs n x at))
+pub distinct_more : (xs : List Text) (x : Text) (known : List Text) (found : Option ℕ) → known ≡ distinct xs
+    → MatchOption found (¬ (Contains known x)) (λ i. slice_get known i ≡ Some x) → is_some found ≡ false → known ++ x ∷ [] ≡ distinct (xs ++ x ∷ [])
+distinct_more xs x known (Some i) same exact none = absurd (false≢true (sym none))
+distinct_more xs x known None same exact none =
+    ap (λ l. l ++ x ∷ []) same ∙ sym (distinct_new xs x (λ has. distinct_has xs x has (subst (λ l. ¬ (Contains l x)) same exact)))
 
 -- an old one is left out
-pub distinct_kept : (xs : List Text) (n : ℕ) (x : Text) (known : List Text) (found : Option ℕ) → known ≡ distinct (take n xs) → slice_get xs n ≡ Some x
-    → MatchOption found (¬ (Contains known x)) (λ i. slice_get known i ≡ Some x) → is_some found ≡ true → known ≡ distinct (take (n + 1) xs)
-distinct_kept xs n x known None same at exact some = absurd (false≢true some)
-distinct_kept xs n x known (Some i) same at exact some =
-    same ∙ sym (distinct_old (take n xs) x (distinct_from (take n xs) x (subst (λ l. Contains l x) same (contains_at known i x exact)))) ∙ ap distinct (sym (take_seam xs n x at))
+pub distinct_kept : (xs : List Text) (x : Text) (known : List Text) (found : Option ℕ) → known ≡ distinct xs
+    → MatchOption found (¬ (Contains known x)) (λ i. slice_get known i ≡ Some x) → is_some found ≡ true → known ≡ distinct (xs ++ x ∷ [])
+distinct_kept xs x known None same exact some = absurd (false≢true some)
+distinct_kept xs x known (Some i) same exact some =
+    same ∙ sym (distinct_old xs x (distinct_from xs x (subst (λ l. Contains l x) same (contains_at known i x exact))))
 
-pub distinct_all : (xs : List Text) (n : ℕ) (out : List Text) → length xs ≤ n → out ≡ distinct (take n xs) → out ≡ distinct xs
-distinct_all xs n out whole same = same ∙ ap distinct (take_all n xs whole)
+-- one text more of a list behind others
+pub seam_behind : (start xs : List Text) (n : ℕ) (x : Text) → slice_get xs n ≡ Some x → start ++ take n xs ++ x ∷ [] ≡ start ++ take (n + 1) xs
+seam_behind start xs n x at = append_assoc start (take n xs) (x ∷ []) ∙ ap (λ l. start ++ l) (sym (take_seam xs n x at))
+
+pub distinct_all : (start xs : List Text) (n : ℕ) (out : List Text) → length xs ≤ n → out ≡ distinct (start ++ take n xs) → out ≡ distinct (start ++ xs)
+distinct_all start xs n out whole same = same ∙ ap (λ l. distinct (start ++ l)) (take_all n xs whole)
+
+-- the distinct texts of a list stand first among those of the list and more texts
+pub distinct_goes_on : (xs ys : List Text) → (more : List Text) × (distinct (xs ++ ys) ≡ distinct xs ++ more)
+distinct_goes_on [] ys = (distinct ys, refl)
+distinct_goes_on (x ∷ xs) ys =
+    let rest = distinct_goes_on xs ys in
+    let others = λ (y : Text). not (bytes_eq x y) in
+    (filter others rest.0, ap (λ l. x ∷ l) (ap (filter others) rest.1 ∙ filter-append others (distinct xs) rest.0))

@@ -26,3 +26,4 @@ pub mod MixedLaws
 pub mod LevelLaws
 pub mod MakeLaws
 pub mod LimitLaws
+pub mod Extending

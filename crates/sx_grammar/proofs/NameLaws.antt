@@ -2,7 +2,7 @@
 use Rattle.std.proofs.Common.{◌≡◌, ℕ, zero, suc, map, get_or, Bool, true, false, ◌||◌, List, [], ◌∷◌, ◌++◌, ◌⊎◌, inl, inr, ⊎_elim, Option, Some, None, MatchOption, if◌then◌else◌, refl, sym, ap, ◌∙◌, subst, true≢false, is_some, Contains, arith, cond, not, ◌+◌, nat_lt}
 use Rattle.std.specs.Prelude.{slice_get, option_map}
 use Rattle.std.specs.Global.{Vec}
-use Rattle.std.specs.List.{list_any, position, position_or_len}
+use Rattle.std.specs.List.{list_any, position, position_or_len, AllZip}
 use Rattle.std.specs.Str.{bytes_eq}
 use Rattle.std.proofs.lemmas.Slice.Eq.{bytes_eq-Decides}
 use Rattle.std.proofs.lemmas.Option.{slice_get-map, slice_get-get_or}
@@ -100,3 +100,10 @@ pushed_is keys after k name same fresh e = go (list_any (finds k.items) keys) re
         ap texts_of (e ∙ ap (λ b. if b then keys else (keys ++ k ∷ [])) t)
         ∙ map-append (λ x. x.items) keys (k ∷ [])
         ∙ ap (λ x. texts_of keys ++ x ∷ []) same
+
+-- copies of names, by any relation of equal texts
+pub copied_are : (C : Vec ℕ → Vec ℕ → Type 0) (keys after : Keys) → ((v w : Vec ℕ) → C v w → w.items ≡ v.items) → AllZip C keys after → texts_of after ≡ texts_of keys
+copied_are C [] [] same are = refl
+copied_are C [] (k ∷ after) same are = absurd are
+copied_are C (k ∷ keys) [] same are = absurd are
+copied_are C (k ∷ keys) (l ∷ after) same are = λ i. same k l are.0 i ∷ copied_are C keys after same are.1 i

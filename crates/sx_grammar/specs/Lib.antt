@@ -23,3 +23,4 @@ pub mod Ranks
 pub mod Settled
 pub mod Sorting
 pub mod High
+pub mod Standing

@@ -53,7 +53,7 @@ pub(crate) fn known_sorts(
     ensures good { OnOk result (HasKnownSorts (parts from.now)) }
     ensures refused { IfErr result (IsRefused (parts from.now)) }
 {
-    let named = sorts_named(alloc, from)?;
+    let named = sorts_named(alloc, &from.productions)?;
     let unknown = first_unknown(known, &named);
     drop(named);
     if let Some(name) = unknown {
@@ -68,7 +68,7 @@ pub(crate) fn good_labels(alloc: Global, from: &GrammarParts) -> Result<(), Gram
     ensures good { OnOk result (HasLabels (parts from.now)) }
     ensures refused { IfErr result (IsRefused (parts from.now)) }
 {
-    let list = labels(alloc, from)?;
+    let list = labels(alloc, &from.productions)?;
     let numbering = number(alloc, &list);
     drop(list);
     match numbering? {

@@ -8,7 +8,7 @@ ghost use Rattle.sx_grammar.specs.Tables.{IsWithinLimits};
 use crate::grammar::Grammar;
 use crate::grammar_error::GrammarError;
 use crate::grammar_parts::GrammarParts;
-use crate::make::tables;
+use crate::growing::tables_behind;
 use crate::production::Production;
 use std::alloc::Global;
 use sx_term::NoMemory;
@@ -53,7 +53,7 @@ impl Grammar {
         ensures { IsExtended base.now (map line more.items) result }
     {
         let parts = with_more(alloc, &base.parts, more)?;
-        match tables(alloc, &parts) {
+        match tables_behind(alloc, base, &parts) {
             Ok(made) => Ok(Grammar {
                 parts,
                 base: base.base,

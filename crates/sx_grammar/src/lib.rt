@@ -1,6 +1,7 @@
 //! Grammars: what they are made of, what it is to read tokens by them, and what stands in print.
 #![tactic(auto)]
 
+mod additions;
 mod checks;
 mod cycle;
 mod cyclic;
@@ -13,6 +14,7 @@ mod grammar;
 mod grammar_error;
 mod grammar_parts;
 mod groups;
+mod growing;
 mod head;
 mod item;
 mod labels_below;

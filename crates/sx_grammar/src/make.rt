@@ -158,7 +158,7 @@ fn numbered_parts(
 }
 
 /// The tables of the parts with these names, or why the parts are no grammar.
-fn tables_with(
+pub(crate) fn tables_with(
     alloc: Global,
     from: &GrammarParts,
     sort_names: Names,

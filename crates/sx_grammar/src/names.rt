@@ -50,4 +50,13 @@ impl Names {
         self.texts.insert(Vec::from_slice(alloc, name)?)?;
         Ok(())
     }
+
+    /// Equal names. The one refusal is want of memory.
+    pub(crate) fn copy(&self) -> Result<Names, NoMemory>
+        ensures { IfOk result (λ n. n ≡ self.now) }
+    {
+        Ok(Names {
+            texts: self.texts.clone()?,
+        })
+    }
 }

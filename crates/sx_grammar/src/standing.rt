@@ -1,7 +1,8 @@
 //! The literals and names of a grammar's parts as they stand.
 
 ghost use Rattle.std.specs.Prelude.{◌≡◌, [], ◌∷◌, ◌++◌, map, flat_map, OnOk, IfOk};
-ghost use Rattle.sx_grammar.specs.Parts.{parts, line, names, labels, literals, sorts_named};
+ghost use Rattle.sx_grammar.specs.Parts.{parts, line, names, literals};
+ghost use Rattle.sx_grammar.specs.Standing.{labels_in, literals_in, sorts_in};
 ghost use Rattle.sx_grammar.specs.Parts.{symbol_literals, symbol_sorts, bracket_literals, texts};
 
 use crate::grammar_parts::GrammarParts;
@@ -95,12 +96,27 @@ pub(crate) fn literals(alloc: Global, from: &GrammarParts) -> Result<Vec<&Text>,
     Ok(out)
 }
 
-/// The names of the sorts that the productions name, in order.
-pub(crate) fn sorts_named(alloc: Global, from: &GrammarParts) -> Result<Vec<&Text>, AllocError>
-    ensures { IfOk result (λ v. texts v.items ≡ sorts_named (parts from.now)) }
+/// The literals of the productions in order.
+pub(crate) fn literals_in(
+    alloc: Global,
+    productions: &[Production],
+) -> Result<Vec<&Text>, AllocError>
+    ensures { IfOk result (λ v. texts v.items ≡ literals_in (map line productions.now)) }
 {
     let mut out = Vec::new(alloc);
-    for production in &from.productions {
+    add_literals_of(productions, &mut out)?;
+    Ok(out)
+}
+
+/// The names of the sorts that the productions name, in order.
+pub(crate) fn sorts_named(
+    alloc: Global,
+    productions: &[Production],
+) -> Result<Vec<&Text>, AllocError>
+    ensures { IfOk result (λ v. texts v.items ≡ sorts_in (map line productions.now)) }
+{
+    let mut out = Vec::new(alloc);
+    for production in productions {
         put(&production.sort, &mut out)?;
         add_sorts(&production.symbols, &mut out)?;
     }
@@ -119,11 +135,11 @@ pub(crate) fn names(alloc: Global, from: &GrammarParts) -> Result<Vec<&Text>, Al
 }
 
 /// The labels of the productions in order.
-pub(crate) fn labels(alloc: Global, from: &GrammarParts) -> Result<Vec<&Text>, AllocError>
-    ensures { IfOk result (λ v. texts v.items ≡ labels (parts from.now)) }
+pub(crate) fn labels(alloc: Global, productions: &[Production]) -> Result<Vec<&Text>, AllocError>
+    ensures { IfOk result (λ v. texts v.items ≡ labels_in (map line productions.now)) }
 {
     let mut out = Vec::new(alloc);
-    for production in &from.productions {
+    for production in productions {
         put(&production.label, &mut out)?;
     }
     Ok(out)

@@ -5,6 +5,11 @@ use Rattle.sx_grammar.specs.Made.{IsGrammar}
 use Rattle.sx_grammar.specs.Extended.{extended}
 use Rattle.sx_grammar.proofs.grammar.Grammar.extend.Goals as goal
 
+pub tables_behind-requires-clause-behind : goal.tables_behind-requires-clause-behind
+tables_behind-requires-clause-behind c =
+    let more = map line c.args.more.items in
+    (more, c.in_ok-parts.ensures ∙ ap (λ d. extended d.parts more) c.base.view_is)
+
 pub invariant_of-result : goal.invariant_of-result
 invariant_of-result c =
     let own = (parts c.base.inside.parts).productions in
