@@ -89,6 +89,15 @@ bad_other literals metas text o none =
     (λ line rest e. let clash : Symbol ≡ Other = HasClass-same text (subst (HasClass Symbol) (sym e) (HasClass-symbol 47 (47 ∷ line ++ rest) refl)) has in cc)
     (λ m a x e token. other_token token)
 
+-- a blank
+blank_low : (c : ℕ) → is_blank c ≡ true → c < 128
+blank_low c h = grind (arith, nat_tests)
+
+pub blank_here : (text rest : List ℕ) (c : ℕ) → is_blank c ≡ true → IsUtf8 rest → text ≡ encode_utf8 c ++ rest → IsCut text 1 × Skips text (drop 1 text)
+blank_here text rest c h utf8 e =
+    let all : text ≡ c ∷ rest = e ∙ ap (λ (front : List ℕ). front ++ rest) (encode_ascii c (blank_low c h)) in
+    cut_front (λ _ more. Skips text more) text (c ∷ []) rest 1 all (omega arith) (omega arith) utf8 (inl (c, h, all))
+
 -- a string
 pub string_here : (text after : List ℕ) (n : ℕ) → IsUtf8 after → text ≡ 34 ∷ after → IsMaximalRun is_in_string (take n after) (drop n after) → n < length after → slice_index after n ≡ 34
     → IsCut text (n + 2) × IsString (take (n + 2) text) (drop (n + 2) text)

@@ -1,4 +1,4 @@
-use Rattle.std.proofs.Common.{◌-◌, length, sym, refl, subst, arith}
+use Rattle.std.proofs.Common.{◌-◌, length, ap, sym, refl, subst, length-drop, arith}
 use Rattle.std.proofs.lemmas.List.{length-map}
 use Rattle.sx_term.specs.Cutting.{Piece}
 use Rattle.sx_token.specs.Tokens.{pieces, piece_of}
@@ -30,3 +30,39 @@ loop-rest-preserved c =
     c.split_at-in-Token.ensures.front c.split_at-in-Token.ensures.back refl refl
     (λ full. absurd (omega (arith, length-map c.loop-rest.out.items piece_of, c.len.ensures, c.if-len-eq-MOST_TOKENS.false, c.loop-rest.out.ok.0, full)))
     c.in-Ok.ensures.ok
+
+pub split_at-requires : goal.split_at-requires
+split_at-requires c = c.in-Skip.ensures.0.1
+
+pub loop-rest-smaller-in-Skip : goal.loop-rest-smaller-in-Skip
+loop-rest-smaller-in-Skip c =
+    omega (arith, c.in-Skip.ensures.0.0, c.in-Skip.ensures.0.1.0, ap length c.split_at.ensures.back, length-drop c.in-Skip.len c.loop-rest.rest.now)
+
+pub split_at-requires-in-Token : goal.split_at-requires-in-Token
+split_at-requires-in-Token c = c.in-Token.ensures.0.1
+
+pub loop-rest-smaller : goal.loop-rest-smaller
+loop-rest-smaller c =
+    omega (arith, c.in-Token.ensures.0.0, c.in-Token.ensures.0.1.0, ap length c.split_at-in-Token.ensures.back, length-drop c.in-Token.len c.loop-rest.rest.now)
+
+pub returns-in-Open : goal.returns-in-Open
+returns-in-Open c = record {
+  utf8 = c.utf8.text;
+  before = pieces c.loop-rest.out.items;
+  few = c.loop-rest.invariant.few;
+  rest = c.loop-rest.rest.now;
+  cuts = c.loop-rest.invariant.cuts;
+  at = omega (arith, c.loop-rest.invariant.fits);
+  is = c.in-Open.ensures;
+}
+
+pub returns-in-Bad : goal.returns-in-Bad
+returns-in-Bad c = record {
+  utf8 = c.utf8.text;
+  before = pieces c.loop-rest.out.items;
+  few = c.loop-rest.invariant.few;
+  rest = c.loop-rest.rest.now;
+  cuts = c.loop-rest.invariant.cuts;
+  at = omega (arith, c.loop-rest.invariant.fits);
+  is = c.in-Bad.ensures;
+}
