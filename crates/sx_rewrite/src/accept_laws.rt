@@ -1,6 +1,8 @@
 //! What holds of extension rules that are checked, and of accepted sets.
 
-ghost use Rattle.sx_rewrite.specs.AcceptLaws.{CertificatesHold, StoredIsSound, RejectedIsUnsound, FlatFormsAreSorted, SoundRulesAreSorted, BaseRulesAreAccepted, AcceptedSetsGrow, GrowthGoesOn};
+ghost use Rattle.sx_rewrite.specs.AcceptLaws.{CertificatesHold, StoredIsSound, RejectedIsUnsound};
+ghost use Rattle.sx_rewrite.specs.AcceptLaws.{FlatFormsAreSorted, SoundRulesAreSorted};
+ghost use Rattle.sx_rewrite.specs.AcceptLaws.{BaseRulesAreAccepted, AcceptedSetsGrow, GrowthGoesOn};
 
 /// A certificate holds for all terms that are put for the rule's variables.
 pub fn certificates_hold()

@@ -1,6 +1,7 @@
 //! What holds of the size of lowered nodes.
 
-ghost use Rattle.sx_rewrite.specs.CountLaws.{CertificatesUsePremises, NodesAreSummed, HeightIsGreatest};
+ghost use Rattle.sx_rewrite.specs.CountLaws.{CertificatesUsePremises, NodesAreSummed};
+ghost use Rattle.sx_rewrite.specs.CountLaws.{HeightIsGreatest};
 
 /// The nodes of a proof with others in the place of its givens are its own,
 /// and those of each other as often as its given stands.

@@ -1,13 +1,15 @@
 //! Subjects of lowered derivations.
 
-ghost use Rattle.std.specs.Prelude.{◌≡◌, ℕ, ◌≤◌, false, IfOk, MatchOption, List, [], ◌∷◌, map, get_or, slice_get, Some, None};
+ghost use Rattle.std.specs.Prelude.{◌≡◌, ℕ, ◌≤◌, false, IfOk, MatchOption, List, [], ◌∷◌, map};
+ghost use Rattle.std.specs.Prelude.{get_or, slice_get, Some, None};
 ghost use Rattle.sx_term.specs.Tree.{Tree, depth_of, greatest_depth, forest};
 ghost use Rattle.sx_term.specs.Term.{tree};
 ghost use Rattle.sx_term.specs.Instances.{bound_by};
 ghost use Rattle.sx_rules.specs.Rules as known;
 ghost use Rattle.sx_rules.specs.Modes.{outputs};
 ghost use Rattle.sx_rules.specs.Discipline.{subjects_of};
-ghost use Rattle.sx_rules.specs.Derivations.{Derives, AreShallow, HasShallowBinds, ShallowJudgements};
+ghost use Rattle.sx_rules.specs.Derivations.{Derives, AreShallow, HasShallowBinds};
+ghost use Rattle.sx_rules.specs.Derivations.{ShallowJudgements};
 ghost use Rattle.sx_rules.specs.ProofView as view;
 ghost use Rattle.sx_rules.specs.Sets.{forms_in, bare_rules_in};
 ghost use Rattle.sx_rules.specs.Views.{judgement, hypotheses, subjects_in, places_at};

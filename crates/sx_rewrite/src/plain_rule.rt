@@ -6,7 +6,8 @@ ghost use Rattle.sx_term.specs.Term.{tree};
 ghost use Rattle.sx_rules.specs.Views.{judgement, premise, rule, named};
 ghost use Rattle.sx_plain.specs.Plain.{image};
 ghost use Rattle.sx_plain.specs.Views.{table_of};
-ghost use Rattle.sx_rewrite.specs.PlainRules.{image_judgement, image_premise, plain_named, HasImage, PremiseHasImage, RuleHasImage};
+ghost use Rattle.sx_rewrite.specs.PlainRules.{image_judgement, image_premise, plain_named};
+ghost use Rattle.sx_rewrite.specs.PlainRules.{HasImage, PremiseHasImage, RuleHasImage};
 
 use crate::ext_rule::ExtRule;
 use std::alloc::Global;

@@ -1,13 +1,16 @@
 //! The size of lowered derivations, counted before they are made.
 
-ghost use Rattle.std.specs.Prelude.{◌≡◌, ◌+◌, ◌-◌, ◌*◌, ◌<◌, ◌≤◌, length, max, nat_lt, if◌then◌else◌};
+ghost use Rattle.std.specs.Prelude.{◌≡◌, ◌+◌, ◌-◌, ◌*◌, ◌<◌, ◌≤◌, length, max, nat_lt};
+ghost use Rattle.std.specs.Prelude.{if◌then◌else◌};
 ghost use Rattle.sx_rules.specs.Derivations.{height_of, most_height};
 ghost use Rattle.sx_rules.specs.ProofView as view;
 ghost use Rattle.sx_plain.specs.Measures.{total, greatest};
 ghost use Rattle.sx_rewrite.specs.AcceptedView.{accepted};
-ghost use Rattle.sx_rewrite.specs.Used.{lowered_nodes, lowered_nodes_of, lowered_height, lowered_heights_of};
+ghost use Rattle.sx_rewrite.specs.Used.{lowered_nodes, lowered_nodes_of, lowered_height};
+ghost use Rattle.sx_rewrite.specs.Used.{lowered_heights_of};
 ghost use Rattle.sx_rewrite.specs.Copied as copies;
-ghost use Rattle.sx_rewrite.specs.Sizes.{in_u64, in_u128, IsSmall, used_sum, used_most, used_copies};
+ghost use Rattle.sx_rewrite.specs.Sizes.{in_u64, in_u128, IsSmall, used_sum, used_most};
+ghost use Rattle.sx_rewrite.specs.Sizes.{used_copies};
 ghost use Rattle.sx_rewrite.specs.LoweredSizes.{HasFitKids, HaveFitKids, IsLoweredSize};
 
 use crate::accepted::Accepted;
