@@ -1,10 +1,9 @@
 -- The text of an extension has one outline, and this has one pair of grammars.
 use Rattle.std.proofs.Common.{◌≡◌, ℕ, Bool, true, false, cond, List, [], ◌∷◌, ◌++◌, inl, inr}
-use Rattle.std.proofs.Common.{length, map, Some, refl, ap, ◌∙◌, sym, subst, arith}
+use Rattle.std.proofs.Common.{length, map, Some, refl, ap, ◌∙◌, sym, subst}
 use Rattle.std.specs.Prelude.{Result, Ok, Err, slice_get}
 use Rattle.std.proofs.lemmas.List.{append_cancel_left}
 use Rattle.sx_term.specs.declared.lex_kind.LexKind.{LexKind}
-use Rattle.sx_term.specs.declared.lex_kind.LexKind.TheVariants.{Id, Num, Str}
 use Rattle.sx_term.specs.declared.sort.Sort.{Sort}
 use Rattle.sx_term.specs.declared.sort.Sort.TheVariants as TheSort
 use Rattle.sx_grammar.specs.declared.grammar_error.GrammarError.{GrammarError}
@@ -46,45 +45,7 @@ same_kind a b e = cc
 same_some : (x y : Text) → Some x ≡ Some y → x ≡ y
 same_some x y e = cc
 
-abbrev first : Text → ℕ
-first [] = 0
-first (b ∷ bytes) = b
-
--- the names of the lexical sorts differ in their first bytes
-kind_told : (a b : LexKind) → first (lex_text a) ≡ first (lex_text b) → a ≡ b
-kind_told Id Id e = refl
-kind_told Num Num e = refl
-kind_told Str Str e = refl
-kind_told Id Num e = absurd (omega (arith, e))
-kind_told Id Str e = absurd (omega (arith, e))
-kind_told Num Id e = absurd (omega (arith, e))
-kind_told Num Str e = absurd (omega (arith, e))
-kind_told Str Id e = absurd (omega (arith, e))
-kind_told Str Num e = absurd (omega (arith, e))
-
 module _ (p : Parts) where
-  -- a name is that of one sort
-  sort_one : (name : Text) (a b : Sort) → IsSortNamed p name a → IsSortNamed p name b → a ≡ b
-  sort_one name a b (inl h) (inl k) = h.2 ∙ ap TheSort.Lex
-      (kind_told h.0 k.0 (ap first (sym h.1 ∙ k.1))) ∙ sym k.2
-  sort_one name a b (inl h) (inr k) = absurd (k.0 h.0 h.1)
-  sort_one name a b (inr h) (inl k) = absurd (h.0 k.0 k.1)
-  sort_one name a b (inr h) (inr k) = h.2 ∙ sym k.2
-
-  -- lines state one list of stems
-  pub stems_one : (vs : List VarLine) (ss us : Stems) → AreStems p vs ss → AreStems p vs us →
-      ss ≡ us
-  stems_one [] [] [] h k = refl
-  stems_one [] [] (u ∷ us) h k = absurd k
-  stems_one [] (s ∷ ss) us h k = absurd h
-  stems_one (v ∷ vs) [] us h k = absurd h
-  stems_one (v ∷ vs) (s ∷ ss) [] h k = absurd k
-  stems_one (v ∷ vs) (s ∷ ss) (u ∷ us) h k =
-      let stem = h.0 ∙ sym k.0 in
-      let sort = sort_one v.sort s.1 u.1 h.1 k.1 in
-      let rest = stems_one vs ss us h.2 k.2 in
-      λ i. (stem i, sort i) ∷ rest i
-
   -- a sort has one name
   name_one : (a b : Text) (s : Sort) → IsSortNamed p a s → IsSortNamed p b s → a ≡ b
   name_one a b s (inl h) (inl k) = h.1 ∙ ap lex_text (same_kind h.0 k.0 (sym h.2 ∙ k.2)) ∙ sym k.1

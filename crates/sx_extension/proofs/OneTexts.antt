@@ -10,10 +10,11 @@ use Rattle.sx_notation.specs.declared.notation_error.NotationError.TheVariants.{
 use Rattle.sx_language.specs.RuleLine.{Reader}
 use Rattle.sx_language.specs.States.{AreStems}
 use Rattle.sx_language.proofs.OneLine.{Alike}
+use Rattle.sx_language.proofs.OneOutline.{stems_one}
 use Rattle.sx_language.proofs.OneRules.{rules_one, first_bad_one, rules_or_bad}
 use Rattle.sx_extension.specs.Grounds.{Ground}
 use Rattle.sx_extension.specs.Readings.{AreGrammars, IsReadable, Texts, tables, AreRead, IsBadText}
-use Rattle.sx_extension.proofs.OneGround.{outline_one, stems_one, grammar_one, rule_grammar_one}
+use Rattle.sx_extension.proofs.OneGround.{outline_one, grammar_one, rule_grammar_one}
 use Rattle.sx_extension.proofs.OnePlain.{plains_one, first_bad_plain_one, plains_or_bad}
 
 -- ---- readers

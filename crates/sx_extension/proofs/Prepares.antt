@@ -2,9 +2,10 @@
 use Rattle.std.proofs.Common.{◌≡◌, ◌-◌, ◌<◌, ◌^◌, List, length, map, refl, ap, ◌∙◌, sym, subst}
 use Rattle.std.specs.List.{AllByRecursion}
 use Rattle.sx_grammar.specs.Grammar.{Text}
-use Rattle.sx_grammar.specs.Parts.{Parts}
+use Rattle.sx_grammar.specs.Parts.{Line, Parts}
 use Rattle.sx_grammar.specs.Tables.{GrammarData}
 use Rattle.sx_grammar.specs.Made.{IsGrammar}
+use Rattle.sx_directives.specs.declared.rows.VarLine.{VarLine}
 use Rattle.sx_outline.specs.declared.extension_outline.ExtensionOutline.{ExtensionOutline}
 use Rattle.sx_outline.specs.declared.rule_lines.RuleLines.{RuleLines}
 use Rattle.sx_outline.specs.Stages.{PlainData, plain_data, rule_data}
@@ -20,6 +21,12 @@ use Rattle.sx_extension.specs.Readings.{HasOutline, with_own, AreGrammars, table
 use Rattle.sx_extension.specs.Stages.{IsUsable, IsUnoutlined, IsUngrammatical, IsUnprepared, IsPrepared, CanReadPlain, reader_of}
 use Rattle.sx_extension.proofs.Grounding.{names_kept, same_sorts, reads}
 use Rattle.sx_extension.proofs.Outlining.{pairs_read}
+
+-- the sorts of stems are those of the language
+pub stems_known : (g : Ground) (before : IsBefore g) (own : List Line) (p : Parts) (vs : List VarLine) → p ≡ with_own g own → AllByRecursion (λ v. IsNameOfSort g.language v.sort) vs →
+    AllByRecursion (λ v. IsNameOfSort p v.sort) vs
+stems_known g before own p vs is h =
+    subst (λ (q : Parts). AllByRecursion (λ v. IsNameOfSort q v.sort) vs) (sym is) (names_kept g.language (with_own g own) (sym (same_sorts g before own)) vs h)
 
 module _ (g : Ground) (bytes : Text) where
   -- a text without an outline is not prepared
@@ -46,13 +53,6 @@ module _ (g : Ground) (bytes : Text) where
   no_grammars o h (Rules e v) k = absurd k
 
   module _ (before : IsBefore g) (o : ExtensionOutline) (h : IsUsable g bytes o) (grammar rule : GrammarData) (made : AreGrammars g (extension_outline o).productions grammar rule) where
-    -- the names of the stems are those of sorts
-    pub stems_known : AllByRecursion (λ v. IsNameOfSort grammar.parts v.sort) o.vars.items
-    stems_known =
-        let own = (extension_outline o).productions in
-        subst (λ (p : Parts). AllByRecursion (λ v. IsNameOfSort p v.sort) o.vars.items) (sym made.parts)
-        (names_kept g.language (with_own g own) (sym (same_sorts g before own)) o.vars.items h.sorts)
-
     pub prepared : (x : Prepared) → x.grammar ≡ grammar → x.rule_grammar ≡ rule → AreStems grammar.parts o.vars.items x.metas.stems.items → x.name ≡ o.header.name → x.plains.items ≡ o.plains.items →
         x.rules.items ≡ o.rules.items → IsPrepared g bytes x
     prepared x base by stems name plains rules =

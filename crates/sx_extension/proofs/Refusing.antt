@@ -20,6 +20,7 @@ use Rattle.sx_language.specs.Prepared.{IsReason}
 use Rattle.sx_language.specs.RuleLine.{Reader}
 use Rattle.sx_language.specs.RuleTexts.{AreRules, IsFirstBad, OrMemory}
 use Rattle.sx_language.specs.States.{name_unbound}
+use Rattle.sx_language.proofs.Stating.{IsLineError, rules_kind}
 use Rattle.sx_language.proofs.UsableRules.{rule_names}
 use Rattle.sx_extension.specs.declared.body_defect.BodyDefect.{BodyDefect}
 use Rattle.sx_extension.specs.declared.body_defect.BodyDefect.TheVariants as defect
@@ -43,7 +44,7 @@ use Rattle.sx_extension.specs.States.{IsReadAs, HasTexts, HasRuleSet, HasTable, 
 use Rattle.sx_extension.specs.States.{HasBadText, IsNoRules, HasNoRuleSet, HasNoTable}
 use Rattle.sx_extension.specs.States.{HasBodyDefect, IsBadNotation, IsRefused}
 use Rattle.sx_extension.specs.TableRefusals.{IsTableRefusal}
-use Rattle.sx_extension.proofs.LineErrors.{IsLineError, plains_kind, rules_kind}
+use Rattle.sx_extension.proofs.LineErrors.{plains_kind}
 
 -- memory is not what is lacking
 abbrev IsKnown : NotationError → Type 0

@@ -27,6 +27,7 @@ mod laws;
 mod layers;
 mod names;
 mod own_syntax;
+mod own_tables;
 mod plain_body;
 mod plain_defect;
 mod plain_reading;

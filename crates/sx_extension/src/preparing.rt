@@ -1,19 +1,21 @@
 //! Reading an extension file before its texts are read.
 
-ghost use Rattle.std.specs.Prelude.{◌≤◌, length, IfOk, IfErr};
+ghost use Rattle.std.specs.Prelude.{◌≡◌, ◌≤◌, length, IfOk, IfErr};
 ghost use Rattle.sx_extension.specs.Grounds.{ground, IsBefore};
 ghost use Rattle.sx_language.specs.States.{AreStems};
 ghost use Rattle.sx_extension.specs.Stages.{IsOutlineRefusal, IsUsable, IsUnoutlined, IsPrepared};
 ghost use Rattle.sx_extension.specs.Stages.{IsUnprepared};
 
 use crate::before::Before;
-use crate::grammars::{Grammars, make_grammars};
+use crate::grammars::Grammars;
+use crate::own_tables::{OwnTables, make_tables};
 use crate::prepared::Prepared;
 use std::alloc::Global;
 use sx_directives::VarLine;
-use sx_language::{metas_of, var_lines};
+use sx_language::var_lines;
 use sx_notation::NotationError;
 use sx_outline::{ExtensionHeader, ExtensionOutline, OutlineError, read_extension_outline};
+use sx_term::Text;
 
 /// The refusal of a text that has no outline.
 fn outline_error(error: OutlineError) -> NotationError
@@ -66,6 +68,20 @@ fn outline_of(
     outline
 }
 
+/// The name that the header states.
+fn name_of(header: ExtensionHeader) -> Text
+    ensures { result ≡ header.name }
+{
+    let ExtensionHeader {
+        name,
+        language,
+        uses,
+    } = header;
+    drop(uses);
+    drop(language);
+    name
+}
+
 /// What the text states before the lines of its plain pairs and its rules are read.
 pub(crate) fn prepare(
     alloc: Global,
@@ -87,29 +103,15 @@ pub(crate) fn prepare(
         Ok(outline) => outline,
         Err(error) => return Err(error),
     };
-    let ExtensionHeader {
-        name,
-        language,
-        uses,
-    } = header;
-    drop(uses);
-    drop(language);
-    let Grammars {
-        grammar,
-        rule_grammar,
-    } = match make_grammars(alloc, before, productions) {
-        Ok(grammars) => grammars,
-        Err(error) => {
-            drop(rules);
-            drop(plains);
-            drop(vars);
-            drop(name);
-            return Err(error);
-        }
-    };
-    match metas_of(alloc, &grammar, &vars) {
-        Ok(metas) => {
-            drop(vars);
+    let made = make_tables(alloc, before, productions, &vars);
+    drop(vars);
+    let name = name_of(header);
+    match made {
+        Ok(OwnTables { grammars, metas }) => {
+            let Grammars {
+                grammar,
+                rule_grammar,
+            } = grammars;
             Ok(Prepared {
                 name,
                 grammar,
@@ -119,14 +121,11 @@ pub(crate) fn prepare(
                 rules,
             })
         }
-        Err(_) => {
-            drop(rule_grammar);
-            drop(grammar);
+        Err(error) => {
             drop(rules);
             drop(plains);
-            drop(vars);
             drop(name);
-            Err(NotationError::Memory)
+            Err(error)
         }
     }
 }

@@ -105,7 +105,7 @@ module _ (p : Parts) where
   sort_one name a b (inr h) (inl k) = absurd (h.0 k.0 k.1)
   sort_one name a b (inr h) (inr k) = h.2 ∙ sym k.2
 
-  stems_one : (vs : List VarLine) (ss us : Stems) → AreStems p vs ss → AreStems p vs us → ss ≡ us
+  pub stems_one : (vs : List VarLine) (ss us : Stems) → AreStems p vs ss → AreStems p vs us → ss ≡ us
   stems_one [] [] [] h k = refl
   stems_one [] [] (u ∷ us) h k = absurd k
   stems_one [] (s ∷ ss) us h k = absurd h

@@ -233,7 +233,7 @@ module _ (name bytes : Text) (x : Prepared) (h : IsPrepared name bytes x) (names
 -- ---- lines
 
 -- one of the refusals of a line
-abbrev IsLineError : NotationError → Type 0
+abbrev pub IsLineError : NotationError → Type 0
 IsLineError (NotUtf8 place) = ⊥
 IsLineError (Grammar e) = ⊥
 IsLineError (Rules e v) = ⊥
@@ -273,7 +273,7 @@ rule_kind : (r : Reader) (l : RuleData) (e : NotationError) → IsBadRule r l e 
 rule_kind r l e (inl h) = premise_kind r l.premises [] e h
 rule_kind r l e (inr h) = end_kind r l h.0 e h.3
 
-rules_kind : (r : Reader) (ls : List RuleData) (e : NotationError) → IsFirstBad r ls e → IsLineError e
+pub rules_kind : (r : Reader) (ls : List RuleData) (e : NotationError) → IsFirstBad r ls e → IsLineError e
 rules_kind r [] e h = absurd h
 rules_kind r (l ∷ ls) e (inl h) = rule_kind r l e h
 rules_kind r (l ∷ ls) e (inr h) = rules_kind r ls e h.4

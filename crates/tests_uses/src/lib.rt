@@ -1,10 +1,19 @@
-//! Tests of what `sx_uses` shows, and of derivations by a language with an extension.
+//! Tests of what `sx_extension` and `sx_uses` show, and of derivations by a language with an
+//! extension.
 #![tactic(auto)]
 
 #[cfg(test)]
+mod bad_extensions;
+#[cfg(test)]
 mod expanded;
 #[cfg(test)]
+mod extension_samples;
+#[cfg(test)]
+mod extensions;
+#[cfg(test)]
 mod goals;
+#[cfg(test)]
+mod refusals;
 #[cfg(test)]
 mod samples;
 #[cfg(test)]
