@@ -1,9 +1,9 @@
-mod MadeFiles
+pub mod MadeFiles
 mod Finding
 mod Imported
+mod Recalled
 mod Ordered
 mod MakingOn
-mod Members
 mod Languages
 mod Once
 mod ReadAgain
@@ -13,5 +13,6 @@ pub mod Promise
 pub mod Agreeing
 pub mod TypeErrors
 pub mod Counted
+pub mod NamedModules
 pub mod Headlines
 mod Denying

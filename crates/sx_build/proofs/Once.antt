@@ -6,7 +6,7 @@ use Rattle.sx_walking.specs.Opened.{AreOnce}
 use Rattle.sx_walking.specs.Laws.{AllComeAfter}
 use Rattle.sx_headers.specs.ReadModule.{Module}
 use Rattle.sx_closure.specs.ReadModules.{name_of, imports_of}
-use Rattle.sx_build.proofs.MadeFiles.{contains_more}
+use Rattle.sx_compiling.proofs.Members.{contains_more}
 
 -- no module has the name of one before it
 abbrev AreApart : List Module → Type 0

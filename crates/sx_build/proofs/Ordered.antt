@@ -13,18 +13,9 @@ use Rattle.sx_walking.specs.Laws.{AllComeAfter, ComesAfter}
 use Rattle.sx_closure.specs.Closures.{IsClosure, HaveLanguage}
 use Rattle.sx_closure.specs.ReadModules.{name_of, imports_of}
 use Rattle.sx_build.specs.BuildModules.{language_in}
-use Rattle.sx_build.proofs.MadeFiles.{contains_more}
+use Rattle.sx_compiling.proofs.Members.{contains_more, all_by}
 
 -- ---- members
-
-all_from : {A : Type 0} (P : A → Type 0) (xs : List A) → ((x : A) → Contains xs x → P x) →
-    AllByRecursion P xs
-all_from P [] h = tt
-all_from P (x ∷ xs) h = (
-  h x (0, omega arith, refl),
-  all_from P xs
-      (λ y c. h y (contains_more x xs y c)),
-)
 
 -- what stands in a list with one more at its end is that, or stood there
 in_snoc : (xs : List (List ℕ)) (y z : List ℕ) → (Contains xs z → ⊥) → (y ≡ z → ⊥) →
@@ -43,14 +34,6 @@ once_snoc (x ∷ xs) y once lacks = (
   in_snoc xs y x once.0 (λ same. lacks (0, omega arith, sym same)),
   once_snoc xs y once.1 (λ c. lacks (contains_more x xs y c)),
 )
-
--- what holds of all holds of each
-pub holds_at : {A B : Type 0} (P : B → Type 0) (f : A → B) (xs : List A) (i : ℕ) (x : A) →
-    i < length xs → x ≡ get_or xs i x → AllByRecursion P (map f xs) → P (f x)
-holds_at P f [] i x within at all = absurd (omega (arith, within))
-holds_at P f (y ∷ ys) zero x within at all = subst (λ z. P (f z)) (sym at) all.0
-holds_at P f (y ∷ ys) (suc i) x within at all =
-    holds_at P f ys i x (omega (arith, within)) at all.1
 
 -- ---- one of the modules
 
@@ -86,7 +69,7 @@ module _ (sources : List ModuleFile) (order : AllComeAfter name_of imports_of (m
   imports_among names same =
       subst (λ (ns : List (List ℕ)). AllByRecursion (Contains ns) (imports_of (module_of source)))
       (sym same)
-      (all_from (Contains (map name_of (take i ms))) (imports_of (module_of source))
+      (all_by (Contains (map name_of (take i ms))) (imports_of (module_of source))
       comes.after_them)
 
   pub name_is_new : (names : List (List ℕ)) → names ≡ map name_of (take i ms) →

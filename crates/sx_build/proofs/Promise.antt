@@ -25,17 +25,13 @@ use Rattle.sx_build.specs.BuiltModules.{AreBuilt, HoldsTexts, IsNoFileOf, BuiltM
 use Rattle.sx_build.specs.BuiltModules.{BuildsKeepPromise}
 use Rattle.sx_build.specs.MadeModules.{Made, with_made}
 use Rattle.sx_build.proofs.Languages.{HasBytes, have_language, has_bytes}
-use Rattle.sx_build.proofs.MadeFiles.{IsOther, stays, base_stands, list_stands, interface_stands}
-use Rattle.sx_build.proofs.MadeFiles.{contains_more}
+use Rattle.sx_build.proofs.MadeFiles.{stays, base_stands, list_stands, interface_stands}
 use Rattle.sx_build.proofs.MadeInOrder.{AreMade, all_more, made_named}
-use Rattle.sx_build.proofs.Members.{all_by, all_at}
+use Rattle.sx_compiling.proofs.Members.{contains_more, all_by, all_at}
 use Rattle.sx_build.proofs.Once.{names_once, front_once}
 use Rattle.sx_build.proofs.ReadAgain.{imports_again}
 
 -- ---- the files
-
-other_by : (file : List ℕ) (m : Made) → IsNoFileOf file m → IsOther file m.name
-other_by file m none = record { base = none.base; list = none.list; interface = none.interface }
 
 module _ (made : List Made) (old new : Files) (once : AreOnce (map (λ x. x.name) made))
     (is : new ≡ with_made made old) where
@@ -53,8 +49,7 @@ module _ (made : List Made) (old new : Files) (once : AreOnce (map (λ x. x.name
   others_stay : (file : List ℕ) → AllByRecursion (IsNoFileOf file) made → new file ≡ old file
   others_stay file none =
       ap (λ (fs : Files). fs file) is
-      ∙ stays made old file
-      (λ m among. other_by file m (all_at (IsNoFileOf file) made m none among))
+      ∙ stays made old file none
 
 -- ---- the interfaces of imports
 

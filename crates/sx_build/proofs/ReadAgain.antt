@@ -9,7 +9,7 @@ use Rattle.sx_steps.proofs.StepsOn.{went}
 use Rattle.sx_headers.specs.ReadInterface.{StatesParts, ReadsInterface}
 use Rattle.sx_importing.specs.Each.{GivesNext, GivesAfter}
 use Rattle.sx_importing.specs.ReadImports.{ImportData, ReadsImport, ReadsImports}
-use Rattle.sx_build.proofs.MadeFiles.{contains_more}
+use Rattle.sx_compiling.proofs.Members.{contains_more}
 
 module _ (some others : Files) where
   -- both hold the same interface of the module with this name

@@ -1,5 +1,5 @@
 -- Modules that were made, in memory.
-use Rattle.std.specs.Prelude.{ℕ, List, map, Contains}
+use Rattle.std.specs.Prelude.{◌≡◌, ℕ, List, [], ◌∷◌, ◌++◌, map, Contains}
 use Rattle.std.specs.List.{AllByRecursion}
 use Rattle.sx_notation.specs.Language.{IsLanguage}
 use Rattle.sx_accepting.specs.declared.read_language.LanguageFile.{LanguageFile}
@@ -33,6 +33,11 @@ AreAmong mades names = AllByRecursion (Contains (map (λ m. m.name) mades)) name
 -- no two of these have one name
 abbrev pub AreDistinct : List Made → Type 0
 AreDistinct mades = AreOnce (map (λ m. m.name) mades)
+
+-- one more stands behind these
+pub record AreMore (before after : List Made) : Type 0 where
+  pub made : Made
+  pub is : after ≡ before ++ made ∷ []
 
 -- a text states the language, under the name that the module has for it
 pub record HasLanguage (m : Module) (l : LanguageFile) : Type 0 where

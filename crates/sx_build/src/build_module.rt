@@ -3,19 +3,23 @@
 ghost use Rattle.std.specs.Prelude.{◌≡◌, [], ℕ, List, map};
 ghost use Rattle.std.specs.List.{AllByRecursion};
 ghost use Rattle.sx_outside.specs.Told.{WhereTold};
+ghost use Rattle.sx_outside.specs.Views.{clean_files_of};
 ghost use Rattle.sx_steps.specs.Stop.{Does, OnlyReads};
 ghost use Rattle.sx_steps.specs.Work.{plan_of};
 ghost use Rattle.sx_accepting.specs.ReadLanguage.{stated_of};
 ghost use Rattle.sx_headers.specs.ReadModule.{module_of};
+ghost use Rattle.sx_compiling.specs.KeptFiles.{AreOf};
 ghost use Rattle.sx_build.specs.BuildModules as spec;
 ghost use Rattle.sx_closure.specs.Closures.{IsClosure};
 ghost use Rattle.sx_closure.specs.ReadModules.{IsStated};
 ghost use Rattle.sx_build.specs.Buildings.{mades_view, CanMakeAll};
+ghost use Rattle.sx_build.specs.Remembering.{imports_in, Remembers};
 
 use crate::asked::Asked;
 use crate::budgeted::Budgeted;
 use crate::building::Building;
 use crate::making::make_next;
+use crate::remembered::Remembered;
 use crate::whole_work::whole_work;
 use std::alloc::Global;
 use std::sync::ledger::Ledger;
@@ -24,7 +28,7 @@ use sx_audit::Auditor;
 use sx_closure::read_modules;
 use sx_extcheck::Budgets;
 use sx_headers::ModuleFile;
-use sx_outside::Shelf;
+use sx_outside::{CleanShelf, Shelf};
 use sx_steps::{StepError, Work};
 use sx_term::{Steps, Text};
 
@@ -38,6 +42,9 @@ fn make_all<S: Shelf, L: Ledger>(
 ) -> Result<(), StepError>
     requires can { CanMakeAll (map module_of sources.now) asked.now.language.now }
     requires begun { mades_view building.old.made.items ≡ [] }
+    requires remembers { Remembers [] (imports_in building.old.remembered) }
+    requires kept { WhereTold (S.content shelf.old)
+        (AreOf (clean_files_of building.old.extensions)) }
     ensures step { WhereTold (S.content shelf.old) (λ files. Does (λ done. record {
       made = mades_view building.new.made.items;
       auditors = map (λ b. meaning b) building.new.auditors.items;
@@ -79,6 +86,8 @@ fn build_over<S: Shelf, L: Ledger>(
     let mut building = Building {
         made: Vec::new(asked.alloc),
         auditors,
+        remembered: Remembered::new(asked.alloc),
+        extensions: CleanShelf::new(asked.alloc),
     };
     match make_all(asked, sources, &mut building, shelf, steps) {
         Ok(()) => match whole_work(asked.alloc, building) {

@@ -10,8 +10,10 @@ ghost use Rattle.sx_steps.specs.Unit.{interface_file};
 ghost use Rattle.sx_importing.specs.ReadImports.{import_of, ReadsImport, ReadsImports};
 ghost use Rattle.sx_build.specs.Buildings.{made_view, mades_view, AreAmong, AreDistinct};
 ghost use Rattle.sx_build.specs.MadeModules.{with_made};
+ghost use Rattle.sx_build.specs.Remembering.{imports_in, IsImportOf, IsOwn, Remembers};
 
 use crate::made::Made;
+use crate::remembered::Remembered;
 use std::alloc::Global;
 use sx_headers::bad_header;
 use sx_interface::{digest, interfaces_are_within, read_interface};
@@ -79,17 +81,27 @@ fn import_made(alloc: Global, made: &Made) -> Result<Import, StepError>
     import
 }
 
-/// The interface of the module with this name, which is among those that were made.
-fn import_named(alloc: Global, mades: &[Made], name: &Text) -> Result<Import, StepError>
+/// The interface of the module with this name, which is among those that were made. Where it is
+/// remembered it is taken out there, and else it is read.
+fn import_named(
+    alloc: Global,
+    mades: &[Made],
+    name: &Text,
+    remembered: &mut Remembered,
+) -> Result<Import, StepError>
     requires among { Contains (map (λ m. m.name) (mades_view mades.now)) name.now }
     requires distinct { AreDistinct (mades_view mades.now) }
+    requires remembers { Remembers (mades_view mades.now) (imports_in remembered.old) }
     ensures step { (files : Files) → Gives import_of
         (ReadsImport (with_made (mades_view mades.now) files) name.now) result }
-    ensures short { IfOk result (λ i. IsShort (interface_view i.interface)) }
-    ensures name { IfOk result (λ i. i.interface.module ≡ name.now) }
+    ensures is { IfOk result (IsImportOf (mades_view mades.now) name.now) }
     ensures no_fault { IsNoFault result }
+    ensures remembers { Remembers (mades_view mades.now) (imports_in remembered.new) }
 {
-    import_made(alloc, find(mades, name))
+    match remembered.take(name) {
+        Some(import) => Ok(import),
+        None => import_made(alloc, find(mades, name)),
+    }
 }
 
 /// Adds the import behind those that were read.
@@ -101,24 +113,29 @@ fn add_import(imports: &mut Vec<Import>, import: Import) -> Result<(), NoMemory>
 }
 
 /// What is imported from the modules with these names, which are among those that were made: their
-/// interfaces, as they are read from their files once these were written.
+/// interfaces, as they are read from their files once these were written. Each is taken out of what
+/// is remembered, or read.
 pub(crate) fn imports_made(
     alloc: Global,
     mades: &[Made],
     names: &[Text],
+    remembered: &mut Remembered,
 ) -> Result<Vec<Import>, StepError>
     requires among { AreAmong (mades_view mades.now) names.now }
     requires distinct { AreDistinct (mades_view mades.now) }
+    requires remembers { Remembers (mades_view mades.now) (imports_in remembered.old) }
     ensures step { (files : Files) → Gives (λ v. map import_of v.items)
         (ReadsImports (with_made (mades_view mades.now) files) names.now) result }
     ensures short { IfOk result (λ v. AllByRecursion IsShort (interfaces_of v.items)) }
     ensures names { IfOk result (λ v. map (λ it. it.name) (interfaces_of v.items) ≡ names.now) }
+    ensures own { IfOk result (λ v. AllByRecursion (IsOwn (mades_view mades.now)) v.items) }
     ensures no_fault { IsNoFault result }
+    ensures remembers { Remembers (mades_view mades.now) (imports_in remembered.new) }
 {
     let mut imports = Vec::new(alloc);
     for i in 0..names.len() {
         let name = &names[i];
-        match import_named(alloc, mades, name) {
+        match import_named(alloc, mades, name, remembered) {
             Ok(import) => match add_import(&mut imports, import) {
                 Ok(()) => {}
                 Err(_) => {

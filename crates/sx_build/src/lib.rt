@@ -1,7 +1,7 @@
 //! The build of a module and of all that it imports: the steps of `build NAME`.
 //!
-//! - `plan_build_module`: what is to be written, or why nothing is. The modules are read along their
-//!   `import` lines, then their language; each is made after all that it imports, with their
+//! - `plan_build_module`: what is to be written, or why nothing is. The modules are read along
+//!   their `import` lines, then their language; each is made after all that it imports, with their
 //!   interfaces, and its derivation is shown to the auditors; and all files and lines are planned.
 //! - `builds_keep_promise`, `built_have_headline`: the files that are left hold the texts of the
 //!   units of all these modules, and those of each say of one another what is promised.
@@ -21,6 +21,7 @@ mod imports_made;
 mod laws;
 mod made;
 mod making;
+mod remembered;
 mod whole_work;
 
 pub use build_module::plan_build_module;

@@ -5,16 +5,19 @@ ghost use Rattle.std.specs.List.{AllByRecursion};
 ghost use Rattle.sx_unit.specs.Written.{unit_of};
 ghost use Rattle.sx_environment.specs.SeenFrom.{IsShort, interfaces_of};
 ghost use Rattle.sx_outside.specs.Told.{WhereTold};
+ghost use Rattle.sx_outside.specs.Views.{clean_files_of};
 ghost use Rattle.sx_steps.specs.Stop.{Gives, Does, OnlyReads, IsNoFault};
 ghost use Rattle.sx_accepting.specs.ReadLanguage.{stated_of};
 ghost use Rattle.sx_headers.specs.ReadModule.{module_of};
 ghost use Rattle.sx_importing.specs.ReadImports.{import_of};
 ghost use Rattle.sx_closure.specs.ReadModules.{IsStated};
 ghost use Rattle.sx_compiling.specs.CanMake.{HasList};
+ghost use Rattle.sx_compiling.specs.KeptFiles.{AreOf};
 ghost use Rattle.sx_compiling.specs.MakeUnit.{MakesUnit};
 ghost use Rattle.sx_build.specs.BuildModules as spec;
-ghost use Rattle.sx_build.specs.Buildings.{made_view, mades_view, HasLanguage, CanMake};
+ghost use Rattle.sx_build.specs.Buildings.{made_view, mades_view, AreMore, HasLanguage, CanMake};
 ghost use Rattle.sx_build.specs.MadeModules.{made_of};
+ghost use Rattle.sx_build.specs.Remembering.{imports_in, Remembers};
 
 use crate::asked::Asked;
 use crate::building::Building;
@@ -23,9 +26,9 @@ use crate::made::Made;
 use std::alloc::Global;
 use std::sync::ledger::Ledger;
 use sx_auditing::show_unit;
-use sx_compiling::{Given, make_unit};
+use sx_compiling::{Given, make_unit_of_several};
 use sx_headers::ModuleFile;
-use sx_outside::Shelf;
+use sx_outside::{CleanShelf, Shelf};
 use sx_steps::{StepError, with_suffix};
 use sx_term::{NoMemory, Steps, Text};
 use sx_unit::{Compiled, Import};
@@ -72,6 +75,7 @@ fn make_one<S: Shelf, L: Ledger>(
     asked: &Asked,
     source: &ModuleFile,
     imports: &[Import],
+    kept: &mut CleanShelf,
     shelf: &mut S,
     steps: &mut Steps<L>,
 ) -> Result<Compiled, StepError>
@@ -80,10 +84,12 @@ fn make_one<S: Shelf, L: Ledger>(
     requires short { AllByRecursion IsShort (interfaces_of imports.now) }
     requires named { map (λ it. it.name) (interfaces_of imports.now) ≡
         source.now.header.imports.items }
+    requires kept { WhereTold (S.content shelf.old) (AreOf (clean_files_of kept.old)) }
     ensures step { WhereTold (S.content shelf.old) (λ files. Does unit_of
         (MakesUnit asked.now.budgets files (spec.given_in (stated_of asked.now.language.now)
         (module_of source.now) (map import_of imports.now))) result steps.old steps.new) }
     ensures list { IfOk result (HasList asked.now.language.now.language) }
+    ensures kept { WhereTold (S.content shelf.old) (AreOf (clean_files_of kept.new)) }
     ensures reads { OnlyReads (S.content shelf.old) (S.content shelf.new)
         (S.read_faults shelf.old) (S.read_faults shelf.new)
         (S.write_faults shelf.old) (S.write_faults shelf.new) result }
@@ -96,7 +102,7 @@ fn make_one<S: Shelf, L: Ledger>(
                 language: asked.language,
                 imports,
             };
-            let unit = make_unit(asked.alloc, &given, asked.budgets, shelf, steps);
+            let unit = make_unit_of_several(asked.alloc, &given, kept, asked.budgets, shelf, steps);
             drop(file);
             unit
         }
@@ -124,6 +130,10 @@ fn show_made(
     ensures names { IfOk result (λ done. map (λ m. m.name) (mades_view building.new.made.items) ≡
         map (λ m. m.name) (mades_view building.old.made.items)
         ++ source.now.header.name ∷ []) }
+    ensures more { IfOk result (λ done. AreMore (mades_view building.old.made.items)
+        (mades_view building.new.made.items)) }
+    ensures remembered { building.new.remembered ≡ building.old.remembered }
+    ensures extensions { building.new.extensions ≡ building.old.extensions }
     ensures no_fault { IsNoFault result }
 {
     let file = match with_suffix(asked.alloc, &source.header.name, ".mod") {
@@ -166,6 +176,8 @@ fn make_with<S: Shelf, L: Ledger>(
     requires short { AllByRecursion IsShort (interfaces_of imports.now) }
     requires named { map (λ it. it.name) (interfaces_of imports.now) ≡
         source.now.header.imports.items }
+    requires kept { WhereTold (S.content shelf.old)
+        (AreOf (clean_files_of building.old.extensions)) }
     ensures step { WhereTold (S.content shelf.old) (λ files. Does (λ done. record {
       made = mades_view building.new.made.items;
       auditors = map (λ b. meaning b) building.new.auditors.items;
@@ -178,11 +190,23 @@ fn make_with<S: Shelf, L: Ledger>(
     ensures names { IfOk result (λ done. map (λ m. m.name) (mades_view building.new.made.items) ≡
         map (λ m. m.name) (mades_view building.old.made.items)
         ++ source.now.header.name ∷ []) }
+    ensures more { IfOk result (λ done. AreMore (mades_view building.old.made.items)
+        (mades_view building.new.made.items)) }
+    ensures remembered { building.new.remembered ≡ building.old.remembered }
+    ensures kept { WhereTold (S.content shelf.old)
+        (AreOf (clean_files_of building.new.extensions)) }
     ensures reads { OnlyReads (S.content shelf.old) (S.content shelf.new)
         (S.read_faults shelf.old) (S.read_faults shelf.new)
         (S.write_faults shelf.old) (S.write_faults shelf.new) result }
 {
-    match make_one(asked, source, imports, shelf, steps) {
+    match make_one(
+        asked,
+        source,
+        imports,
+        &mut building.extensions,
+        shelf,
+        steps,
+    ) {
         Ok(unit) => show_made(asked, source, unit, building),
         Err(e) => Err(e),
     }
@@ -196,8 +220,12 @@ pub(crate) fn make_next<S: Shelf, L: Ledger>(
     shelf: &mut S,
     steps: &mut Steps<L>,
 ) -> Result<(), StepError>
-    requires { CanMake (mades_view building.old.made.items) (module_of source.now)
+    requires can { CanMake (mades_view building.old.made.items) (module_of source.now)
         asked.now.language.now }
+    requires remembers { Remembers (mades_view building.old.made.items)
+        (imports_in building.old.remembered) }
+    requires kept { WhereTold (S.content shelf.old)
+        (AreOf (clean_files_of building.old.extensions)) }
     ensures step { WhereTold (S.content shelf.old) (λ files. Does (λ done. record {
       made = mades_view building.new.made.items;
       auditors = map (λ b. meaning b) building.new.auditors.items;
@@ -210,14 +238,23 @@ pub(crate) fn make_next<S: Shelf, L: Ledger>(
     ensures names { IfOk result (λ done. map (λ m. m.name) (mades_view building.new.made.items) ≡
         map (λ m. m.name) (mades_view building.old.made.items)
         ++ source.now.header.name ∷ []) }
+    ensures remembers { IfOk result (λ done. Remembers (mades_view building.new.made.items)
+        (imports_in building.new.remembered)) }
+    ensures kept { WhereTold (S.content shelf.old)
+        (AreOf (clean_files_of building.new.extensions)) }
     ensures reads { OnlyReads (S.content shelf.old) (S.content shelf.new)
         (S.read_faults shelf.old) (S.read_faults shelf.new)
         (S.write_faults shelf.old) (S.write_faults shelf.new) result }
 {
-    match imports_made(asked.alloc, &building.made, &source.header.imports) {
+    match imports_made(
+        asked.alloc,
+        &building.made,
+        &source.header.imports,
+        &mut building.remembered,
+    ) {
         Ok(imports) => {
             let done = make_with(asked, source, &imports, building, shelf, steps);
-            drop(imports);
+            building.remembered.keep_all(imports);
             done
         }
         Err(e) => Err(e),

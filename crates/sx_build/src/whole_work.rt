@@ -85,7 +85,14 @@ pub(crate) fn whole_work(alloc: Global, building: Building) -> Result<Work, NoMe
       auditors = map (λ b. meaning b) building.auditors.items;
     })) }
 {
-    let Building { made, auditors } = building;
+    let Building {
+        made,
+        auditors,
+        remembered,
+        extensions,
+    } = building;
+    drop(remembered);
+    drop(extensions);
     let mut work = made_works(alloc, made)?;
     put_texts(alloc, &auditors, &mut work.lines)?;
     drop(auditors);

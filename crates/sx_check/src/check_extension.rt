@@ -168,9 +168,9 @@ fn check_file<S: Shelf, L: Ledger>(
     }
 }
 
-/// The steps of `check NAME`, with so many tries and nodes to spend for each rule: the header of the
-/// extension's file, its language, the extensions that it uses, and then each of them is read and
-/// accepted, itself last.
+/// The steps of `check NAME`, with so many tries and nodes to spend for each rule: the header of
+/// the extension's file, its language, the extensions that it uses, and then each of them is read
+/// and accepted, itself last.
 pub fn plan_check<S: Shelf, L: Ledger>(
     alloc: Global,
     name: &Text,
@@ -178,8 +178,8 @@ pub fn plan_check<S: Shelf, L: Ledger>(
     shelf: &mut S,
     steps: &mut Steps<L>,
 ) -> Result<Work, StepError>
-    ensures step { WhereTold (S.content shelf.old)
-        (λ files. Does plan_of (spec.ChecksExtension name.now budgets files) result steps.old steps.new) }
+    ensures step { WhereTold (S.content shelf.old) (λ files. Does plan_of
+        (spec.ChecksExtension name.now budgets files) result steps.old steps.new) }
     ensures reads { OnlyReads (S.content shelf.old) (S.content shelf.new)
         (S.read_faults shelf.old) (S.read_faults shelf.new)
         (S.write_faults shelf.old) (S.write_faults shelf.new) result }

@@ -5,8 +5,8 @@ ghost use Rattle.sx_check.specs.Laws.{ChecksAgree, UnsoundIsFinal};
 
 use sx_outline::one_extension_header;
 
-/// Where the check ends with lines, the extension and all that it uses are accepted, itself last. The
-/// lines tell the certificate of each rule that its own file states, and no file has changed.
+/// Where the check ends with lines, the extension and all that it uses are accepted, itself last.
+/// The lines tell the certificate of each rule that its own file states, and no file has changed.
 pub fn checks_keep_promise()
     ensures { ChecksKeepPromise }
 {}

@@ -1,4 +1,3 @@
-mod Imported
 mod Stops
 mod Audited
 pub mod FoundModules

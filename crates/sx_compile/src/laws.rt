@@ -53,8 +53,8 @@ pub fn walks_are_within()
     units_walks_are_within();
 }
 
-/// Where an auditor with the step of the kind `deny` is among those of the command, the list that it
-/// writes has none of the rules that this denies.
+/// Where an auditor with the step of the kind `deny` is among those of the command, the list that
+/// it writes has none of the rules that this denies.
 pub fn denied_are_unwritten()
     ensures { DeniedAreUnwritten }
 {

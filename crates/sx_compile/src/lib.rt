@@ -3,8 +3,8 @@
 //! - `plan_compile`: what is to be written, or why nothing is. The module's file is read, then that
 //!   of its language, then the interfaces of its imports; its unit is made, and shown to the
 //!   auditors; and its three files, the line and the texts of the auditors are planned.
-//! - `compiles_agree`: by the name, the auditors and the files there is one result and one number of
-//!   tries; read faults, out of memory and the readings that a refusal shows aside.
+//! - `compiles_agree`: by the name, the auditors and the files there is one result and one number
+//!   of tries; read faults, out of memory and the readings that a refusal shows aside.
 //!   `walks_are_within`: no walk makes more tries than it may spend.
 //! - `compiles_keep_promise`, `compiled_has_headline`: the three files that are left say of one
 //!   another, by the language alone, what is promised, and are the desugaring of what the source

@@ -1,8 +1,10 @@
+pub mod Members
 mod RuleTries
 pub mod StepTries
-mod BaseHeaders
-mod LoweredGoals
+pub mod BaseHeaders
+pub mod LoweredGoals
 pub mod Digests
+pub mod NamedImports
 mod LineTexts
 mod Grammars
 mod InterfaceMarks
@@ -16,4 +18,7 @@ pub mod FewTries
 mod Counted
 mod ImportsGiven
 mod SeenGiven
+pub mod GivenAlike
 mod DerivationLists
+pub mod SameSteps
+pub mod KeptReads

@@ -7,3 +7,4 @@ pub mod Headline
 pub mod Laws
 pub mod CanMake
 pub mod UnitPlans
+pub mod KeptFiles

@@ -2,7 +2,8 @@
 //!
 //! - `Given`: what a module is made from, which is its file, its language and the interfaces of its
 //!   imports.
-//! - `make_unit`: the three texts of the module, or the first refusal.
+//! - `make_unit`: the three texts of the module, or the first refusal. `make_unit_of_several` reads
+//!   the file of an extension that several modules use once for all of them.
 //! - `unit_work`: its three files and its line, as what is left to do.
 //! - Laws: by what is given and the files there is one unit or one refusal, and one number of
 //!   tries; the three texts say of one another, by the language alone, what a unit promises, and
@@ -10,7 +11,9 @@
 #![tactic(auto)]
 
 mod compile_module;
+mod extensions_reading;
 mod given;
+mod kept_extensions;
 mod laws;
 mod module_stops;
 mod planned_unit;
@@ -23,4 +26,4 @@ pub use laws::{
     units_walks_are_within,
 };
 pub use planned_unit::unit_work;
-pub use unit_making::make_unit;
+pub use unit_making::{make_unit, make_unit_of_several};

@@ -12,15 +12,18 @@ ghost use Rattle.sx_unit.specs.Captured.{AreFree};
 ghost use Rattle.sx_unit.specs.Written.{unit_of};
 ghost use Rattle.sx_environment.specs.SeenFrom.{seen_from};
 ghost use Rattle.sx_outside.specs.Told.{WhereTold};
+ghost use Rattle.sx_outside.specs.Views.{clean_files_of};
 ghost use Rattle.sx_steps.specs.Stop.{OnlyReads, IsNoFault, Does};
 ghost use Rattle.sx_uses.specs.ExtensionFile.{extension_of, IsStated};
 ghost use Rattle.sx_accepting.specs.ExtendedLanguages.{extended_data};
 ghost use Rattle.sx_dialects.specs.Dialects.{HasHistory};
 ghost use Rattle.sx_compiling.specs.CanMake.{CanMake, HasList, given_of};
 ghost use Rattle.sx_compiling.specs.Given.{seen_in};
+ghost use Rattle.sx_compiling.specs.KeptFiles.{AreOf};
 ghost use Rattle.sx_compiling.specs.MakeUnit as spec;
 
 use crate::compile_module::compile_module;
+use crate::extensions_reading::read_extensions;
 use crate::given::Given;
 use crate::use_marks::use_marks;
 use std::alloc::Global;
@@ -31,12 +34,12 @@ use sx_environment::Surroundings;
 use sx_extcheck::Budgets;
 use sx_headers::check_imports;
 use sx_importing::make_environment;
-use sx_outside::Shelf;
+use sx_outside::{CleanShelf, Shelf};
 use sx_steps::StepError;
-use sx_term::{NoMemory, Steps, Term, Text};
+use sx_term::{Steps, Term};
 use sx_typing::Source;
 use sx_unit::{Compiled, ModuleSource};
-use sx_uses::{ExtensionFile, read_uses};
+use sx_uses::ExtensionFile;
 
 /// The unit of the module with this environment, in the dialect from which its imports are seen.
 fn make_in<L: Ledger>(
@@ -161,22 +164,11 @@ fn make_with<L: Ledger>(
     }
 }
 
-/// The names in order, anew.
-fn copies(alloc: Global, names: &[Text]) -> Result<Vec<Text>, NoMemory>
-    ensures { IfOk result (λ copies. copies.items ≡ names.now) }
-{
-    let mut copies = Vec::new(alloc);
-    for name in names {
-        copies.push(name.copy(alloc)?)?;
-    }
-    Ok(copies)
-}
-
-/// The unit of the module with the extensions that are reached from these names, which it uses.
+/// The unit of the module with the extensions that are reached from those that it uses.
 fn make_reached<S: Shelf, L: Ledger>(
     alloc: Global,
     given: &Given,
-    roots: Vec<Text>,
+    kept: &mut CleanShelf,
     budgets: Budgets,
     shelf: &mut S,
     steps: &mut Steps<L>,
@@ -184,16 +176,16 @@ fn make_reached<S: Shelf, L: Ledger>(
     requires can { CanMake given.now }
     requires free { AreFree (literals_of (given_of given.now).language.language.parts)
         given.now.source.now.header.imports.items }
-    requires roots { roots.items ≡ given.now.source.now.header.uses.items }
+    requires kept { WhereTold (S.content shelf.old) (AreOf (clean_files_of kept.old)) }
     ensures step { WhereTold (S.content shelf.old) (λ files. Does unit_of
         (spec.MakesReached budgets files (given_of given.now)) result steps.old steps.new) }
     ensures list { IfOk result (HasList given.now.language.now.language) }
+    ensures kept { WhereTold (S.content shelf.old) (AreOf (clean_files_of kept.new)) }
     ensures reads { OnlyReads (S.content shelf.old) (S.content shelf.new)
         (S.read_faults shelf.old) (S.read_faults shelf.new)
         (S.write_faults shelf.old) (S.write_faults shelf.new) result }
 {
-    let written_for = &given.source.header.language;
-    match read_uses(alloc, given.file, written_for, None, roots, shelf) {
+    match read_extensions(alloc, given, kept, shelf) {
         Ok(files) => {
             let unit = make_with(alloc, given, &files, budgets, steps);
             drop(files);
@@ -203,27 +195,34 @@ fn make_reached<S: Shelf, L: Ledger>(
     }
 }
 
-/// The unit of the module, whose imports' names are free.
-fn make_free<S: Shelf, L: Ledger>(
+/// The unit of one module of several, as `make_unit` makes it. Files of extensions that are kept
+/// are not read from the shelf, and those that are read are kept for the modules after it.
+pub fn make_unit_of_several<S: Shelf, L: Ledger>(
     alloc: Global,
     given: &Given,
+    kept: &mut CleanShelf,
     budgets: Budgets,
     shelf: &mut S,
     steps: &mut Steps<L>,
 ) -> Result<Compiled, StepError>
     requires can { CanMake given.now }
-    requires free { AreFree (literals_of (given_of given.now).language.language.parts)
-        given.now.source.now.header.imports.items }
+    requires kept { WhereTold (S.content shelf.old) (AreOf (clean_files_of kept.old)) }
     ensures step { WhereTold (S.content shelf.old) (λ files. Does unit_of
-        (spec.MakesReached budgets files (given_of given.now)) result steps.old steps.new) }
+        (spec.MakesUnit budgets files (given_of given.now)) result steps.old steps.new) }
     ensures list { IfOk result (HasList given.now.language.now.language) }
+    ensures kept { WhereTold (S.content shelf.old) (AreOf (clean_files_of kept.new)) }
     ensures reads { OnlyReads (S.content shelf.old) (S.content shelf.new)
         (S.read_faults shelf.old) (S.read_faults shelf.new)
         (S.write_faults shelf.old) (S.write_faults shelf.new) result }
 {
-    match copies(alloc, &given.source.header.uses) {
-        Ok(roots) => make_reached(alloc, given, roots, budgets, shelf, steps),
-        Err(_) => Err(StepError::Memory),
+    match check_imports(
+        alloc,
+        given.file,
+        given.source,
+        &given.language.language.grammar,
+    ) {
+        Ok(()) => make_reached(alloc, given, kept, budgets, shelf, steps),
+        Err(e) => Err(e),
     }
 }
 
@@ -251,13 +250,8 @@ pub fn make_unit<S: Shelf, L: Ledger>(
         (S.read_faults shelf.old) (S.read_faults shelf.new)
         (S.write_faults shelf.old) (S.write_faults shelf.new) result }
 {
-    match check_imports(
-        alloc,
-        given.file,
-        given.source,
-        &given.language.language.grammar,
-    ) {
-        Ok(()) => make_free(alloc, given, budgets, shelf, steps),
-        Err(e) => Err(e),
-    }
+    let mut kept = CleanShelf::new(alloc);
+    let unit = make_unit_of_several(alloc, given, &mut kept, budgets, shelf, steps);
+    drop(kept);
+    unit
 }

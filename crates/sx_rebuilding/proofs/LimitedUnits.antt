@@ -49,7 +49,7 @@ use Rattle.sx_compiling.specs.MakeUnit.{MakesUnit, MakesIn, MakesSeeing, MakesEx
 use Rattle.sx_compiling.specs.MakeUnit.{MakesReached}
 use Rattle.sx_compiling.specs.Reached.{HasLanguage, IsReached, HasGround, module_over}
 use Rattle.sx_compiling.proofs.MadeUnits.{dialect_by, dialect_is}
-use Rattle.sx_rebuilding.proofs.LoweredGoals.{lowered_goal}
+use Rattle.sx_compiling.proofs.LoweredGoals.{lowered_goal}
 use Rattle.sx_rebuilding.proofs.LoweredWithin.{AllSmall, lowered_few, goal_small}
 use Rattle.sx_rebuilding.proofs.LoweredWithin.{lowered_within}
 

@@ -21,10 +21,10 @@ use Rattle.sx_build.specs.BuiltModules.{HoldsTexts, IsNoFileOf}
 use Rattle.sx_build.specs.MadeModules.{Made, made_of, with_made}
 use Rattle.sx_rebuilding.proofs.EndedBuilds.{EndedBuild}
 use Rattle.sx_rebuilding.proofs.FewImports.{names_more, name_last, no_more}
-use Rattle.sx_rebuilding.proofs.MadeFiles.{no_language, others_base, others_list}
-use Rattle.sx_rebuilding.proofs.MadeFiles.{others_interface, IsApart, apart_by, none_of, none_apart}
-use Rattle.sx_rebuilding.proofs.MadeFiles.{with_one, stays_one, stays, made_more}
-use Rattle.sx_rebuilding.proofs.Members.{all_at}
+use Rattle.sx_build.proofs.MadeFiles.{others_base, others_list, others_interface, IsApart, apart_by}
+use Rattle.sx_build.proofs.MadeFiles.{none_of, none_apart, with_one, stays_one, stays, made_more}
+use Rattle.sx_rebuilding.proofs.OtherFiles.{no_language}
+use Rattle.sx_compiling.proofs.Members.{all_at}
 use Rattle.sx_rebuilding.proofs.SameFiles.{language_as, imports_as}
 use Rattle.sx_rebuilding.proofs.Turns.{Turn, one_then}
 

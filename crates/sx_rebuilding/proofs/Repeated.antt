@@ -22,11 +22,11 @@ use Rattle.sx_build.specs.MadeModules.{made_of}
 use Rattle.sx_rebuilding.specs.Again.{CompilesAsBefore, CompileRepeatsBuild}
 use Rattle.sx_rebuilding.proofs.EndedBuilds.{EndedBuild, build_ended}
 use Rattle.sx_rebuilding.proofs.FewImports.{imports_others, imports_few}
-use Rattle.sx_rebuilding.proofs.MadeFiles.{no_module, no_extension, same_one}
-use Rattle.sx_rebuilding.proofs.NamedModules.{header_stated}
+use Rattle.sx_rebuilding.proofs.OtherFiles.{no_module, no_extension, same_one}
+use Rattle.sx_build.proofs.NamedModules.{header_stated}
 use Rattle.sx_rebuilding.proofs.OwnFiles.{holds, unchanged, read_old, states_new, imported}
 use Rattle.sx_rebuilding.proofs.SameFiles.{module_as}
-use Rattle.sx_rebuilding.proofs.SameSteps.{after_step, before_step, sure_value}
+use Rattle.sx_compiling.proofs.SameSteps.{after_step, before_step, sure_value}
 use Rattle.sx_rebuilding.proofs.SameUnits.{unit_as}
 use Rattle.sx_rebuilding.proofs.Turns.{Turn, shown_none}
 

@@ -15,7 +15,7 @@ use Rattle.sx_accepting.specs.ReadLanguage.{StatesLanguage, ReadsLanguage}
 use Rattle.sx_headers.specs.ReadInterface.{StatesParts, ReadsInterface}
 use Rattle.sx_headers.specs.ReadModule.{StatesModule, ReadsModule}
 use Rattle.sx_importing.specs.ReadImports.{ReadsImport, ReadsImports}
-use Rattle.sx_rebuilding.proofs.SameSteps.{IsAlso, then_as, after_as, held_as}
+use Rattle.sx_compiling.proofs.SameSteps.{IsAlso, then_as, after_as, held_as}
 
 module _ (files others : Files) where
   -- both hold the same under this name, or both nothing

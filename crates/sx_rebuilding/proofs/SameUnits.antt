@@ -11,7 +11,7 @@ use Rattle.sx_uses.specs.ReadUses.{ReadsUses}
 use Rattle.sx_headers.specs.FreeImports.{HasFreeImports}
 use Rattle.sx_compiling.specs.Given.{Given}
 use Rattle.sx_compiling.specs.MakeUnit.{MakesExtended, MakesReached, MakesUnit}
-use Rattle.sx_rebuilding.proofs.SameSteps.{IsAlsoTrying, untried_as, and_then_as}
+use Rattle.sx_compiling.proofs.SameSteps.{IsAlsoTrying, untried_as, and_then_as}
 use Rattle.sx_rebuilding.proofs.SameFiles.{HoldSameExtensions, uses_as}
 
 module _ (budgets : Budgets) (files others : Files) (same : HoldSameExtensions files others)

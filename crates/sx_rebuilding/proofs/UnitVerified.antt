@@ -50,7 +50,7 @@ use Rattle.sx_verify.specs.Verified.{verified_plan}
 use Rattle.sx_verify.specs.VerifyModule.{both, ReadsWritten, VerifiesModule}
 use Rattle.sx_verify.proofs.DistinctRules.{all_distinct}
 use Rattle.sx_verify.proofs.NamedRules.{stated_named}
-use Rattle.sx_rebuilding.proofs.BaseHeaders.{base_header, base_states}
+use Rattle.sx_compiling.proofs.BaseHeaders.{base_header, base_states}
 use Rattle.sx_rebuilding.proofs.BaseUtf8.{base_utf8}
 use Rattle.sx_rebuilding.proofs.ImportsAgain.{AreKept, all_kept, marked_names}
 use Rattle.sx_rebuilding.proofs.LimitedUnits as limited

@@ -24,9 +24,9 @@ use Rattle.sx_rebuilding.specs.VerifyAgain.{VerifiesWell, VerifyFollowsBuild}
 use Rattle.sx_rebuilding.proofs.EndedBuilds.{EndedBuild, build_ended}
 use Rattle.sx_rebuilding.proofs.ImportsAgain.{imports_kept}
 use Rattle.sx_rebuilding.proofs.LimitedUnits.{made_unit}
-use Rattle.sx_rebuilding.proofs.NamedModules.{header_stated, modules_named}
+use Rattle.sx_build.proofs.NamedModules.{header_stated, modules_named}
 use Rattle.sx_rebuilding.proofs.OwnFiles.{holds, read_old, states_new, imported}
-use Rattle.sx_rebuilding.proofs.SameSteps.{sure_value}
+use Rattle.sx_compiling.proofs.SameSteps.{sure_value}
 use Rattle.sx_rebuilding.proofs.UnitVerified.{unit_verified}
 
 -- where the steps can end with a plan, they do

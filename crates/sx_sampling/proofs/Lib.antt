@@ -1,5 +1,3 @@
-pub mod Imported
-pub mod CleanReads
 pub mod FoundModules
 pub mod Promise
 pub mod Agreeing

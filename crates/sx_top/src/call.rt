@@ -19,8 +19,8 @@ use sx_term::{Steps, Text};
 
 /// Does what the words say, which are the command line without the program's name.
 /// Reads and writes files on the shelf, and writes lines on `out`. No command takes from `input`.
-/// Of the auditors that are handed in, those that the words name are set as these say and shown what
-/// is derived of modules; all are dropped before it returns.
+/// Of the auditors that are handed in, those that the words name are set as these say and shown
+/// what is derived of modules; all are dropped before it returns.
 pub fn run<S: Shelf, I: Source, K: Sink, L: Ledger>(
     alloc: Global,
     words: &[Text],

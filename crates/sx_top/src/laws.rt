@@ -60,8 +60,8 @@ pub fn compile_repeats_build()
     sx_rebuilding::compile_repeats_build();
 }
 
-/// Over the files that a build left, `verify` of each of the modules that were built is not refused,
-/// but for read faults and out of memory.
+/// Over the files that a build left, `verify` of each of the modules that were built is not
+/// refused, but for read faults and out of memory.
 pub fn verify_follows_build()
     ensures { VerifyFollowsBuild }
 {

@@ -97,8 +97,8 @@ fn reading_of(
     }
 }
 
-/// Reads the text, of at most 262,144 bytes, as the sort, without metavariables. It is refused where
-/// it has no tokens, and where these have not one reading.
+/// Reads the text, of at most 262,144 bytes, as the sort, without metavariables. It is refused
+/// where it has no tokens, and where these have not one reading.
 pub fn read_text(
     alloc: Global,
     grammar: &Grammar,

@@ -1,8 +1,8 @@
 //! The verification of a module.
 //!
 //! - `plan_verify`: the steps of `verify NAME`. Laws: what they promise, which follows from the
-//!   steps (`verifies_keep_promise`), that they have one result (`verifies_agree`), and that no stop
-//!   is a type error (`verifies_without_type_errors`).
+//!   steps (`verifies_keep_promise`), that they have one result (`verifies_agree`), and that no
+//!   stop is a type error (`verifies_without_type_errors`).
 //! - `read_entries`, `replay_goal`, `bad_replay`, `verified_work`: a derivation list in its file,
 //!   its replay for a goal, why it fits no derivation, and the line. They serve core files too.
 #![tactic(auto)]

@@ -48,6 +48,8 @@ mod modules_verified;
 #[cfg(test)]
 mod own_auditor;
 #[cfg(test)]
+mod reads_counted;
+#[cfg(test)]
 mod refusal_lines;
 #[cfg(test)]
 mod run;

@@ -1,4 +1,4 @@
-use Rattle.std.proofs.Common.{◌≡◌, map, refl, ap, arith, inl}
+use Rattle.std.proofs.Common.{◌≡◌, [], map, refl, ap, arith, inl}
 use Rattle.std.specs.Prelude.{Ok, Err}
 use Rattle.sx_steps.specs.Steps.{Untried}
 use Rattle.sx_steps.specs.Work.{plan_of}
@@ -8,7 +8,19 @@ use Rattle.sx_accepting.specs.ReadLanguage.{stated_of}
 use Rattle.sx_headers.specs.ReadModule.{module_of}
 use Rattle.sx_build.specs.BuildModules.{Progress, begun, MakesAfter, whole_plan}
 use Rattle.sx_build.specs.Buildings.{mades_view}
+use Rattle.sx_build.specs.Remembering.{imports_in}
+use Rattle.sx_outside.specs.Views.{clean_files_of}
+use Rattle.sx_compiling.proofs.KeptReads.{none_kept}
+use Rattle.sx_build.proofs.Recalled.{none_remembered}
 use Rattle.sx_build.proofs.build_module.build_over.Goals as goal
+
+pub make_all-requires-clause-remembers : goal.make_all-requires-clause-remembers
+make_all-requires-clause-remembers g c =
+    none_remembered [] (imports_in c.new-2.result) c.new-2.ensures
+
+pub make_all-requires-clause-kept : goal.make_all-requires-clause-kept
+make_all-requires-clause-kept g c = λ files told.
+    none_kept (clean_files_of c.new-3.result) files c.new-3.ensures
 
 pub returns-in-Ok-whole_work-clause-step : goal.returns-in-Ok-whole_work-clause-step
 returns-in-Ok-whole_work-clause-step g c = λ files told.

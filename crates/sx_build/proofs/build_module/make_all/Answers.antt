@@ -9,8 +9,10 @@ use Rattle.sx_closure.specs.ReadModules.{IsStated}
 use Rattle.sx_build.specs.BuildModules.{Progress, begun, language_in, MakesAfter}
 use Rattle.sx_build.specs.Buildings.{mades_view, AreDistinct}
 use Rattle.sx_build.specs.MadeModules.{Made}
+use Rattle.sx_build.specs.Remembering.{imports_in, Remembers}
+use Rattle.sx_compiling.proofs.Members.{holds_at}
 use Rattle.sx_build.proofs.MakingOn.{goes_on, goes_stop, goes_end}
-use Rattle.sx_build.proofs.Ordered.{holds_at, source_at, names_next, imports_among, name_is_new}
+use Rattle.sx_build.proofs.Ordered.{source_at, names_next, imports_among, name_is_new}
 use Rattle.sx_build.proofs.Ordered.{once_snoc}
 use Rattle.sx_build.proofs.build_module.make_all.Goals as goal
 
@@ -34,6 +36,10 @@ loop-i-init g c =
       );
       names = ap (λ (mades : List Made). map (λ (x : Made). x.name) mades) c.requires.begun;
       distinct = subst AreDistinct (sym c.requires.begun) tt;
+      remembers = subst (λ (ms : List Made). Remembers ms
+          (imports_in c.args.building.now.remembered)) (sym c.requires.begun)
+          c.requires.remembers;
+      kept = c.requires.kept;
       content = refl;
       reads = refl;
       writes = refl;
@@ -58,16 +64,21 @@ make_next-requires g c =
     let same = holds_at (λ (x : Module). x.header.language ≡ language_in ms) module_of sources i
     source c.loop-i-test.true c.index-sources-i.is can.same in
     record {
-      stated = holds_at IsStated module_of sources i source c.loop-i-test.true c.index-sources-i.is
-          can.stated;
-      language = record {
-        language = can.fit;
-        text = subst (λ (n : List ℕ). HasText n asked.language.now.language) (sym same) can.text;
+      can = record {
+        stated = holds_at IsStated module_of sources i source c.loop-i-test.true
+            c.index-sources-i.is can.stated;
+        language = record {
+          language = can.fit;
+          text = subst (λ (n : List ℕ). HasText n asked.language.now.language) (sym same)
+              can.text;
+        };
+        distinct = c.loop-i.invariant.distinct;
+        among = imports_among sources can.order i source below is
+            (map (λ (x : Made). x.name) (mades_view c.loop-i.building.made.items))
+            c.loop-i.invariant.names;
       };
-      distinct = c.loop-i.invariant.distinct;
-      among = imports_among sources can.order i source below is
-          (map (λ (x : Made). x.name) (mades_view c.loop-i.building.made.items))
-          c.loop-i.invariant.names;
+      remembers = c.loop-i.invariant.remembers;
+      kept = λ files told. c.loop-i.invariant.kept files (sym c.loop-i.invariant.content ∙ told);
     }
 
 pub loop-i-preserved : goal.loop-i-preserved
@@ -111,6 +122,8 @@ loop-i-preserved g c =
       distinct = subst AreOnce (sym c.in-Ok.ensures.names)
           (once_snoc so_far m.header.name before.distinct
           (name_is_new sources c.requires.can.order i source below is so_far before.names));
+      remembers = c.in-Ok.ensures.remembers;
+      kept = λ files told. c.in-Ok.ensures.kept files (before.content ∙ told);
       content = c.in-Ok.ensures.reads.content ∙ before.content;
       reads = c.in-Ok.ensures.reads.kept (λ fault. fault) ∙ before.reads;
       writes = c.in-Ok.ensures.reads.writes ∙ before.writes;

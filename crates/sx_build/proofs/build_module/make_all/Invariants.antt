@@ -1,15 +1,18 @@
 use Rattle.std.proofs.Common.{◌≡◌, ℕ, ◌+◌, map, take}
 use Rattle.sx_outside.specs.Told.{WhereTold}
+use Rattle.sx_outside.specs.Views.{clean_files_of}
+use Rattle.sx_compiling.specs.KeptFiles.{AreOf}
 use Rattle.sx_accepting.specs.ReadLanguage.{stated_of}
 use Rattle.sx_headers.specs.ReadModule.{module_of}
 use Rattle.sx_closure.specs.ReadModules.{name_of}
 use Rattle.sx_build.specs.BuildModules.{begun}
 use Rattle.sx_build.specs.Buildings.{mades_view, AreDistinct}
+use Rattle.sx_build.specs.Remembering.{imports_in, Remembers}
 use Rattle.sx_build.proofs.MakingOn.{GoesOn}
 use Rattle.sx_build.proofs.build_module.make_all.Given as goal
 
 -- what comes of the modules that are left comes of all; the modules that were made are those before
--- them, each once; and no read failed
+-- them, each once; what is remembered is of these; and no read failed
 abbrev pub invariant-loop-i : goal.invariant-loop-i
 invariant-loop-i g l = record {
   step : WhereTold (g.S.Shelf.content l.initial.shelf) (λ files. (tries : ℕ)
@@ -26,6 +29,9 @@ invariant-loop-i g l = record {
   names : map (λ m. m.name) (mades_view l.building.made.items)
       ≡ map name_of (take l.i (map module_of l.sources));
   distinct : AreDistinct (mades_view l.building.made.items);
+  remembers : Remembers (mades_view l.building.made.items) (imports_in l.building.remembered);
+  kept : WhereTold (g.S.Shelf.content l.initial.shelf)
+      (AreOf (clean_files_of l.building.extensions));
   content : g.S.Shelf.content l.shelf ≡ g.S.Shelf.content l.initial.shelf;
   reads : g.S.Shelf.read_faults l.shelf ≡ g.S.Shelf.read_faults l.initial.shelf;
   writes : g.S.Shelf.write_faults l.shelf ≡ g.S.Shelf.write_faults l.initial.shelf;

@@ -12,6 +12,8 @@ use Rattle.sx_steps.proofs.StepsOn.{stops_first}
 use Rattle.sx_build.proofs.Imported.{next_given, next_short, next_named}
 use Rattle.sx_build.specs.Buildings.{mades_view}
 use Rattle.sx_build.specs.MadeModules.{with_made}
+use Rattle.sx_build.specs.Remembering.{IsOwn}
+use Rattle.sx_build.proofs.Recalled.{own_next}
 use Rattle.sx_build.proofs.imports_made.imports_made.Goals as goal
 
 pub loop-i-init : goal.loop-i-init
@@ -26,6 +28,9 @@ loop-i-init c =
       short = subst (λ (is : List Import). AllByRecursion IsShort (interfaces_of is)) none tt;
       names = subst (λ (is : List Import).
           Have names (map (λ (it : InterfaceParts). it.name) (interfaces_of is)) 0) none refl;
+      own = subst (λ (is : List Import). AllByRecursion (IsOwn (mades_view c.args.mades.now)) is)
+          none tt;
+      remembers = c.requires.remembers;
     }
 
 pub loop-i-preserved : goal.loop-i-preserved
@@ -44,13 +49,16 @@ loop-i-preserved c =
           c.loop-i.imports.items c.add_import.new.imports.items import is
           (c.in-Ok.ensures.step files));
       short = next_short c.loop-i.imports.items c.add_import.new.imports.items import is
-          before.short c.in-Ok.ensures.short;
+          before.short c.in-Ok.ensures.is.short;
       names = have_next names
           (map (λ (it : InterfaceParts). it.name) (interfaces_of c.loop-i.imports.items))
           (map (λ (it : InterfaceParts). it.name) (interfaces_of c.add_import.new.imports.items))
           i name c.loop-i-test.true c.index-names-i.is
           (next_named c.loop-i.imports.items c.add_import.new.imports.items import is
-          name c.in-Ok.ensures.name) before.names;
+          name c.in-Ok.ensures.is.own) before.names;
+      own = own_next (mades_view c.args.mades.now) name c.loop-i.imports.items
+          c.add_import.new.imports.items import is before.own c.in-Ok.ensures.is;
+      remembers = c.in-Ok.ensures.remembers;
     }
 
 pub returns-in-Err-clause-step : goal.returns-in-Err-clause-step

@@ -1,4 +1,4 @@
-use Rattle.std.proofs.Common.{ℕ, List, map, refl, subst, arith, Vec}
+use Rattle.std.proofs.Common.{ℕ, List, map, refl, sym, subst, arith, Vec}
 use Rattle.std.specs.Global.{Global}
 use Rattle.std.specs.Prelude.{Ok, Err}
 use Rattle.sx_unit.specs.declared.import.Import.{Import}
@@ -12,6 +12,10 @@ use Rattle.sx_importing.specs.ReadImports.{import_of, ReadsImports}
 use Rattle.sx_build.specs.BuildModules.{Progress, MakesWith}
 use Rattle.sx_build.specs.Buildings.{mades_view}
 use Rattle.sx_build.specs.MadeModules.{with_made}
+use Rattle.std.specs.List.{AllByRecursion}
+use Rattle.sx_build.specs.declared.remembered.Remembered.{Remembered}
+use Rattle.sx_build.specs.Remembering.{imports_in, IsOwn, Remembers}
+use Rattle.sx_build.proofs.Recalled.{remembers_on}
 use Rattle.sx_build.proofs.making.make_next.Goals as goal
 
 pub returns-in-Ok-clause-step : goal.returns-in-Ok-clause-step
@@ -72,3 +76,17 @@ returns-in-Err-clause-step g c = λ files told.
     (subst (λ (names : List (List ℕ)). Gives (λ (v : Vec Import Global). map import_of v.items)
     (ReadsImports (with_made (mades_view c.deref.result.now) files) names) (Err c.in-Err.e))
     c.deref-2.ensures.value (c.in-Err.ensures.step files))))
+
+pub returns-in-Ok-clause-remembers : goal.returns-in-Ok-clause-remembers
+returns-in-Ok-clause-remembers g c =
+    let mades = mades_view c.args.building.now.made.items in
+    remembers_on c.make_with-done.result mades
+    (mades_view c.make_with-done.new.building.made.items)
+    (imports_in c.make_with-done.new.building.remembered) (imports_in c.keep_all.new.self)
+    c.in-Ok.imports.items c.make_with-done.ensures.more
+    (subst (λ (r : Remembered). Remembers mades (imports_in r))
+    (sym c.make_with-done.ensures.remembered)
+    (subst (λ (ms : List Made). Remembers (mades_view ms)
+    (imports_in c.imports_made.new.remembered)) c.deref.ensures.value c.in-Ok.ensures.remembers))
+    (subst (λ (ms : List Made). AllByRecursion (IsOwn (mades_view ms)) c.in-Ok.imports.items)
+    c.deref.ensures.value c.in-Ok.ensures.own) c.keep_all.ensures

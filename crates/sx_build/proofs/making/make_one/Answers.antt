@@ -31,5 +31,5 @@ returns-in-Ok-clause-step g c = λ files told.
     let m = module_of c.args.source.now in
     let is = map import_of c.args.imports.now in
     subst (λ (file : List ℕ). Does unit_of (MakesUnit asked.budgets files (given_with file m l is))
-    c.make_unit-unit.result c.args.steps.now c.make_unit-unit.new.steps) c.in-Ok.ensures
-    (c.make_unit-unit.ensures.step files told)
+    c.make_unit_of_several-unit.result c.args.steps.now c.make_unit_of_several-unit.new.steps) c.in-Ok.ensures
+    (c.make_unit_of_several-unit.ensures.step files told)

@@ -1,4 +1,4 @@
-use Rattle.std.proofs.Common.{map}
+use Rattle.std.proofs.Common.{map, sym, subst}
 use Rattle.sx_unit.specs.Written.{unit_of}
 use Rattle.sx_steps.specs.Steps.{Untried}
 use Rattle.sx_steps.proofs.StepsOn.{goes_from, stops_at, untried}
@@ -8,7 +8,15 @@ use Rattle.sx_importing.specs.ReadImports.{import_of}
 use Rattle.sx_compiling.specs.MakeUnit.{MakesUnit}
 use Rattle.sx_build.specs.BuildModules.{Progress, given_in, ShowsUnit}
 use Rattle.sx_build.specs.Buildings.{mades_view}
+use Rattle.sx_outside.specs.Views.{clean_files_of}
+use Rattle.sx_outside.specs.declared.clean.CleanShelf.{CleanShelf}
+use Rattle.sx_compiling.specs.KeptFiles.{AreOf}
 use Rattle.sx_build.proofs.making.make_with.Goals as goal
+
+pub returns-in-Ok-clause-kept : goal.returns-in-Ok-clause-kept
+returns-in-Ok-clause-kept g c = λ files told.
+    subst (λ (k : CleanShelf). AreOf (clean_files_of k) files) (sym c.show_made.ensures.extensions)
+    (c.in-Ok.ensures.kept files told)
 
 pub returns-in-Ok-clause-step : goal.returns-in-Ok-clause-step
 returns-in-Ok-clause-step g c = λ files told.

@@ -13,7 +13,7 @@ use Rattle.sx_importing.specs.ReadImports.{import_of, ReadsImports}
 use Rattle.sx_compiling.specs.Given.{Given}
 use Rattle.sx_headers.specs.ModuleFiles.{module_file}
 use Rattle.sx_compile.specs.CompileModule.{CompilesGiven, given_in}
-use Rattle.sx_compile.proofs.Imported.{imports_of, given_same}
+use Rattle.sx_compiling.proofs.GivenAlike.{imports_of, given_same}
 use Rattle.sx_compile.proofs.compile_module.compile_over.Goals as goal
 
 pub compile_given-work-requires-clause-can : goal.compile_given-work-requires-clause-can

@@ -1,8 +1,8 @@
-use Rattle.std.proofs.Common.{ℕ, List, map, refl, subst, arith}
+use Rattle.std.proofs.Common.{List, map, refl, subst, arith}
 use Rattle.std.specs.Prelude.{Ok, Err}
 use Rattle.sx_unit.specs.Written.{unit_of}
 use Rattle.sx_steps.specs.Steps.{Untried}
-use Rattle.sx_steps.specs.Stop.{Gives, Does}
+use Rattle.sx_steps.specs.Stop.{Does}
 use Rattle.sx_steps.proofs.StepsOn.{goes_from, stops_at, untried, reads_on}
 use Rattle.sx_uses.specs.declared.extension_file.ExtensionFile.{ExtensionFile}
 use Rattle.sx_uses.specs.ExtensionFile.{extension_of, extensions_of}
@@ -22,8 +22,7 @@ returns-in-Ok-clause-step g c = λ files told.
     c.make_with-unit.new.steps (
       0,
       (
-        subst (λ (roots : List (List ℕ)). ReadsUses given.file header.language roots files
-            (Ok xs)) c.requires.roots (c.in-Ok.ensures.step files told),
+        c.in-Ok.ensures.step files told,
         refl,
       ),
       omega arith,
@@ -45,7 +44,4 @@ returns-in-Err-clause-step g c = λ files told.
     (Untried (ReadsUses given.file header.language header.uses files))
     (MakesExtended c.args.budgets given) c.in-Err.e c.args.steps.now c.args.steps.now
     (untried extensions_of (ReadsUses given.file header.language header.uses files)
-    (Err c.in-Err.e) c.args.steps.now
-    (subst (λ (roots : List (List ℕ)). Gives extensions_of
-    (ReadsUses given.file header.language roots files) (Err c.in-Err.e)) c.requires.roots
-    (c.in-Err.ensures.step files told)))
+    (Err c.in-Err.e) c.args.steps.now (c.in-Err.ensures.step files told))

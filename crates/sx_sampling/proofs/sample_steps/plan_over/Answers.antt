@@ -8,7 +8,7 @@ use Rattle.sx_steps.specs.Work.{plan_of}
 use Rattle.sx_steps.proofs.StepsOn.{goes_from, stops_at, untried}
 use Rattle.sx_sample.specs.Holding.{files_of}
 use Rattle.sx_sampling.specs.SampleSteps.{MakesSample, PlansSample}
-use Rattle.sx_sampling.proofs.CleanReads.{no_faults}
+use Rattle.sx_compiling.proofs.KeptReads.{no_faults}
 use Rattle.sx_sampling.proofs.sample_steps.plan_over.Goals as goal
 
 pub returns-in-Ok-clause-step : goal.returns-in-Ok-clause-step

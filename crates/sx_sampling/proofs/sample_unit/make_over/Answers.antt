@@ -13,7 +13,7 @@ use Rattle.sx_importing.specs.ReadImports.{import_of, ReadsImports}
 use Rattle.sx_compiling.specs.Given.{Given}
 use Rattle.sx_compiling.specs.MakeUnit.{MakesUnit}
 use Rattle.sx_sampling.specs.SampleSteps.{sample_file, sample_budgets, given_in}
-use Rattle.sx_sampling.proofs.Imported.{imports_of, given_same}
+use Rattle.sx_compiling.proofs.GivenAlike.{imports_of, given_same}
 use Rattle.sx_sampling.proofs.sample_unit.make_over.Goals as goal
 
 pub make_unit-unit-requires : goal.make_unit-unit-requires

@@ -1,8 +1,7 @@
 -- The modules of a closure have names, where the one whose closure it is has one.
-use Rattle.std.proofs.Common.{◌≡◌, ℕ, zero, suc, true, false, List, [], ◌∷◌, map, refl, sym, ap}
+use Rattle.std.proofs.Common.{◌≡◌, ℕ, zero, suc, true, false, List, [], ◌∷◌, refl, sym}
 use Rattle.std.proofs.Common.{subst, arith}
 use Rattle.std.specs.Prelude.{Option, Some, None, option_map, Ok, Err, Contains}
-use Rattle.std.proofs.lemmas.List.Elements.{Contains-append_right}
 use Rattle.sx_lines.specs.Lines.{lines_from}
 use Rattle.sx_lines.specs.Reading.{kept}
 use Rattle.sx_lines.specs.Words.{is_name}
@@ -21,7 +20,7 @@ use Rattle.sx_headers.specs.ReadModule.{Module, StatesModule}
 use Rattle.sx_closure.specs.ReadImport.{ReadsNamed, ReadsImport}
 use Rattle.sx_closure.specs.ReadModules.{name_of, imports_of, ReachesModules, ReadsModules}
 use Rattle.sx_closure.proofs.Walks.{import_read, import_named}
-use Rattle.sx_rebuilding.proofs.Members.{all_at}
+use Rattle.sx_compiling.proofs.Members.{contains_map, all_at}
 
 -- what was read under a name states its header
 pub header_stated : (files : Files) (name : List ℕ) (m : Module) → ReadsNamed files name (Ok m) →
@@ -43,14 +42,6 @@ user_of : (found : Option Module) (lines : List Name) →
 user_of (Some m) lines e =
     record { own = m; is = refl; lines_are = some_same (imports_of m) lines e }
 user_of None lines e = absurd (none_some lines e)
-
--- the name of a member is among the names
-name_among : (ms : List Module) (m : Module) → Contains ms m → Contains (map name_of ms) (name_of m)
-name_among [] m (k, below, same) = absurd (omega (arith, below))
-name_among (x ∷ ms) m (zero, below, same) = (0, omega arith, ap name_of same)
-name_among (x ∷ ms) m (suc k, below, same) =
-    Contains-append_right (name_of x ∷ []) (map name_of ms) (name_of m)
-    (name_among ms m (k, omega (arith, below), same))
 
 module _ (language : List ℕ) (files : Files) (root : Name)
     (is_a_name : is_name false root ≡ true) where
@@ -80,7 +71,7 @@ module _ (language : List ℕ) (files : Files) (root : Name)
         (λ n x h. import_named language files n x h) found visited order ms told in
         reached_named found visited
         (((order_is_whole (uses_in imports_of found) 256 (root ∷ []) order walks).1 (name_of m)).0
-        (subst (λ (l : List Name). Contains l (name_of m)) same (name_among ms m among)))
+        (subst (λ (l : List Name). Contains l (name_of m)) same (contains_map name_of ms m among)))
     told_named file found visited (Err why) walks told = absurd told
 
 pub modules_named : (name : List ℕ) (files : Files) (ms : List Module) →

@@ -1,0 +1,62 @@
+//! Interfaces of modules that were made, once they were read.
+
+ghost use Rattle.std.specs.Prelude.{◌≡◌, ℕ, List, None};
+ghost use Rattle.std.specs.List.{AllByRecursion};
+ghost use Rattle.sx_build.specs.MadeModules.{Made};
+ghost use Rattle.sx_build.specs.Remembering.{imports_in, IsGone, IsKept, IsOwn, Remembers};
+
+use std::alloc::Global;
+use std::collections::HashMap;
+use sx_term::Text;
+use sx_unit::Import;
+
+/// The interfaces of modules that were made, with their digests, by the names of the modules: those
+/// that were read.
+#[derive(Drop)]
+pub(crate) struct Remembered {
+    alloc: Global,
+    imports: HashMap<String, Import>,
+}
+
+impl Remembered {
+    /// None. It takes no memory.
+    pub(crate) fn new(alloc: Global) -> Remembered
+        ensures { (name : List ℕ) → imports_in result name ≡ None }
+    {
+        Remembered {
+            alloc,
+            imports: HashMap::new(alloc),
+        }
+    }
+
+    /// Takes out the interface of the module with this name.
+    pub(crate) fn take(&mut self, name: &Text) -> Option<Import>
+        ensures value { result ≡ imports_in self.old name.now }
+        ensures others { IsGone name.now (imports_in self.old) (imports_in self.new) }
+    {
+        self.imports.remove(name.as_str())
+    }
+
+    /// Keeps the interface under the name of its module. Where memory lacks it is let go: then it
+    /// is read again.
+    pub(crate) fn keep(&mut self, import: Import)
+        ensures { IsKept import (imports_in self.old) (imports_in self.new) }
+    {
+        match String::from_str(self.alloc, import.interface.module.as_str()) {
+            Ok(name) => {
+                let _ = self.imports.insert(name, import);
+            }
+            Err(_) => drop(import),
+        }
+    }
+
+    /// Keeps the interfaces, each under the name of its module.
+    pub(crate) fn keep_all(&mut self, imports: Vec<Import>)
+        ensures { (mades : List Made) → Remembers mades (imports_in self.old) →
+            AllByRecursion (IsOwn mades) imports.items → Remembers mades (imports_in self.new) }
+    {
+        for import in imports {
+            self.keep(import);
+        }
+    }
+}

@@ -1,0 +1,29 @@
+-- Files of which some were read before.
+use Rattle.std.specs.Prelude.{◌≡◌, ℕ, List, Option, Some, None}
+use Rattle.sx_outside.specs.Files.{Files}
+use Rattle.sx_walking.specs.Kinds.{Kind}
+use Rattle.sx_uses.specs.ExtensionFile.{Extension, extension_file}
+use Rattle.sx_uses.specs.ExtensionKind.{extensions_for}
+use Rattle.sx_uses.specs.ReadExtension.{ReadsFile}
+
+-- what is kept are these files, as far as it goes
+abbrev pub AreOf : (kept files : Files) → Type 0
+AreOf kept files = (name bytes : List ℕ) → kept name ≡ Some bytes → files name ≡ Some bytes
+
+-- these bytes, and else those
+abbrev pub or_else : Option (List ℕ) → Option (List ℕ) → Option (List ℕ)
+or_else (Some bytes) other = Some bytes
+or_else None other = other
+
+-- what is kept, and else what the files hold
+abbrev pub beside : (kept files : Files) → Files
+beside kept files = λ name. or_else (kept name) (files name)
+
+-- the extensions that are written for the language; those that are kept are read from there
+abbrev pub extensions_beside : (kept : Files) → (language : List ℕ) → Kind Extension
+extensions_beside kept language =
+    record (extensions_for language) { Reads = λ files. ReadsFile (beside kept files) }
+
+-- the bytes of the extension stand in its file
+abbrev pub StandsIn : Files → Extension → Type 0
+StandsIn files x = files (extension_file x.header.name) ≡ Some x.bytes
