@@ -4,6 +4,9 @@ import re
 
 KINDS = [(name, re.compile(pattern, re.S)) for name, pattern in (
     ("built", rb"built \w+: \d+ nodes$"),
+    ("built several", rb"(built \w+: \d+ nodes\n)+built \w+: \d+ nodes$"),
+    ("built with auditors", rb"(built \w+: \d+ nodes\n)+((deny|depth|nodes|tally) [^\n]*\n?)+$"),
+    ("sample", rb"sample \d+: source \d+ tokens, base \d+ tokens, \d+ nodes$"),
     ("verified", rb"verified \w+: \d+ nodes$"),
     ("word", rb"soundx: words: word \d+$"),
     ("absent", rb"soundx: \S+: absent$"),
@@ -99,6 +102,11 @@ KINDS = [(name, re.compile(pattern, re.S)) for name, pattern in (
     ("nodes of a rule", rb"soundx: \S+: rule \S+: rewriting needs more than \d+ nodes$"),
     ("nodes spent", rb"soundx: \S+: rewriting needs more than \d+ nodes$"),
     ("rewritten too deep", rb"soundx: \S+: (rule \S+: )?rewritten derivation deeper than 3000$"),
+    ("auditor objects", rb"soundx: \S+\.mod: \w+ objects to node \d+, \S+$"),
+    ("another language", rb"soundx: \S+: language \S+ differs$"),
+    ("kept and found", rb"soundx: \S+\.int: .* kept .*, found .*$"),
+    ("another version", rb"soundx: \S+\.int: version \d+$"),
+    ("too many files", rb"soundx: \S+: more than 256 files$"),
     ("captured", rb"soundx: \S+\.mod: stated signature has the literal \S+ as a name$"),
 )]
 

@@ -1,6 +1,7 @@
 module Least
 language Imp
 ---
+// whether the least of two numbers is below ten
 var a := 3 ;
 var b := 2 ;
 var least := a ;

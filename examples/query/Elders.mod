@@ -5,4 +5,4 @@ use Order
 import People
 ---
 // by name, which is of strings
-( from p in People where p . born < 2000 select { who = p . name ; } ) by who
+from p in People where p . born < 2000 select { who = p . name ; } by who
