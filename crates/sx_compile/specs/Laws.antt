@@ -11,7 +11,7 @@ use Rattle.sx_steps.specs.TypeErrors.{IsTypeError}
 use Rattle.sx_steps.specs.Work.{Plan}
 use Rattle.sx_uses.specs.Laws.{AnswerAlike}
 use Rattle.sx_accepting.specs.ReadLanguage.{ReadsLanguage}
-use Rattle.sx_compiling.specs.Laws.{HasNoType, HasUnsoundRule}
+pub use Rattle.sx_compiling.specs.Laws.{HasNoType, HasUnsoundRule}
 use Rattle.sx_compiling.specs.Laws.{ShowsFree as ShowsFreeOfUnit}
 use Rattle.sx_compiling.specs.Reached.{HasDialect}
 use Rattle.sx_compile.specs.CompileModule.{CompilesModule}

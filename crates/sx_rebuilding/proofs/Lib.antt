@@ -13,3 +13,5 @@ mod BaseUtf8
 mod ImportsAgain
 mod UnitVerified
 mod VerifiedBuild
+mod SpelledBuilds
+mod GivenAgain

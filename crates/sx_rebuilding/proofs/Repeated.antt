@@ -19,7 +19,7 @@ use Rattle.sx_compile.specs.CompileModule.{CompilesOthers, CompilesRead, Compile
 use Rattle.sx_compile.specs.Imports.{ImportsOthers, ImportsFew}
 use Rattle.sx_compile.specs.Laws.{SameButShown, CompilesAgree}
 use Rattle.sx_build.specs.MadeModules.{made_of}
-use Rattle.sx_rebuilding.specs.Again.{CompilesAsBefore, CompileRepeatsBuild}
+use Rattle.sx_rebuilding.specs.Again.{CompilesAsBefore, CompilingRepeatsBuilding}
 use Rattle.sx_rebuilding.proofs.EndedBuilds.{EndedBuild, build_ended}
 use Rattle.sx_rebuilding.proofs.FewImports.{imports_others, imports_few}
 use Rattle.sx_rebuilding.proofs.OtherFiles.{no_module, no_extension, same_one}
@@ -113,7 +113,8 @@ module _ (name : List ℕ) (budgets : Budgets) (old new : Files) (m : Module)
 
 -- ---- the command
 
-pub compile_repeats_build : CompilesAgree → CompileRepeatsBuild
-compile_repeats_build agree name budgets old new plan n builds files_are modules reads m among =
+pub compiling_repeats_building : CompilesAgree → CompilingRepeatsBuilding
+compiling_repeats_building agree name budgets old new plan n builds files_are modules reads m
+    among =
     as_built name budgets old new m
     (build_ended name budgets [] old new plan n builds files_are modules reads m among) agree

@@ -20,7 +20,7 @@ use Rattle.sx_compiling.specs.Given.{Given}
 use Rattle.sx_build.specs.BuildModules.{given_in}
 use Rattle.sx_verify.specs.Laws.{SameButShown, VerifiesAgree}
 use Rattle.sx_verify.specs.VerifyModule.{VerifiesModule}
-use Rattle.sx_rebuilding.specs.VerifyAgain.{VerifiesWell, VerifyFollowsBuild}
+use Rattle.sx_rebuilding.specs.VerifyAgain.{VerifiesWell, VerifyingFollowsBuilding}
 use Rattle.sx_rebuilding.proofs.EndedBuilds.{EndedBuild, build_ended}
 use Rattle.sx_rebuilding.proofs.ImportsAgain.{imports_kept}
 use Rattle.sx_rebuilding.proofs.LimitedUnits.{made_unit}
@@ -70,9 +70,9 @@ module _ (name : List ℕ) (budgets : Budgets) (auditors : List Meaning) (old ne
 
 -- ---- the command
 
-pub verify_follows_build : InterfacesAreWithin → VerifiesAgree → VerifyFollowsBuild
-verify_follows_build within agree name budgets auditors old new plan n is_a_name few_nodes builds
-    files_are modules reads m among =
+pub verifying_follows_building : InterfacesAreWithin → VerifiesAgree → VerifyingFollowsBuilding
+verifying_follows_building within agree name budgets auditors old new plan n is_a_name few_nodes
+    builds files_are modules reads m among =
     well name budgets auditors old new m
     (build_ended name budgets auditors old new plan n builds files_are modules reads m among)
     is_a_name few_nodes within agree

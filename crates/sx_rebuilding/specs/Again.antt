@@ -19,8 +19,8 @@ CompilesAsBefore name budgets files =
     × ((file : List ℕ) → after plan.files files file ≡ files file)
 
 -- so it does of each module that was built without auditors, over the files that the build leaves
-abbrev pub CompileRepeatsBuild : Type 0
-CompileRepeatsBuild =
+abbrev pub CompilingRepeatsBuilding : Type 0
+CompilingRepeatsBuilding =
     (name : List ℕ) (budgets : Budgets) (old new : Files) (plan : Plan) (tries : ℕ) →
     BuildsModule name budgets [] old (Ok plan) tries → new ≡ after plan.files old →
     (modules : List Module) → ReadsModules name old (Ok modules) →

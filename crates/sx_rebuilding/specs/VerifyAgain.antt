@@ -22,8 +22,8 @@ VerifiesWell name files =
 
 -- where a build with at most 1,000,000 nodes to spend for each derivation ended with a plan, so it
 -- is of each of its modules over the files that it leaves
-abbrev pub VerifyFollowsBuild : Type 0
-VerifyFollowsBuild =
+abbrev pub VerifyingFollowsBuilding : Type 0
+VerifyingFollowsBuilding =
     (name : List ℕ) (budgets : Budgets) (auditors : List Meaning) (old new : Files) (plan : Plan)
     (tries : ℕ) → is_name false name ≡ true → budgets.nodes ≤ 1000000 →
     BuildsModule name budgets auditors old (Ok plan) tries → new ≡ after plan.files old →

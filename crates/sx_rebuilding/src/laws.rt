@@ -1,15 +1,22 @@
-//! What is proved of commands that are given again.
+//! What is proved of runs over the files that a build left.
 
-ghost use Rattle.sx_rebuilding.specs.Again.{CompileRepeatsBuild};
+ghost use Rattle.sx_rebuilding.specs.GivenAgain.{CompileRepeatsBuild, VerifyFollowsBuild};
 
-use sx_compile::compiles_agree;
+use crate::compile_steps::compiling_repeats_building;
+use crate::verify_steps::verifying_follows_building;
 
-/// Where `build NAME` without auditors ended with a plan, and the files are as it leaves them,
-/// `compile M` with the same budgets, of each module M that was built, ends with a plan too, but
-/// for read faults and out of memory; and that plan changes no file. So what a build leaves of a
-/// module is what `compile` makes of it against the interfaces that the build leaves.
+/// Over the files that a build without auditors left, `compile` of each of the modules that were
+/// built, with the same tries and nodes, changes no file, but for read faults and out of memory.
 pub fn compile_repeats_build()
     ensures { CompileRepeatsBuild }
 {
-    compiles_agree();
+    compiling_repeats_building();
+}
+
+/// Over the files that a build left, `verify` of each of the modules that were built is not
+/// refused, but for read faults and out of memory.
+pub fn verify_follows_build()
+    ensures { VerifyFollowsBuild }
+{
+    verifying_follows_building();
 }

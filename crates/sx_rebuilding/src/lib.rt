@@ -1,15 +1,15 @@
 //! Commands that are given again, over the files that a build leaves.
 //!
-//! - `compile_repeats_build`: where a build without auditors ended with a plan, `compile` of each
-//!   of its modules, over the files as that leaves them, ends with a plan that changes no file.
-//! - `verify_follows_build`: where a build ended with a plan, `verify` of each of its modules, over
-//!   the files as that leaves them, ends with a plan.
+//! - `compile_repeats_build`: over the files that a build without auditors left, `compile` of each
+//!   of its modules changes no file.
+//! - `verify_follows_build`: over the files that a build left, `verify` of each of its modules is
+//!   not refused.
 //!
-//! These are laws; no code of this crate runs.
+//! These are laws of runs of the top call; no code of this crate runs.
 #![tactic(auto)]
 
+mod compile_steps;
 mod laws;
-mod verify_laws;
+mod verify_steps;
 
-pub use laws::compile_repeats_build;
-pub use verify_laws::verify_follows_build;
+pub use laws::{compile_repeats_build, verify_follows_build};

@@ -20,5 +20,3 @@ mod BuiltVerified
 mod TypeErrors
 mod KindsOnce
 mod Denying
-mod SpelledBuilds
-mod GivenAgain

@@ -15,8 +15,8 @@ use Rattle.sx_steps.specs.Work.{Plan}
 use Rattle.sx_build.specs.Laws.{SameButShown, IsTurn, given_at}
 use Rattle.sx_check.specs.Laws.{SameButLines, HasUnsoundRule}
 use Rattle.sx_verify.specs.Laws.{SameButShown as VerifiesSame}
-use Rattle.sx_compiling.specs.Laws.{HasNoType as UnitHasNoType}
-use Rattle.sx_compiling.specs.Laws.{HasUnsoundRule as UnitHasUnsoundRule}
+use Rattle.sx_compile.specs.Laws.{HasNoType as UnitHasNoType}
+use Rattle.sx_compile.specs.Laws.{HasUnsoundRule as UnitHasUnsoundRule}
 use Rattle.sx_compile.specs.Found.{IsFound, given_from}
 use Rattle.sx_compile.specs.Laws.{SameButShown as CompilesSame}
 use Rattle.sx_sample.specs.Holding.{files_of}

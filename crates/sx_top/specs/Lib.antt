@@ -20,5 +20,4 @@ pub mod Performing
 pub mod Telling
 pub mod VerifyLaws
 pub mod Denied
-pub mod GivenAgain
 pub mod Laws

@@ -1,7 +1,6 @@
 //! What holds of runs.
 
 ghost use Rattle.sx_top.specs.Denied.{DeniedAreUnwritten};
-ghost use Rattle.sx_top.specs.GivenAgain.{CompileRepeatsBuild, VerifyFollowsBuild};
 ghost use Rattle.sx_top.specs.Laws.{OneCoreOutcome, OneOutcome, TypeErrorsAreFinal};
 ghost use Rattle.sx_top.specs.Search.{WalksAreWithin};
 
@@ -50,20 +49,4 @@ pub fn denied_are_unwritten()
     sx_build::denied_are_unwritten();
     sx_compile::denied_are_unwritten();
     denied_are_kept();
-}
-
-/// Over the files that a build without auditors left, `compile` of each of the modules that were
-/// built, with the same tries and nodes, changes no file, but for read faults and out of memory.
-pub fn compile_repeats_build()
-    ensures { CompileRepeatsBuild }
-{
-    sx_rebuilding::compile_repeats_build();
-}
-
-/// Over the files that a build left, `verify` of each of the modules that were built is not
-/// refused, but for read faults and out of memory.
-pub fn verify_follows_build()
-    ensures { VerifyFollowsBuild }
-{
-    sx_rebuilding::verify_follows_build();
 }

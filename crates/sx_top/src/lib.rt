@@ -20,9 +20,6 @@ mod verify_laws;
 mod written;
 
 pub use call::run;
-pub use laws::{
-    compile_repeats_build, denied_are_unwritten, one_outcome, type_errors_are_final,
-    verify_follows_build, walks_are_within,
-};
+pub use laws::{denied_are_unwritten, one_outcome, type_errors_are_final, walks_are_within};
 pub use sx_steps::Status;
 pub use verify_laws::{built_is_verified, found_is_within};

@@ -16,13 +16,13 @@ use Rattle.sx_steps.specs.Steps.{Untried, GoesOn}
 use Rattle.sx_steps.specs.Work.{Plan}
 use Rattle.sx_steps.proofs.Ones.{ok_same}
 use Rattle.sx_steps.proofs.StepsOn.{went_on}
-use Rattle.sx_top.proofs.SpelledBuilds.{spelled_build}
+use Rattle.sx_rebuilding.proofs.SpelledBuilds.{spelled_build}
 use Rattle.sx_build.specs.BuildModules.{BuildsModule}
-use Rattle.sx_rebuilding.specs.Again.{CompileRepeatsBuild as BuildRepeated}
-use Rattle.sx_rebuilding.specs.VerifyAgain.{VerifyFollowsBuild as BuildVerified}
+use Rattle.sx_rebuilding.specs.Again.{CompilingRepeatsBuilding}
+use Rattle.sx_rebuilding.specs.VerifyAgain.{VerifyingFollowsBuilding}
 use Rattle.sx_top.specs.Calls.{Call}
 use Rattle.sx_top.specs.Commands.{Commands}
-use Rattle.sx_top.specs.GivenAgain.{CompileRepeatsBuild, VerifyFollowsBuild}
+use Rattle.sx_rebuilding.specs.GivenAgain.{CompileRepeatsBuild, VerifyFollowsBuild}
 use Rattle.sx_top.specs.Outcome.{budgets_of, audits_of, NamesFor, Runs, RunsFor, Outcome}
 
 -- none of those that are handed in is set
@@ -106,7 +106,7 @@ built_by c name tries nodes audits old plan made spelled comes =
     let runs = went_on _ _ _ steps.after here in
     record { named = runs.given; made = runs.after; builds_by = runs.goes }
 
-pub compile_repeats_build : BuildRepeated → CompileRepeatsBuild
+pub compile_repeats_build : CompilingRepeatsBuilding → CompileRepeatsBuild
 compile_repeats_build repeated b c name tries nodes old new built m reached spelled result made h
     sure =
     let whole = ran b (builds false name tries nodes []) built.spells refl old (Ok built.plan) tt
@@ -116,7 +116,7 @@ compile_repeats_build repeated b c name tries nodes old new built m reached spel
     repeated name (budgets_of tries nodes) old new built.plan whole.0 whole.1 built.leaves
     reached.0 reached.1 m reached.2 result again.0 again.1 sure
 
-pub verify_follows_build : BuildVerified → VerifyFollowsBuild
+pub verify_follows_build : VerifyingFollowsBuilding → VerifyFollowsBuild
 verify_follows_build verified b c name tries nodes audits old new built m reached spelled result
     made h sure =
     let whole = built_by b name tries nodes audits old built.plan built.made built.spells

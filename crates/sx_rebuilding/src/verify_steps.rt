@@ -1,6 +1,6 @@
-//! What is proved of `verify` over the files that a build leaves.
+//! What is proved of the steps of `verify` over the files that a build leaves.
 
-ghost use Rattle.sx_rebuilding.specs.VerifyAgain.{VerifyFollowsBuild};
+ghost use Rattle.sx_rebuilding.specs.VerifyAgain.{VerifyingFollowsBuilding};
 
 use sx_interface::interfaces_are_within;
 use sx_verify::verifies_agree;
@@ -10,8 +10,8 @@ use sx_verify::verifies_agree;
 /// a plan too, but for read faults and out of memory. So what a build leaves of a module is not
 /// refused: the files fit one another, the language and the interfaces of the imports, the body has
 /// one reading by the language alone, and the list is replayed within the limits.
-pub fn verify_follows_build()
-    ensures { VerifyFollowsBuild }
+pub fn verifying_follows_building()
+    ensures { VerifyingFollowsBuilding }
 {
     interfaces_are_within();
     verifies_agree();
