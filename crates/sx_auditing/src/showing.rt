@@ -75,7 +75,9 @@ fn objection(
 
 /// Shows the nodes of the derivation whose list this is to the auditors, in preorder, each to every
 /// auditor in order. The stop is the objection of the first auditor that refuses a node, told of
-/// the file, with the auditor's name, the node's number from 1 and the name of its rule.
+/// the file, with the auditor's name, the node's number from 1 and the name of its rule. The list
+/// is asked to be that of a derivation by the rules without facts and hypotheses; no derivation is
+/// made for it. Where memory runs out the auditors have seen some of the nodes.
 pub fn show_unit(
     alloc: Global,
     file: &Text,

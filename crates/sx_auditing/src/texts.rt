@@ -18,7 +18,8 @@ fn put_text(alloc: Global, auditor: &Box<dyn Auditor>, into: &mut Vec<u8>) -> Re
     Ok(())
 }
 
-/// Appends the text of each auditor in order, with a line feed after each.
+/// Appends the text of each auditor in order, with a line feed after each. Where memory runs out
+/// some of these bytes stand behind those that were there before.
 pub fn put_texts(
     alloc: Global,
     auditors: &[Box<dyn Auditor>],

@@ -200,7 +200,8 @@ fn compile_file<S: Shelf, L: Ledger>(
 /// each derivation that is lowered: the module's file is read. It is refused where it imports
 /// itself, and then where it has more than 255 imports. The file of its language is read, then the
 /// interface of each import, in the order of its header; its unit is made from all of this; and the
-/// nodes of its derivation are shown to the auditors, whose texts are told behind the line.
+/// nodes of its derivation are shown to the auditors, whose texts are told behind the line. How far
+/// the auditors came is not said: the caller has no more use for them.
 pub fn plan_compile<S: Shelf, L: Ledger>(
     alloc: Global,
     name: &Text,
