@@ -17,7 +17,7 @@ use Rattle.sx_steps.specs.declared.stop.Stop.{Stop}
 use Rattle.sx_headers.specs.ReadModule.{Module}
 use Rattle.sx_headers.specs.ReadInterface.{HasInterface, StatesParts}
 use Rattle.sx_interface.specs.InterfaceView.{interface_view}
-use Rattle.sx_unit.specs.declared.import.Import.{Import}
+use Rattle.sx_interface.specs.declared.import.Import.{Import}
 use Rattle.sx_environment.specs.SeenFrom.{IsShort, interfaces_of}
 use Rattle.sx_accepting.specs.ReadLanguage.{Stated}
 use Rattle.sx_compiling.specs.Given.{Given}

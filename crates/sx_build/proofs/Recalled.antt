@@ -20,7 +20,7 @@ use Rattle.sx_steps.specs.Stop.{Gives}
 use Rattle.sx_steps.specs.Unit.{interface_file}
 use Rattle.sx_steps.specs.declared.step_error.StepError.{StepError}
 use Rattle.sx_steps.proofs.Ones.{none_some}
-use Rattle.sx_unit.specs.declared.import.Import.{Import}
+use Rattle.sx_interface.specs.declared.import.Import.{Import}
 use Rattle.sx_walking.specs.FileTable.{FileMap, files_by}
 use Rattle.sx_walking.specs.Reached.{Found}
 use Rattle.sx_walking.proofs.Tables.{put_held, put_cases}

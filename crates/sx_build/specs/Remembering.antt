@@ -6,7 +6,7 @@ use Rattle.sx_importing.specs.ReadImports.{import_of, ReadsImport}
 use Rattle.sx_interface.specs.InterfaceView.{interface_view}
 use Rattle.sx_outside.specs.Files.{Files}
 use Rattle.sx_steps.specs.Unit.{interface_file}
-use Rattle.sx_unit.specs.declared.import.Import.{Import}
+use Rattle.sx_interface.specs.declared.import.Import.{Import}
 use Rattle.sx_walking.specs.FileTable.{files_by, IsPut}
 use Rattle.sx_walking.specs.Reached.{Found}
 use Rattle.sx_build.specs.declared.remembered.Remembered.{Remembered}

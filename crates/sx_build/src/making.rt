@@ -28,10 +28,11 @@ use std::sync::ledger::Ledger;
 use sx_auditing::show_unit;
 use sx_compiling::{Given, make_unit_of_several};
 use sx_headers::ModuleFile;
+use sx_interface::Import;
 use sx_outside::{CleanShelf, Shelf};
 use sx_steps::{StepError, with_suffix};
 use sx_term::{NoMemory, Steps, Text};
-use sx_unit::{Compiled, Import};
+use sx_unit::Compiled;
 
 /// What is kept of the unit of the module with this name.
 fn made_from(alloc: Global, name: &Text, unit: Compiled) -> Result<Made, NoMemory>

@@ -7,8 +7,8 @@ ghost use Rattle.sx_build.specs.Remembering.{imports_in, IsGone, IsKept, IsOwn, 
 
 use std::alloc::Global;
 use std::collections::HashMap;
+use sx_interface::Import;
 use sx_term::Text;
-use sx_unit::Import;
 
 /// The interfaces of modules that were made, with their digests, by the names of the modules: those
 /// that were read.

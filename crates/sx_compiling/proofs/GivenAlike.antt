@@ -1,7 +1,7 @@
 -- What is given with imports that were read.
 use Rattle.std.proofs.Common.{◌≡◌, ℕ, List, Vec, map}
 use Rattle.std.specs.declared.alloc.Global.{Global}
-use Rattle.sx_unit.specs.declared.import.Import.{Import}
+use Rattle.sx_interface.specs.declared.import.Import.{Import}
 use Rattle.sx_accepting.specs.ReadLanguage.{Stated}
 use Rattle.sx_headers.specs.ReadModule.{Module}
 use Rattle.sx_importing.specs.ReadImports.{ImportData, import_of}

@@ -5,8 +5,8 @@ use Rattle.sx_grammar.specs.Grammar.{Text}
 use Rattle.sx_interface.specs.Interfaces.{InterfaceParts, Mark}
 use Rattle.sx_interface.specs.InterfaceView.{interface_view}
 use Rattle.sx_interface.specs.StatedHeader.{AreNames}
-use Rattle.sx_unit.specs.declared.import.Import.{Import}
-use Rattle.sx_unit.specs.Captured.{AreFree}
+use Rattle.sx_interface.specs.declared.import.Import.{Import}
+use Rattle.sx_interface.specs.FreeNames.{AreFree}
 use Rattle.sx_unit.specs.Modules.{mark}
 use Rattle.sx_environment.specs.SeenFrom.{HasFreeName, interfaces_of}
 use Rattle.sx_importing.specs.ReadImports.{import_of, mark_of}

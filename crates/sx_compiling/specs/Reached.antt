@@ -8,7 +8,7 @@ use Rattle.sx_grammar.specs.Tables.{literals_of}
 use Rattle.sx_extcheck.specs.declared.budgets.Budgets.{Budgets}
 use Rattle.sx_interface.specs.Stated.{IsDigest}
 use Rattle.sx_interface.specs.StatedHeader.{StatesHeader}
-use Rattle.sx_unit.specs.Captured.{AreFree}
+use Rattle.sx_interface.specs.FreeNames.{AreFree}
 use Rattle.sx_unit.specs.Modules.{ModuleData}
 use Rattle.sx_environment.specs.Environments.{IsEnvironment}
 use Rattle.sx_environment.specs.SeenFrom.{SeenFrom}

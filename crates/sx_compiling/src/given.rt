@@ -2,8 +2,8 @@
 
 use sx_accepting::LanguageFile;
 use sx_headers::ModuleFile;
+use sx_interface::Import;
 use sx_term::Text;
-use sx_unit::Import;
 
 /// What a module is made from: the name of its file, what this states, the language that its header
 /// names, and its imports, in the order of the header.

@@ -8,7 +8,7 @@ ghost use Rattle.sx_grammar.specs.Tables.{literals_of};
 ghost use Rattle.sx_notation.specs.Language.{language_data};
 ghost use Rattle.sx_typing.specs.Dialects.{IsDialectOf};
 ghost use Rattle.sx_typing.specs.Source.{IsTermFor};
-ghost use Rattle.sx_unit.specs.Captured.{AreFree};
+ghost use Rattle.sx_interface.specs.FreeNames.{AreFree};
 ghost use Rattle.sx_unit.specs.Written.{unit_of};
 ghost use Rattle.sx_environment.specs.SeenFrom.{seen_from};
 ghost use Rattle.sx_outside.specs.Told.{WhereTold};

@@ -8,7 +8,7 @@ use Rattle.sx_interface.specs.Interfaces.{InterfaceParts, Mark}
 use Rattle.sx_interface.specs.InterfaceView.{interface_view, mark_view}
 use Rattle.sx_interface.specs.Stated.{IsWithin}
 use Rattle.sx_typing.specs.Dialects.{DialectData, IsDialectOf, dialect_of}
-use Rattle.sx_unit.specs.declared.import.Import.{Import}
+use Rattle.sx_interface.specs.declared.import.Import.{Import}
 use Rattle.sx_environment.specs.declared.surroundings.Surroundings.{Surroundings}
 
 -- the dialect, the name of its language with the digest of the language's file, and the names of

@@ -20,8 +20,8 @@ use crate::numbered::Numbered;
 use crate::seeing::seen_term;
 use crate::surroundings::Surroundings;
 use std::alloc::Global;
+use sx_interface::Import;
 use sx_term::{LexKind, NoMemory, Term, Text};
-use sx_unit::Import;
 
 /// The greatest depth of an environment.
 const DEEPEST: u32 = 1000;

@@ -11,8 +11,8 @@ use Rattle.sx_interface.specs.StatedHeader.{StatesHeader}
 use Rattle.sx_interface.proofs.HeaderStated.{header_again}
 use Rattle.sx_interface.proofs.InterfaceLaws.{interface_again}
 use Rattle.sx_interface.proofs.VersionLaws.{version_known, one_form}
-use Rattle.sx_unit.specs.Captured.{AreFree, IsFirstIn}
-use Rattle.sx_unit.proofs.Capturing.{first_none}
+use Rattle.sx_interface.specs.FreeNames.{AreFree, IsFirstIn}
+use Rattle.sx_interface.proofs.FreeNames.{first_none}
 use Rattle.sx_outside.specs.Files.{Files}
 use Rattle.sx_steps.specs.declared.stop.Stop.{Stop}
 use Rattle.sx_steps.specs.Held.{Held, most_bytes}

@@ -1,6 +1,6 @@
 -- The step that compares the names of a module's imports with the literals of its language.
 use Rattle.std.specs.Prelude.{◌≡◌, ℕ, List, length, Result, Ok, Err}
-use Rattle.sx_unit.specs.Captured.{AreFree, IsFirstIn}
+use Rattle.sx_interface.specs.FreeNames.{AreFree, IsFirstIn}
 use Rattle.sx_steps.specs.declared.stop.Stop.{Stop}
 use Rattle.sx_headers.specs.HeaderRows.{row_line, import_row}
 use Rattle.sx_headers.specs.HeaderStops.{bad_header}

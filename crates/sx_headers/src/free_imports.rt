@@ -2,7 +2,7 @@
 
 ghost use Rattle.std.specs.Prelude.{◌≤◌, IfSome, IfNone, length};
 ghost use Rattle.sx_grammar.specs.Tables.{literals_of};
-ghost use Rattle.sx_unit.specs.Captured.{AreFree};
+ghost use Rattle.sx_interface.specs.FreeNames.{AreFree};
 ghost use Rattle.sx_steps.specs.Stop.{Gives, IsNoFault};
 ghost use Rattle.sx_headers.specs.FreeImports.{IsTakenAt, HasFreeImports};
 ghost use Rattle.sx_headers.specs.ReadModule.{module_of};

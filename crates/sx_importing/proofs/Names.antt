@@ -4,7 +4,7 @@ use Rattle.std.specs.Prelude.{option_map}
 use Rattle.std.proofs.lemmas.Option.{slice_get-map, slice_get-get_or, get_or_from_slice_get}
 use Rattle.sx_interface.specs.Interfaces.{InterfaceParts}
 use Rattle.sx_interface.specs.InterfaceView.{interface_view}
-use Rattle.sx_unit.specs.declared.import.Import.{Import}
+use Rattle.sx_interface.specs.declared.import.Import.{Import}
 use Rattle.sx_environment.specs.SeenFrom.{interfaces_of}
 
 pub name_at : (imports : List Import) (k : ℕ) (d : Import) → k < length imports →

@@ -3,7 +3,7 @@ use Rattle.std.specs.Prelude.{◌≡◌, ℕ, List, Result, Ok}
 use Rattle.sha2.specs.Sha256.{sha256}
 use Rattle.sx_interface.specs.Interfaces.{InterfaceParts, Mark}
 use Rattle.sx_interface.specs.InterfaceView.{interface_view}
-use Rattle.sx_unit.specs.declared.import.Import.{Import}
+use Rattle.sx_interface.specs.declared.import.Import.{Import}
 use Rattle.sx_outside.specs.Files.{Files}
 use Rattle.sx_steps.specs.declared.stop.Stop.{Stop}
 use Rattle.sx_steps.specs.Steps.{Then}

@@ -11,9 +11,9 @@ ghost use Rattle.sx_importing.specs.MakeEnvironment.{SeesImports};
 use crate::import_stops::bad_import;
 use std::alloc::Global;
 use sx_environment::{Surroundings, environment};
+use sx_interface::Import;
 use sx_steps::StepError;
 use sx_term::{Term, Text};
-use sx_unit::Import;
 
 /// The environment of the imports, or the stop of the first refusal. The file is that of the
 /// module: the stop is told of it where the environment is too deep. What it is seen from is a

@@ -9,12 +9,11 @@ use crate::kept_values::{digest_differs, kept_differs};
 use std::alloc::Global;
 use sx_environment::ImportError;
 use sx_headers::{uncut_text, unread_text};
-use sx_interface::Digest;
+use sx_interface::{Digest, Import};
 use sx_notation::Unread;
 use sx_steps::{Stop, refused, with_suffix};
 use sx_term::{NoMemory, Text};
 use sx_token::TokenError;
-use sx_unit::Import;
 use sx_words::{ClosureDefect, Defect, Kept, TextDefect};
 
 /// The file of the import with this number.

@@ -13,11 +13,10 @@ ghost use Rattle.sx_importing.specs.ReadImports.{import_of};
 
 use std::alloc::Global;
 use sx_headers::{InterfaceFile, read_interface_file};
-use sx_interface::{digest, interfaces_are_within};
+use sx_interface::{Import, digest, interfaces_are_within};
 use sx_outside::Shelf;
 use sx_steps::{StepError, with_suffix};
 use sx_term::{NoMemory, Text};
-use sx_unit::Import;
 
 /// The import whose file was read.
 fn import_in(held: InterfaceFile) -> Import

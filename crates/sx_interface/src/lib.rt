@@ -4,6 +4,7 @@
 mod error;
 mod hashing;
 mod headers;
+mod import;
 mod interface_reading;
 mod interface_writing;
 mod interfaces;
@@ -18,6 +19,7 @@ mod version;
 pub use error::HeaderError;
 pub use hashing::digest;
 pub use headers::{Header, read_header};
+pub use import::Import;
 pub use interface_reading::{read_interface, written_interface_is_read};
 pub use interface_writing::write_interface;
 pub use interfaces::{ImportMark, Interface};

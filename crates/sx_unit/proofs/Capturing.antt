@@ -12,7 +12,8 @@ use Rattle.sx_term.specs.Term.{tree}
 use Rattle.sx_term.proofs.Kids.{trees, tree-at_node, trees-drop, trees-drop_all}
 use Rattle.sx_grammar.specs.Grammar.{Text}
 use Rattle.sx_print.specs.Cut.{HasLexemes, HaveLexemes}
-use Rattle.sx_unit.specs.Captured.{names_in, names_among, AreFree, IsFree, IsFirstIn, IsCaptured}
+use Rattle.sx_interface.specs.FreeNames.{AreFree, IsFirstIn}
+use Rattle.sx_unit.specs.Captured.{names_in, names_among, IsFree, IsCaptured}
 
 contains_from : (texts : List Text) (i : ℕ) (text : Text) → slice_get texts i ≡ Some text →
     Contains texts text
@@ -20,45 +21,6 @@ contains_from texts i text e =
     (i, slice_get_within texts i text e, get_or_from_slice_get texts i text text e)
 
 module _ (literals : List Text) where
-  -- ---- one word alone
-
-  same_head : (a b : Text) (xs ys : List Text) → a ∷ xs ≡ b ∷ ys → a ≡ b
-  same_head a b xs ys e = cc
-
-  same_tail : (a b : Text) (xs ys : List Text) → a ∷ xs ≡ b ∷ ys → xs ≡ ys
-  same_tail a b xs ys e = cc
-
-  firsts_one : (names front rest others more : List Text) (word other : Text) →
-      front ++ word ∷ rest ≡ others ++ other ∷ more →
-      AreFree literals front → AreFree literals others → Contains literals word →
-      Contains literals other → word ≡ other
-  firsts_one names [] rest [] more word other e f g h k = same_head word other rest more e
-  firsts_one names [] rest (o ∷ others) more word other e f g h k =
-      absurd (g.0 (subst (Contains literals) (same_head word o rest (others ++ other ∷ more) e) h))
-  firsts_one names (w ∷ front) rest [] more word other e f g h k =
-      absurd (f.0 (subst (Contains literals) (sym (same_head w other (front ++ word ∷ rest) more e))
-      k))
-  firsts_one names (w ∷ front) rest (o ∷ others) more word other e f g h k =
-      firsts_one names front rest others more word other
-      (same_tail w o (front ++ word ∷ rest) (others ++ other ∷ more) e) f.1 g.1 h k
-
-  pub first_one : (names : List Text) (word other : Text) → IsFirstIn literals names word →
-      IsFirstIn literals names other → word ≡ other
-  first_one names word other h k =
-      firsts_one names h.front h.rest k.front k.rest word other (sym h.is ∙ k.is) h.free k.free
-      h.literal k.literal
-
-  free_at : (front rest : List Text) (word : Text) → AreFree literals (front ++ word ∷ rest) →
-      Contains literals word → ⊥
-  free_at [] rest word f h = f.0 h
-  free_at (w ∷ front) rest word f h = free_at front rest word f.1 h
-
-  -- where there is a first one not all are free
-  pub first_none : (names : List Text) (word : Text) → IsFirstIn literals names word →
-      AreFree literals names → ⊥
-  first_none names word h f = free_at h.front h.rest word (subst (AreFree literals) h.is f)
-      h.literal
-
   -- ---- the walk over the kids
 
   free_both : (xs ys : List Text) → AreFree literals xs → AreFree literals ys →

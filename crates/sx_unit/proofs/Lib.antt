@@ -1,4 +1,3 @@
-pub mod Lengths
 pub mod Counted
 pub mod Shown
 pub mod Reread

@@ -18,7 +18,7 @@ use Rattle.sx_unit.specs.PrintedParts.{PrintedData, parts_of, sort_of, term_of}
 use Rattle.sx_unit.specs.Texts.{derivation_text}
 use Rattle.sx_unit.specs.Written.{UnitData, shown_of, file_size, IsBadPart, IsGoodPart, IsDue}
 use Rattle.sx_unit.specs.Written.{HasCaptured, IsWritten, IsUnwritten}
-use Rattle.sx_unit.proofs.Capturing.{first_one, first_none}
+use Rattle.sx_interface.proofs.FreeNames.{first_one, first_none}
 use Rattle.sx_unit.proofs.OnePrint.{ShowPairs, defect_one, defect_none}
 
 module _ (m : ModuleData) (t : PrintedData) where

@@ -1,10 +1,10 @@
--- Names that are literals.
-use Rattle.std.specs.Prelude.{◌≡◌, List, [], ◌∷◌, ◌++◌, Contains}
-use Rattle.std.specs.List.{AllByRecursion}
+-- Names in terms that are literals.
+use Rattle.std.specs.Prelude.{List, [], ◌∷◌, ◌++◌}
 use Rattle.sx_term.specs.declared.lex_kind.LexKind.{LexKind}
 use Rattle.sx_term.specs.declared.lex_kind.LexKind.TheVariants.{Id, Num, Str}
 use Rattle.sx_term.specs.Tree.{Tree, Trees, node, lexeme, hole, none, ◌▹◌}
 use Rattle.sx_grammar.specs.Grammar.{Text}
+use Rattle.sx_interface.specs.FreeNames.{AreFree, IsFirstIn}
 
 -- the name that a lexeme of this kind is
 abbrev pub name_of : LexKind → Text → List Text
@@ -24,21 +24,9 @@ abbrev mutual
   names_among none = []
   names_among (t ▹ ts) = names_in t ++ names_among ts
 
--- none of the names is a literal
-abbrev pub AreFree : List Text → (names : List Text) → Type 0
-AreFree literals names = AllByRecursion (λ name. ¬ (Contains literals name)) names
-
 -- none of the names in the term is
 abbrev pub IsFree : List Text → Tree → Type 0
 IsFree literals t = AreFree literals (names_in t)
-
--- the word is the first of the names that is a literal
-pub record IsFirstIn (literals : List Text) (names : List Text) (word : Text) : Type 0 where
-  pub front : List Text
-  pub rest : List Text
-  pub is : names ≡ front ++ word ∷ rest
-  pub free : AreFree literals front
-  pub literal : Contains literals word
 
 -- it is the first of the names in the term
 abbrev pub IsCaptured : List Text → Tree → (word : Text) → Type 0

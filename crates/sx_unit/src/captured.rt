@@ -4,7 +4,8 @@ ghost use Rattle.std.specs.Prelude.{◌≤◌, MatchOption};
 ghost use Rattle.sx_term.specs.Term.{tree};
 ghost use Rattle.sx_term.specs.Tree.{depth_of};
 ghost use Rattle.sx_grammar.specs.Tables.{literals_of};
-ghost use Rattle.sx_unit.specs.Captured.{name_of, AreFree, IsFirstIn, IsFree, IsCaptured};
+ghost use Rattle.sx_interface.specs.FreeNames.{AreFree, IsFirstIn};
+ghost use Rattle.sx_unit.specs.Captured.{name_of, IsFree, IsCaptured};
 
 use sx_grammar::Grammar;
 use sx_term::{LexKind, Term, Text};

@@ -17,7 +17,6 @@ mod compiled;
 mod compiling;
 mod counting;
 mod errors;
-mod import;
 mod judgement_terms;
 mod laws;
 mod lowered_writing;
@@ -36,7 +35,6 @@ mod typed_lowering;
 
 pub use compiled::Compiled;
 pub use compiling::compile;
-pub use import::Import;
 pub use laws::{one_unit, type_errors_are_final, units_are_made};
 pub use module_error::ModuleError;
 pub use module_source::ModuleSource;

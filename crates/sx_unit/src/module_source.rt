@@ -1,7 +1,6 @@
 //! What a module is compiled from.
 
-use crate::import::Import;
-use sx_interface::{Digest, ImportMark};
+use sx_interface::{Digest, Import, ImportMark};
 use sx_typing::Source;
 
 /// What a module is compiled from: its source, in a dialect, the digest of the language's file, the

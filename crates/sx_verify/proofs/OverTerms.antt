@@ -13,7 +13,7 @@ use Rattle.sx_notation.specs.Language.{LanguageData, IsMain}
 use Rattle.sx_typing.specs.Dialects.{DialectData}
 use Rattle.sx_typing.specs.Growing.{unextended}
 use Rattle.sx_typing.specs.Source.{Source, IsTermFor}
-use Rattle.sx_unit.specs.Captured.{AreFree}
+use Rattle.sx_interface.specs.FreeNames.{AreFree}
 use Rattle.sx_environment.specs.SeenFrom.{SeenFrom, HasFreeName}
 use Rattle.sx_accepting.specs.ReadLanguage.{Stated}
 use Rattle.sx_headers.specs.ReadModule.{Module}

@@ -13,11 +13,10 @@ ghost use Rattle.sx_verify.specs.KeptImports as spec;
 
 use std::alloc::Global;
 use sx_importing::{digest_differs, read_import};
-use sx_interface::{Digest, ImportMark};
+use sx_interface::{Digest, Import, ImportMark};
 use sx_outside::Shelf;
 use sx_steps::StepError;
 use sx_term::{NoMemory, Text};
-use sx_unit::Import;
 use sx_words::Kept;
 
 /// The digest of the import that the interface in the file keeps is the one that was found.

@@ -2,7 +2,7 @@
 
 use crate::written_files::WrittenFiles;
 use sx_accepting::LanguageFile;
-use sx_unit::Import;
+use sx_interface::Import;
 
 /// The interface and the base file of the module, its language, and the interfaces of its imports.
 #[derive(Clone, Copy)]

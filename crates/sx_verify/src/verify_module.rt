@@ -20,11 +20,10 @@ use crate::verify_over::verify_names;
 use crate::written_files::{WrittenFiles, read_written};
 use std::alloc::Global;
 use sx_importing::keep_digest;
-use sx_interface::{Digest, digest};
+use sx_interface::{Digest, Import, digest};
 use sx_outside::Shelf;
 use sx_steps::{MOST_BYTES, StepError, Work, read_file, with_suffix};
 use sx_term::Text;
-use sx_unit::Import;
 use sx_words::Kept;
 
 /// The steps from the interfaces of the imports. The language's file has these bytes and this

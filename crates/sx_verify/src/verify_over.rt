@@ -11,7 +11,7 @@ ghost use Rattle.sx_typing.specs.Dialects.{IsDialectOf, dialect_of};
 ghost use Rattle.sx_typing.specs.Growing.{unextended};
 ghost use Rattle.sx_typing.specs.Source.{IsTermFor};
 ghost use Rattle.sx_environment.specs.SeenFrom.{interfaces_of};
-ghost use Rattle.sx_unit.specs.Captured.{AreFree};
+ghost use Rattle.sx_interface.specs.FreeNames.{AreFree};
 ghost use Rattle.sx_steps.specs.Stop.{Gives, OnlyReads, IsNoFault};
 ghost use Rattle.sx_steps.specs.Work.{plan_of};
 ghost use Rattle.sx_accepting.specs.ReadLanguage.{stated_of};

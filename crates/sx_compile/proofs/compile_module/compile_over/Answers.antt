@@ -5,7 +5,7 @@ use Rattle.sx_steps.specs.Steps.{Untried}
 use Rattle.sx_steps.specs.Stop.{Gives, Does}
 use Rattle.sx_steps.specs.Work.{plan_of}
 use Rattle.sx_steps.proofs.StepsOn.{goes_from, stops_at, untried}
-use Rattle.sx_unit.specs.declared.import.Import.{Import}
+use Rattle.sx_interface.specs.declared.import.Import.{Import}
 use Rattle.sx_environment.specs.SeenFrom.{IsShort, interfaces_of}
 use Rattle.sx_accepting.specs.ReadLanguage.{stated_of}
 use Rattle.sx_headers.specs.ReadModule.{module_of}

@@ -6,7 +6,7 @@ use Rattle.sx_grammar.specs.Tables.{literals_of}
 use Rattle.sx_interface.specs.Interfaces.{InterfaceParts}
 use Rattle.sx_interface.specs.StatedHeader.{AreNames}
 use Rattle.sx_notation.specs.Language.{LanguageData}
-use Rattle.sx_unit.specs.Captured.{AreFree}
+use Rattle.sx_interface.specs.FreeNames.{AreFree}
 use Rattle.sx_unit.specs.Written.{unit_of}
 use Rattle.sx_environment.specs.SeenFrom.{interfaces_of, seen_from}
 use Rattle.sx_steps.specs.Steps.{Untried}

@@ -4,7 +4,7 @@ use Rattle.sx_term.specs.Tree.{Tree, depth_of}
 use Rattle.sx_interface.specs.Interfaces.{InterfaceParts}
 use Rattle.sx_interface.specs.InterfaceView.{interface_view}
 use Rattle.sx_notation.proofs.TextReading.{err_if}
-use Rattle.sx_unit.specs.declared.import.Import.{Import}
+use Rattle.sx_interface.specs.declared.import.Import.{Import}
 use Rattle.sx_environment.specs.Environments.{IsEnvironment, empty_environment}
 use Rattle.sx_environment.specs.ImportErrors.{HasNone}
 use Rattle.sx_environment.specs.SeenFrom.{IsShort, interfaces_of, seen_from}

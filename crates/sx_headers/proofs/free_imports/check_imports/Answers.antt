@@ -2,7 +2,7 @@ use Rattle.std.proofs.Common.{ℕ, ◌+◌, List, ap, ◌∙◌, subst}
 use Rattle.sx_lines.specs.Lines.{lines_from}
 use Rattle.sx_lines.specs.Reading.{kept}
 use Rattle.sx_grammar.specs.Tables.{literals_of}
-use Rattle.sx_unit.proofs.Lengths.{size_of}
+use Rattle.sx_interface.proofs.Lengths.{size_of}
 use Rattle.sx_headers.specs.FreeImports.{IsTakenAt}
 use Rattle.sx_headers.specs.HeaderRows.{number_at}
 use Rattle.sx_headers.specs.HeaderStops.{bad_header}

@@ -1,7 +1,7 @@
 use Rattle.std.proofs.Common.{◌∙◌, ℕ, List, map, refl, sym, ap, subst, arith}
 use Rattle.std.specs.List.{AllByRecursion}
 use Rattle.std.specs.Prelude.{Ok, Err}
-use Rattle.sx_unit.specs.declared.import.Import.{Import}
+use Rattle.sx_interface.specs.declared.import.Import.{Import}
 use Rattle.sx_unit.specs.Written.{unit_of}
 use Rattle.sx_environment.specs.SeenFrom.{IsShort, interfaces_of}
 use Rattle.sx_steps.specs.Steps.{Untried}

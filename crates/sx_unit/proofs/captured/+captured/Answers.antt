@@ -3,7 +3,7 @@ use Rattle.sx_term.specs.declared.term.Term.TheViews.{the_lemmas}
 use Rattle.sx_term.proofs.Kids.{depth_of-kid}
 use Rattle.sx_grammar.specs.Tables.{literals_of}
 use Rattle.sx_unit.proofs.Capturing.{free_on, first_here, all_free}
-use Rattle.sx_unit.proofs.Lengths.{size_of}
+use Rattle.sx_interface.proofs.Lengths.{size_of}
 use Rattle.sx_unit.proofs.captured.+captured.Goals as goal
 
 pub captured-requires : goal.captured-requires

@@ -1,7 +1,8 @@
 use Rattle.std.proofs.Common.{Some, sym, ap, ◌∙◌, subst}
 use Rattle.sx_term.specs.declared.lex_kind.LexKind.{LexKind}
 use Rattle.sx_grammar.specs.Tables.{literals_of}
-use Rattle.sx_unit.specs.Captured.{name_of, IsFirstIn}
+use Rattle.sx_interface.specs.FreeNames.{IsFirstIn}
+use Rattle.sx_unit.specs.Captured.{name_of}
 use Rattle.sx_unit.proofs.Capturing.{one_first}
 use Rattle.sx_unit.proofs.captured.captured_name.Goals as goal
 

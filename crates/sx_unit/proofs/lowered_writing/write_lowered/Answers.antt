@@ -7,7 +7,7 @@ use Rattle.sx_typing.specs.Source.{source_of}
 use Rattle.sx_unit.specs.Modules.{module_of}
 use Rattle.sx_unit.specs.PrintedParts.{printed_of}
 use Rattle.sx_unit.proofs.Entries.{names_are}
-use Rattle.sx_unit.proofs.Lengths.{size_of}
+use Rattle.sx_interface.proofs.Lengths.{size_of}
 use Rattle.sx_unit.proofs.MadeUnits.{one_subject, one_output, terms_printable, list_good, compiled}
 use Rattle.sx_unit.proofs.lowered_writing.write_lowered.Goals as goal
 

@@ -7,7 +7,7 @@ use Rattle.sx_unit.specs.Modules.{module_of}
 use Rattle.sx_unit.specs.PrintedParts.{printed_of, sort_of}
 use Rattle.sx_unit.specs.Texts.{base_of}
 use Rattle.sx_unit.specs.Written.{IsUnwritten}
-use Rattle.sx_unit.proofs.Lengths.{size_of}
+use Rattle.sx_interface.proofs.Lengths.{size_of}
 use Rattle.sx_unit.proofs.PartSorts.{part_fits}
 use Rattle.sx_unit.proofs.PartTexts.{good_part, bad_part, base_within}
 use Rattle.sx_unit.proofs.Shown.{line_utf8}

@@ -3,7 +3,7 @@ use Rattle.sx_rules.specs.declared.entry.Entry.{Entry as EntryOf}
 use Rattle.sx_rules.specs.EntryView.{entries}
 use Rattle.sx_unit.specs.Modules.{module_of}
 use Rattle.sx_unit.specs.Texts.{derivation_text}
-use Rattle.sx_unit.proofs.Lengths.{size_of}
+use Rattle.sx_interface.proofs.Lengths.{size_of}
 use Rattle.sx_unit.proofs.module_writing.write_module.Goals as goal
 
 pub returns-clause-written : goal.returns-clause-written

@@ -4,7 +4,7 @@ use Rattle.sx_words.specs.declared.print_defect.PrintedPart.TheVariants.{Signatu
 use Rattle.sx_unit.specs.Modules.{module_of}
 use Rattle.sx_unit.specs.PrintedParts.{printed_of, sort_of}
 use Rattle.sx_unit.specs.Texts.{interface_of}
-use Rattle.sx_unit.proofs.Lengths.{size_of}
+use Rattle.sx_interface.proofs.Lengths.{size_of}
 use Rattle.sx_unit.proofs.PartSorts.{part_fits, stated_fits}
 use Rattle.sx_unit.proofs.PartTexts.{signatures_within}
 use Rattle.sx_unit.proofs.signature_writing.put_signatures.Goals as goal

@@ -4,7 +4,7 @@ use Rattle.sx_interface.specs.Interfaces.{InterfaceParts}
 use Rattle.sx_interface.specs.InterfaceView.{interface_view, mark_view}
 use Rattle.sx_steps.specs.declared.stop.Stop.{Stop}
 use Rattle.sx_steps.proofs.StepsOn.{stops_first}
-use Rattle.sx_unit.specs.declared.import.Import.{Import}
+use Rattle.sx_interface.specs.declared.import.Import.{Import}
 use Rattle.sx_verify.specs.KeptImports.{KeepsImport}
 use Rattle.sx_verify.proofs.kept_imports.compare_import.Goals as goal
 

@@ -4,7 +4,7 @@ use Rattle.std.specs.List.{AllByRecursion}
 use Rattle.sx_interface.specs.Interfaces.{InterfaceParts, Mark}
 use Rattle.sx_interface.specs.InterfaceView.{mark_view}
 use Rattle.sx_environment.specs.SeenFrom.{IsShort, interfaces_of}
-use Rattle.sx_unit.specs.declared.import.Import.{Import}
+use Rattle.sx_interface.specs.declared.import.Import.{Import}
 use Rattle.sx_importing.specs.Each.{GivesAfter, ForEach}
 use Rattle.sx_importing.proofs.EachLoops.{Have, goes_next, goes_stop, have_next}
 use Rattle.sx_importing.proofs.Results.{reads_on_from, reads_err}

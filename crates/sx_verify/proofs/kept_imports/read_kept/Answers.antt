@@ -2,7 +2,7 @@ use Rattle.std.proofs.Common.{◌≡◌, ap, sym, subst, ◌∙◌}
 use Rattle.sx_interface.specs.declared.interfaces.Interface.{Interface}
 use Rattle.sx_interface.specs.InterfaceView.{interface_view, mark_view}
 use Rattle.sx_environment.specs.SeenFrom.{IsShort}
-use Rattle.sx_unit.specs.declared.import.Import.{Import}
+use Rattle.sx_interface.specs.declared.import.Import.{Import}
 use Rattle.sx_steps.proofs.StepsOn.{goes_next, stops_first, reads_on}
 use Rattle.sx_importing.specs.ReadImports.{ReadsImport, import_of}
 use Rattle.sx_importing.proofs.Results.{if_ok}

@@ -5,7 +5,7 @@ use Rattle.std.specs.Prelude.{Ok, Err}
 use Rattle.sx_interface.specs.declared.interfaces.ImportMark.{ImportMark}
 use Rattle.sx_interface.specs.InterfaceView.{mark_view}
 use Rattle.sx_environment.specs.SeenFrom.{IsShort, interfaces_of}
-use Rattle.sx_unit.specs.declared.import.Import.{Import}
+use Rattle.sx_interface.specs.declared.import.Import.{Import}
 use Rattle.sx_steps.specs.Stop.{Gives}
 use Rattle.sx_steps.specs.Unit.{interface_file}
 use Rattle.sx_steps.specs.Work.{plan_of}

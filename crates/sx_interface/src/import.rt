@@ -1,6 +1,7 @@
 //! Imports.
 
-use sx_interface::{Digest, Interface};
+use crate::interfaces::Interface;
+use crate::marks::Digest;
 
 /// What an import's interface file states, with the digest of its bytes.
 #[derive(Drop)]
