@@ -36,7 +36,7 @@ pub record ComesLast (l : BaseLanguage) (budgets : Budgets) (own : Extension)
   pub rules : x.set.rules ≡ so_far.set.rules ++ read.rules
   pub count : x.last ≡ length read.rules
 
--- The extension in the file NAME.ext and those that are reached by its `use` lines, each after those
+-- The extension in the file NAME.ext and those that are reached by its `use` lines, each after all
 -- that it uses and NAME last, are accepted in order over the language that its header names, as
 -- that file states it: each rule of each has a certificate, by which its flat conclusion follows
 -- from its flat premises by the rules of the language alone. All files are as before, and the lines

@@ -4,17 +4,21 @@ use Rattle.sx_term.specs.Tree.{Tree}
 use Rattle.sx_term.specs.Sorts.{Shape}
 use Rattle.sx_rules.specs.Rules.{Rule, Hypotheses, judgement_instance}
 use Rattle.sx_rules.specs.Modes.{Modes, outputs, AllModed}
-use Rattle.sx_rules.specs.Sorts.{RuleIsSorted, RulesAreSorted, JudgementIsSorted, JudgementsAreSorted}
+use Rattle.sx_rules.specs.Sorts.{RuleIsSorted, RulesAreSorted, JudgementIsSorted}
+use Rattle.sx_rules.specs.Sorts.{JudgementsAreSorted}
 use Rattle.sx_rules.specs.Discipline.{IsDisciplined, PlainHaveNoTyped, FormsFit}
-use Rattle.sx_rules.specs.Derivations.{Proofs, Derives, DeriveEach, proof_instance, hypotheses_instance, graft}
+use Rattle.sx_rules.specs.Derivations.{Proofs, Derives, DeriveEach, proof_instance}
+use Rattle.sx_rules.specs.Derivations.{hypotheses_instance, graft}
 use Rattle.sx_rules.specs.DerivationLaws.{PairsApart}
 use Rattle.sx_plain.specs.Plain.{Table}
 use Rattle.sx_plain.specs.Tables.{Begins, Desugars}
 use Rattle.sx_rewrite.specs.Flat.{flat_hypotheses}
-use Rattle.sx_rewrite.specs.Accepted.{ExtRule, Checked, flat_conclusion, IsCertified, Accepted, AreTypedSorts, AllDisciplined, Signature, IsAccepted}
+use Rattle.sx_rewrite.specs.Accepted.{ExtRule, Checked, flat_conclusion, IsCertified, Accepted}
+use Rattle.sx_rewrite.specs.Accepted.{AreTypedSorts, AllDisciplined, Signature, IsAccepted}
 use Rattle.sx_rewrite.specs.Sound.{HasBaseSyntax, flat_given, flat_goal, IsSoundBy, AreSoundBy}
 use Rattle.sx_rewrite.specs.Accepting.{IsStored, IsRejected}
-use Rattle.sx_rewrite.specs.Extensions.{Extension, without_extensions, with_table, extended, GrowsSoundly, BodyFits, Fits}
+use Rattle.sx_rewrite.specs.Extensions.{Extension, without_extensions, with_table, extended}
+use Rattle.sx_rewrite.specs.Extensions.{GrowsSoundly, BodyFits, Fits}
 
 -- a certificate holds for all terms that are put for the rule's variables: from derivations
 -- of the instances of the flat premises it makes one of the instance of the flat conclusion

@@ -1,6 +1,7 @@
 -- How many nodes are copied where a derivation is lowered:
 -- a lowered kid is moved to the last place of its given, and copied for the others.
-use Rattle.std.specs.Prelude.{ℕ, ◌+◌, ◌-◌, ◌*◌, List, [], ◌∷◌, Option, Some, None, slice_get, nat_eq, if◌then◌else◌}
+use Rattle.std.specs.Prelude.{ℕ, ◌+◌, ◌-◌, ◌*◌, List, [], ◌∷◌, Option, Some, None, slice_get}
+use Rattle.std.specs.Prelude.{nat_eq, if◌then◌else◌}
 use Rattle.sx_rules.specs.Discipline.{one_when}
 use Rattle.sx_rules.specs.Derivations.{Proof, Proofs, by, given, no_more, ◌⊳◌}
 use Rattle.sx_rewrite.specs.Accepted.{Known, basic, checked, Accepted, known_of}

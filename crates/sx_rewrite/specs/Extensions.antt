@@ -9,7 +9,8 @@ use Rattle.sx_rules.specs.Sorts.{RuleIsSorted, RulesAreSorted}
 use Rattle.sx_rules.specs.Discipline.{subjects_of, IsDisciplined}
 use Rattle.sx_plain.specs.Plain.{Table}
 use Rattle.sx_plain.specs.Tables.{IsCovered, Begins, Desugars}
-use Rattle.sx_rewrite.specs.Accepted.{ExtRule, Checked, Accepted, AllDisciplined, Signature, IsAccepted}
+use Rattle.sx_rewrite.specs.Accepted.{ExtRule, Checked, Accepted, AllDisciplined, Signature}
+use Rattle.sx_rewrite.specs.Accepted.{IsAccepted}
 use Rattle.sx_rewrite.specs.Sound.{AreSoundBy}
 
 -- an extension with what is stored of its rules, and the plain table of the extensions up to it

@@ -1,10 +1,12 @@
 -- How derivations are lowered, kid by kid.
-use Rattle.std.specs.Prelude.{◌≡◌, ℕ, ◌+◌, ◌≤◌, Bool, true, false, List, [], ◌∷◌, ◌++◌, Option, Some, None, slice_get, if◌then◌else◌}
+use Rattle.std.specs.Prelude.{◌≡◌, ℕ, ◌+◌, ◌≤◌, Bool, true, false, List, [], ◌∷◌, ◌++◌, Option}
+use Rattle.std.specs.Prelude.{Some, None, slice_get, if◌then◌else◌}
 use Rattle.sx_term.specs.Tree.{Tree, forest}
 use Rattle.sx_rules.specs.Instances.{bound_by}
 use Rattle.sx_rules.specs.Rules.{Judgement, Rule, Hypotheses}
 use Rattle.sx_rules.specs.Modes.{Modes}
-use Rattle.sx_rules.specs.Derivations.{Proof, Proofs, by, given, no_more, ◌⊳◌, proof_at, Derives, HasShallowBinds, height_of, proof_instance, graft}
+use Rattle.sx_rules.specs.Derivations.{Proof, Proofs, by, given, no_more, ◌⊳◌, proof_at, Derives}
+use Rattle.sx_rules.specs.Derivations.{HasShallowBinds, height_of, proof_instance, graft}
 use Rattle.sx_plain.specs.Plain.{Table}
 use Rattle.sx_plain.specs.Tables.{FitTable}
 use Rattle.sx_rewrite.specs.declared.rewrite_error.RewriteError.{RewriteError}

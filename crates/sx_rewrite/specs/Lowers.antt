@@ -6,10 +6,12 @@ use Rattle.sx_rules.specs.Rules.{Judgement, Rule, Hypotheses, judgement_instance
 use Rattle.sx_rules.specs.Modes.{Modes}
 use Rattle.sx_rules.specs.Discipline.{subjects_of}
 use Rattle.sx_rules.specs.Typed.{others_of, IsUntyped}
-use Rattle.sx_rules.specs.Derivations.{Proof, Proofs, by, given, no_more, ◌⊳◌, proof_instance, graft}
+use Rattle.sx_rules.specs.Derivations.{Proof, Proofs, by, given, no_more, ◌⊳◌, proof_instance}
+use Rattle.sx_rules.specs.Derivations.{graft}
 use Rattle.sx_plain.specs.Plain.{Table, image}
 use Rattle.sx_plain.specs.Tables.{LabelsBelow}
-use Rattle.sx_rewrite.specs.Accepted.{flat_conclusion, Known, basic, checked, rule_in, Accepted, known_of}
+use Rattle.sx_rewrite.specs.Accepted.{flat_conclusion, Known, basic, checked, rule_in, Accepted}
+use Rattle.sx_rewrite.specs.Accepted.{known_of}
 
 -- each premise's subject has as its instance the subject of the lowered judgement
 abbrev pub SubjectsAreLowered : Modes → (ℕ → Tree) → List Judgement → List Judgement → Type 0

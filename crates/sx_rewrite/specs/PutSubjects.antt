@@ -5,7 +5,8 @@ use Rattle.sx_term.specs.Instances.{bound_by}
 use Rattle.sx_rules.specs.Rules.{Judgement, Rule, Hypotheses, judgements_of}
 use Rattle.sx_rules.specs.Modes.{Modes}
 use Rattle.sx_rules.specs.Discipline.{subjects_of, IsSubjectIn, AreBareSubjects}
-use Rattle.sx_rules.specs.Derivations.{Proof, Proofs, proof_at, Derives, AreShallow, HasShallowBinds}
+use Rattle.sx_rules.specs.Derivations.{Proof, Proofs, proof_at, Derives, AreShallow}
+use Rattle.sx_rules.specs.Derivations.{HasShallowBinds}
 
 -- the proof derives a judgement by the rules, and no term of the two is deeper than 1,000
 pub record IsReady (rules : List Rule) (hyps : Hypotheses) (q : Proof) : Type 0 where

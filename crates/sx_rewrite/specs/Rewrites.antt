@@ -1,7 +1,8 @@
 -- Which derivations are rewritten.
 use Rattle.std.specs.Prelude.{◌≡◌, ℕ, ◌≤◌}
 use Rattle.sx_rules.specs.Rules.{Judgement, Hypotheses}
-use Rattle.sx_rules.specs.Derivations.{Proof, Derives, HasShallowBinds, ShallowJudgements, height_of}
+use Rattle.sx_rules.specs.Derivations.{Proof, Derives, HasShallowBinds, ShallowJudgements}
+use Rattle.sx_rules.specs.Derivations.{height_of}
 use Rattle.sx_rewrite.specs.declared.source.Source.{Source}
 use Rattle.sx_rewrite.specs.Accepted.{Accepted, rules_of}
 use Rattle.sx_rewrite.specs.AcceptedView.{accepted}

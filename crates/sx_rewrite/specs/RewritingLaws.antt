@@ -5,8 +5,10 @@ use Rattle.sx_term.specs.declared.sort.Sort.{Sort}
 use Rattle.sx_term.specs.Sorts.{Shape}
 use Rattle.sx_rules.specs.Rules.{Judgement, Hypotheses}
 use Rattle.sx_rules.specs.Modes.{goal_of}
-use Rattle.sx_rules.specs.Sorts.{GoalIsSorted, JudgementIsSorted, JudgementsAreSorted, ProofIsSorted}
-use Rattle.sx_rules.specs.Derivations.{Proof, Derives, nodes_of, height_of, AreShallow, HasShallowBinds, ShallowJudgements}
+use Rattle.sx_rules.specs.Sorts.{GoalIsSorted, JudgementIsSorted, JudgementsAreSorted}
+use Rattle.sx_rules.specs.Sorts.{ProofIsSorted}
+use Rattle.sx_rules.specs.Derivations.{Proof, Derives, nodes_of, height_of, AreShallow}
+use Rattle.sx_rules.specs.Derivations.{HasShallowBinds, ShallowJudgements}
 use Rattle.sx_rewrite.specs.Accepted.{Accepted, Signature, IsAccepted, rules_of}
 use Rattle.sx_rewrite.specs.Lowers.{IsImageOf, HypothesesBelow}
 use Rattle.sx_rewrite.specs.Rewriting.{Refusal, Rewritten, IsRewritten}

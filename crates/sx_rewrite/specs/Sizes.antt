@@ -1,5 +1,6 @@
 -- What is kept of the size of certificates.
-use Rattle.std.specs.Prelude.{◌≡◌, ℕ, zero, suc, ◌+◌, ◌-◌, ◌*◌, ◌^◌, ◌<◌, ◌≤◌, min, max, Bool, List, [], ◌∷◌, length, Option, Some, None, if◌then◌else◌, nat_lt}
+use Rattle.std.specs.Prelude.{◌≡◌, ℕ, zero, suc, ◌+◌, ◌-◌, ◌*◌, ◌^◌, ◌<◌, ◌≤◌, min, max, Bool, List}
+use Rattle.std.specs.Prelude.{[], ◌∷◌, length, Option, Some, None, if◌then◌else◌, nat_lt}
 use Rattle.sx_rules.specs.Rules.{judgements_of}
 use Rattle.sx_rules.specs.Derivations.{Proof, height_of}
 use Rattle.sx_rewrite.specs.declared.given_use.GivenUse.{GivenUse}

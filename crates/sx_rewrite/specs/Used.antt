@@ -1,5 +1,6 @@
 -- Which hypotheses a derivation uses, and how big a lowered derivation is.
-use Rattle.std.specs.Prelude.{◌≡◌, ℕ, suc, ◌+◌, max, List, [], ◌∷◌, ◌⊎◌, map, length, Option, Some, None, slice_get, slice_index_or}
+use Rattle.std.specs.Prelude.{◌≡◌, ℕ, suc, ◌+◌, max, List, [], ◌∷◌, ◌⊎◌, map, length, Option, Some}
+use Rattle.std.specs.Prelude.{None, slice_get, slice_index_or}
 use Rattle.sx_term.specs.Tree.{Tree}
 use Rattle.sx_rules.specs.Instances.{instance, StandsAmong, bound_by}
 use Rattle.sx_rules.specs.Rules.{Judgement, Rule, Hypotheses, judgements_of}
