@@ -14,9 +14,9 @@ ghost use Rattle.sx_interface.specs.Interfaces.{interface_lines};
 ghost use Rattle.sx_unit.specs.Modules.{mark, module_of};
 ghost use Rattle.sx_unit.specs.Texts.{base_of, interface_of, derivation_text};
 
-use sx_interface::{Header, Import, ImportMark, Interface, digest, write_interface};
 use crate::module_source::ModuleSource;
 use std::alloc::Global;
+use sx_interface::{Header, Import, ImportMark, Interface, digest, write_interface};
 use sx_rules::{Entry, RuleSet, write_list};
 use sx_term::{NoMemory, Text};
 
