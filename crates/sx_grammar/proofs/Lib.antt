@@ -27,3 +27,5 @@ pub mod LevelLaws
 pub mod MakeLaws
 pub mod LimitLaws
 pub mod Extending
+pub mod Behind
+pub mod TokenLaws

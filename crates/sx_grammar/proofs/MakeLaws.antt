@@ -1,6 +1,6 @@
 -- What stands in good parts can be numbered.
 use Rattle.std.proofs.Common.{◌≡◌, ◌<◌, ◌^◌, List, [], ◌∷◌, length, map, sym, ap, ◌∙◌, subst, arith, inl, Contains}
-use Rattle.std.specs.Prelude.{slice_get, option_map, flat_map}
+use Rattle.std.specs.Prelude.{option_map, flat_map}
 use Rattle.std.proofs.lemmas.List.{length-map}
 use Rattle.std.proofs.lemmas.List.Elements.{Contains-append_left, Contains-append_right}
 use Rattle.std.proofs.lemmas.Option.{slice_get-map}
@@ -27,14 +27,21 @@ symbol_known p r (Part name least) known has there = λ new.
     known.1 name (in_flat_map (λ q. q.sort ∷ flat_map symbol_sorts q.symbols) p.productions r name has
     (past_head r.sort (flat_map symbol_sorts r.symbols) name (in_flat_map symbol_sorts r.symbols (Part name least) name there (is_head name [])))) (inl new)
 
-pub line_known : (p : Parts) (rs : List Production) (ns texts : List Text) → HasKnownSorts p → p.productions ≡ map line rs → ns ≡ names p → texts ≡ literals_of p → (r : Production) → Contains rs r → IsKnownLine ns texts r
-line_known p rs ns texts known of same_names same_texts r has =
+pub lines_contain : (rs : List Production) (r : Production) → Contains rs r → Contains (map line rs) (line r)
+lines_contain rs r has =
     let place = contains_place rs r has in
-    let there : Contains p.productions (line r) = at_contains p.productions place.0 (line r) (ap (λ l. slice_get l place.0) of ∙ slice_get-map line rs place.0 ∙ ap (option_map line) place.1) in
+    at_contains (map line rs) place.0 (line r) (slice_get-map line rs place.0 ∙ ap (option_map line) place.1)
+
+pub line_known_here : (p : Parts) (ns texts : List Text) → HasKnownSorts p → ns ≡ names p → texts ≡ literals_of p → (r : Production) → Contains p.productions (line r) → IsKnownLine ns texts r
+line_known_here p ns texts known same_names same_texts r there =
     subst (λ l. IsKnownLine l texts r) (sym same_names) (subst (λ l. IsKnownLine (names p) l r) (sym same_texts) (
       λ new. known.1 r.sort (in_flat_map (λ q. q.sort ∷ flat_map symbol_sorts q.symbols) p.productions (line r) r.sort there (is_head r.sort (flat_map symbol_sorts r.symbols.items))) (inl new),
       λ s s_has. symbol_known p (line r) s known there s_has,
     ))
+
+pub line_known : (p : Parts) (rs : List Production) (ns texts : List Text) → HasKnownSorts p → p.productions ≡ map line rs → ns ≡ names p → texts ≡ literals_of p → (r : Production) → Contains rs r → IsKnownLine ns texts r
+line_known p rs ns texts known of same_names same_texts r has =
+    line_known_here p ns texts known same_names same_texts r (subst (λ l. Contains l (line r)) (sym of) (lines_contain rs r has))
 
 pub pair_known : (p : Parts) (texts : List Text) → texts ≡ literals_of p → (s : SortLine) → Contains p.sorts s → IsKnownPair texts s.brackets
 pair_known p texts same s has text there =

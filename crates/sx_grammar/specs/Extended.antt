@@ -1,5 +1,8 @@
 -- What extending a grammar answers.
-use Rattle.std.specs.Prelude.{◌≡◌, List, ◌++◌, Result, Ok, Err}
+use Rattle.std.specs.Prelude.{◌≡◌, Bool, true, false, List, ◌++◌, Result, Ok, Err}
+use Rattle.std.specs.List.{list_any}
+use Rattle.sx_grammar.specs.declared.symbol.Symbol.{Symbol}
+use Rattle.sx_grammar.specs.declared.symbol.Symbol.TheVariants.{Lit, Lex, Part}
 use Rattle.sx_grammar.specs.declared.grammar_error.GrammarError.{GrammarError}
 use Rattle.sx_grammar.specs.Parts.{Line, Parts}
 use Rattle.sx_grammar.specs.Tables.{GrammarData}
@@ -8,6 +11,16 @@ use Rattle.sx_grammar.specs.Made.{IsGrammar, IsRefused}
 -- the parts with more productions behind theirs
 abbrev pub extended : Parts → List Line → Parts
 extended p more = record { sorts = p.sorts; productions = p.productions ++ more }
+
+-- whether the symbol is a literal or a lexical kind
+abbrev pub is_token : Symbol → Bool
+is_token (Lit text) = true
+is_token (Lex kind) = true
+is_token (Part sort least) = false
+
+-- the production has no literal and no lexical kind
+abbrev pub LacksTokens : Line → Type 0
+LacksTokens r = list_any is_token r.symbols ≡ false
 
 -- the grammar is of the base's parts and more productions, the base productions of the base are its
 -- base, and the parts are those of a grammar; or why they are not

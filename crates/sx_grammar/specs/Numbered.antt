@@ -1,5 +1,5 @@
 -- Numbered productions as plain data.
-use Rattle.std.specs.Prelude.{◌≡◌, List, [], map, slice_index_or}
+use Rattle.std.specs.Prelude.{◌≡◌, ℕ, List, [], map, slice_index_or}
 use Rattle.sx_grammar.specs.declared.numbered.NumberedSymbol.{NumberedSymbol}
 use Rattle.sx_grammar.specs.declared.numbered.NumberedSymbol.TheVariants.{Lit, Lex, Part}
 use Rattle.sx_grammar.specs.declared.numbered.NumberedProduction.{NumberedProduction}
@@ -17,6 +17,15 @@ production literals p = record {
   level = p.level;
   symbols = map (symbol literals) p.symbols.items;
 }
+
+-- a production with its symbols as a list
+pub record Bare : Type 0 where
+  pub sort : ℕ
+  pub level : ℕ
+  pub symbols : List NumberedSymbol
+
+abbrev pub bare : NumberedProduction → Bare
+bare p = record { sort = p.sort; level = p.level; symbols = p.symbols.items }
 
 -- these are the productions of the grammar
 abbrev pub AreOf : plain.Grammar → List NumberedProduction → Type 0

@@ -13,8 +13,9 @@ use crate::distinct::distinct_behind;
 use crate::grammar::Grammar;
 use crate::grammar_error::GrammarError;
 use crate::grammar_parts::GrammarParts;
-use crate::make::{tables, tables_with};
+use crate::make::{NumberedParts, tables};
 use crate::names::Names;
+use crate::numbered_behind::numbered_behind;
 use crate::production::Production;
 use crate::standing::literals_in;
 use crate::tables::Tables;
@@ -36,6 +37,37 @@ fn literals_behind(
     distinct_behind(alloc, &base.literals, &base.literal_names, &list)
 }
 
+/// The tables of these literals, of what is numbered, and of the names of the grammar's sorts.
+fn tables_of(
+    base: &Grammar,
+    literals: Vec<Text>,
+    literal_names: Names,
+    numbered: NumberedParts,
+) -> Result<Tables, NoMemory>
+    ensures literals { IfOk result (λ t. (t.literals ≡ literals) ×
+        (t.literal_names ≡ literal_names)) }
+    ensures sorts { IfOk result (λ t. t.sort_names ≡ names base.now.parts) }
+    ensures same { IfOk result (λ t. (t.productions ≡ numbered.productions) ×
+        (t.brackets ≡ numbered.brackets) × (t.ranks ≡ numbered.ranks)) }
+{
+    match base.sort_names.copy() {
+        Ok(sort_names) => Ok(Tables {
+            literals,
+            productions: numbered.productions,
+            brackets: numbered.brackets,
+            sort_names,
+            literal_names,
+            ranks: numbered.ranks,
+        }),
+        Err(e) => {
+            drop(numbered);
+            drop(literal_names);
+            drop(literals);
+            Err(e)
+        }
+    }
+}
+
 /// The tables of the grammar's parts with more productions, whose literals and names are good, or
 /// why these are no grammar.
 fn named_tables(
@@ -53,12 +85,12 @@ fn named_tables(
     ensures refused { IfErr result (IsRefused (parts from.now)) }
 {
     let (literals, literal_names) = literals_behind(alloc, base, more)?;
-    match base.sort_names.copy() {
-        Ok(sort_names) => tables_with(alloc, from, sort_names, literals, literal_names),
+    match numbered_behind(alloc, base, from, &literal_names, more) {
+        Ok(numbered) => Ok(tables_of(base, literals, literal_names, numbered)?),
         Err(e) => {
             drop(literal_names);
             drop(literals);
-            Err(GrammarError::from(e))
+            Err(e)
         }
     }
 }

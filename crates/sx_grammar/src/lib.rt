@@ -25,6 +25,7 @@ mod make;
 mod mixing;
 mod names;
 mod numbered;
+mod numbered_behind;
 mod numbering;
 mod production;
 mod progress;
@@ -38,6 +39,7 @@ mod steps;
 mod symbol;
 mod tables;
 mod telling;
+mod tokens;
 
 pub use grammar::Grammar;
 pub use grammar_error::GrammarError;

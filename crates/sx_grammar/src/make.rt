@@ -82,7 +82,7 @@ fn ranks_of(
     ensures ranking { IfOk result (λ v. AreRanks (numbered (parts from.now)) v.items) }
     ensures refused { IfErr result (IsRefused (parts from.now)) }
 {
-    keeps_sorts(alloc, from, productions)?;
+    keeps_sorts(alloc, from, productions, 0)?;
     has_brackets(alloc, from, productions)?;
     not_cyclic(alloc, from, productions)
 }
@@ -116,10 +116,11 @@ fn productions_of(
 }
 
 /// What is numbered of the parts of a grammar.
-struct NumberedParts {
-    productions: Vec<NumberedProduction>,
-    ranks: Vec<u32>,
-    brackets: Vec<Option<(u32, u32)>>,
+#[derive(Drop)]
+pub(crate) struct NumberedParts {
+    pub(crate) productions: Vec<NumberedProduction>,
+    pub(crate) ranks: Vec<u32>,
+    pub(crate) brackets: Vec<Option<(u32, u32)>>,
 }
 
 /// The productions and brackets with numbers, and the ranks of the sorts; or why the parts are no
@@ -158,7 +159,7 @@ fn numbered_parts(
 }
 
 /// The tables of the parts with these names, or why the parts are no grammar.
-pub(crate) fn tables_with(
+fn tables_with(
     alloc: Global,
     from: &GrammarParts,
     sort_names: Names,

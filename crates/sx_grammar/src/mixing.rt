@@ -1,11 +1,11 @@
 //! Plain productions with typed parts.
 
-ghost use Rattle.std.specs.Prelude.{◌≡◌, OnOk, IfErr};
+ghost use Rattle.std.specs.Prelude.{◌≡◌, take, OnOk, IfErr};
 ghost use Rattle.std.specs.List.{list_any};
 ghost use Rattle.sx_grammar.specs.Parts.{parts};
 ghost use Rattle.sx_grammar.specs.Tables.{AreNumbered};
 ghost use Rattle.sx_grammar.specs.Levels.{is_typed_part, mixes};
-ghost use Rattle.sx_grammar.specs.Made.{HasLabels, KeepsSorts, IsRefused};
+ghost use Rattle.sx_grammar.specs.Made.{HasNone, MixesSorts, HasLabels, KeepsSorts, IsRefused};
 
 use crate::grammar_error::GrammarError;
 use crate::grammar_parts::GrammarParts;
@@ -44,18 +44,22 @@ fn mixes(sorts: &[SortLine], production: &NumberedProduction) -> bool
     !is_typed(sorts, production.sort) && has_typed_part(sorts, &production.symbols)
 }
 
-/// Whether no plain production has a typed part; else PlainHasTyped.
+/// Whether no plain production has a typed part, where so many productions, the first ones, are
+/// none such; else PlainHasTyped.
 pub(crate) fn keeps_sorts(
     alloc: Global,
     from: &GrammarParts,
     productions: &[NumberedProduction],
+    first: usize,
 ) -> Result<(), GrammarError>
     requires labels { HasLabels (parts from.now) }
+    requires before { HasNone (MixesSorts (parts from.now))
+        (take first (parts from.now).productions) }
     requires numbered { AreNumbered (parts from.now) productions.now }
     ensures good { OnOk result (KeepsSorts (parts from.now)) }
     ensures refused { IfErr result (IsRefused (parts from.now)) }
 {
-    for i in 0..from.productions.len() {
+    for i in first..from.productions.len() {
         let production = &productions[i];
         let named = &from.productions[i];
         if mixes(&from.sorts, production) {

@@ -1,0 +1,193 @@
+//! What is numbered of a grammar with more productions, made of what is numbered of that grammar.
+
+ghost use Rattle.std.specs.Prelude.{◌≡◌, ◌++◌, [], map, length, OnOk, IfOk, IfErr};
+ghost use Rattle.sx_grammar.specs.Parts.{line, parts, numbered};
+ghost use Rattle.sx_grammar.specs.Numbered.{bare};
+ghost use Rattle.sx_grammar.specs.Order.{AreRanks};
+ghost use Rattle.sx_grammar.specs.Extended.{extended};
+ghost use Rattle.sx_grammar.specs.Tables.{literals_of, AreNumbered, AreNumberedPairs};
+ghost use Rattle.sx_grammar.specs.Tables.{HaveLiteralsBelow, IsWithinLimits};
+ghost use Rattle.sx_grammar.specs.Made.{HasLabels, IsGrammar, IsRefused};
+
+use crate::cyclic::not_cyclic;
+use crate::grammar::Grammar;
+use crate::grammar_error::GrammarError;
+use crate::grammar_parts::GrammarParts;
+use crate::levels::has_brackets;
+use crate::make::NumberedParts;
+use crate::mixing::keeps_sorts;
+use crate::names::Names;
+use crate::numbered::NumberedProduction;
+use crate::numbering::number_productions;
+use crate::production::Production;
+use crate::tokens::have_tokens;
+use std::alloc::Global;
+use sx_term::NoMemory;
+
+/// Fills a list that has no productions with equal ones.
+fn fill(
+    alloc: Global,
+    productions: &[NumberedProduction],
+    copies: &mut Vec<NumberedProduction>,
+) -> Result<(), NoMemory>
+    requires { copies.old.items ≡ [] }
+    ensures { OnOk result (map bare copies.new.items ≡ map bare productions.now) }
+{
+    for i in 0..productions.len() {
+        copies.push(productions[i].copy(alloc)?)?;
+    }
+    Ok(())
+}
+
+/// Equal productions.
+fn copy_numbered(
+    alloc: Global,
+    productions: &[NumberedProduction],
+) -> Result<Vec<NumberedProduction>, NoMemory>
+    ensures { IfOk result (λ v. map bare v.items ≡ map bare productions.now) }
+{
+    let mut copies = Vec::with_capacity(alloc, productions.len())?;
+    match fill(alloc, productions, &mut copies) {
+        Ok(()) => Ok(copies),
+        Err(e) => {
+            drop(copies);
+            Err(e)
+        }
+    }
+}
+
+/// Productions equal to the first, and the others behind these.
+fn joined(
+    alloc: Global,
+    before: &[NumberedProduction],
+    more: Vec<NumberedProduction>,
+) -> Result<Vec<NumberedProduction>, NoMemory>
+    ensures { IfOk result (λ v. map bare v.items ≡ map bare (before.now ++ more.items)) }
+{
+    let mut more = more;
+    let mut all = match copy_numbered(alloc, before) {
+        Ok(all) => all,
+        Err(e) => {
+            drop(more);
+            return Err(e);
+        }
+    };
+    let added = all.append(&mut more);
+    drop(more);
+    match added {
+        Ok(()) => Ok(all),
+        Err(e) => {
+            drop(all);
+            Err(NoMemory::from(e))
+        }
+    }
+}
+
+/// The productions of the grammar with numbers, and behind these more productions with numbers.
+fn productions_behind(
+    alloc: Global,
+    base: &Grammar,
+    literals: &Names,
+    more: &[Production],
+) -> Result<Vec<NumberedProduction>, NoMemory>
+    requires labels { HasLabels (extended base.now.parts (map line more.now)) }
+    requires literals { literals.now ≡ literals_of (extended base.now.parts (map line more.now)) }
+    requires limits { IsWithinLimits (extended base.now.parts (map line more.now)) }
+    ensures same { IfOk result
+        (λ v. AreNumbered (extended base.now.parts (map line more.now)) v.items) }
+    ensures below { IfOk result (λ v. HaveLiteralsBelow (length literals.now) v.items) }
+{
+    let own = number_productions(alloc, &base.sort_names, literals, more)?;
+    joined(alloc, &base.productions, own)
+}
+
+/// The ranks of the sorts of the grammar with more productions: those of the grammar where each of
+/// these has a literal or a lexical kind, so that from no sort it leads to another. Or a plain
+/// production with a typed part, a sort without brackets or a cyclic sort.
+fn ranks_behind(
+    alloc: Global,
+    base: &Grammar,
+    from: &GrammarParts,
+    productions: &[NumberedProduction],
+    more: &[Production],
+) -> Result<Vec<u32>, GrammarError>
+    requires behind { parts from.now ≡ extended base.now.parts (map line more.now) }
+    requires labels { HasLabels (parts from.now) }
+    requires numbered { AreNumbered (parts from.now) productions.now }
+    requires limits { IsWithinLimits (parts from.now) }
+    ensures good { OnOk result (IsGrammar (parts from.now)) }
+    ensures ranking { IfOk result (λ v. AreRanks (numbered (parts from.now)) v.items) }
+    ensures refused { IfErr result (IsRefused (parts from.now)) }
+{
+    keeps_sorts(alloc, from, productions, base.parts.productions.len())?;
+    has_brackets(alloc, from, productions)?;
+    if have_tokens(more) {
+        return Ok(Vec::from_slice(alloc, &base.ranks)?);
+    }
+    not_cyclic(alloc, from, productions)
+}
+
+/// The productions with numbers, and the ranks of the sorts, of the grammar with more productions;
+/// or a plain production with a typed part, a sort without brackets or a cyclic sort.
+fn ranked_behind(
+    alloc: Global,
+    base: &Grammar,
+    from: &GrammarParts,
+    literals: &Names,
+    more: &[Production],
+) -> Result<(Vec<NumberedProduction>, Vec<u32>), GrammarError>
+    requires behind { parts from.now ≡ extended base.now.parts (map line more.now) }
+    requires labels { HasLabels (parts from.now) }
+    requires literals { literals.now ≡ literals_of (parts from.now) }
+    requires limits { IsWithinLimits (parts from.now) }
+    ensures good { OnOk result (IsGrammar (parts from.now)) }
+    ensures same { IfOk result (λ r. AreNumbered (parts from.now) r.0.items) }
+    ensures below { IfOk result (λ r. HaveLiteralsBelow (length literals.now) r.0.items) }
+    ensures ranking { IfOk result (λ r. AreRanks (numbered (parts from.now)) r.1.items) }
+    ensures refused { IfErr result (IsRefused (parts from.now)) }
+{
+    let productions = productions_behind(alloc, base, literals, more)?;
+    match ranks_behind(alloc, base, from, &productions, more) {
+        Ok(ranks) => Ok((productions, ranks)),
+        Err(e) => {
+            drop(productions);
+            Err(e)
+        }
+    }
+}
+
+/// What is numbered of the grammar with more productions, whose literals and names are good; or why
+/// these are no grammar. The brackets of the sorts keep their numbers.
+pub(crate) fn numbered_behind(
+    alloc: Global,
+    base: &Grammar,
+    from: &GrammarParts,
+    literals: &Names,
+    more: &[Production],
+) -> Result<NumberedParts, GrammarError>
+    requires behind { parts from.now ≡ extended base.now.parts (map line more.now) }
+    requires labels { HasLabels (parts from.now) }
+    requires literals { literals.now ≡ literals_of (parts from.now) }
+    requires limits { IsWithinLimits (parts from.now) }
+    ensures good { OnOk result (IsGrammar (parts from.now)) }
+    ensures same { IfOk result (λ n. AreNumbered (parts from.now) n.productions.items) }
+    ensures below { IfOk result (λ n. HaveLiteralsBelow (length literals.now) n.productions.items) }
+    ensures ranking { IfOk result (λ n. AreRanks (numbered (parts from.now)) n.ranks.items) }
+    ensures pairs { IfOk result (λ n. AreNumberedPairs literals.now
+        (parts from.now).sorts n.brackets.items) }
+    ensures refused { IfErr result (IsRefused (parts from.now)) }
+{
+    let (productions, ranks) = ranked_behind(alloc, base, from, literals, more)?;
+    match Vec::from_slice(alloc, &base.brackets) {
+        Ok(brackets) => Ok(NumberedParts {
+            productions,
+            ranks,
+            brackets,
+        }),
+        Err(e) => {
+            drop(ranks);
+            drop(productions);
+            Err(GrammarError::from(e))
+        }
+    }
+}
