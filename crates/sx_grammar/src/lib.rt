@@ -26,6 +26,7 @@ mod mixing;
 mod names;
 mod numbered;
 mod numbered_behind;
+mod numbered_parts;
 mod numbering;
 mod production;
 mod progress;

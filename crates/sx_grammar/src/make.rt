@@ -17,6 +17,7 @@ use crate::levels::has_brackets;
 use crate::mixing::keeps_sorts;
 use crate::names::Names;
 use crate::numbered::NumberedProduction;
+use crate::numbered_parts::NumberedParts;
 use crate::numbering::{number_brackets, number_productions};
 use crate::tables::Tables;
 use std::alloc::Global;
@@ -113,14 +114,6 @@ fn productions_of(
             Err(e)
         }
     }
-}
-
-/// What is numbered of the parts of a grammar.
-#[derive(Drop)]
-pub(crate) struct NumberedParts {
-    pub(crate) productions: Vec<NumberedProduction>,
-    pub(crate) ranks: Vec<u32>,
-    pub(crate) brackets: Vec<Option<(u32, u32)>>,
 }
 
 /// The productions and brackets with numbers, and the ranks of the sorts; or why the parts are no
