@@ -15,6 +15,7 @@ use crate::filed::{befores, file_complete, file_waiting, fillings};
 use crate::growing::{predict_once, treat};
 use crate::notes::Notes;
 use crate::shown::Shown;
+use crate::table::Table;
 use indexmap::IndexSet;
 use std::alloc::Global;
 use sx_grammar::{Grammar, Item};
@@ -37,7 +38,7 @@ fn collect(
 ) -> Result<(), ChartError>
     requires short { length shown.now ≤ 10000 }
     requires below { AreBelow (length (texts grammar.now)) shown.now }
-    requires openings { HasAllOpenings (plain grammar.now) notes.old.openings }
+    requires openings { HasAllOpenings (plain grammar.now) notes.old.openings.now }
     requires asked { notes.old.asked.keys ≡ [] }
     requires waiting { (s : Slot) → row_at notes.old.waiting s ≡ [] }
     requires complete { (s : Slot) → row_at notes.old.complete s ≡ [] }
@@ -54,7 +55,7 @@ fn collect(
         least: 0,
         place: 0,
     };
-    if let Err(error) = predict_once(grammar, &notes.openings, found, &mut notes.asked, first) {
+    if let Err(error) = predict_once(grammar, notes.openings, found, &mut notes.asked, first) {
         let _count = found.len();
         return Err(error);
     }
@@ -66,7 +67,7 @@ fn collect(
         let filling = fillings(grammar, &notes.complete, item);
         if let Err(error) = treat(
             grammar,
-            &notes.openings,
+            notes.openings,
             shown,
             found,
             &mut notes.hints,
@@ -87,11 +88,13 @@ fn collect(
 pub(crate) fn all_items(
     alloc: Global,
     grammar: &Grammar,
+    openings: &Table,
     start: u32,
     shown: &[Shown],
 ) -> Result<IndexSet<Item>, ChartError>
     requires short { length shown.now ≤ 10000 }
     requires below { AreBelow (length (texts grammar.now)) shown.now }
+    requires openings { HasAllOpenings (plain grammar.now) openings.now }
     ensures all { IfOk result (λ s. (i : Item) →
         Contains s.keys i ↔ Holds (plain grammar.now) (tokens_of grammar.now shown.now) start i) }
     ensures few { IfOk result (λ s. MoreHold (plain grammar.now)
@@ -99,7 +102,7 @@ pub(crate) fn all_items(
     ensures hard { result ≡ Err ChartError.TooHard →
         MoreHold (plain grammar.now) (tokens_of grammar.now shown.now) start 2000000 }
 {
-    let mut notes = Notes::new(alloc, grammar, shown.len() + 1)?;
+    let mut notes = Notes::new(alloc, openings, shown.len() + 1)?;
     let mut found = IndexSet::new(alloc);
     let collected = collect(alloc, grammar, start, shown, &mut notes, &mut found);
     drop(notes);

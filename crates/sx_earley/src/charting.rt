@@ -5,15 +5,19 @@ ghost use Rattle.sx_grammar.specs.Tally.{EachOnce};
 ghost use Rattle.sx_grammar.specs.ReadOne.{MoreHold, IsGreatestEnd};
 ghost use Rattle.sx_earley.specs.Shown.{plain, texts, tokens_of, AreBelow};
 ghost use Rattle.sx_earley.specs.Tokens.{plain_tokens, AreKnown};
+ghost use Rattle.sx_earley.specs.Chart.{HasAllOpenings};
 ghost use Rattle.sx_earley.specs.Completed.{IsSort, number_of, IsChart};
 
 use crate::all_items::all_items;
 use crate::chart_error::ChartError;
 use crate::completed::Chart;
 use crate::metas::Metas;
+use crate::openings::openings;
+use crate::ready_grammar::ReadyGrammar;
 use crate::shown::Shown;
 use crate::spanned::{complete_spans, reach};
 use crate::stems::show_all;
+use crate::table::Table;
 use std::alloc::Global;
 use sx_grammar::Grammar;
 use sx_term::Sort;
@@ -30,15 +34,18 @@ pub fn number_of(sort: Sort) -> u32
     }
 }
 
-/// The chart of what is shown, for the start sort with this number.
-pub fn chart_of(
+/// The chart of what is shown, for the start sort with this number, where these are the openings of
+/// the grammar.
+fn chart_by(
     alloc: Global,
     grammar: &Grammar,
+    openings: &Table,
     start: u32,
     shown: &[Shown],
 ) -> Result<Chart, ChartError>
     requires short { length shown.now ≤ 10000 }
     requires below { AreBelow (length (texts grammar.now)) shown.now }
+    requires openings { HasAllOpenings (plain grammar.now) openings.now }
     ensures spans { IfOk result (λ c. IsChart (plain grammar.now)
         (tokens_of grammar.now shown.now) start c.spans) }
     ensures once { IfOk result (λ c. EachOnce c.spans) }
@@ -49,10 +56,34 @@ pub fn chart_of(
     ensures hard { result ≡ Err ChartError.TooHard →
         MoreHold (plain grammar.now) (tokens_of grammar.now shown.now) start 2000000 }
 {
-    let found = all_items(alloc, grammar, start, shown)?;
+    let found = all_items(alloc, grammar, openings, start, shown)?;
     let reach = reach(&found);
     let spans = complete_spans(alloc, grammar, &found)?;
     Ok(Chart { spans, reach })
+}
+
+/// The chart of what is shown, for the start sort with this number.
+pub fn chart_of(
+    alloc: Global,
+    by: &ReadyGrammar,
+    start: u32,
+    shown: &[Shown],
+) -> Result<Chart, ChartError>
+    requires short { length shown.now ≤ 10000 }
+    requires below { AreBelow (length (texts by.now)) shown.now }
+    ensures spans { IfOk result (λ c. IsChart (plain by.now)
+        (tokens_of by.now shown.now) start c.spans) }
+    ensures once { IfOk result (λ c. EachOnce c.spans) }
+    ensures reach { IfOk result (λ c. IsGreatestEnd (plain by.now)
+        (tokens_of by.now shown.now) start c.reach) }
+    ensures few { IfOk result (λ _. MoreHold (plain by.now)
+        (tokens_of by.now shown.now) start 2000000 → ⊥) }
+    ensures hard { result ≡ Err ChartError.TooHard →
+        MoreHold (plain by.now) (tokens_of by.now shown.now) start 2000000 }
+{
+    let grammar = by.grammar;
+    let openings = &by.openings;
+    chart_by(alloc, grammar, openings, start, shown)
 }
 
 /// The chart of the tokens for the start sort: the spans that the items complete, and the greatest
@@ -81,5 +112,6 @@ pub fn chart(
         (number_of start) 2000000 }
 {
     let shown = show_all(alloc, metas, tokens)?;
-    chart_of(alloc, grammar, number_of(start), &shown)
+    let openings = openings(alloc, grammar)?;
+    chart_by(alloc, grammar, &openings, number_of(start), &shown)
 }

@@ -2,53 +2,45 @@
 
 ghost use Rattle.std.specs.Prelude.{◌≡◌, ◌≤◌, [], IfOk};
 ghost use Rattle.sx_earley.specs.declared.slot.Slot.{Slot};
-ghost use Rattle.sx_earley.specs.Shown.{plain};
-ghost use Rattle.sx_earley.specs.Chart.{HasAllOpenings};
 ghost use Rattle.sx_earley.specs.Table.{row_at};
 
 use crate::ask::Ask;
 use crate::hints::Hints;
-use crate::openings::openings;
 use crate::table::Table;
 use indexmap::IndexSet;
-use std::alloc::Global;
-use sx_grammar::Grammar;
-use sx_term::NoMemory;
+use std::alloc::{AllocError, Global};
 
 /// The items that begin productions, where items were found, what was asked for, and the items by
 /// what they wait for and complete.
 #[derive(Drop)]
-pub(crate) struct Notes {
-    pub(crate) openings: Table,
+pub(crate) struct Notes<'a> {
+    pub(crate) openings: &'a Table,
     pub(crate) hints: Hints,
     pub(crate) asked: IndexSet<Ask>,
     pub(crate) waiting: Table,
     pub(crate) complete: Table,
 }
 
-impl Notes {
+impl<'a> Notes<'a> {
     /// The items that begin productions, and nothing noted of items that begin at the first places,
     /// so many.
-    pub(crate) fn new(alloc: Global, grammar: &Grammar, origins: usize) -> Result<Notes, NoMemory>
+    pub(crate) fn new(
+        alloc: Global,
+        openings: &'a Table,
+        origins: usize,
+    ) -> Result<Notes<'a>, AllocError>
         requires { origins ≤ 10001 }
-        ensures openings { IfOk result (λ n. HasAllOpenings (plain grammar.now) n.openings) }
+        ensures openings { IfOk result (λ n. n.openings.now ≡ openings.now) }
         ensures asked { IfOk result (λ n. n.asked.keys ≡ []) }
         ensures waiting { IfOk result (λ n. (s : Slot) → row_at n.waiting s ≡ []) }
         ensures complete { IfOk result (λ n. (s : Slot) → row_at n.complete s ≡ []) }
     {
-        let hints = Hints::new(alloc, origins)?;
-        match openings(alloc, grammar) {
-            Ok(openings) => Ok(Notes {
-                openings,
-                hints,
-                asked: IndexSet::new(alloc),
-                waiting: Table::new(alloc),
-                complete: Table::new(alloc),
-            }),
-            Err(error) => {
-                drop(hints);
-                Err(error)
-            }
-        }
+        Ok(Notes {
+            openings,
+            hints: Hints::new(alloc, origins)?,
+            asked: IndexSet::new(alloc),
+            waiting: Table::new(alloc),
+            complete: Table::new(alloc),
+        })
     }
 }

@@ -15,7 +15,7 @@ use crate::ranked::read_ranked;
 use crate::read_error::ReadError;
 use crate::reading::Reading;
 use std::alloc::Global;
-use sx_earley::{Metas, Stems};
+use sx_earley::{Metas, ReadyGrammar, Stems};
 use sx_grammar::Grammar;
 use sx_term::Sort;
 use sx_token::Token;
@@ -39,25 +39,28 @@ pub fn read_one(
     ensures refused { IfErr result (IsRefusal (labels grammar.now.parts) (texts tokens.now)
         (plain grammar.now) (plain_tokens metas.now.stems.items tokens.now) (number_of start)) }
 {
+    let by = ReadyGrammar::new(alloc, grammar)?;
     let stems = Stems::new(alloc, metas)?;
-    read_one_by(alloc, grammar, start, &stems, tokens)
+    read_one_by(alloc, &by, start, &stems, tokens)
 }
 
-/// The same by a table of the stems, which serves for any number of token lists.
+/// The same by a grammar that is ready for charts and a table of the stems, which serve for any
+/// number of token lists.
 pub fn read_one_by(
     alloc: Global,
-    grammar: &Grammar,
+    by: &ReadyGrammar,
     start: Sort,
     stems: &Stems,
     tokens: &[Token],
 ) -> Result<Reading, ReadError>
     requires short { length tokens.now ≤ 10000 }
-    requires start { IsSort grammar.now.parts start }
-    requires known { AreKnown (grammars.texts grammar.now) stems.now tokens.now }
-    ensures only { IfOk result (λ r. IsAnswer (plain grammar.now)
+    requires start { IsSort by.now.parts start }
+    requires known { AreKnown (grammars.texts by.now) stems.now tokens.now }
+    ensures only { IfOk result (λ r. IsAnswer (plain by.now)
         (plain_tokens stems.now tokens.now) (number_of start) (only (plain_reading r))) }
-    ensures refused { IfErr result (IsRefusal (labels grammar.now.parts) (texts tokens.now)
-        (plain grammar.now) (plain_tokens stems.now tokens.now) (number_of start)) }
+    ensures refused { IfErr result (IsRefusal (labels by.now.parts) (texts tokens.now)
+        (plain by.now) (plain_tokens stems.now tokens.now) (number_of start)) }
 {
-    read_ranked(alloc, grammar, grammar.ranks(), start, stems, tokens)
+    let grammar = by.grammar();
+    read_ranked(alloc, by, grammar.ranks(), start, stems, tokens)
 }

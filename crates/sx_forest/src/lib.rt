@@ -1,8 +1,8 @@
 //! The only reading of tokens by a grammar.
 //!
 //! - `read_one`: the only reading of tokens as a sort, or why there is none: too hard, no reading,
-//!   too deep, or two of more. `read_one_by`: the same by a table of stems that serves for many
-//!   texts.
+//!   too deep, or two of more. `read_one_by`: the same by a grammar that is ready for charts and a
+//!   table of stems, which serve for many texts.
 //! - `Reading`: a node, a bracket pair, a lexeme or a metavariable; contracts see it as the plain
 //!   reading of sx_grammar.
 //! - `write_tree`: its tree text. `strip`: its term, without brackets. `place_of`: where a part of

@@ -18,31 +18,31 @@ use crate::read_shown::read_shown;
 use crate::reading::Reading;
 use crate::text_order::in_text_order;
 use std::alloc::Global;
-use sx_earley::{Stems, number_of};
-use sx_grammar::Grammar;
+use sx_earley::{ReadyGrammar, Stems, number_of};
 use sx_term::Sort;
 use sx_token::Token;
 
 /// The only reading of the tokens as the start sort, where the sorts have these ranks.
 pub(crate) fn read_ranked(
     alloc: Global,
-    grammar: &Grammar,
+    by: &ReadyGrammar,
     ranks: &[u32],
     start: Sort,
     stems: &Stems,
     tokens: &[Token],
 ) -> Result<Reading, ReadError>
     requires short { length tokens.now ≤ 10000 }
-    requires start { IsSort grammar.now.parts start }
-    requires known { AreKnown (grammars.texts grammar.now) stems.now tokens.now }
-    requires ranking { IsRanking (plain grammar.now) (rank_at ranks.now) }
-    ensures only { IfOk result (λ r. IsAnswer (plain grammar.now)
+    requires start { IsSort by.now.parts start }
+    requires known { AreKnown (grammars.texts by.now) stems.now tokens.now }
+    requires ranking { IsRanking (plain by.now) (rank_at ranks.now) }
+    ensures only { IfOk result (λ r. IsAnswer (plain by.now)
         (plain_tokens stems.now tokens.now) (number_of start) (only (plain_reading r))) }
-    ensures refused { IfErr result (IsRefusal (labels grammar.now.parts) (texts tokens.now)
-        (plain grammar.now) (plain_tokens stems.now tokens.now) (number_of start)) }
+    ensures refused { IfErr result (IsRefusal (labels by.now.parts) (texts tokens.now)
+        (plain by.now) (plain_tokens stems.now tokens.now) (number_of start)) }
 {
+    let grammar = by.grammar();
     let shown = stems.show_all(alloc, tokens)?;
-    match read_shown(alloc, grammar, ranks, number_of(start), &shown)? {
+    match read_shown(alloc, by, ranks, number_of(start), &shown)? {
         Found::Only(reading) => Ok(reading),
         Found::Two(one, other) => {
             let (one, other) = in_text_order(alloc, grammar, tokens, one, other)?;

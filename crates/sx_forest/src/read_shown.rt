@@ -20,7 +20,7 @@ use crate::judged::Judged;
 use crate::read_error::ReadError;
 use crate::row::last_row;
 use std::alloc::Global;
-use sx_earley::{Shown, Span, chart_of};
+use sx_earley::{ReadyGrammar, Shown, Span, chart_of};
 use sx_grammar::Grammar;
 
 /// The only reading of what is shown, or two of more, where there is one and the spans are those
@@ -72,20 +72,20 @@ fn read_spans(
 /// The only reading of what is shown, or two of more. Where there is none, nothing is counted.
 pub(crate) fn read_shown(
     alloc: Global,
-    grammar: &Grammar,
+    by: &ReadyGrammar,
     ranks: &[u32],
     start: u32,
     shown: &[Shown],
 ) -> Result<Found, ReadError>
     requires short { length shown.now ≤ 10000 }
-    requires below { AreBelow (length (texts grammar.now)) shown.now }
-    requires ranking { IsRanking (plain grammar.now) (rank_at ranks.now) }
-    ensures found { IfOk result (IsFound (plain grammar.now)
-        (tokens_of grammar.now shown.now) start) }
+    requires below { AreBelow (length (texts by.now)) shown.now }
+    requires ranking { IsRanking (plain by.now) (rank_at ranks.now) }
+    ensures found { IfOk result (IsFound (plain by.now) (tokens_of by.now shown.now) start) }
     ensures refused { IfErr result (λ e. (labels texts : List (List ℕ)) →
-        IsRefusal labels texts (plain grammar.now) (tokens_of grammar.now shown.now) start e) }
+        IsRefusal labels texts (plain by.now) (tokens_of by.now shown.now) start e) }
 {
-    let chart = chart_of(alloc, grammar, start, shown)?;
+    let chart = chart_of(alloc, by, start, shown)?;
+    let grammar = by.grammar();
     if has_reading(grammar, start, shown, chart.spans()) {
         read_spans(alloc, grammar, ranks, start, shown, chart.spans())
     } else {

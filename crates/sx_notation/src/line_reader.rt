@@ -22,18 +22,18 @@ use crate::notation_error::NotationError;
 use crate::telling::why_unread;
 use std::alloc::Global;
 use std::marker::Model;
-use sx_earley::{Metas, Stems};
+use sx_earley::{Metas, ReadyGrammar, Stems};
 use sx_forest::{ReadError, Reading, read_one_by, strip};
 use sx_grammar::Grammar;
 use sx_lines::Kind;
 use sx_term::{NoMemory, Sort, Term, Vars};
 use sx_token::{Literals, Token, TokenError};
 
-/// What any number of lines are read by: a grammar, with tables of its literals and of the stems of
-/// metavariables.
+/// What any number of lines are read by: a grammar that is ready for charts, with tables of its
+/// literals and of the stems of metavariables.
 #[derive(Drop)]
 pub struct LineReader<'a> {
-    grammar: &'a Grammar,
+    grammar: ReadyGrammar<'a>,
     literals: Literals<'a>,
     stems: Stems<'a>,
 }
@@ -45,9 +45,9 @@ impl<'a> Model for LineReader<'a> {
 
     ghost Value = { ReaderData };
 
-    ghost view = { λ r. record { parts = r.grammar.now.parts; stems = r.stems } };
+    ghost view = { λ r. record { parts = r.grammar.parts; stems = r.stems } };
 
-    ghost invariant = { λ r. r.literals ≡ literals_of r.grammar.now.parts };
+    ghost invariant = { λ r. r.literals ≡ literals_of r.grammar.parts };
 }
 
 /// The refusal of the line that has this defect.
@@ -174,9 +174,10 @@ fn reading_of(
     ensures refused { IfErr result
         (IsUnreadLine by.now.parts by.now.stems sort tokens.now size number) }
 {
-    let grammar = by.grammar;
+    let ready = &by.grammar;
     let stems = &by.stems;
-    match read_one_by(alloc, grammar, sort, stems, tokens) {
+    let grammar = ready.grammar();
+    match read_one_by(alloc, ready, sort, stems, tokens) {
         Ok(reading) => Ok(reading),
         Err(error) => Err(read_error(alloc, grammar, tokens, size, number, error)),
     }
@@ -194,7 +195,7 @@ impl<'a> LineReader<'a> {
     {
         grammar.facts();
         Ok(LineReader {
-            grammar,
+            grammar: ReadyGrammar::new(alloc, grammar)?,
             literals: Literals::new(alloc, grammar.literals())?,
             stems: Stems::new(alloc, metas)?,
         })

@@ -8,7 +8,7 @@ use Rattle.sx_earley.proofs.all_items.collect.Given as goal
 
 abbrev pub invariant-loop-item : goal.invariant-loop-item
 invariant-loop-item l = record {
-  openings : HasAllOpenings (plain l.grammar) l.notes.openings;
+  openings : HasAllOpenings (plain l.grammar) l.notes.openings.now;
   few : length l.found.keys ≤ 2000000;
   within : l.next ≤ length l.found.keys;
   sound : AllHold (plain l.grammar) (tokens_of l.grammar l.shown) l.start l.found.keys;

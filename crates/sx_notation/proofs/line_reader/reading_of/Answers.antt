@@ -1,10 +1,11 @@
 use Rattle.std.proofs.Common.{sym, subst}
 use Rattle.sx_grammar.specs.Parts.{numbered}
-use Rattle.sx_grammar.specs.Tables.{literals_of}
+use Rattle.sx_grammar.specs.Tables.{GrammarData, literals_of}
 use Rattle.sx_grammar.specs.ReadOne.{IsAnswer, only}
 use Rattle.sx_earley.specs.Tokens.{plain_tokens, AreKnown}
 use Rattle.sx_earley.specs.Completed.{number_of}
 use Rattle.sx_forest.specs.Readings.{plain_reading}
+use Rattle.sx_notation.specs.WhyUnread.{IsReadError}
 use Rattle.sx_notation.specs.ReadText.{ReaderData, IsUnreadLine}
 use Rattle.sx_notation.proofs.TextReading.{known_tokens}
 use Rattle.sx_notation.proofs.line_reader.reading_of.Goals as goal
@@ -18,7 +19,16 @@ pub returns-in-Ok-clause-only : goal.returns-in-Ok-clause-only
 returns-in-Ok-clause-only c =
     subst (λ (d : ReaderData). IsAnswer (numbered d.parts) (plain_tokens d.stems c.args.tokens.now) (number_of c.args.sort) (only (plain_reading c.in-Ok.reading))) c.by.view_is c.in-Ok.ensures.only
 
+pub read_error-requires : goal.read_error-requires
+read_error-requires c = (
+  c.by.inside.stems,
+  c.args.sort,
+  subst (λ (d : GrammarData). IsReadError d.parts c.by.inside.stems c.args.sort c.args.tokens.now c.in-Err.error) (sym c.grammar-grammar.ensures) c.in-Err.ensures.refused,
+)
+
 pub returns-in-Err-clause-refused : goal.returns-in-Err-clause-refused
 returns-in-Err-clause-refused c =
-    subst (λ (d : ReaderData). IsUnreadLine d.parts d.stems c.args.sort c.args.tokens.now c.args.size c.args.number c.read_error.result) c.by.view_is
-    (c.read_error.ensures c.by.inside.stems c.args.sort c.in-Err.ensures.refused)
+    let refused = subst (λ (d : GrammarData). IsReadError d.parts c.by.inside.stems c.args.sort c.args.tokens.now c.in-Err.error) (sym c.grammar-grammar.ensures) c.in-Err.ensures.refused in
+    let unread = subst (λ (d : GrammarData). IsUnreadLine d.parts c.by.inside.stems c.args.sort c.args.tokens.now c.args.size c.args.number c.read_error.result) c.grammar-grammar.ensures
+    (c.read_error.ensures c.by.inside.stems c.args.sort refused) in
+    subst (λ (d : ReaderData). IsUnreadLine d.parts d.stems c.args.sort c.args.tokens.now c.args.size c.args.number c.read_error.result) c.by.view_is unread
