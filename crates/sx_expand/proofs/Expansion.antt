@@ -7,7 +7,7 @@ use Rattle.sx_rules.specs.Deep.{AreShallow}
 use Rattle.sx_rules.specs.First.{Answer}
 use Rattle.sx_rules.specs.Modes.{Goal}
 use Rattle.sx_rules.specs.Orders.{Entry}
-use Rattle.sx_rules.specs.Rules.{Judgement, no_hypotheses}
+use Rattle.sx_rules.specs.Rules.{Judgement, Hypotheses}
 use Rattle.sx_rules.specs.Sets.{shapes_in}
 use Rattle.sx_rewrite.specs.declared.rewrite_error.RewriteError.{RewriteError}
 use Rattle.sx_rewrite.specs.declared.rewrite_error.RewriteError.TheVariants.{Memory, RewriteSpent, RewriteDeep, TooDeep, TooBig}
@@ -20,26 +20,27 @@ use Rattle.sx_rewrite.specs.Used.{lowered_height}
 use Rattle.sx_rewrite.proofs.LoweredAlways.{lowering_exists}
 use Rattle.sx_rewrite.proofs.Measured.{terms_are_measured}
 use Rattle.sx_rewrite.proofs.PlainSizes.{derivations_fit}
-use Rattle.sx_expand.specs.declared.listing.Listing.{Listing}
+use Rattle.sx_expand.specs.declared.reading.Reading.{Reading}
 use Rattle.sx_expand.specs.declared.lowered_list.LoweredList.{LoweredList}
-use Rattle.sx_expand.specs.Expansions.{IsListedAnswer, IsExpanding}
-use Rattle.sx_expand.specs.Listed.{set_in, signature_in, entries_in, StandsIn}
+use Rattle.sx_expand.specs.Expansions.{IsListedFrom, IsExpanding}
+use Rattle.sx_expand.specs.Listed.{entries_in, StandsIn}
+use Rattle.sx_expand.specs.Readings.{set_by, signature_by, hyps_by}
 use Rattle.sx_expand.specs.LoweredLists.{IsListLowered}
 use Rattle.sx_expand.specs.Roots.{IsRoot, IsRootLowered}
 use Rattle.sx_expand.proofs.Orders.{orders_are_lowered}
 use Rattle.sx_expand.proofs.Standing.{whole-listed}
 
 -- the derivation of a listed answer has the kids that the rules ask for
-pub answer-fits : (sig : Signature) (a : Accepted) (goal : Goal) (list : List Entry) (answer : Answer) → IsListedAnswer sig.modes a goal list answer → HasFitKids a answer.0
-answer-fits sig a goal list answer is = derivations_fit a no_hypotheses is.rewritable.judgement answer.0 is.rewritable.derives
+pub answer-fits : (sig : Signature) (a : Accepted) (hyps : Hypotheses) (goal : Goal) (list : List Entry) (answer : Answer) → IsListedFrom sig.modes a hyps goal list answer → HasFitKids a answer.0
+answer-fits sig a hyps goal list answer is = derivations_fit a hyps is.rewritable.judgement answer.0 is.rewritable.derives
 
-module _ (l : Listing) (goal : Goal) (answer : Answer) (is : IsListedAnswer (signature_in l).modes (set_in l) goal (entries_in l) answer) where
+module _ (l : Reading) (goal : Goal) (answer : Answer) (is : IsListedFrom (signature_by l).modes (set_by l) (hyps_by l) goal (entries_in l.listing) answer) where
   -- it stands at the begin of the list
-  pub answer-stands : StandsIn l 0 answer.0
-  answer-stands = whole-listed (set_in l) (entries_in l) answer.0 (answer-fits (signature_in l) (set_in l) goal (entries_in l) answer is) is.list_is
+  pub answer-stands : StandsIn l.listing 0 answer.0
+  answer-stands = whole-listed (set_by l) (entries_in l.listing) answer.0 (answer-fits (signature_by l) (set_by l) (hyps_by l) goal (entries_in l.listing) answer is) is.list_is
 
   -- and is that of the goal
-  pub answer-root : lowered_height (set_in l) answer.0 ≤ 3000 → IsRoot l goal is.derives.0 answer.0
+  pub answer-root : lowered_height (set_by l) answer.0 ≤ 3000 → IsRoot l goal is.derives.0 answer.0
   answer-root low = record {
     can = record {
       stands = answer-stands;
@@ -53,19 +54,19 @@ module _ (l : Listing) (goal : Goal) (answer : Answer) (is : IsListedAnswer (sig
   }
 
   -- the list is not lowered
-  pub list-refused : (budget : ℕ) (e : RewriteError) → IsListLowered (set_in l) answer.0 budget (Err e) → IsExpanding (set_in l) (signature_in l).subjects no_hypotheses answer.0 budget (Err e)
+  pub list-refused : (budget : ℕ) (e : RewriteError) → IsListLowered (set_by l) answer.0 budget (Err e) → IsExpanding (set_by l) (signature_by l).subjects (hyps_by l) answer.0 budget (Err e)
   list-refused budget Memory h = tt
   list-refused budget (RewriteSpent nodes) h = h
   list-refused budget RewriteDeep h = h
   list-refused budget (TooDeep depth) h = absurd h
   list-refused budget (TooBig nodes) h = absurd h
 
-  module _ (ok : IsAccepted (signature_in l) (shapes_in l.set.now.base) (shapes_in l.set.now.rules) (set_in l)) (budget : ℕ) (x : LoweredList) (lowered : IsListLowered (set_in l) answer.0 budget (Ok x)) where
-    measured : (ts : List Tree) × Measures (set_in l) (signature_in l).subjects no_hypotheses answer.0 ts
-    measured = terms_are_measured (signature_in l) (shapes_in l.set.now.base) (shapes_in l.set.now.rules) (set_in l) ok no_hypotheses answer.0 is.derives.0 is.derives.3
+  module _ (ok : IsAccepted (signature_by l) (shapes_in l.listing.set.now.base) (shapes_in l.listing.set.now.rules) (set_by l)) (budget : ℕ) (x : LoweredList) (lowered : IsListLowered (set_by l) answer.0 budget (Ok x)) where
+    measured : (ts : List Tree) × Measures (set_by l) (signature_by l).subjects (hyps_by l) answer.0 ts
+    measured = terms_are_measured (signature_by l) (shapes_in l.listing.set.now.base) (shapes_in l.listing.set.now.rules) (set_by l) ok (hyps_by l) answer.0 is.derives.0 is.derives.3
 
     -- a term passes a limit
-    pub root-refused : (e : RewriteError) → IsRefused (set_in l) (signature_in l).subjects no_hypotheses answer.0 e → IsExpanding (set_in l) (signature_in l).subjects no_hypotheses answer.0 budget (Err e)
+    pub root-refused : (e : RewriteError) → IsRefused (set_by l) (signature_by l).subjects (hyps_by l) answer.0 e → IsExpanding (set_by l) (signature_by l).subjects (hyps_by l) answer.0 budget (Err e)
     root-refused Memory f = tt
     root-refused (RewriteSpent nodes) f = absurd (f measured.0 measured.1)
     root-refused RewriteDeep f = absurd (f measured.0 measured.1)
@@ -74,11 +75,11 @@ module _ (l : Listing) (goal : Goal) (answer : Answer) (is : IsListedAnswer (sig
 
     -- the derivation is expanded
     pub root-expanded : (k : JudgementOf) → IsRootLowered l answer.0 (Ok k) →
-        IsExpanding (set_in l) (signature_in l).subjects no_hypotheses answer.0 budget (Ok (record { entries = x.entries; judgement = k; copied = x.copied }))
+        IsExpanding (set_by l) (signature_by l).subjects (hyps_by l) answer.0 budget (Ok (record { entries = x.entries; judgement = k; copied = x.copied }))
     root-expanded k h =
-        let w = lowering_exists (signature_in l) (shapes_in l.set.now.base) (shapes_in l.set.now.rules) (set_in l) ok no_hypotheses answer.0 is.derives.0 is.derives.3 in
-        let lowers = subst (λ (j : Judgement). Lowers (set_in l) (signature_in l).subjects no_hypotheses answer.0 w.0 j) (sym (h.0 w.0 w.1 w.2)) w.2 in (
+        let w = lowering_exists (signature_by l) (shapes_in l.listing.set.now.base) (shapes_in l.listing.set.now.rules) (set_by l) ok (hyps_by l) answer.0 is.derives.0 is.derives.3 in
+        let lowers = subst (λ (j : Judgement). Lowers (set_by l) (signature_by l).subjects (hyps_by l) answer.0 w.0 j) (sym (h.0 w.0 w.1 w.2)) w.2 in (
           w.0,
           (lowers, lowered.2, (lowered.0, lowered.1, (measured.0, measured.1, h.1 measured.0 measured.1))),
-          lowered.3 ∙ sym (orders_are_lowered (set_in l) (signature_in l).subjects no_hypotheses answer.0 w.0 w.1 w.2),
+          lowered.3 ∙ sym (orders_are_lowered (set_by l) (signature_by l).subjects (hyps_by l) answer.0 w.0 w.1 w.2),
         )

@@ -9,10 +9,11 @@ use Rattle.sx_rules.specs.declared.rule.Premise.{Premise as PremiseOf}
 use Rattle.sx_rules.specs.declared.rule.Premise.TheVariants.{Holds, Apart}
 use Rattle.sx_rules.specs.declared.rule.Judgement.{Judgement as JudgementOf}
 use Rattle.sx_rules.specs.Deep.{AreShallow, PremiseIsShallow, PremisesAreShallow}
-use Rattle.sx_rules.specs.Derivations.{Proof, Proofs, no_more, ◌⊳◌, proof_at, Derives, DeriveEach, HasShallowBinds, HaveShallowBinds, nodes_of}
+use Rattle.sx_rules.specs.Derivations.{Proof, Proofs, no_more, ◌⊳◌, proof_at, Derives, DeriveEach, HasShallowBinds, HaveShallowBinds, ShallowJudgements, nodes_of}
 use Rattle.sx_rules.specs.Instances.{bound_by}
 use Rattle.sx_rules.specs.Modes.{Modes}
-use Rattle.sx_rules.specs.Rules.{Premise, holds, Hypotheses, judgement_instance, judgements_of, no_hypotheses}
+use Rattle.sx_rules.specs.Rules.{Premise, holds, Hypotheses, judgement_instance, judgements_of}
+use Rattle.sx_rules.specs.Sets.{shapes_in}
 use Rattle.sx_rules.specs.Views.{premise, judgement}
 use Rattle.sx_arena.specs.Arena.{Extends}
 use Rattle.sx_arena.specs.Matching.{Assignment}
@@ -28,18 +29,20 @@ use Rattle.sx_rewrite.specs.Stored.{certificate_at}
 use Rattle.sx_rewrite.proofs.LoweredBy.{by-can, by-refuse}
 use Rattle.sx_rewrite.proofs.Puts.{over-left, over-right}
 use Rattle.sx_expand.specs.declared.kid.Kid.{Kid}
-use Rattle.sx_expand.specs.declared.listing.Listing.{Listing}
+use Rattle.sx_expand.specs.declared.reading.Reading.{Reading}
 use Rattle.sx_expand.specs.declared.node.Node.{Node}
 use Rattle.sx_expand.specs.declared.work.Work.{Work}
 use Rattle.sx_expand.specs.declared.reader.Reader.{Reader}
 use Rattle.sx_expand.specs.Followed.{IsWork, bindings_of}
 use Rattle.sx_expand.specs.KidsRead.{IsKidRead}
-use Rattle.sx_expand.specs.Listed.{HasEnds, StandsIn, StandInRow, set_in, signature_in, entries_in}
+use Rattle.sx_expand.specs.Listed.{StandsIn, StandInRow, entries_in}
+use Rattle.sx_expand.specs.Readings.{IsReading, set_by, signature_by, hyps_by}
 use Rattle.sx_expand.specs.ReadDerivations.{IsReadRefused}
 use Rattle.sx_expand.specs.ReadNodes.{NodeData, IsNodeIn, proof_by, AreFollowed, IsNodeRead, KidData, IsKidIn}
 use Rattle.sx_expand.specs.Readers.{terms_in, GoesOn}
 use Rattle.sx_expand.proofs.Bindings.{is-by, bindings-stay}
 use Rattle.sx_expand.proofs.Following.{follows-apart}
+use Rattle.sx_expand.proofs.Givens.{given-near}
 use Rattle.sx_expand.proofs.KidsStay.{subject-stays}
 use Rattle.sx_expand.proofs.Standing.{listed-kids, listed-first, stands-within, nodes-some}
 use Rattle.sx_expand.proofs.Steps.{premise-drop}
@@ -48,17 +51,17 @@ use Rattle.sx_expand.proofs.Steps.{premise-drop}
 pub read-stays : (a : Accepted) (subjects : Modes) (hyps : Hypotheses) (old new : List Tree) (p : Proof) (o : Option ℕ) → Extends old new → IsKidRead a subjects hyps old p o → IsKidRead a subjects hyps new p o
 read-stays a subjects hyps old new p o x h = record { small = h.small; subject = λ q k l. subject-stays old new _ o x (h.subject q k l) }
 
-pub node-read-stays : (l : Listing) (n : Node) (old new : List Tree) (w : Work) (numbers : List (Option ℕ)) (d : NodeData) → Extends old new → IsWork old w → IsNodeRead l n old w numbers d → IsNodeRead l n new w numbers d
+pub node-read-stays : (l : Reading) (n : Node) (old new : List Tree) (w : Work) (numbers : List (Option ℕ)) (d : NodeData) → Extends old new → IsWork old w → IsNodeRead l n old w numbers d → IsNodeRead l n new w numbers d
 node-read-stays l n old new w numbers d x work h = record {
   followed = subst (λ (env : Assignment). AreFollowed l d.rule d.binds [] env) (sym (bindings-stay old new w x work)) h.followed;
   kids = λ need. record {
     many = (h.kids need).many;
-    each = λ i p needs at. read-stays (set_in l) (signature_in l).subjects no_hypotheses old new p (get_or numbers i None) x ((h.kids need).each i p needs at);
+    each = λ i p needs at. read-stays (set_by l) (signature_by l).subjects (hyps_by l) old new p (get_or numbers i None) x ((h.kids need).each i p needs at);
   };
 }
 
 -- a node that is needed can be lowered
-pub can-lower : (l : Listing) (n : Node) (d : NodeData) → IsNodeIn l n d → n.is_needed ≡ true → CanLower (set_in l) no_hypotheses (proof_by n d)
+pub can-lower : (l : Reading) (n : Node) (d : NodeData) → IsNodeIn l n d → n.is_needed ≡ true → CanLower (set_by l) (hyps_by l) (proof_by n d)
 can-lower l n d is need = record { judgement = d.judgement; derives = is.can.derives; binds = is.can.binds; fit = is.can.fit; low = is.can.low need }
 
 -- the error of a kid is that of all, where those before it pass no limit
@@ -88,21 +91,30 @@ within-number (x ⊳ ps) zero p e = omega arith
 within-number (x ⊳ ps) (suc i) p e = let h = within-number ps i p e in omega (arith, h)
 
 -- the kids up to a premise are read
-pub record KidsSoFar (l : Listing) (n : Node) (ps : List PremiseOf) (i at : ℕ) (terms : List Tree) (w : Work) (numbers : List (Option ℕ)) (d : NodeData) : Type 0 where
+pub record KidsSoFar (l : Reading) (n : Node) (ps : List PremiseOf) (i at : ℕ) (terms : List Tree) (w : Work) (numbers : List (Option ℕ)) (d : NodeData) : Type 0 where
   pub left : Proofs
-  pub row : StandInRow l at left
-  pub each : DeriveEach (rules_of (set_in l)) no_hypotheses (map (judgement_instance (bound_by d.binds)) (judgements_of (map premise (drop i ps)))) left
+  pub row : StandInRow l.listing at left
+  pub each : DeriveEach (rules_of (set_by l)) (hyps_by l) (map (judgement_instance (bound_by d.binds)) (judgements_of (map premise (drop i ps)))) left
   pub binds : HaveShallowBinds left
-  pub fit : AllBindsFit (set_in l).table left
+  pub fit : AllBindsFit (set_by l).table left
   pub from : (m : ℕ) → proof_at left m ≡ proof_at d.kids (length numbers + m)
   pub many : number_of d.kids ≡ length numbers + number_of left
   pub followed : AreFollowed l d.rule d.binds (map premise (drop i ps)) (bindings_of terms w)
-  pub read : (m : ℕ) (p : Proof) → n.is_needed ≡ true → m < length numbers → needed (certificate_at (set_in l) n.number) m ≡ true → proof_at d.kids m ≡ Some p →
-      IsKidRead (set_in l) (signature_in l).subjects no_hypotheses terms p (get_or numbers m None)
+  pub read : (m : ℕ) (p : Proof) → n.is_needed ≡ true → m < length numbers → needed (certificate_at (set_by l) n.number) m ≡ true → proof_at d.kids m ≡ Some p →
+      IsKidRead (set_by l) (signature_by l).subjects (hyps_by l) terms p (get_or numbers m None)
 
-module _ (l : Listing) (base shapes : List Shape) (ok : IsAccepted (signature_in l) base shapes (set_in l)) (ends : HasEnds l) (n : Node) (d : NodeData) (is : IsNodeIn l n d) where
+module _ (l : Reading) (ok : IsAccepted (signature_by l) (shapes_in l.listing.set.now.base) (shapes_in l.listing.set.now.rules) (set_by l)) (good : IsReading l) (n : Node) (d : NodeData) (is : IsNodeIn l n d) where
   abbrev a : Accepted
-  a = set_in l
+  a = set_by l
+
+  abbrev base : List Shape
+  base = shapes_in l.listing.set.now.base
+
+  abbrev shapes : List Shape
+  shapes = shapes_in l.listing.set.now.rules
+
+  near : ShallowJudgements (hyps_by l).judgements
+  near = given-near l.listing.set.now (hyps_by l) good.given
 
   abbrev cert : Option Proof
   cert = certificate_at a n.number
@@ -110,13 +122,13 @@ module _ (l : Listing) (base shapes : List Shape) (ok : IsAccepted (signature_in
   module _ (ps : List PremiseOf) (premises_are : map premise ps ≡ d.rule.premises) where
     pub kids-start : (at : ℕ) (terms : List Tree) (w : Work) (numbers : List (Option ℕ)) → at ≡ n.at + 1 → numbers ≡ [] → AreFollowed l d.rule d.binds d.rule.premises (bindings_of terms w) → KidsSoFar l n ps 0 at terms w numbers d
     kids-start at terms w numbers e none f =
-        let row = listed-kids a (entries_in l) n.at n.number d.binds d.kids is.can.stands in
-        let b = is-by (rules_of a) no_hypotheses n.number d.rule d.judgement d.binds d.kids is.found is.can.derives in
+        let row = listed-kids a (entries_in l.listing) n.at n.number d.binds d.kids is.can.stands in
+        let b = is-by (rules_of a) (hyps_by l) n.number d.rule d.judgement d.binds d.kids is.found is.can.derives in
         let zero_many : length numbers ≡ 0 = ap length none in
         record {
           left = d.kids;
-          row = subst (λ (i : ℕ). StandInRow l i d.kids) (sym e) row;
-          each = subst (λ (xs : List Premise). DeriveEach (rules_of a) no_hypotheses (map (judgement_instance (bound_by d.binds)) (judgements_of xs)) d.kids) (sym premises_are) b.each;
+          row = subst (λ (i : ℕ). StandInRow l.listing i d.kids) (sym e) row;
+          each = subst (λ (xs : List Premise). DeriveEach (rules_of a) (hyps_by l) (map (judgement_instance (bound_by d.binds)) (judgements_of xs)) d.kids) (sym premises_are) b.each;
           binds = is.can.binds.1;
           fit = is.can.fit.1;
           from = λ m. ap (proof_at d.kids) (let z : m ≡ length numbers + m = omega (arith, zero_many) in z);
@@ -129,7 +141,7 @@ module _ (l : Listing) (base shapes : List Shape) (ok : IsAccepted (signature_in
     pub kids-end : length ps ≤ i → IsNodeRead l n terms w numbers d
     kids-end past =
         let none = ap (λ (xs : List PremiseOf). map premise xs) (drop_all i ps past) in
-        let each = subst (λ (xs : List Premise). DeriveEach (rules_of a) no_hypotheses (map (judgement_instance (bound_by d.binds)) (judgements_of xs)) so.left) none so.each in
+        let each = subst (λ (xs : List Premise). DeriveEach (rules_of a) (hyps_by l) (map (judgement_instance (bound_by d.binds)) (judgements_of xs)) so.left) none so.each in
         let many = so.many ∙ ap (λ (k : ℕ). length numbers + k) (empty so.left each) in
         record {
           followed = subst (λ (xs : List Premise). AreFollowed l d.rule d.binds xs (bindings_of terms w)) none so.followed;
@@ -139,7 +151,7 @@ module _ (l : Listing) (base shapes : List Shape) (ok : IsAccepted (signature_in
           };
         }
       where
-        empty : (left : Proofs) → DeriveEach (rules_of a) no_hypotheses [] left → number_of left ≡ 0
+        empty : (left : Proofs) → DeriveEach (rules_of a) (hyps_by l) [] left → number_of left ≡ 0
         empty no_more h = refl
         empty (q ⊳ qs) h = absurd h
 
@@ -150,12 +162,12 @@ module _ (l : Listing) (base shapes : List Shape) (ok : IsAccepted (signature_in
           record {
             left = so.left;
             row = so.row;
-            each = subst (λ (xs : List Premise). DeriveEach (rules_of a) no_hypotheses (map (judgement_instance (bound_by d.binds)) (judgements_of xs)) so.left) row so.each;
+            each = subst (λ (xs : List Premise). DeriveEach (rules_of a) (hyps_by l) (map (judgement_instance (bound_by d.binds)) (judgements_of xs)) so.left) row so.each;
             binds = so.binds;
             fit = so.fit;
             from = so.from;
             many = so.many;
-            followed = follows-apart (signature_in l).modes d.rule (bound_by d.binds) _ _ (map premise (drop (i + 1) ps)) (bindings_of terms w)
+            followed = follows-apart (signature_by l).modes d.rule (bound_by d.binds) _ _ (map premise (drop (i + 1) ps)) (bindings_of terms w)
                 (subst (λ (xs : List Premise). AreFollowed l d.rule d.binds xs (bindings_of terms w)) row so.followed);
             read = so.read;
           }
@@ -170,20 +182,20 @@ module _ (l : Listing) (base shapes : List Shape) (ok : IsAccepted (signature_in
           pub rest : Proofs
           pub is_left : so.left ≡ first ⊳ rest
           pub at_kid : proof_at d.kids (length numbers) ≡ Some first
-          pub listed : StandsIn l at first
-          pub next : StandInRow l (at + nodes_of first) rest
-          pub derives : Derives (rules_of a) no_hypotheses (judgement_instance (bound_by d.binds) (judgement j)) first
-          pub each : DeriveEach (rules_of a) no_hypotheses (map (judgement_instance (bound_by d.binds)) (judgements_of (map premise (drop (i + 1) ps)))) rest
+          pub listed : StandsIn l.listing at first
+          pub next : StandInRow l.listing (at + nodes_of first) rest
+          pub derives : Derives (rules_of a) (hyps_by l) (judgement_instance (bound_by d.binds) (judgement j)) first
+          pub each : DeriveEach (rules_of a) (hyps_by l) (map (judgement_instance (bound_by d.binds)) (judgements_of (map premise (drop (i + 1) ps)))) rest
           pub binds : HasShallowBinds first × HaveShallowBinds rest
           pub fit : BindsFit a.table first × AllBindsFit a.table rest
 
         pub next-kid : NextKid
-        next-kid = go so.left refl (subst (λ (xs : List Premise). DeriveEach (rules_of a) no_hypotheses (map (judgement_instance (bound_by d.binds)) (judgements_of xs)) so.left) row_here so.each)
+        next-kid = go so.left refl (subst (λ (xs : List Premise). DeriveEach (rules_of a) (hyps_by l) (map (judgement_instance (bound_by d.binds)) (judgements_of xs)) so.left) row_here so.each)
           where
-            go : (left : Proofs) → so.left ≡ left → DeriveEach (rules_of a) no_hypotheses (judgement_instance (bound_by d.binds) (judgement j) ∷ map (judgement_instance (bound_by d.binds)) (judgements_of (map premise (drop (i + 1) ps)))) left → NextKid
+            go : (left : Proofs) → so.left ≡ left → DeriveEach (rules_of a) (hyps_by l) (judgement_instance (bound_by d.binds) (judgement j) ∷ map (judgement_instance (bound_by d.binds)) (judgements_of (map premise (drop (i + 1) ps)))) left → NextKid
             go no_more e h = absurd h
             go (q ⊳ qs) e h =
-                let s = listed-first a (entries_in l) at q qs (subst (λ (x : Proofs). StandInRow l at x) e so.row) in
+                let s = listed-first a (entries_in l.listing) at q qs (subst (λ (x : Proofs). StandInRow l.listing at x) e so.row) in
                 record {
                   first = q;
                   rest = qs;
@@ -197,15 +209,15 @@ module _ (l : Listing) (base shapes : List Shape) (ok : IsAccepted (signature_in
                   fit = subst (AllBindsFit a.table) e so.fit;
                 }
 
-        pub kid-within : at < length l.ends.now
+        pub kid-within : at < length l.listing.ends.now
         kid-within =
             let k = next-kid in
-            let w = stands-within (entries_in l) at k.first k.listed.stands in
+            let w = stands-within (entries_in l.listing) at k.first k.listed.stands in
             let s = nodes-some k.first in
-            let m = ends.many in omega (arith, w, s, m)
+            let m = good.ends.many in omega (arith, w, s, m)
 
-        pub kid-after : (end : ℕ) → end ≡ get_or l.ends.now at 0 → at ≤ end
-        kid-after end to = let e = to ∙ ends.each at next-kid.first (omega arith) next-kid.listed in omega (arith, e)
+        pub kid-after : (end : ℕ) → end ≡ get_or l.listing.ends.now at 0 → at ≤ end
+        kid-after end to = let e = to ∙ good.ends.each at next-kid.first (omega arith) next-kid.listed in omega (arith, e)
 
         abbrev pub kid-data : KidData
         kid-data = record { rule = d.rule; binds = d.binds; rest = map premise (drop (i + 1) ps); proof = next-kid.first }
@@ -216,13 +228,13 @@ module _ (l : Listing) (base shapes : List Shape) (ok : IsAccepted (signature_in
               let x = next-kid in
               record {
                 can = record {
-                  stands = subst (λ (m : ℕ). StandsIn l m x.first) (sym there) x.listed;
-                  derives = subst (λ (y : JudgementOf). Derives (rules_of a) no_hypotheses (judgement_instance (bound_by d.binds) (judgement y)) x.first) (sym for_premise) x.derives;
+                  stands = subst (λ (m : ℕ). StandsIn l.listing m x.first) (sym there) x.listed;
+                  derives = subst (λ (y : JudgementOf). Derives (rules_of a) (hyps_by l) (judgement_instance (bound_by d.binds) (judgement y)) x.first) (sym for_premise) x.derives;
                   binds = x.binds.0;
                   fit = x.fit.0;
                   low = λ e.
                       let both = sym needs ∙ e in
-                      (by-can (signature_in l) base shapes a ok no_hypotheses (tt, tt) tt n.number d.binds d.kids (can-lower l n d is (and_parts n.is_needed _ both).0) cert refl (length numbers) x.first (and_parts n.is_needed _ both).1 x.at_kid).low;
+                      (by-can (signature_by l) base shapes a ok (hyps_by l) good.given.below near n.number d.binds d.kids (can-lower l n d is (and_parts n.is_needed _ both).0) cert refl (length numbers) x.first (and_parts n.is_needed _ both).1 x.at_kid).low;
                 };
                 followed = subst (λ (y : JudgementOf). AreFollowed l d.rule d.binds (holds (judgement y) ∷ map premise (drop (i + 1) ps)) (bindings_of terms w)) (sym for_premise)
                     (subst (λ (xs : List Premise). AreFollowed l d.rule d.binds xs (bindings_of terms w)) row_here so.followed);
@@ -230,63 +242,63 @@ module _ (l : Listing) (base shapes : List Shape) (ok : IsAccepted (signature_in
 
         module _ (kid_needed : Bool) (needs : kid_needed ≡ (n.is_needed && needed cert (length numbers))) where
           -- it is read
-          pub kid-next : (later : List Tree) (v : Work) (number : Option ℕ) (new : List (Option ℕ)) (end : ℕ) → Extends terms later → new ≡ numbers ++ number ∷ [] → end ≡ get_or l.ends.now at 0 →
-              AreFollowed l d.rule d.binds (map premise (drop (i + 1) ps)) (bindings_of later v) × (kid_needed ≡ true → IsKidRead a (signature_in l).subjects no_hypotheses later next-kid.first number) →
+          pub kid-next : (later : List Tree) (v : Work) (number : Option ℕ) (new : List (Option ℕ)) (end : ℕ) → Extends terms later → new ≡ numbers ++ number ∷ [] → end ≡ get_or l.listing.ends.now at 0 →
+              AreFollowed l d.rule d.binds (map premise (drop (i + 1) ps)) (bindings_of later v) × (kid_needed ≡ true → IsKidRead a (signature_by l).subjects (hyps_by l) later next-kid.first number) →
               KidsSoFar l n ps (i + 1) end later v new d
           kid-next later v number new end x is_new to h =
               let q = next-kid in
               let one : length new ≡ length numbers + 1 = ap length is_new ∙ length_push numbers number in
-              let after : end ≡ at + nodes_of q.first = to ∙ ends.each at q.first (omega arith) q.listed in
+              let after : end ≡ at + nodes_of q.first = to ∙ good.ends.each at q.first (omega arith) q.listed in
               let left_many : number_of so.left ≡ number_of q.rest + 1 = ap number_of q.is_left in
               let all = so.many in
               record {
                 left = q.rest;
-                row = subst (λ (m : ℕ). StandInRow l m q.rest) (sym after) q.next;
+                row = subst (λ (m : ℕ). StandInRow l.listing m q.rest) (sym after) q.next;
                 each = q.each;
                 binds = q.binds.1;
                 fit = q.fit.1;
                 from = λ m. ap (λ (y : Proofs). proof_at y (suc m)) (sym q.is_left) ∙ so.from (suc m) ∙ ap (proof_at d.kids) (let z : length numbers + suc m ≡ length new + m = omega (arith, one) in z);
                 many = omega (arith, one, left_many, all);
                 followed = h.0;
-                read = λ m p need low needs_m at_m. subst (λ (xs : List (Option ℕ)). IsKidRead a (signature_in l).subjects no_hypotheses later p (get_or xs m None)) (sym is_new) (read-at m p need (omega (arith, low, one)) needs_m at_m (cases_eq m (length numbers)));
+                read = λ m p need low needs_m at_m. subst (λ (xs : List (Option ℕ)). IsKidRead a (signature_by l).subjects (hyps_by l) later p (get_or xs m None)) (sym is_new) (read-at m p need (omega (arith, low, one)) needs_m at_m (cases_eq m (length numbers)));
               }
             where
               read-at : (m : ℕ) (p : Proof) → n.is_needed ≡ true → m < length numbers + 1 → needed cert m ≡ true → proof_at d.kids m ≡ Some p → (m ≡ length numbers) ⊎ (m ≡ length numbers → ⊥) →
-                  IsKidRead a (signature_in l).subjects no_hypotheses later p (get_or (numbers ++ number ∷ []) m None)
+                  IsKidRead a (signature_by l).subjects (hyps_by l) later p (get_or (numbers ++ number ∷ []) m None)
               read-at m p need low needs_m at_m (inl same) =
                   let o : Some next-kid.first ≡ Some p = sym next-kid.at_kid ∙ sym (ap (proof_at d.kids) same) ∙ at_m in
                   let is_p : next-kid.first ≡ p = cc in
                   let got : get_or (numbers ++ number ∷ []) m None ≡ number = get_or_push numbers number None m (sym same) in
                   let it = h.1 (needs ∙ and_from n.is_needed _ need (sym (ap (needed cert) same) ∙ needs_m)) in
-                  subst (λ (o : Option ℕ). IsKidRead a (signature_in l).subjects no_hypotheses later p o) (sym got) (subst (λ (y : Proof). IsKidRead a (signature_in l).subjects no_hypotheses later y number) is_p it)
+                  subst (λ (o : Option ℕ). IsKidRead a (signature_by l).subjects (hyps_by l) later p o) (sym got) (subst (λ (y : Proof). IsKidRead a (signature_by l).subjects (hyps_by l) later y number) is_p it)
               read-at m p need low needs_m at_m (inr other) =
                   let before : m < length numbers = omega (arith, low, other) in
                   let got : get_or (numbers ++ number ∷ []) m None ≡ get_or numbers m None = get_or_append_left numbers (number ∷ []) None m before in
-                  subst (λ (o : Option ℕ). IsKidRead a (signature_in l).subjects no_hypotheses later p o) (sym got)
-                  (read-stays a (signature_in l).subjects no_hypotheses terms later p (get_or numbers m None) x (so.read m p need before needs_m at_m))
+                  subst (λ (o : Option ℕ). IsKidRead a (signature_by l).subjects (hyps_by l) later p o) (sym got)
+                  (read-stays a (signature_by l).subjects (hyps_by l) terms later p (get_or numbers m None) x (so.read m p need before needs_m at_m))
 
           -- or refused
           pub kid-refuses : (e : RewriteError) → IsReadRefused l kid_needed next-kid.first e → IsReadRefused l n.is_needed (proof_by n d) e
           kid-refuses e h = (refuses, (λ f. h.1 (needs ∙ and_left n.is_needed _ f)))
             where
-              here : n.is_needed ≡ true → (b : Bool) → needed cert (length numbers) ≡ b → IsKidRefused a (signature_in l).subjects no_hypotheses b next-kid.first e
+              here : n.is_needed ≡ true → (b : Bool) → needed cert (length numbers) ≡ b → IsKidRefused a (signature_by l).subjects (hyps_by l) b next-kid.first e
               here need true f ts m = h.0 (needs ∙ and_from n.is_needed _ need f) ts m
               here need false f ts m = subst (λ (x : RewriteError). Tells None x) (sym (h.1 (needs ∙ and_right n.is_needed _ f))) tt
 
-              refuses : n.is_needed ≡ true → IsRefused a (signature_in l).subjects no_hypotheses (proof_by n d) e
-              refuses need = by-refuse (signature_in l) base shapes a ok no_hypotheses (tt, tt) tt n.number d.binds d.kids (can-lower l n d is need) cert refl e (λ tss m.
-                  refused-at a (signature_in l).subjects no_hypotheses (needed cert) e 0 d.kids (length numbers) next-kid.first tss
+              refuses : n.is_needed ≡ true → IsRefused a (signature_by l).subjects (hyps_by l) (proof_by n d) e
+              refuses need = by-refuse (signature_by l) base shapes a ok (hyps_by l) good.given.below near n.number d.binds d.kids (can-lower l n d is need) cert refl e (λ tss m.
+                  refused-at a (signature_by l).subjects (hyps_by l) (needed cert) e 0 d.kids (length numbers) next-kid.first tss
                   (λ i x low f g. (so.read i x need low (let z : 0 + i ≡ i = omega arith in sym (ap (needed cert) z) ∙ f) g).small)
-                  next-kid.at_kid (let z : 0 + length numbers ≡ length numbers = omega arith in subst (λ (v : ℕ). IsKidRefused a (signature_in l).subjects no_hypotheses (needed cert v) next-kid.first e) (sym z) (here need (needed cert (length numbers)) refl)) m)
+                  next-kid.at_kid (let z : 0 + length numbers ≡ length numbers = omega arith in subst (λ (v : ℕ). IsKidRefused a (signature_by l).subjects (hyps_by l) (needed cert v) next-kid.first e) (sym z) (here need (needed cert (length numbers)) refl)) m)
 
 -- in the loop over the premises the reader goes on, and the kids up to here are read
-pub record IsLooping (l : Listing) (n : Node) (ps : List PremiseOf) (i at : ℕ) (start now : Reader) (old w : Work) (numbers : List (Option ℕ)) : Type 0 where
-  pub on : GoesOn (set_in l).table start now
+pub record IsLooping (l : Reading) (n : Node) (ps : List PremiseOf) (i at : ℕ) (start now : Reader) (old w : Work) (numbers : List (Option ℕ)) : Type 0 where
+  pub on : GoesOn (set_by l).table start now
   pub work : IsWork (terms_in now) w
   pub after : n.at + 1 ≤ at
   pub kids : (d : NodeData) → IsNodeIn l n d → AreFollowed l d.rule d.binds d.rule.premises (bindings_of (terms_in start) old) → KidsSoFar l n ps i at (terms_in now) w numbers d
 
-pub looping-is : (l : Listing) (n : Node) (ps : List PremiseOf) (i : ℕ) (start : Reader) (old : Work) (at here : ℕ) (now reader : Reader) (w work : Work) (numbers made : List (Option ℕ)) → at ≡ here → now ≡ reader → w ≡ work → numbers ≡ made →
+pub looping-is : (l : Reading) (n : Node) (ps : List PremiseOf) (i : ℕ) (start : Reader) (old : Work) (at here : ℕ) (now reader : Reader) (w work : Work) (numbers made : List (Option ℕ)) → at ≡ here → now ≡ reader → w ≡ work → numbers ≡ made →
     IsLooping l n ps i here start reader old work made → IsLooping l n ps i at start now old w numbers
 looping-is l n ps i start old at here now reader w work numbers made e f g h x =
     subst (λ (m : ℕ). IsLooping l n ps i m start now old w numbers) (sym e)

@@ -1,4 +1,5 @@
 pub mod Standing
+pub mod Givens
 pub mod Nodes
 pub mod Steps
 pub mod Orders

@@ -27,7 +27,7 @@ own-same : (a : Accepted) (known : Known) (r : ℕ) (more : List Tree) → node.
 own-same a (basic rule) r more = refl
 own-same a (checked c) r more = refl
 
-tells-memory : (o : Option Refusal) (e : RewriteError) → e ≡ Memory → Tells o e
+pub tells-memory : (o : Option Refusal) (e : RewriteError) → e ≡ Memory → Tells o e
 tells-memory o e same = subst (λ (x : RewriteError). Tells o x) (sym same) tt
 
 module _ (sig : Signature) (base shapes : List Shape) (a : Accepted) (ok : IsAccepted sig base shapes a) (hyps : Hypotheses) (below : HypothesesBelow (length base) hyps) (near : ShallowJudgements hyps.judgements)

@@ -37,15 +37,11 @@ use Rattle.sx_rewrite.proofs.Puts.{put-made}
 use Rattle.sx_expand.specs.KidSubjects.{IsSubjectAt, AreKidSubjects}
 use Rattle.sx_expand.specs.LoweredNodes.{IsInstanceAt, IsOwnSubject}
 use Rattle.sx_expand.specs.OwnSubjects.{own_judgement}
+use Rattle.sx_expand.specs.Readings.{AllSmall}
 use Rattle.sx_expand.proofs.KidsLowered.{KidsLoweredTo}
 use Rattle.sx_expand.proofs.KidsPut.{proof-within}
 use Rattle.sx_expand.proofs.NodeRead.{puts, own-is, lowered}
 use Rattle.sx_expand.proofs.OwnSubject.{flat-none, flat-own}
-
--- each of the terms passes no limit
-abbrev pub AllSmall : List Tree → Type 0
-AllSmall [] = Unit {0}
-AllSmall (t ∷ ts) = IsSmall t × AllSmall ts
 
 small-all : (ts : List Tree) → first_over ts ≡ None → AllSmall ts
 small-all [] e = tt
@@ -70,6 +66,12 @@ small-outputs [] ts h = tt
 small-outputs (b ∷ mask) [] h = tt
 small-outputs (true ∷ mask) (t ∷ ts) h = (h.0, small-outputs mask ts h.1)
 small-outputs (false ∷ mask) (t ∷ ts) h = small-outputs mask ts h.1
+
+-- so does the first subject of a judgement whose places pass none
+pub subject-small : (modes : Modes) (j : Judgement) (t : Tree) (rest : List Tree) →
+    AllSmall j.places → subjects_of modes j ≡ t ∷ rest → IsSmall t
+subject-small modes j t rest h is =
+    (subst AllSmall is (small-outputs (modes j.form) j.places h)).0
 
 -- the first subject of the lowered judgement is an instance that passes no limit
 pub record Head (s : ℕ → Tree) (t : Tree) (subjects : List Tree) : Type 0 where

@@ -12,7 +12,7 @@ use Rattle.sx_rules.specs.declared.rule.Place.{Place}
 use Rattle.sx_rules.specs.Deep.{AreShallow}
 use Rattle.sx_rules.specs.Derivations.{Proof, by, given, Derives}
 use Rattle.sx_rules.specs.Modes.{Goal, inputs, outputs, inputs_of}
-use Rattle.sx_rules.specs.Rules.{Judgement, Rule, no_hypotheses}
+use Rattle.sx_rules.specs.Rules.{Judgement, Rule, Hypotheses}
 use Rattle.sx_rules.specs.Sets.{forms_in, shapes_in}
 use Rattle.sx_rules.specs.Views.{FormData, judgement, places_at}
 use Rattle.sx_rules.proofs.Moded.{judgement_same}
@@ -28,16 +28,17 @@ use Rattle.sx_rewrite.specs.Rewriting.{too_deep, too_big, first_over}
 use Rattle.sx_rewrite.proofs.Lowerings.{lowered_are_derivations}
 use Rattle.sx_rewrite.proofs.LoweredAlways.{lowering_exists}
 use Rattle.sx_rewrite.proofs.Measured.{terms_are_measured, measured_are_all}
-use Rattle.sx_expand.specs.declared.listing.Listing.{Listing}
+use Rattle.sx_expand.specs.declared.reading.Reading.{Reading}
 use Rattle.sx_expand.specs.declared.read.Read.{Read}
 use Rattle.sx_expand.specs.declared.reader.Reader.{Reader}
 use Rattle.sx_expand.specs.Expansions.{HasOneSubject}
 use Rattle.sx_expand.specs.KidSubjects.{IsSubjectAt}
-use Rattle.sx_expand.specs.Listed.{set_in, signature_in}
+use Rattle.sx_expand.specs.Readings.{AllSmall, IsReading, set_by, signature_by, hyps_by}
 use Rattle.sx_expand.specs.ReadDerivations.{IsRead}
 use Rattle.sx_expand.specs.Readers.{terms_in, GoesOn}
 use Rattle.sx_expand.specs.Roots.{StandAt, roles_of, IsRoot, IsRootLowered}
-use Rattle.sx_expand.proofs.NodeSubject.{AllSmall, node-places}
+use Rattle.sx_expand.proofs.Givens.{given-small, given-many, given-fits}
+use Rattle.sx_expand.proofs.NodeSubject.{node-places}
 use Rattle.sx_expand.proofs.RootTerms.{AreSubject, stand-at, outs-same, subs-same, both-shallow, outputs-many, one-subject, places-many, places-fit}
 
 -- terms that pass no limit
@@ -67,25 +68,26 @@ passed (t ∷ ts) h = (go (nat_lt 1000 (depth_of t)) (nat_lt 1000000 (size_of t)
     go false true q r e = cc
     go false false q r e = let a = ltb-false 1000 (depth_of t) q in let b = ltb-false 1000000 (size_of t) r in (omega (arith, a), omega (arith, b))
 
-places-small : (base : List Rule) (q : Proof) (k : Judgement) → Derives base no_hypotheses k q → ProofPasses is_small base q → AllSmall k.places
-places-small base (given i) k d h = cc
-places-small base (by r binds kids) k d h = node-places base no_hypotheses r binds kids k d (passed (node_terms (slice_get base r) binds) h.0)
+places-small : (base : List Rule) (hyps : Hypotheses) → ((i : ℕ) (j : Judgement) → slice_get hyps.judgements i ≡ Some j → AllSmall j.places) →
+    (q : Proof) (k : Judgement) → Derives base hyps k q → ProofPasses is_small base q → AllSmall k.places
+places-small base hyps f (given i) k d h = f i k d
+places-small base hyps f (by r binds kids) k d h = node-places base hyps r binds kids k d (passed (node_terms (slice_get base r) binds) h.0)
 
-module _ (l : Listing) (ok : IsAccepted (signature_in l) (shapes_in l.set.now.base) (shapes_in l.set.now.rules) (set_in l)) where
+module _ (l : Reading) (ok : IsAccepted (signature_by l) (shapes_in l.listing.set.now.base) (shapes_in l.listing.set.now.rules) (set_by l)) (good : IsReading l) where
   abbrev forms : List FormData
-  forms = forms_in l.set.now.base
+  forms = forms_in l.listing.set.now.base
 
   abbrev base : List Shape
-  base = shapes_in l.set.now.base
+  base = shapes_in l.listing.set.now.base
 
   abbrev shapes : List Shape
-  shapes = shapes_in l.set.now.rules
+  shapes = shapes_in l.listing.set.now.rules
 
   abbrev set : Accepted
-  set = set_in l
+  set = set_by l
 
   abbrev sig : Signature
-  sig = signature_in l
+  sig = signature_by l
 
   module _ (form : ℕ) (numbers : List ℕ) (old new : Reader) (below : AreBelow (length (terms_in old)) numbers) (near : AreShallow (map (tree_at (terms_in old)) numbers)) (one : HasOneSubject forms form)
       (on : GoesOn set.table old new) (r : Read) (j : Judgement) (p : Proof) (root : IsRoot l (record { form = form; terms = map (tree_at (terms_in old)) numbers }) j p) where
@@ -96,17 +98,17 @@ module _ (l : Listing) (ok : IsAccepted (signature_in l) (shapes_in l.set.now.ba
     terms-are = sym (ap (λ (g : Goal). g.terms) root.goal_is)
 
     module _ (read : IsRead l (terms_in new) true j p (Ok r)) where
-      pub stands : (q : Proof) (k : Judgement) → Lowers set sig.subjects no_hypotheses p q k → StandAt set.table (terms_in new) r.subject (roles_of (places_at forms form)) numbers r.outputs.items k.places
+      pub stands : (q : Proof) (k : Judgement) → Lowers set sig.subjects (hyps_by l) p q k → StandAt set.table (terms_in new) r.subject (roles_of (places_at forms form)) numbers r.outputs.items k.places
       stands q k lowers =
           let ps = places_at forms j.form in
-          let d = lowered_are_derivations sig base shapes set ok no_hypotheses (tt, tt) p q j k root.can.derives lowers in
+          let d = lowered_are_derivations sig base shapes set ok (hyps_by l) good.given.below p q j k root.can.derives lowers in
           let kid = read.2 refl in
-          let measured = terms_are_measured sig base shapes set ok no_hypotheses p j root.can.derives in
-          let small = places-small set.base q k d.0 (measured_are_all sig base shapes set ok no_hypotheses p q k measured.0 lowers measured.1 is_small (not-over measured.0 (kid.small measured.0 measured.1))) in
+          let measured = terms_are_measured sig base shapes set ok (hyps_by l) p j root.can.derives in
+          let small = places-small set.base (hyps_by l) (given-small l.listing.set.now (hyps_by l) good.given) q k d.0 (measured_are_all sig base shapes set ok (hyps_by l) p q k measured.0 lowers measured.1 is_small (not-over measured.0 (kid.small measured.0 measured.1))) in
           let outs : List Bool = map (λ (x : Place). is_out x.role) ps in
           let subs : List Bool = map (λ (x : Place). is_sub x.role) ps in
-          let js-many = places-many shapes sig.forms (rules_of set) ok.sorted p j root.can.derives ∙ length-map ps (λ (x : Place). x.sort) in
-          let ks-many = places-many base sig.forms set.base ok.base_sorted q k d.0 ∙ ap (λ (n : ℕ). length (sig.forms n)) d.1.same_form ∙ length-map ps (λ (x : Place). x.sort) in
+          let js-many = places-many shapes sig.forms (rules_of set) ok.sorted (hyps_by l) (given-many l.listing.set.now (hyps_by l) good.given) p j root.can.derives ∙ length-map ps (λ (x : Place). x.sort) in
+          let ks-many = places-many base sig.forms set.base ok.base_sorted (hyps_by l) (given-many l.listing.set.now (hyps_by l) good.given) q k d.0 ∙ ap (λ (n : ℕ). length (sig.forms n)) d.1.same_form ∙ length-map ps (λ (x : Place). x.sort) in
           let roles-many = length-map ps (λ (x : Place). x.role) in
           let subs-many = length-map ps (λ (x : Place). is_sub x.role) in
           let ins : map (tree_at (terms_in new)) numbers ≡ inputs outs j.places = maps_same (terms_in old) (terms_in new) on.extends numbers below ∙ terms-are in
@@ -116,7 +118,7 @@ module _ (l : Listing) (ok : IsAccepted (signature_in l) (shapes_in l.set.now.ba
           let subject = subst (λ (n : ℕ). IsSubjectAt (terms_in new) (outputs (sig.subjects n) k.places) r.subject) d.1.same_form (kid.subject q k lowers) in
           let own = one-subject (terms_in new) (outputs subs k.places) r.subject (omega (arith, few, here)) subject in
           let shallow = both-shallow outs j.places (subst AreShallow terms-are near) root.near in
-          let fits = places-fit shapes sig.forms (rules_of set) ok.sorted base set.table ok.desugars p j root.can.derives root.can.fit in
+          let fits = places-fit shapes sig.forms (rules_of set) ok.sorted base set.table ok.desugars (hyps_by l) (λ i x e. given-fits l.listing.set.now (hyps_by l) good.given i x e set.table ok.desugars.is_table) p j root.can.derives root.can.fit in
           let n = extends-length (terms_in old) (terms_in new) on.extends in
           subst (λ (f : ℕ). StandAt set.table (terms_in new) r.subject (roles_of (places_at forms f)) numbers r.outputs.items k.places) form-is
           (stand-at set.table (terms_in new) r.subject (roles_of ps) numbers r.outputs.items j.places k.places
@@ -129,14 +131,14 @@ module _ (l : Listing) (ok : IsAccepted (signature_in l) (shapes_in l.set.now.ba
 
       -- there is such a judgement
       pub some-stands : (ks : List Tree) × StandAt set.table (terms_in new) r.subject (roles_of (places_at forms form)) numbers r.outputs.items ks
-      some-stands = let w = lowering_exists sig base shapes set ok no_hypotheses p j root.can.derives in (w.1.places, stands w.0 w.1 w.2)
+      some-stands = let w = lowering_exists sig base shapes set ok (hyps_by l) p j root.can.derives in (w.1.places, stands w.0 w.1 w.2)
 
       -- the judgement with these places is the lowered one
       pub root-judged : (x : JudgementOf) → x.form ≡ form →
           ((ks : List Tree) → StandAt set.table (terms_in new) r.subject (roles_of (places_at forms form)) numbers r.outputs.items ks → map tree x.places.items ≡ ks) → IsRootLowered l p (Ok x)
       root-judged x same f = (
         (λ q k lowers.
-            let d = lowered_are_derivations sig base shapes set ok no_hypotheses (tt, tt) p q j k root.can.derives lowers in
+            let d = lowered_are_derivations sig base shapes set ok (hyps_by l) good.given.below p q j k root.can.derives lowers in
             judgement_same (judgement x) k (same ∙ sym form-is ∙ sym d.1.same_form) (f k.places (stands q k lowers))),
         (read.2 refl).small,
       )

@@ -1,5 +1,6 @@
 -- The judgement that a derivation derives, and the one that it is lowered to, place by place.
 use Rattle.std.proofs.Common.{◌≡◌, arith, ℕ, zero, suc, ◌<◌, ◌≤◌, inl, inr, length, Bool, true, false, List, [], ◌∷◌, map, Option, Some, None, refl, sym, ap, ◌∙◌, subst}
+use Rattle.std.specs.Prelude.{slice_get}
 use Rattle.std.proofs.lemmas.List.{length-map}
 use Rattle.sx_term.specs.Tree.{Tree, Trees, node, lexeme, hole, none, ◌▹◌, depth_of, forest, listed}
 use Rattle.sx_term.specs.Instances.{instance, instances, bound_by, Stands, StandsInKids}
@@ -12,7 +13,7 @@ use Rattle.sx_rules.specs.declared.rule.Place.{Place}
 use Rattle.sx_rules.specs.Deep.{AreShallow}
 use Rattle.sx_rules.specs.Derivations.{Proof, by, given, Derives}
 use Rattle.sx_rules.specs.Modes.{inputs, outputs}
-use Rattle.sx_rules.specs.Rules.{Judgement, Rule, no_hypotheses}
+use Rattle.sx_rules.specs.Rules.{Judgement, Rule, Hypotheses}
 use Rattle.sx_rules.specs.Sorts.{FormSorts, RulesAreSorted}
 use Rattle.sx_rules.proofs.ModeLaws.{inside}
 use Rattle.sx_plain.specs.Plain.{Body, Table, image}
@@ -23,8 +24,8 @@ use Rattle.sx_rewrite.specs.Lowering.{BindsFit}
 use Rattle.sx_rewrite.specs.Puts.{IsSmall}
 use Rattle.sx_rewrite.proofs.Known.{sorted-at}
 use Rattle.sx_expand.specs.KidSubjects.{IsSubjectAt}
+use Rattle.sx_expand.specs.Readings.{AllSmall}
 use Rattle.sx_expand.specs.Roots.{IsImagePlace, IsSubjectPlace, StandAt, roles_of}
-use Rattle.sx_expand.proofs.NodeSubject.{AllSmall}
 
 -- each of the terms is the subject
 abbrev pub AreSubject : List Tree → Option ℕ → List Tree → Type 0
@@ -118,9 +119,10 @@ module _ (shapes : List Shape) (forms : FormSorts) (rules : List Rule) (sorted :
   sorts-many vars (t ∷ ts) (s ∷ sorts) h = let e = sorts-many vars ts sorts h.1 in omega (arith, e)
 
   -- a derived judgement has a term for each place of its form
-  pub places-many : (p : Proof) (j : Judgement) → Derives rules no_hypotheses j p → length j.places ≡ length (forms j.form)
-  places-many (given i) j d = cc
-  places-many (by r binds kids) j (rule, at, many, concluded, apart_ones, each) =
+  pub places-many : (hyps : Hypotheses) → ((i : ℕ) (j : Judgement) → slice_get hyps.judgements i ≡ Some j → length j.places ≡ length (forms j.form)) →
+      (p : Proof) (j : Judgement) → Derives rules hyps j p → length j.places ≡ length (forms j.form)
+  places-many hyps f (given i) j d = f i j d
+  places-many hyps f (by r binds kids) j (rule, at, many, concluded, apart_ones, each) =
       let s = sorted-at shapes forms rules r rule sorted at in
       subst (λ (k : Judgement). length k.places ≡ length (forms k.form)) concluded
       (length-map rule.conclusion.places (instance (bound_by binds)) ∙ sorts-many rule.sorts rule.conclusion.places (forms rule.conclusion.form) s.0)
@@ -159,9 +161,10 @@ module _ (shapes : List Shape) (forms : FormSorts) (rules : List Rule) (sorted :
     )
 
     -- its terms have as many parts as the table asks for, where those that are bound do
-    pub places-fit : (p : Proof) (j : Judgement) → Derives rules no_hypotheses j p → BindsFit table p → FitTable table (forest j.places)
-    places-fit (given i) j d h = cc
-    places-fit (by r binds kids) j (rule, at, many, concluded, apart_ones, each) h =
+    pub places-fit : (hyps : Hypotheses) → ((i : ℕ) (j : Judgement) → slice_get hyps.judgements i ≡ Some j → FitTable table (forest j.places)) →
+        (p : Proof) (j : Judgement) → Derives rules hyps j p → BindsFit table p → FitTable table (forest j.places)
+    places-fit hyps f (given i) j d h = f i j d
+    places-fit hyps f (by r binds kids) j (rule, at, many, concluded, apart_ones, each) h =
         let s = sorted-at shapes forms rules r rule sorted at in
         subst (λ (k : Judgement). FitTable table (forest k.places)) concluded
         (row-fits rule.sorts binds rule.conclusion.places (forms rule.conclusion.form) many h.0 s.0)

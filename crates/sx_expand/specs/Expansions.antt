@@ -23,14 +23,18 @@ use Rattle.sx_expand.specs.declared.expanded.Expanded.{Expanded}
 abbrev pub HasOneSubject : List FormData → (form : ℕ) → Type 0
 HasOneSubject forms form = length (outputs (subjects_in forms form) (places_at forms form)) ≤ 1
 
--- The answer derives the goal without hypotheses, and the list is that of its derivation, which
+-- The answer derives the goal from the hypotheses, and the list is that of its derivation, which
 -- can be rewritten. No output is deeper than 1,000.
-pub record IsListedAnswer (modes : Modes) (a : Accepted) (goal : Goal) (list : List Entry)
-    (answer : Answer) : Type 0 where
-  pub derives : DerivesGoal modes (rules_of a) no_hypotheses goal answer
+pub record IsListedFrom (modes : Modes) (a : Accepted) (hyps : Hypotheses) (goal : Goal)
+    (list : List Entry) (answer : Answer) : Type 0 where
+  pub derives : DerivesGoal modes (rules_of a) hyps goal answer
   pub list_is : list ≡ order_of answer.0
-  pub rewritable : CanRewrite a no_hypotheses answer.0
+  pub rewritable : CanRewrite a hyps answer.0
   pub near : AreShallow answer.1
+
+-- so it is without hypotheses
+abbrev pub IsListedAnswer : Modes → Accepted → Goal → List Entry → Answer → Type 0
+IsListedAnswer modes a goal list answer = IsListedFrom modes a no_hypotheses goal list answer
 
 -- the derivation is rewritten to one with this list, this judgement and so many copied nodes,
 -- or the refusal is that of rewriting it

@@ -6,6 +6,7 @@ pub mod Listed
 pub mod Tallies
 pub mod LoweredLists
 pub mod Readers
+pub mod Readings
 pub mod Put
 pub mod Followed
 pub mod KidSubjects

@@ -3,47 +3,48 @@ use Rattle.std.specs.Prelude.{◌≡◌, ℕ, ◌≤◌, Bool, true, false, List
 use Rattle.sx_term.specs.Tree.{Tree}
 use Rattle.sx_rules.specs.Derivations.{Proof, Derives, HasShallowBinds}
 use Rattle.sx_rules.specs.Modes.{inputs_of, outputs_of}
-use Rattle.sx_rules.specs.Rules.{Judgement, no_hypotheses}
+use Rattle.sx_rules.specs.Rules.{Judgement}
 use Rattle.sx_arena.specs.Arena.{tree_at, AreBelow}
 use Rattle.sx_rewrite.specs.declared.rewrite_error.RewriteError.{RewriteError}
 use Rattle.sx_rewrite.specs.declared.rewrite_error.RewriteError.TheVariants.{Memory}
 use Rattle.sx_rewrite.specs.Accepted.{rules_of}
 use Rattle.sx_rewrite.specs.Lowering.{BindsFit, IsRefused}
 use Rattle.sx_rewrite.specs.Used.{lowered_height}
-use Rattle.sx_expand.specs.declared.listing.Listing.{Listing}
 use Rattle.sx_expand.specs.declared.read.Read.{Read}
+use Rattle.sx_expand.specs.declared.reading.Reading.{Reading}
 use Rattle.sx_expand.specs.KidsRead.{IsKidRead}
-use Rattle.sx_expand.specs.Listed.{set_in, signature_in, StandsIn}
+use Rattle.sx_expand.specs.Listed.{StandsIn}
+use Rattle.sx_expand.specs.Readings.{set_by, signature_by, hyps_by}
 
--- A derivation of the judgement, from no hypotheses, stands in the list from the number on. Its
+-- A derivation of the judgement, from the hypotheses, stands in the list from the number on. Its
 -- terms are good, and what it is lowered to is not too deep where it is needed.
-pub record CanRead (l : Listing) (at : ℕ) (is_needed : Bool) (j : Judgement) (p : Proof) :
+pub record CanRead (l : Reading) (at : ℕ) (is_needed : Bool) (j : Judgement) (p : Proof) :
     Type 0 where
-  pub stands : StandsIn l at p
-  pub derives : Derives (rules_of (set_in l)) no_hypotheses j p
+  pub stands : StandsIn l.listing at p
+  pub derives : Derives (rules_of (set_by l)) (hyps_by l) j p
   pub binds : HasShallowBinds p
-  pub fit : BindsFit (set_in l).table p
-  pub low : is_needed ≡ true → lowered_height (set_in l) p ≤ 3000
+  pub fit : BindsFit (set_by l).table p
+  pub low : is_needed ≡ true → lowered_height (set_by l) p ≤ 3000
 
 -- the terms with these numbers are the inputs of the judgement
-abbrev pub AreInputs : Listing → List Tree → List ℕ → Judgement → Type 0
+abbrev pub AreInputs : Reading → List Tree → List ℕ → Judgement → Type 0
 AreInputs l terms numbers j =
-    map (tree_at terms) numbers ≡ inputs_of (signature_in l).modes j
+    map (tree_at terms) numbers ≡ inputs_of (signature_by l).modes j
 
 -- the error tells the first measured term that passes a limit, or want of memory;
 -- where the derivation is not needed, want of memory alone
-abbrev pub IsReadRefused : Listing → Bool → Proof → RewriteError → Type 0
+abbrev pub IsReadRefused : Reading → Bool → Proof → RewriteError → Type 0
 IsReadRefused l is_needed p e =
-    (is_needed ≡ true → IsRefused (set_in l) (signature_in l).subjects no_hypotheses p e)
+    (is_needed ≡ true → IsRefused (set_by l) (signature_by l).subjects (hyps_by l) p e)
     × (is_needed ≡ false → e ≡ Memory)
 
 -- the outputs of the judgement stand at the numbers, and where the derivation is needed it is read;
 -- or it is refused
-abbrev pub IsRead : Listing → List Tree → Bool → Judgement → Proof → Result Read RewriteError →
+abbrev pub IsRead : Reading → List Tree → Bool → Judgement → Proof → Result Read RewriteError →
     Type 0
 IsRead l terms is_needed j p (Ok r) =
     AreBelow (length terms) r.outputs.items
-    × (map (tree_at terms) r.outputs.items ≡ outputs_of (signature_in l).modes j)
+    × (map (tree_at terms) r.outputs.items ≡ outputs_of (signature_by l).modes j)
     × (is_needed ≡ true →
-    IsKidRead (set_in l) (signature_in l).subjects no_hypotheses terms p r.subject)
+    IsKidRead (set_by l) (signature_by l).subjects (hyps_by l) terms p r.subject)
 IsRead l terms is_needed j p (Err e) = IsReadRefused l is_needed p e

@@ -9,7 +9,7 @@ use Rattle.sx_rules.specs.declared.rule.Place.{Place}
 use Rattle.sx_rules.specs.Deep.{AreShallow}
 use Rattle.sx_rules.specs.Derivations.{Proof}
 use Rattle.sx_rules.specs.Modes.{Goal, goal_of, outputs_of}
-use Rattle.sx_rules.specs.Rules.{Judgement, no_hypotheses}
+use Rattle.sx_rules.specs.Rules.{Judgement}
 use Rattle.sx_rules.specs.Views.{judgement}
 use Rattle.sx_plain.specs.Plain.{Table, image}
 use Rattle.sx_plain.specs.Tables.{FitsTable}
@@ -20,9 +20,9 @@ use Rattle.sx_rewrite.specs.Lowers.{Lowers}
 use Rattle.sx_rewrite.specs.Measured.{Measures}
 use Rattle.sx_rewrite.specs.Puts.{IsSmall}
 use Rattle.sx_rewrite.specs.Rewriting.{first_over}
-use Rattle.sx_expand.specs.declared.listing.Listing.{Listing}
-use Rattle.sx_expand.specs.Listed.{set_in, signature_in}
+use Rattle.sx_expand.specs.declared.reading.Reading.{Reading}
 use Rattle.sx_expand.specs.ReadDerivations.{CanRead}
+use Rattle.sx_expand.specs.Readings.{set_by, signature_by, hyps_by}
 
 -- the roles of the places
 abbrev pub roles_of : List Place → List Role
@@ -60,17 +60,17 @@ StandAt table terms subject (Out ∷ roles) is (o ∷ os) (k ∷ ks) =
 StandAt table terms subject _ _ _ _ = ⊥
 
 -- a derivation of the goal stands at the begin of the list; its outputs are no deeper than 1,000
-pub record IsRoot (l : Listing) (goal : Goal) (j : Judgement) (p : Proof) : Type 0 where
+pub record IsRoot (l : Reading) (goal : Goal) (j : Judgement) (p : Proof) : Type 0 where
   pub can : CanRead l 0 true j p
-  pub goal_is : goal_of (signature_in l).modes j ≡ goal
-  pub near : AreShallow (outputs_of (signature_in l).modes j)
+  pub goal_is : goal_of (signature_by l).modes j ≡ goal
+  pub near : AreShallow (outputs_of (signature_by l).modes j)
 
 -- this is the judgement that the derivation is lowered to, and no measured term passes a limit;
 -- or the error tells the first that does
-abbrev pub IsRootLowered : Listing → Proof → Result JudgementOf RewriteError → Type 0
+abbrev pub IsRootLowered : Reading → Proof → Result JudgementOf RewriteError → Type 0
 IsRootLowered l p (Ok x) =
-    ((q : Proof) (k : Judgement) → Lowers (set_in l) (signature_in l).subjects no_hypotheses p q k →
+    ((q : Proof) (k : Judgement) → Lowers (set_by l) (signature_by l).subjects (hyps_by l) p q k →
     judgement x ≡ k)
-    × ((ts : List Tree) → Measures (set_in l) (signature_in l).subjects no_hypotheses p ts →
+    × ((ts : List Tree) → Measures (set_by l) (signature_by l).subjects (hyps_by l) p ts →
     first_over ts ≡ None)
-IsRootLowered l p (Err e) = IsRefused (set_in l) (signature_in l).subjects no_hypotheses p e
+IsRootLowered l p (Err e) = IsRefused (set_by l) (signature_by l).subjects (hyps_by l) p e

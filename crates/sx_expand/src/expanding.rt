@@ -1,19 +1,20 @@
 //! Derivations that are expanded.
 
-ghost use Rattle.std.specs.Prelude.{length, map};
+ghost use Rattle.std.specs.Prelude.{◌≡◌, length, map};
 ghost use Rattle.sx_rules.specs.Deep.{AreShallow};
 ghost use Rattle.sx_rules.specs.Derivations as spec;
 ghost use Rattle.sx_rules.specs.EntryView.{entries};
 ghost use Rattle.sx_rules.specs.First.{Answer};
 ghost use Rattle.sx_rules.specs.Rules as known;
-ghost use Rattle.sx_rules.specs.Rules.{no_hypotheses};
 ghost use Rattle.sx_rules.specs.Sets.{forms_in};
-ghost use Rattle.sx_rules.specs.Views.{goal as goal_of};
+ghost use Rattle.sx_rules.specs.Views.{goal as goal_of, hypotheses};
 ghost use Rattle.sx_arena.specs.Arena.{tree_at, AreBelow};
 ghost use Rattle.sx_rewrite.specs.AcceptedView.{accepted, signature};
-ghost use Rattle.sx_expand.specs.Expansions.{IsListedAnswer, IsExpanding, HasOneSubject};
+ghost use Rattle.sx_expand.specs.Expansions.{IsListedAnswer, IsListedFrom, IsExpanding};
+ghost use Rattle.sx_expand.specs.Expansions.{HasOneSubject};
 ghost use Rattle.sx_expand.specs.Listed.{HasEnds, set_in, signature_in, entries_in};
 ghost use Rattle.sx_expand.specs.Readers.{terms_in, IsReader};
+ghost use Rattle.sx_expand.specs.Readings.{IsReading, set_by, signature_by, hyps_by};
 ghost use Rattle.sx_expand.specs.Roots.{IsRoot, IsRootLowered};
 
 use crate::ends::ends_of;
@@ -23,12 +24,13 @@ use crate::listing::Listing;
 use crate::lowered_list::LoweredList;
 use crate::node_reading::read_node;
 use crate::reader::Reader;
+use crate::reading::Reading;
 use crate::root_places::root_judgement;
 use std::alloc::Global;
 use sx_arena::{Arena, enter_places};
 use sx_images::Images;
 use sx_rewrite::{Accepted, RewriteError};
-use sx_rules::{Entry, Goal, Judgement};
+use sx_rules::{Entry, Goal, Hyps, Judgement};
 
 /// What the derivation of the goal with this list is lowered to, as a list with its judgement.
 /// Where that has more nodes than the budget, is deeper than 3,000, or has a term over a limit, the
@@ -52,8 +54,8 @@ pub fn expand(
     ensures { (answer : Answer) →
         IsListedAnswer (signature set.now).modes (accepted set.now) (goal_of goal.now)
         (entries list.now) answer →
-        IsExpanding (accepted set.now) (signature set.now).subjects no_hypotheses answer.0 budget
-        result }
+        IsExpanding (accepted set.now) (signature set.now).subjects known.no_hypotheses answer.0
+        budget result }
 {
     let ends = ends_of(alloc, set, list)?;
     let listing = Listing {
@@ -64,7 +66,8 @@ pub fn expand(
     expand_listing(alloc, &listing, goal, budget)
 }
 
-/// What the derivation of the goal is lowered to that the listing begins with.
+/// What the derivation of the goal by the extended rules, without hypotheses, is lowered to that
+/// the listing begins with.
 fn expand_listing(
     alloc: Global,
     listing: &Listing,
@@ -80,12 +83,51 @@ fn expand_listing(
     ensures { (answer : Answer) →
         IsListedAnswer (signature_in listing.now).modes (set_in listing.now) (goal_of goal.now)
         (entries_in listing.now) answer →
-        IsExpanding (set_in listing.now) (signature_in listing.now).subjects no_hypotheses answer.0
-        budget result }
+        IsExpanding (set_in listing.now) (signature_in listing.now).subjects known.no_hypotheses
+        answer.0 budget result }
 {
-    listing.set.facts();
-    let lowered = lower_listing(alloc, listing, budget)?;
-    match lowered_root(alloc, listing, goal) {
+    let none = no_hypotheses(alloc);
+    let reading = Reading {
+        listing: *listing,
+        given: &none,
+    };
+    let answer = expand_reading(alloc, &reading, goal, budget);
+    drop(none);
+    answer
+}
+
+/// There are none.
+fn no_hypotheses(alloc: Global) -> Hyps
+    ensures { hypotheses result ≡ known.no_hypotheses }
+{
+    Hyps {
+        holds: Vec::new(alloc),
+        apart: Vec::new(alloc),
+    }
+}
+
+/// What the derivation of the goal is lowered to that the list begins with.
+fn expand_reading(
+    alloc: Global,
+    reading: &Reading,
+    goal: &Goal,
+    budget: u64,
+) -> Result<Expanded, RewriteError>
+    requires reading { IsReading reading.now }
+    requires shallow { AreShallow (goal_of goal.now).terms }
+    requires one { HasOneSubject (forms_in reading.now.listing.set.now.base) goal.now.form }
+    requires listed { (answer : Answer)
+        × IsListedFrom (signature_by reading.now).modes (set_by reading.now) (hyps_by reading.now)
+        (goal_of goal.now) (entries_in reading.now.listing) answer }
+    ensures { (answer : Answer) →
+        IsListedFrom (signature_by reading.now).modes (set_by reading.now) (hyps_by reading.now)
+        (goal_of goal.now) (entries_in reading.now.listing) answer →
+        IsExpanding (set_by reading.now) (signature_by reading.now).subjects (hyps_by reading.now)
+        answer.0 budget result }
+{
+    reading.listing.set.facts();
+    let lowered = lower_listing(alloc, &reading.listing, budget)?;
+    match lowered_root(alloc, reading, goal) {
         Ok(judgement) => {
             let LoweredList { entries, copied } = lowered;
             Ok(Expanded {
@@ -103,14 +145,14 @@ fn expand_listing(
 
 /// The judgement that the derivation of the goal is lowered to, where no term of the lowered
 /// derivation passes a limit. The first that does is refused.
-fn lowered_root(alloc: Global, listing: &Listing, goal: &Goal) -> Result<Judgement, RewriteError>
-    requires ends { HasEnds listing.now }
+fn lowered_root(alloc: Global, reading: &Reading, goal: &Goal) -> Result<Judgement, RewriteError>
+    requires reading { IsReading reading.now }
     requires shallow { AreShallow (goal_of goal.now).terms }
-    requires one { HasOneSubject (forms_in listing.now.set.now.base) goal.now.form }
+    requires one { HasOneSubject (forms_in reading.now.listing.set.now.base) goal.now.form }
     requires root { (j : known.Judgement) × (p : spec.Proof)
-        × IsRoot listing.now (goal_of goal.now) j p }
-    ensures { (j : known.Judgement) (p : spec.Proof) → IsRoot listing.now (goal_of goal.now) j p →
-        IsRootLowered listing.now p result }
+        × IsRoot reading.now (goal_of goal.now) j p }
+    ensures { (j : known.Judgement) (p : spec.Proof) → IsRoot reading.now (goal_of goal.now) j p →
+        IsRootLowered reading.now p result }
 {
     let mut arena = Arena::new(alloc);
     match enter_places(alloc, &mut arena, &[], false, &goal.inputs) {
@@ -119,7 +161,7 @@ fn lowered_root(alloc: Global, listing: &Listing, goal: &Goal) -> Result<Judgeme
                 arena,
                 images: Images::new(alloc),
             };
-            let judgement = read_root(alloc, listing, &mut reader, goal.form, &inputs);
+            let judgement = read_root(alloc, reading, &mut reader, goal.form, &inputs);
             drop(reader);
             drop(inputs);
             judgement
@@ -136,29 +178,29 @@ fn lowered_root(alloc: Global, listing: &Listing, goal: &Goal) -> Result<Judgeme
 /// refused.
 fn read_root(
     alloc: Global,
-    listing: &Listing,
+    reading: &Reading,
     reader: &mut Reader,
     form: u32,
     inputs: &[usize],
 ) -> Result<Judgement, RewriteError>
-    requires ends { HasEnds listing.now }
-    requires reader { IsReader (set_in listing.now).table reader.old }
+    requires reading { IsReading reading.now }
+    requires reader { IsReader (set_by reading.now).table reader.old }
     requires below { AreBelow (length (terms_in reader.old)) inputs.now }
     requires shallow { AreShallow (map (tree_at (terms_in reader.old)) inputs.now) }
-    requires one { HasOneSubject (forms_in listing.now.set.now.base) form }
+    requires one { HasOneSubject (forms_in reading.now.listing.set.now.base) form }
     requires root { (j : known.Judgement) × (p : spec.Proof)
-        × IsRoot listing.now (record {
+        × IsRoot reading.now (record {
           form = form;
           terms = map (tree_at (terms_in reader.old)) inputs.now;
         }) j p }
-    ensures { (j : known.Judgement) (p : spec.Proof) → IsRoot listing.now (record {
+    ensures { (j : known.Judgement) (p : spec.Proof) → IsRoot reading.now (record {
       form = form;
       terms = map (tree_at (terms_in reader.old)) inputs.now;
-    }) j p → IsRootLowered listing.now p result }
+    }) j p → IsRootLowered reading.now p result }
 {
-    listing.set.facts();
-    let read = read_node(alloc, listing, reader, 0, inputs, true)?;
-    let judgement = root_judgement(alloc, listing.set, reader, form, inputs, &read);
+    reading.listing.set.facts();
+    let read = read_node(alloc, reading, reader, 0, inputs, true)?;
+    let judgement = root_judgement(alloc, reading.listing.set, reader, form, inputs, &read);
     drop(read);
     Ok(judgement?)
 }

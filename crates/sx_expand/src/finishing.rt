@@ -1,22 +1,21 @@
 //! Nodes whose kids are read.
 
 ghost use Rattle.std.specs.Prelude.{◌≡◌, true, List, [], OnOk, IfOk, length, map};
-ghost use Rattle.sx_rules.specs.Rules.{no_hypotheses};
 ghost use Rattle.sx_arena.specs.Arena.{tree_at, AreBelow};
 ghost use Rattle.sx_expand.specs.Followed.{IsWork, bindings_of};
-ghost use Rattle.sx_expand.specs.Listed.{set_in, signature_in};
 ghost use Rattle.sx_expand.specs.ReadDerivations.{IsRead};
 ghost use Rattle.sx_expand.specs.ReadNodes.{NodeData, IsNodeIn, AreFollowed, IsNodeRead};
 ghost use Rattle.sx_expand.specs.ReadNodes.{IsSubjectRead, proof_by};
 ghost use Rattle.sx_expand.specs.Readers.{terms_in, IsReader, GoesOn};
+ghost use Rattle.sx_expand.specs.Readings.{IsReading, set_by};
 
 use crate::binding::bound_numbers;
-use crate::listing::Listing;
 use crate::lower_node::lower_node;
 use crate::node::Node;
 use crate::node_binding::node_outputs;
 use crate::read::Read;
 use crate::reader::Reader;
+use crate::reading::Reading;
 use crate::work::Work;
 use std::alloc::Global;
 use sx_arena::rule_at;
@@ -27,24 +26,25 @@ use sx_term::NoMemory;
 /// of its own terms that passes a limit is refused, where it is needed.
 pub(crate) fn finish_node(
     alloc: Global,
-    listing: &Listing,
+    reading: &Reading,
     reader: &mut Reader,
     work: &Work,
     node: &Node,
     subjects: &[Option<usize>],
 ) -> Result<Read, RewriteError>
-    requires reader { IsReader (set_in listing.now).table reader.old }
+    requires reading { IsReading reading.now }
+    requires reader { IsReader (set_by reading.now).table reader.old }
     requires work { IsWork (terms_in reader.old) work.now }
-    requires node { (d : NodeData) × IsNodeIn listing.now node.now d
-        × IsNodeRead listing.now node.now (terms_in reader.old) work.now subjects.now d }
-    ensures on { OnOk result (GoesOn (set_in listing.now).table reader.old reader.new) }
-    ensures read { (d : NodeData) → IsNodeIn listing.now node.now d →
-        IsNodeRead listing.now node.now (terms_in reader.old) work.now subjects.now d →
-        IsRead listing.now (terms_in reader.new) node.now.is_needed d.judgement
+    requires node { (d : NodeData) × IsNodeIn reading.now node.now d
+        × IsNodeRead reading.now node.now (terms_in reader.old) work.now subjects.now d }
+    ensures on { OnOk result (GoesOn (set_by reading.now).table reader.old reader.new) }
+    ensures read { (d : NodeData) → IsNodeIn reading.now node.now d →
+        IsNodeRead reading.now node.now (terms_in reader.old) work.now subjects.now d →
+        IsRead reading.now (terms_in reader.new) node.now.is_needed d.judgement
         (proof_by node.now d) result }
 {
-    let outputs = node_outputs(alloc, listing, reader, work, node)?;
-    match node_subject(alloc, listing, reader, work, node, subjects) {
+    let outputs = node_outputs(alloc, reading, reader, work, node)?;
+    match node_subject(alloc, reading, reader, work, node, subjects) {
         Ok(subject) => Ok(Read { outputs, subject }),
         Err(error) => {
             drop(outputs);
@@ -56,49 +56,58 @@ pub(crate) fn finish_node(
 /// The number of the subject of what the node is lowered to, where the node is needed.
 fn node_subject(
     alloc: Global,
-    listing: &Listing,
+    reading: &Reading,
     reader: &mut Reader,
     work: &Work,
     node: &Node,
     subjects: &[Option<usize>],
 ) -> Result<Option<usize>, RewriteError>
-    requires reader { IsReader (set_in listing.now).table reader.old }
+    requires reading { IsReading reading.now }
+    requires reader { IsReader (set_by reading.now).table reader.old }
     requires work { IsWork (terms_in reader.old) work.now }
-    requires node { (d : NodeData) × IsNodeIn listing.now node.now d
-        × IsNodeRead listing.now node.now (terms_in reader.old) work.now subjects.now d }
-    ensures on { OnOk result (GoesOn (set_in listing.now).table reader.old reader.new) }
-    ensures read { (d : NodeData) → IsNodeIn listing.now node.now d →
-        IsNodeRead listing.now node.now (terms_in reader.old) work.now subjects.now d →
-        IsSubjectRead listing.now node.now (terms_in reader.new) d result }
+    requires node { (d : NodeData) × IsNodeIn reading.now node.now d
+        × IsNodeRead reading.now node.now (terms_in reader.old) work.now subjects.now d }
+    ensures on { OnOk result (GoesOn (set_by reading.now).table reader.old reader.new) }
+    ensures read { (d : NodeData) → IsNodeIn reading.now node.now d →
+        IsNodeRead reading.now node.now (terms_in reader.old) work.now subjects.now d →
+        IsSubjectRead reading.now node.now (terms_in reader.new) d result }
 {
     if !node.is_needed {
         return Ok(None);
     }
-    needed_subject(alloc, listing, reader, work, node, subjects)
+    needed_subject(alloc, reading, reader, work, node, subjects)
 }
 
 /// The number of the subject of what the node is lowered to, which is needed.
 fn needed_subject(
     alloc: Global,
-    listing: &Listing,
+    reading: &Reading,
     reader: &mut Reader,
     work: &Work,
     node: &Node,
     subjects: &[Option<usize>],
 ) -> Result<Option<usize>, RewriteError>
-    requires reader { IsReader (set_in listing.now).table reader.old }
+    requires reading { IsReading reading.now }
+    requires reader { IsReader (set_by reading.now).table reader.old }
     requires work { IsWork (terms_in reader.old) work.now }
     requires needed { node.now.is_needed ≡ true }
-    requires node { (d : NodeData) × IsNodeIn listing.now node.now d
-        × IsNodeRead listing.now node.now (terms_in reader.old) work.now subjects.now d }
-    ensures on { OnOk result (GoesOn (set_in listing.now).table reader.old reader.new) }
-    ensures read { (d : NodeData) → IsNodeIn listing.now node.now d →
-        IsNodeRead listing.now node.now (terms_in reader.old) work.now subjects.now d →
-        IsSubjectRead listing.now node.now (terms_in reader.new) d result }
+    requires node { (d : NodeData) × IsNodeIn reading.now node.now d
+        × IsNodeRead reading.now node.now (terms_in reader.old) work.now subjects.now d }
+    ensures on { OnOk result (GoesOn (set_by reading.now).table reader.old reader.new) }
+    ensures read { (d : NodeData) → IsNodeIn reading.now node.now d →
+        IsNodeRead reading.now node.now (terms_in reader.old) work.now subjects.now d →
+        IsSubjectRead reading.now node.now (terms_in reader.new) d result }
 {
-    listing.set.facts();
-    let bound = node_terms(alloc, listing, reader, work, node)?;
-    let subject = lower_node(alloc, listing.set, reader, node.number, &bound, subjects);
+    reading.listing.set.facts();
+    let bound = node_terms(alloc, reading, reader, work, node)?;
+    let subject = lower_node(
+        alloc,
+        reading.listing.set,
+        reader,
+        node.number,
+        &bound,
+        subjects,
+    );
     drop(bound);
     subject
 }
@@ -106,21 +115,21 @@ fn needed_subject(
 /// The numbers of the terms that are bound at a node whose premises are followed.
 fn node_terms(
     alloc: Global,
-    listing: &Listing,
+    reading: &Reading,
     reader: &Reader,
     work: &Work,
     node: &Node,
 ) -> Result<Vec<usize>, NoMemory>
     requires work { IsWork (terms_in reader.now) work.now }
-    requires node { (d : NodeData) × IsNodeIn listing.now node.now d
-        × AreFollowed listing.now d.rule d.binds []
+    requires node { (d : NodeData) × IsNodeIn reading.now node.now d
+        × AreFollowed reading.now d.rule d.binds []
         (bindings_of (terms_in reader.now) work.now) }
     ensures below { IfOk result (λ x. AreBelow (length (terms_in reader.now)) x.items) }
-    ensures terms { IfOk result (λ x. (d : NodeData) → IsNodeIn listing.now node.now d →
-        AreFollowed listing.now d.rule d.binds [] (bindings_of (terms_in reader.now) work.now) →
+    ensures terms { IfOk result (λ x. (d : NodeData) → IsNodeIn reading.now node.now d →
+        AreFollowed reading.now d.rule d.binds [] (bindings_of (terms_in reader.now) work.now) →
         map (tree_at (terms_in reader.now)) x.items ≡ d.binds) }
 {
-    listing.set.facts();
-    let rule = rule_at(listing.set.rules(), node.number);
+    reading.listing.set.facts();
+    let rule = rule_at(reading.listing.set.rules(), node.number);
     bound_numbers(alloc, work, rule.vars.len())
 }

@@ -9,16 +9,16 @@ ghost use Rattle.sx_rules.specs.Rules.{judgement_instance};
 ghost use Rattle.sx_rules.specs.Views.{judgement};
 ghost use Rattle.sx_arena.specs.Arena.{tree_at, AreBelow};
 ghost use Rattle.sx_expand.specs.Followed.{IsWork, bindings_of};
-ghost use Rattle.sx_expand.specs.Listed.{set_in, signature_in};
 ghost use Rattle.sx_expand.specs.ReadDerivations.{AreInputs};
 ghost use Rattle.sx_expand.specs.ReadNodes.{NodeData, IsNodeIn, AreFollowed, KidData, IsKidIn};
 ghost use Rattle.sx_expand.specs.Readers.{terms_in, IsReader, GoesOn};
+ghost use Rattle.sx_expand.specs.Readings.{set_by, signature_by};
 
 use crate::binding::{input_work, take_outputs};
 use crate::kid::Kid;
-use crate::listing::Listing;
 use crate::node::Node;
 use crate::reader::Reader;
+use crate::reading::Reading;
 use crate::work::Work;
 use std::alloc::Global;
 use sx_arena::{make_places, roles, rule_at};
@@ -27,23 +27,23 @@ use sx_term::NoMemory;
 /// What the inputs of a node bind, which are the terms with these numbers.
 pub(crate) fn begin_node(
     alloc: Global,
-    listing: &Listing,
+    reading: &Reading,
     reader: &Reader,
     node: &Node,
     inputs: &[usize],
 ) -> Result<Work, NoMemory>
-    requires reader { IsReader (set_in listing.now).table reader.now }
+    requires reader { IsReader (set_by reading.now).table reader.now }
     requires below { AreBelow (length (terms_in reader.now)) inputs.now }
-    requires node { (d : NodeData) × IsNodeIn listing.now node.now d
-        × AreInputs listing.now (terms_in reader.now) inputs.now d.judgement }
+    requires node { (d : NodeData) × IsNodeIn reading.now node.now d
+        × AreInputs reading.now (terms_in reader.now) inputs.now d.judgement }
     ensures work { IfOk result (IsWork (terms_in reader.now)) }
-    ensures followed { IfOk result (λ w. (d : NodeData) → IsNodeIn listing.now node.now d →
-        AreInputs listing.now (terms_in reader.now) inputs.now d.judgement →
-        AreFollowed listing.now d.rule d.binds d.rule.premises
+    ensures followed { IfOk result (λ w. (d : NodeData) → IsNodeIn reading.now node.now d →
+        AreInputs reading.now (terms_in reader.now) inputs.now d.judgement →
+        AreFollowed reading.now d.rule d.binds d.rule.premises
         (bindings_of (terms_in reader.now) w)) }
 {
-    listing.set.facts();
-    let rules = listing.set.rules();
+    reading.listing.set.facts();
+    let rules = reading.listing.set.rules();
     rules.facts();
     let rule = rule_at(rules, node.number);
     input_work(alloc, rules, &reader.arena, rule, inputs)
@@ -52,23 +52,23 @@ pub(crate) fn begin_node(
 /// The numbers of the inputs of what the kid derives.
 pub(crate) fn kid_inputs(
     alloc: Global,
-    listing: &Listing,
+    reading: &Reading,
     reader: &mut Reader,
     work: &Work,
     kid: &Kid,
 ) -> Result<Vec<usize>, NoMemory>
-    requires reader { IsReader (set_in listing.now).table reader.old }
+    requires reader { IsReader (set_by reading.now).table reader.old }
     requires work { IsWork (terms_in reader.old) work.now }
     requires shallow { AreShallow (judgement kid.now.premise.now).places }
-    ensures on { OnOk result (GoesOn (set_in listing.now).table reader.old reader.new) }
+    ensures on { OnOk result (GoesOn (set_by reading.now).table reader.old reader.new) }
     ensures below { IfOk result (λ x. AreBelow (length (terms_in reader.new)) x.items) }
     ensures inputs { IfOk result (λ x. (d : KidData) →
-        IsKidIn listing.now kid.now (bindings_of (terms_in reader.old) work.now) d →
-        AreInputs listing.now (terms_in reader.new) x.items
+        IsKidIn reading.now kid.now (bindings_of (terms_in reader.old) work.now) d →
+        AreInputs reading.now (terms_in reader.new) x.items
         (judgement_instance (bound_by d.binds) (judgement kid.now.premise.now))) }
 {
-    listing.set.facts();
-    let rules = listing.set.rules();
+    reading.listing.set.facts();
+    let rules = reading.listing.set.rules();
     make_places(
         alloc,
         &mut reader.arena,
@@ -82,33 +82,33 @@ pub(crate) fn kid_inputs(
 
 /// Binds what the outputs of the kid are, which are the terms with these numbers.
 pub(crate) fn follow_kid(
-    listing: &Listing,
+    reading: &Reading,
     reader: &Reader,
     work: &mut Work,
     kid: &Kid,
     outputs: &[usize],
 ) -> Result<(), NoMemory>
-    requires reader { IsReader (set_in listing.now).table reader.now }
+    requires reader { IsReader (set_by reading.now).table reader.now }
     requires work { IsWork (terms_in reader.now) work.old }
     requires shallow { AreShallow (judgement kid.now.premise.now).places }
     requires below { AreBelow (length (terms_in reader.now)) outputs.now }
     requires kid { (d : KidData)
-        × IsKidIn listing.now kid.now (bindings_of (terms_in reader.now) work.old) d
+        × IsKidIn reading.now kid.now (bindings_of (terms_in reader.now) work.old) d
         × (map (tree_at (terms_in reader.now)) outputs.now
-        ≡ outputs_of (signature_in listing.now).modes
+        ≡ outputs_of (signature_by reading.now).modes
         (judgement_instance (bound_by d.binds) (judgement kid.now.premise.now))) }
     ensures work { OnOk result (IsWork (terms_in reader.now) work.new) }
     ensures followed { OnOk result ((d : KidData) →
-        IsKidIn listing.now kid.now (bindings_of (terms_in reader.now) work.old) d →
+        IsKidIn reading.now kid.now (bindings_of (terms_in reader.now) work.old) d →
         (map (tree_at (terms_in reader.now)) outputs.now
-        ≡ outputs_of (signature_in listing.now).modes
+        ≡ outputs_of (signature_by reading.now).modes
         (judgement_instance (bound_by d.binds) (judgement kid.now.premise.now))) →
-        AreFollowed listing.now d.rule d.binds d.rest
+        AreFollowed reading.now d.rule d.binds d.rest
         (bindings_of (terms_in reader.now) work.new)) }
 {
-    listing.set.facts();
+    reading.listing.set.facts();
     take_outputs(
-        listing.set.rules(),
+        reading.listing.set.rules(),
         &reader.arena,
         work,
         kid.premise,
@@ -119,23 +119,23 @@ pub(crate) fn follow_kid(
 /// The numbers of the outputs of a node whose premises are followed.
 pub(crate) fn node_outputs(
     alloc: Global,
-    listing: &Listing,
+    reading: &Reading,
     reader: &mut Reader,
     work: &Work,
     node: &Node,
 ) -> Result<Vec<usize>, NoMemory>
-    requires reader { IsReader (set_in listing.now).table reader.old }
+    requires reader { IsReader (set_by reading.now).table reader.old }
     requires work { IsWork (terms_in reader.old) work.now }
-    requires node { (d : NodeData) × IsNodeIn listing.now node.now d }
-    ensures on { OnOk result (GoesOn (set_in listing.now).table reader.old reader.new) }
+    requires node { (d : NodeData) × IsNodeIn reading.now node.now d }
+    ensures on { OnOk result (GoesOn (set_by reading.now).table reader.old reader.new) }
     ensures below { IfOk result (λ x. AreBelow (length (terms_in reader.new)) x.items) }
-    ensures outputs { IfOk result (λ x. (d : NodeData) → IsNodeIn listing.now node.now d →
-        AreFollowed listing.now d.rule d.binds [] (bindings_of (terms_in reader.old) work.now) →
+    ensures outputs { IfOk result (λ x. (d : NodeData) → IsNodeIn reading.now node.now d →
+        AreFollowed reading.now d.rule d.binds [] (bindings_of (terms_in reader.old) work.now) →
         map (tree_at (terms_in reader.new)) x.items
-        ≡ outputs_of (signature_in listing.now).modes d.judgement) }
+        ≡ outputs_of (signature_by reading.now).modes d.judgement) }
 {
-    listing.set.facts();
-    let rules = listing.set.rules();
+    reading.listing.set.facts();
+    let rules = reading.listing.set.rules();
     rules.facts();
     let rule = rule_at(rules, node.number);
     make_places(

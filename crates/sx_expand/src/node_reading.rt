@@ -11,20 +11,22 @@ ghost use Rattle.sx_rewrite.specs.Accepted.{rules_of};
 ghost use Rattle.sx_rewrite.specs.Needed.{needed};
 ghost use Rattle.sx_rewrite.specs.Stored.{certificate_at};
 ghost use Rattle.sx_expand.specs.Followed.{IsWork, bindings_of};
-ghost use Rattle.sx_expand.specs.Listed.{HasEnds, StandsIn, set_in};
+ghost use Rattle.sx_expand.specs.Listed.{StandsIn};
 ghost use Rattle.sx_expand.specs.ReadDerivations.{CanRead, AreInputs, IsRead};
-ghost use Rattle.sx_expand.specs.ReadNodes.{NodeData, IsNodeIn, AreFollowed, AreRead};
+ghost use Rattle.sx_expand.specs.ReadNodes.{NodeData, IsNodeIn, AreFollowed, AreRead, proof_by};
 ghost use Rattle.sx_expand.specs.ReadNodes.{KidData, IsKidIn, IsKidDone};
 ghost use Rattle.sx_expand.specs.Readers.{terms_in, IsReader, GoesOn};
+ghost use Rattle.sx_expand.specs.Readings.{IsReading, set_by, hyps_by};
 
 use crate::ends::{entry_at, number_at};
 use crate::finishing::finish_node;
+use crate::given_reading::read_given;
 use crate::kid::Kid;
-use crate::listing::Listing;
 use crate::node::Node;
 use crate::node_binding::{begin_node, follow_kid, kid_inputs};
 use crate::read::Read;
 use crate::reader::Reader;
+use crate::reading::Reading;
 use crate::work::Work;
 use std::alloc::Global;
 use sx_arena::rule_at;
@@ -37,33 +39,60 @@ use sx_rules::{Entry, Premise};
 #[cycle(reading)]
 pub(crate) fn read_node(
     alloc: Global,
-    listing: &Listing,
+    reading: &Reading,
     reader: &mut Reader,
     at: usize,
     inputs: &[usize],
     is_needed: bool,
 ) -> Result<Read, RewriteError>
-    requires ends { HasEnds listing.now }
-    requires reader { IsReader (set_in listing.now).table reader.old }
+    requires reading { IsReading reading.now }
+    requires reader { IsReader (set_by reading.now).table reader.old }
     requires below { AreBelow (length (terms_in reader.old)) inputs.now }
     requires derived { (j : known.Judgement) × (p : spec.Proof)
-        × CanRead listing.now at is_needed j p
-        × AreInputs listing.now (terms_in reader.old) inputs.now j }
-    ensures on { OnOk result (GoesOn (set_in listing.now).table reader.old reader.new) }
-    ensures read { (j : known.Judgement) (p : spec.Proof) → CanRead listing.now at is_needed j p →
-        AreInputs listing.now (terms_in reader.old) inputs.now j →
-        IsRead listing.now (terms_in reader.new) is_needed j p result }
+        × CanRead reading.now at is_needed j p
+        × AreInputs reading.now (terms_in reader.old) inputs.now j }
+    ensures on { OnOk result (GoesOn (set_by reading.now).table reader.old reader.new) }
+    ensures read { (j : known.Judgement) (p : spec.Proof) → CanRead reading.now at is_needed j p →
+        AreInputs reading.now (terms_in reader.old) inputs.now j →
+        IsRead reading.now (terms_in reader.new) is_needed j p result }
 {
-    let number = rule_number(listing, at);
-    let node = Node {
-        number,
-        at,
-        is_needed,
-    };
-    let mut work = begin_node(alloc, listing, reader, &node, inputs)?;
-    match read_kids(alloc, listing, reader, &mut work, &node) {
+    match entry_at(reading.listing.list, at) {
+        Entry::Rule(number) => {
+            let node = Node {
+                number,
+                at,
+                is_needed,
+            };
+            read_by_rule(alloc, reading, reader, &node, inputs)
+        }
+        Entry::Given(number) => Ok(read_given(alloc, reading, reader, number, is_needed)?),
+    }
+}
+
+/// Reads the derivation that ends with the node, by the numbers of the inputs of what it derives.
+#[cycle(reading)]
+fn read_by_rule(
+    alloc: Global,
+    reading: &Reading,
+    reader: &mut Reader,
+    node: &Node,
+    inputs: &[usize],
+) -> Result<Read, RewriteError>
+    requires reading { IsReading reading.now }
+    requires reader { IsReader (set_by reading.now).table reader.old }
+    requires below { AreBelow (length (terms_in reader.old)) inputs.now }
+    requires node { (d : NodeData) × IsNodeIn reading.now node.now d
+        × AreInputs reading.now (terms_in reader.old) inputs.now d.judgement }
+    ensures on { OnOk result (GoesOn (set_by reading.now).table reader.old reader.new) }
+    ensures read { (d : NodeData) → IsNodeIn reading.now node.now d →
+        AreInputs reading.now (terms_in reader.old) inputs.now d.judgement →
+        IsRead reading.now (terms_in reader.new) node.now.is_needed d.judgement
+        (proof_by node.now d) result }
+{
+    let mut work = begin_node(alloc, reading, reader, node, inputs)?;
+    match read_kids(alloc, reading, reader, &mut work, node) {
         Ok(subjects) => {
-            let read = finish_node(alloc, listing, reader, &work, &node, &subjects);
+            let read = finish_node(alloc, reading, reader, &work, node, &subjects);
             drop(subjects);
             drop(work);
             read
@@ -80,26 +109,26 @@ pub(crate) fn read_node(
 #[cycle(reading)]
 fn read_kids(
     alloc: Global,
-    listing: &Listing,
+    reading: &Reading,
     reader: &mut Reader,
     work: &mut Work,
     node: &Node,
 ) -> Result<Vec<Option<usize>>, RewriteError>
-    requires ends { HasEnds listing.now }
-    requires reader { IsReader (set_in listing.now).table reader.old }
+    requires reading { IsReading reading.now }
+    requires reader { IsReader (set_by reading.now).table reader.old }
     requires work { IsWork (terms_in reader.old) work.old }
-    requires node { (d : NodeData) × IsNodeIn listing.now node.now d
-        × AreFollowed listing.now d.rule d.binds d.rule.premises
+    requires node { (d : NodeData) × IsNodeIn reading.now node.now d
+        × AreFollowed reading.now d.rule d.binds d.rule.premises
         (bindings_of (terms_in reader.old) work.old) }
-    ensures on { OnOk result (GoesOn (set_in listing.now).table reader.old reader.new) }
+    ensures on { OnOk result (GoesOn (set_by reading.now).table reader.old reader.new) }
     ensures work { OnOk result (IsWork (terms_in reader.new) work.new) }
-    ensures read { (d : NodeData) → IsNodeIn listing.now node.now d →
-        AreFollowed listing.now d.rule d.binds d.rule.premises
+    ensures read { (d : NodeData) → IsNodeIn reading.now node.now d →
+        AreFollowed reading.now d.rule d.binds d.rule.premises
         (bindings_of (terms_in reader.old) work.old) →
-        AreRead listing.now node.now (terms_in reader.new) work.new d result }
+        AreRead reading.now node.now (terms_in reader.new) work.new d result }
 {
-    listing.set.facts();
-    let rules = listing.set.rules();
+    reading.listing.set.facts();
+    let rules = reading.listing.set.rules();
     rules.facts();
     let rule = rule_at(rules, node.number);
     let mut subjects = Vec::new(alloc);
@@ -110,10 +139,10 @@ fn read_kids(
                 let kid = Kid {
                     premise: it,
                     at,
-                    is_needed: is_kid_needed(listing, node, subjects.len()),
+                    is_needed: is_kid_needed(reading, node, subjects.len()),
                 };
-                subjects.push(read_kid(alloc, listing, reader, work, &kid)?)?;
-                at = number_at(listing.ends, at);
+                subjects.push(read_kid(alloc, reading, reader, work, &kid)?)?;
+                at = number_at(reading.listing.ends, at);
             }
             Premise::Apart(_, _) => {}
         }
@@ -126,48 +155,33 @@ fn read_kids(
 #[cycle(reading)]
 fn read_kid(
     alloc: Global,
-    listing: &Listing,
+    reading: &Reading,
     reader: &mut Reader,
     work: &mut Work,
     kid: &Kid,
 ) -> Result<Option<usize>, RewriteError>
-    requires ends { HasEnds listing.now }
-    requires reader { IsReader (set_in listing.now).table reader.old }
+    requires reading { IsReading reading.now }
+    requires reader { IsReader (set_by reading.now).table reader.old }
     requires work { IsWork (terms_in reader.old) work.old }
     requires shallow { AreShallow (judgement kid.now.premise.now).places }
     requires kid { (d : KidData)
-        × IsKidIn listing.now kid.now (bindings_of (terms_in reader.old) work.old) d }
-    ensures on { OnOk result (GoesOn (set_in listing.now).table reader.old reader.new) }
+        × IsKidIn reading.now kid.now (bindings_of (terms_in reader.old) work.old) d }
+    ensures on { OnOk result (GoesOn (set_by reading.now).table reader.old reader.new) }
     ensures work { OnOk result (IsWork (terms_in reader.new) work.new) }
     ensures read { (d : KidData) →
-        IsKidIn listing.now kid.now (bindings_of (terms_in reader.old) work.old) d →
-        IsKidDone listing.now kid.now (terms_in reader.new) work.new d result }
+        IsKidIn reading.now kid.now (bindings_of (terms_in reader.old) work.old) d →
+        IsKidDone reading.now kid.now (terms_in reader.new) work.new d result }
 {
-    let inputs = kid_inputs(alloc, listing, reader, work, kid)?;
-    let read = read_node(alloc, listing, reader, kid.at, &inputs, kid.is_needed)?;
-    follow_kid(listing, reader, work, kid, &read.outputs)?;
+    let inputs = kid_inputs(alloc, reading, reader, work, kid)?;
+    let read = read_node(alloc, reading, reader, kid.at, &inputs, kid.is_needed)?;
+    follow_kid(reading, reader, work, kid, &read.outputs)?;
     Ok(read.subject)
 }
 
 /// Whether what the kid with the number is lowered to is needed.
-fn is_kid_needed(listing: &Listing, node: &Node, kid: usize) -> bool
+fn is_kid_needed(reading: &Reading, node: &Node, kid: usize) -> bool
     ensures { result ≡ node.now.is_needed
-        && needed (certificate_at (set_in listing.now) node.now.number) kid }
+        && needed (certificate_at (set_by reading.now) node.now.number) kid }
 {
-    node.is_needed && listing.set.is_needed(node.number, kid)
-}
-
-/// The number of the rule of the last step of the derivation that begins with the entry at the
-/// place.
-fn rule_number(listing: &Listing, at: usize) -> u32
-    requires { (j : known.Judgement) × (p : spec.Proof) × StandsIn listing.now at p
-        × spec.Derives (rules_of (set_in listing.now)) known.no_hypotheses j p }
-    ensures { (j : known.Judgement) (p : spec.Proof) → StandsIn listing.now at p →
-        spec.Derives (rules_of (set_in listing.now)) known.no_hypotheses j p →
-        (binds : List Tree) × (kids : spec.Proofs) × (p ≡ spec.by result binds kids) }
-{
-    match entry_at(listing.list, at) {
-        Entry::Rule(number) => number,
-        Entry::Given(_) => unreachable!(),
-    }
+    node.is_needed && reading.listing.set.is_needed(node.number, kid)
 }

@@ -1,13 +1,12 @@
 use Rattle.std.proofs.Common.{map, ap, ◌∙◌}
 use Rattle.std.proofs.lemmas.Result.{IfOk-weaker}
-use Rattle.sx_rules.specs.Rules.{no_hypotheses}
 use Rattle.sx_rules.specs.Sets.{bare_rules_in}
 use Rattle.sx_rules.specs.Views.{rule, modes_of as modes_by}
 use Rattle.sx_arena.specs.Arena.{tree_at}
 use Rattle.sx_arena.specs.Views.{modes_of}
 use Rattle.sx_rewrite.specs.Accepted.{rules_of}
 use Rattle.sx_expand.specs.Followed.{bindings_of}
-use Rattle.sx_expand.specs.Listed.{set_in, signature_in}
+use Rattle.sx_expand.specs.Readings.{set_by, signature_by, hyps_by}
 use Rattle.sx_expand.specs.Readers.{terms_in}
 use Rattle.sx_expand.proofs.Bindings.{number-within, rule-same, begins, begins-followed}
 use Rattle.sx_expand.proofs.NodeLowering.{rule-shallow}
@@ -25,14 +24,14 @@ pub input_work-requires-clause-matches : goal.input_work-requires-clause-matches
 input_work-requires-clause-matches c =
     let d = c.requires.node.0 in
     let is = c.requires.node.1 in
-    let l = c.args.listing.now in
-    begins (signature_in l).modes (modes_of c.rules-rules.result.now) (ap modes_of c.rules-rules.ensures ∙ ap modes_by c.facts.ensures.forms) (rules_of (set_in l)) no_hypotheses c.facts.ensures.accepted.moded c.args.node.now.number d.rule (rule c.rule_at-rule.result.now) (rule-same _ _ (ap bare_rules_in c.rules-rules.ensures ∙ c.facts.ensures.rules) c.args.node.now.number d.rule is.found (rule c.rule_at-rule.result.now) c.rule_at-rule.ensures) is.found d.judgement d.binds d.kids is.can.derives
+    let l = c.args.reading.now in
+    begins (signature_by l).modes (modes_of c.rules-rules.result.now) (ap modes_of c.rules-rules.ensures ∙ ap modes_by c.facts.ensures.forms) (rules_of (set_by l)) (hyps_by l) c.facts.ensures.accepted.moded c.args.node.now.number d.rule (rule c.rule_at-rule.result.now) (rule-same _ _ (ap bare_rules_in c.rules-rules.ensures ∙ c.facts.ensures.rules) c.args.node.now.number d.rule is.found (rule c.rule_at-rule.result.now) c.rule_at-rule.ensures) is.found d.judgement d.binds d.kids is.can.derives
     (map (tree_at (terms_in c.args.reader.now)) c.args.inputs.now) c.requires.node.2
 
 pub returns-clause-followed : goal.returns-clause-followed
 returns-clause-followed c =
-    let l = c.args.listing.now in
+    let l = c.args.reading.now in
     IfOk-weaker c.input_work.result _ _ (λ w h d is ins.
-    begins-followed (signature_in l).modes (modes_of c.rules-rules.result.now) (ap modes_of c.rules-rules.ensures ∙ ap modes_by c.facts.ensures.forms) (rules_of (set_in l)) no_hypotheses c.facts.ensures.accepted.moded c.args.node.now.number d.rule (rule c.rule_at-rule.result.now) (rule-same _ _ (ap bare_rules_in c.rules-rules.ensures ∙ c.facts.ensures.rules) c.args.node.now.number d.rule is.found (rule c.rule_at-rule.result.now) c.rule_at-rule.ensures) is.found d.judgement d.binds d.kids is.can.derives
+    begins-followed (signature_by l).modes (modes_of c.rules-rules.result.now) (ap modes_of c.rules-rules.ensures ∙ ap modes_by c.facts.ensures.forms) (rules_of (set_by l)) (hyps_by l) c.facts.ensures.accepted.moded c.args.node.now.number d.rule (rule c.rule_at-rule.result.now) (rule-same _ _ (ap bare_rules_in c.rules-rules.ensures ∙ c.facts.ensures.rules) c.args.node.now.number d.rule is.found (rule c.rule_at-rule.result.now) c.rule_at-rule.ensures) is.found d.judgement d.binds d.kids is.can.derives
     (map (tree_at (terms_in c.args.reader.now)) c.args.inputs.now) ins (bindings_of (terms_in c.args.reader.now) w) h.1)
     c.input_work.ensures

@@ -8,17 +8,17 @@ use Rattle.sx_rules.specs.Views.{judgement, modes_of as modes_by}
 use Rattle.sx_arena.specs.Matching.{filled}
 use Rattle.sx_arena.specs.Views.{mask_of, modes_of}
 use Rattle.sx_expand.specs.Followed.{bindings_of}
-use Rattle.sx_expand.specs.Listed.{set_in, signature_in}
+use Rattle.sx_expand.specs.Readings.{set_by, signature_by}
 use Rattle.sx_expand.specs.Readers.{terms_in}
 use Rattle.sx_expand.proofs.Bindings.{kid-asks, made-goes}
 use Rattle.sx_expand.proofs.node_binding.kid_inputs.Goals as goal
 
 pub returns-clause-on : goal.returns-clause-on
-returns-clause-on c = made-goes (set_in c.args.listing.now).table c.args.reader.now c.make_places.new.arena c.make_places.result _ c.requires.reader c.make_places.ensures
+returns-clause-on c = made-goes (set_by c.args.reading.now).table c.args.reader.now c.make_places.new.arena c.make_places.result _ c.requires.reader c.make_places.ensures
 
 pub returns-clause-inputs : goal.returns-clause-inputs
 returns-clause-inputs c =
-    let l = c.args.listing.now in
+    let l = c.args.reading.now in
     let j = judgement c.args.kid.now.premise.now in
     let env = bindings_of (terms_in c.args.reader.now) c.args.work.now in
     let modes_are = ap modes_of c.rules-rules.ensures ∙ ap modes_by c.facts.ensures.forms in
@@ -27,5 +27,5 @@ returns-clause-inputs c =
     h.are
     ∙ ap (λ (us : List Term). inputs (mask_of c.roles.result.now) (map (instance (filled env)) (map tree us))) c.deref.ensures.value
     ∙ ap (λ (m : List Bool). inputs m ts) c.roles.ensures
-    ∙ kid-asks (signature_in l).modes (modes_of c.rules-rules.result.now) modes_are d.rule (bound_by d.binds) j d.rest env is.followed)
+    ∙ kid-asks (signature_by l).modes (modes_of c.rules-rules.result.now) modes_are d.rule (bound_by d.binds) j d.rest env is.followed)
     c.make_places.ensures

@@ -5,14 +5,13 @@ use Rattle.sx_term.specs.Term.{tree}
 use Rattle.sx_rules.specs.Deep.{AreShallow}
 use Rattle.sx_rules.specs.Instances.{instance}
 use Rattle.sx_rules.specs.Modes.{outputs}
-use Rattle.sx_rules.specs.Rules.{no_hypotheses}
 use Rattle.sx_rules.specs.Sets.{bare_rules_in}
 use Rattle.sx_rules.specs.Views.{rule, modes_of as modes_by}
 use Rattle.sx_arena.specs.Matching.{filled}
 use Rattle.sx_arena.specs.Views.{mask_of, modes_of}
 use Rattle.sx_rewrite.specs.Accepted.{rules_of}
 use Rattle.sx_expand.specs.Followed.{bindings_of}
-use Rattle.sx_expand.specs.Listed.{set_in, signature_in}
+use Rattle.sx_expand.specs.Readings.{set_by, signature_by, hyps_by}
 use Rattle.sx_expand.specs.Readers.{terms_in}
 use Rattle.sx_expand.proofs.Bindings.{number-within, rule-same, ends-concluded, made-goes}
 use Rattle.sx_expand.proofs.NodeLowering.{rule-shallow}
@@ -28,11 +27,11 @@ make_places-requires-clause-shallow c =
     subst (λ (ts : List Term). AreShallow (map tree ts)) (sym c.deref.ensures.value) h
 
 pub returns-clause-on : goal.returns-clause-on
-returns-clause-on c = made-goes (set_in c.args.listing.now).table c.args.reader.now c.make_places.new.arena c.make_places.result _ c.requires.reader c.make_places.ensures
+returns-clause-on c = made-goes (set_by c.args.reading.now).table c.args.reader.now c.make_places.new.arena c.make_places.result _ c.requires.reader c.make_places.ensures
 
 pub returns-clause-outputs : goal.returns-clause-outputs
 returns-clause-outputs c =
-    let l = c.args.listing.now in
+    let l = c.args.reading.now in
     let code = rule c.rule_at-rule.result.now in
     let env = bindings_of (terms_in c.args.reader.now) c.args.work.now in
     let modes_are = ap modes_of c.rules-rules.ensures ∙ ap modes_by c.facts.ensures.forms in
@@ -43,5 +42,5 @@ returns-clause-outputs c =
     h.are
     ∙ ap (λ (us : List Term). outputs (mask_of c.roles.result.now) (map (instance (filled env)) (map tree us))) c.deref.ensures.value
     ∙ ap (λ (m : List Bool). outputs m ts) c.roles.ensures
-    ∙ ends-concluded (signature_in l).modes (modes_of c.rules-rules.result.now) modes_are (rules_of (set_in l)) no_hypotheses c.facts.ensures.accepted.moded c.args.node.now.number d.rule code same is.found d.judgement d.binds d.kids is.can.derives env f)
+    ∙ ends-concluded (signature_by l).modes (modes_of c.rules-rules.result.now) modes_are (rules_of (set_by l)) (hyps_by l) c.facts.ensures.accepted.moded c.args.node.now.number d.rule code same is.found d.judgement d.binds d.kids is.can.derives env f)
     c.make_places.ensures
