@@ -1,11 +1,12 @@
 -- What expanding a list answers.
-use Rattle.std.proofs.Common.{ℕ, ◌≤◌, List, sym, ◌∙◌, subst}
-use Rattle.std.specs.Prelude.{Ok, Err}
+use Rattle.std.proofs.Common.{◌≡◌, ℕ, ◌<◌, ◌≤◌, List, sym, ap, ◌∙◌, subst}
+use Rattle.std.specs.Prelude.{Result, Ok, Err}
 use Rattle.sx_term.specs.Tree.{Tree}
 use Rattle.sx_rules.specs.declared.rule.Judgement.{Judgement as JudgementOf}
 use Rattle.sx_rules.specs.Deep.{AreShallow}
+use Rattle.sx_rules.specs.Derivations.{Proof}
 use Rattle.sx_rules.specs.First.{Answer}
-use Rattle.sx_rules.specs.Modes.{Goal}
+use Rattle.sx_rules.specs.Modes.{Goal, Modes}
 use Rattle.sx_rules.specs.Orders.{Entry}
 use Rattle.sx_rules.specs.Rules.{Judgement, Hypotheses}
 use Rattle.sx_rules.specs.Sets.{shapes_in}
@@ -16,15 +17,17 @@ use Rattle.sx_rewrite.specs.LoweredSizes.{HasFitKids}
 use Rattle.sx_rewrite.specs.Lowering.{IsRefused}
 use Rattle.sx_rewrite.specs.Lowers.{Lowers}
 use Rattle.sx_rewrite.specs.Measured.{Measures}
+use Rattle.sx_rewrite.specs.Sizes.{in_u64}
 use Rattle.sx_rewrite.specs.Used.{lowered_height}
 use Rattle.sx_rewrite.proofs.LoweredAlways.{lowering_exists}
 use Rattle.sx_rewrite.proofs.Measured.{terms_are_measured}
 use Rattle.sx_rewrite.proofs.PlainSizes.{derivations_fit}
+use Rattle.sx_expand.specs.declared.expanded.Expanded.{Expanded}
 use Rattle.sx_expand.specs.declared.reading.Reading.{Reading}
 use Rattle.sx_expand.specs.declared.lowered_list.LoweredList.{LoweredList}
 use Rattle.sx_expand.specs.Expansions.{IsListedFrom, IsExpanding}
-use Rattle.sx_expand.specs.Listed.{entries_in, StandsIn}
-use Rattle.sx_expand.specs.Readings.{set_by, signature_by, hyps_by}
+use Rattle.sx_expand.specs.Listed.{set_in, entries_in, StandsIn}
+use Rattle.sx_expand.specs.Readings.{CountsAs, IsReading, set_by, signature_by, hyps_by}
 use Rattle.sx_expand.specs.LoweredLists.{IsListLowered}
 use Rattle.sx_expand.specs.Roots.{IsRoot, IsRootLowered}
 use Rattle.sx_expand.proofs.Orders.{orders_are_lowered}
@@ -34,10 +37,52 @@ use Rattle.sx_expand.proofs.Standing.{whole-listed}
 pub answer-fits : (sig : Signature) (a : Accepted) (hyps : Hypotheses) (goal : Goal) (list : List Entry) (answer : Answer) → IsListedFrom sig.modes a hyps goal list answer → HasFitKids a answer.0
 answer-fits sig a hyps goal list answer is = derivations_fit a hyps is.rewritable.judgement answer.0 is.rewritable.derives
 
-module _ (l : Reading) (goal : Goal) (answer : Answer) (is : IsListedFrom (signature_by l).modes (set_by l) (hyps_by l) goal (entries_in l.listing) answer) where
+-- for equal sets and equal hypotheses
+pub listed-as : {modes : Modes} {a b : Accepted} {h k : Hypotheses} → a ≡ b → h ≡ k →
+    (goal : Goal) (list : List Entry) (answer : Answer) → IsListedFrom modes a h goal list answer →
+    IsListedFrom modes b k goal list answer
+listed-as {modes} {a} {b} {h} {k} e f goal list answer is =
+    subst (λ (x : Accepted). IsListedFrom modes x k goal list answer) e
+    (subst (λ (y : Hypotheses). IsListedFrom modes a y goal list answer) f is)
+
+pub expanding-as : {a b : Accepted} {h k : Hypotheses} → a ≡ b → h ≡ k → (subjects : Modes)
+    (p : Proof) (budget : ℕ) (r : Result Expanded RewriteError) →
+    IsExpanding a subjects h p budget r → IsExpanding b subjects k p budget r
+expanding-as {a} {b} {h} {k} e f subjects p budget r is =
+    subst (λ (x : Accepted). IsExpanding x subjects k p budget r) e
+    (subst (λ (y : Hypotheses). IsExpanding a subjects y p budget r) f is)
+
+-- what is answered of a list by the one set of rules is answered by the other
+list-as : (a b : Accepted) (p : Proof) → CountsAs a b p → (budget : ℕ) →
+    (r : Result LoweredList RewriteError) → IsListLowered b p budget r → IsListLowered a p budget r
+list-as a b p same budget (Ok x) h = (
+  subst (λ (n : ℕ). n ≤ budget) (sym same.nodes) h.0,
+  subst (λ (n : ℕ). n ≤ 3000) (sym same.height) h.1,
+  h.2 ∙ ap in_u64 (sym same.copied_are),
+  h.3 ∙ sym same.order,
+)
+list-as a b p same budget (Err Memory) h = tt
+list-as a b p same budget (Err (RewriteSpent nodes)) h =
+    (h.0, subst (λ (n : ℕ). budget < n) (sym same.nodes) h.1)
+list-as a b p same budget (Err RewriteDeep) h = (
+  subst (λ (n : ℕ). n ≤ budget) (sym same.nodes) h.0,
+  subst (λ (n : ℕ). 3000 < n) (sym same.height) h.1,
+)
+list-as a b p same budget (Err (TooDeep depth)) h = absurd h
+list-as a b p same budget (Err (TooBig nodes)) h = absurd h
+
+module _ (l : Reading) (good : IsReading l) (goal : Goal) (answer : Answer) (is : IsListedFrom (signature_by l).modes (set_by l) (hyps_by l) goal (entries_in l.listing) answer) where
+  counts : CountsAs (set_by l) (set_in l.listing) answer.0
+  counts = good.rules.counts answer.0
+
+  -- what is answered of the list
+  pub lowered-by : (budget : ℕ) (r : Result LoweredList RewriteError) →
+      IsListLowered (set_in l.listing) answer.0 budget r → IsListLowered (set_by l) answer.0 budget r
+  lowered-by budget r h = list-as (set_by l) (set_in l.listing) answer.0 counts budget r h
+
   -- it stands at the begin of the list
   pub answer-stands : StandsIn l.listing 0 answer.0
-  answer-stands = whole-listed (set_by l) (entries_in l.listing) answer.0 (answer-fits (signature_by l) (set_by l) (hyps_by l) goal (entries_in l.listing) answer is) is.list_is
+  answer-stands = whole-listed (set_in l.listing) (entries_in l.listing) answer.0 (counts.fit (answer-fits (signature_by l) (set_by l) (hyps_by l) goal (entries_in l.listing) answer is)) is.list_is
 
   -- and is that of the goal
   pub answer-root : lowered_height (set_by l) answer.0 ≤ 3000 → IsRoot l goal is.derives.0 answer.0
@@ -61,7 +106,10 @@ module _ (l : Reading) (goal : Goal) (answer : Answer) (is : IsListedFrom (signa
   list-refused budget (TooDeep depth) h = absurd h
   list-refused budget (TooBig nodes) h = absurd h
 
-  module _ (ok : IsAccepted (signature_by l) (shapes_in l.listing.set.now.base) (shapes_in l.listing.set.now.rules) (set_by l)) (budget : ℕ) (x : LoweredList) (lowered : IsListLowered (set_by l) answer.0 budget (Ok x)) where
+  module _ (budget : ℕ) (x : LoweredList) (lowered : IsListLowered (set_by l) answer.0 budget (Ok x)) where
+    ok : IsAccepted (signature_by l) (shapes_in l.listing.set.now.base) (shapes_in l.listing.set.now.rules) (set_by l)
+    ok = good.rules.accepted_with
+
     measured : (ts : List Tree) × Measures (set_by l) (signature_by l).subjects (hyps_by l) answer.0 ts
     measured = terms_are_measured (signature_by l) (shapes_in l.listing.set.now.base) (shapes_in l.listing.set.now.rules) (set_by l) ok (hyps_by l) answer.0 is.derives.0 is.derives.3
 

@@ -12,7 +12,8 @@ use Rattle.sx_rules.specs.Rules.{Judgement, Hypotheses, no_hypotheses}
 use Rattle.sx_rules.specs.Sets.{forms_in, shapes_in}
 use Rattle.sx_rules.specs.Views.{FormData, sorts_of, places_at}
 use Rattle.sx_plain.specs.Plain.{Table, Body}
-use Rattle.sx_plain.specs.Tables.{LabelsBelow, AllLabelsBelow, IsTable, HasParts, FitsTable, FitTable}
+use Rattle.sx_plain.specs.Tables.{LabelsBelow, AllLabelsBelow, IsTable, HasParts}
+use Rattle.sx_plain.specs.Tables.{FitsTable, FitTable}
 use Rattle.sx_rewrite.specs.declared.accepted.Accepted.{Accepted as AcceptedOf}
 use Rattle.sx_rewrite.specs.Lowers.{AreBelow, JudgementsBelow}
 use Rattle.sx_expand.specs.Readings.{AllSmall, IsGiven, AreGiven}

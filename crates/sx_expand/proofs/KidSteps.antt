@@ -35,7 +35,7 @@ use Rattle.sx_expand.specs.declared.work.Work.{Work}
 use Rattle.sx_expand.specs.declared.reader.Reader.{Reader}
 use Rattle.sx_expand.specs.Followed.{IsWork, bindings_of}
 use Rattle.sx_expand.specs.KidsRead.{IsKidRead}
-use Rattle.sx_expand.specs.Listed.{StandsIn, StandInRow, entries_in}
+use Rattle.sx_expand.specs.Listed.{StandsIn, StandInRow, set_in, entries_in}
 use Rattle.sx_expand.specs.Readings.{IsReading, set_by, signature_by, hyps_by}
 use Rattle.sx_expand.specs.ReadDerivations.{IsReadRefused}
 use Rattle.sx_expand.specs.ReadNodes.{NodeData, IsNodeIn, proof_by, AreFollowed, IsNodeRead, KidData, IsKidIn}
@@ -103,7 +103,10 @@ pub record KidsSoFar (l : Reading) (n : Node) (ps : List PremiseOf) (i at : ℕ)
   pub read : (m : ℕ) (p : Proof) → n.is_needed ≡ true → m < length numbers → needed (certificate_at (set_by l) n.number) m ≡ true → proof_at d.kids m ≡ Some p →
       IsKidRead (set_by l) (signature_by l).subjects (hyps_by l) terms p (get_or numbers m None)
 
-module _ (l : Reading) (ok : IsAccepted (signature_by l) (shapes_in l.listing.set.now.base) (shapes_in l.listing.set.now.rules) (set_by l)) (good : IsReading l) (n : Node) (d : NodeData) (is : IsNodeIn l n d) where
+module _ (l : Reading) (good : IsReading l) (n : Node) (d : NodeData) (is : IsNodeIn l n d) where
+  ok : IsAccepted (signature_by l) (shapes_in l.listing.set.now.base) (shapes_in l.listing.set.now.rules) (set_by l)
+  ok = good.rules.accepted_with
+
   abbrev a : Accepted
   a = set_by l
 
@@ -122,7 +125,7 @@ module _ (l : Reading) (ok : IsAccepted (signature_by l) (shapes_in l.listing.se
   module _ (ps : List PremiseOf) (premises_are : map premise ps ≡ d.rule.premises) where
     pub kids-start : (at : ℕ) (terms : List Tree) (w : Work) (numbers : List (Option ℕ)) → at ≡ n.at + 1 → numbers ≡ [] → AreFollowed l d.rule d.binds d.rule.premises (bindings_of terms w) → KidsSoFar l n ps 0 at terms w numbers d
     kids-start at terms w numbers e none f =
-        let row = listed-kids a (entries_in l.listing) n.at n.number d.binds d.kids is.can.stands in
+        let row = listed-kids (set_in l.listing) (entries_in l.listing) n.at n.number d.binds d.kids is.can.stands in
         let b = is-by (rules_of a) (hyps_by l) n.number d.rule d.judgement d.binds d.kids is.found is.can.derives in
         let zero_many : length numbers ≡ 0 = ap length none in
         record {
@@ -195,7 +198,7 @@ module _ (l : Reading) (ok : IsAccepted (signature_by l) (shapes_in l.listing.se
             go : (left : Proofs) → so.left ≡ left → DeriveEach (rules_of a) (hyps_by l) (judgement_instance (bound_by d.binds) (judgement j) ∷ map (judgement_instance (bound_by d.binds)) (judgements_of (map premise (drop (i + 1) ps)))) left → NextKid
             go no_more e h = absurd h
             go (q ⊳ qs) e h =
-                let s = listed-first a (entries_in l.listing) at q qs (subst (λ (x : Proofs). StandInRow l.listing at x) e so.row) in
+                let s = listed-first (set_in l.listing) (entries_in l.listing) at q qs (subst (λ (x : Proofs). StandInRow l.listing at x) e so.row) in
                 record {
                   first = q;
                   rest = qs;

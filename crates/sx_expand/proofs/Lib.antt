@@ -1,5 +1,6 @@
 pub mod Standing
 pub mod Givens
+pub mod OwnRules
 pub mod Nodes
 pub mod Steps
 pub mod Orders

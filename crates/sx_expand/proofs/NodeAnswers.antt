@@ -30,8 +30,11 @@ use Rattle.sx_expand.proofs.NodeSubject.{node-subject}
 use Rattle.sx_expand.proofs.Nodes.{kids-many}
 use Rattle.sx_rewrite.proofs.Tallied.{derived-fit}
 
-module _ (l : Reading) (ok : IsAccepted (signature_by l) (shapes_in l.listing.set.now.base) (shapes_in l.listing.set.now.rules) (set_by l)) (good : IsReading l) (n : Node) (need : n.is_needed ≡ true) (d : NodeData) (is : IsNodeIn l n d)
+module _ (l : Reading) (good : IsReading l) (n : Node) (need : n.is_needed ≡ true) (d : NodeData) (is : IsNodeIn l n d)
     (terms : List Tree) (w : Work) (numbers : List (Option ℕ)) (read : IsNodeRead l n terms w numbers d) where
+  ok : IsAccepted (signature_by l) (shapes_in l.listing.set.now.base) (shapes_in l.listing.set.now.rules) (set_by l)
+  ok = good.rules.accepted_with
+
   abbrev a : Accepted
   a = set_by l
 

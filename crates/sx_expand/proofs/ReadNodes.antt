@@ -16,6 +16,7 @@ use Rattle.sx_rewrite.specs.Rewriting.{first_over}
 use Rattle.sx_expand.specs.declared.reading.Reading.{Reading}
 use Rattle.sx_expand.specs.declared.read.Read.{Read}
 use Rattle.sx_expand.specs.KidSubjects.{IsSubjectAt}
+use Rattle.sx_expand.specs.Listed.{set_in}
 use Rattle.sx_expand.specs.Readings.{set_by, signature_by, hyps_by}
 use Rattle.sx_expand.specs.ReadDerivations.{CanRead, IsRead, IsReadRefused}
 use Rattle.sx_expand.specs.ReadNodes.{NodeData, IsNodeIn}
@@ -25,12 +26,16 @@ use Rattle.sx_expand.proofs.NodeRead.{tells-memory}
 use Rattle.sx_expand.proofs.Standing.{IsBy, rule-stands, given-stands}
 
 -- the node with which a derivation ends
-pub record NodeFor (l : Reading) (at r : ℕ) (need : Bool) (j : Judgement) (binds : List Tree) (kids : Proofs) : Type 0 where
+pub record NodeFor (l : Reading) (at r : ℕ) (need : Bool) (j : Judgement) (binds : List Tree)
+    (kids : Proofs) : Type 0 where
   pub rule : Rule
-  pub is : IsNodeIn l (record { number = r; at = at; is_needed = need }) (record { rule = rule; judgement = j; binds = binds; kids = kids })
+  pub is : IsNodeIn l (record { number = r; at = at; is_needed = need })
+      (record { rule = rule; judgement = j; binds = binds; kids = kids })
 
-abbrev pub data_of : {l : Reading} {at r : ℕ} {need : Bool} {j : Judgement} {binds : List Tree} {kids : Proofs} → NodeFor l at r need j binds kids → NodeData
-data_of {l} {at} {r} {need} {j} {binds} {kids} n = record { rule = n.rule; judgement = j; binds = binds; kids = kids }
+abbrev pub data_of : {l : Reading} {at r : ℕ} {need : Bool} {j : Judgement} {binds : List Tree}
+    {kids : Proofs} → NodeFor l at r need j binds kids → NodeData
+data_of {l} {at} {r} {need} {j} {binds} {kids} n =
+    record { rule = n.rule; judgement = j; binds = binds; kids = kids }
 
 -- a derivation that is a hypothesis
 pub record IsGivenAt (l : Reading) (n : ℕ) (j : Judgement) (p : Proof) : Type 0 where
@@ -40,7 +45,7 @@ pub record IsGivenAt (l : Reading) (n : ℕ) (j : Judgement) (p : Proof) : Type 
 module _ (l : Reading) (at : ℕ) (need : Bool) (j : Judgement) (p : Proof)
     (can : CanRead l at need j p) where
   pub can-within : at < length l.listing.list.now
-  can-within = listed-within (set_by l) l.listing.list.now at p can.stands
+  can-within = listed-within (set_in l.listing) l.listing.list.now at p can.stands
 
   -- the entry tells whether it ends by a rule or is a hypothesis
   module _ (x : EntryOf) (here : x ≡ get_or l.listing.list.now at x) (n : ℕ) where
@@ -77,13 +82,14 @@ module _ (l : Reading) (at : ℕ) (need : Bool) (j : Judgement) (p : Proof)
         (need ≡ true → IsSubjectAt terms (subjects_of (signature_by l).subjects j) r.subject) →
         IsRead l terms need j p (Ok r)
     given-read terms r below outs subject =
+        let own = (signature_by l).subjects in
         subst (λ (q : Proof). IsRead l terms need j q (Ok r)) (sym it.is) (
           below,
           outs,
           λ needs. record {
             small = λ ts m. ap first_over m;
             subject = λ q k lowers.
-                subst (λ (y : Judgement). IsSubjectAt terms (subjects_of (signature_by l).subjects y) r.subject)
+                subst (λ (y : Judgement). IsSubjectAt terms (subjects_of own y) r.subject)
                 (one-given (hyps_by l) n j k it.found lowers.1) (subject needs);
           },
         )

@@ -73,7 +73,10 @@ places-small : (base : List Rule) (hyps : Hypotheses) → ((i : ℕ) (j : Judgem
 places-small base hyps f (given i) k d h = f i k d
 places-small base hyps f (by r binds kids) k d h = node-places base hyps r binds kids k d (passed (node_terms (slice_get base r) binds) h.0)
 
-module _ (l : Reading) (ok : IsAccepted (signature_by l) (shapes_in l.listing.set.now.base) (shapes_in l.listing.set.now.rules) (set_by l)) (good : IsReading l) where
+module _ (l : Reading) (good : IsReading l) where
+  ok : IsAccepted (signature_by l) (shapes_in l.listing.set.now.base) (shapes_in l.listing.set.now.rules) (set_by l)
+  ok = good.rules.accepted_with
+
   abbrev forms : List FormData
   forms = forms_in l.listing.set.now.base
 

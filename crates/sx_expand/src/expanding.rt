@@ -10,11 +10,12 @@ ghost use Rattle.sx_rules.specs.Sets.{forms_in};
 ghost use Rattle.sx_rules.specs.Views.{goal as goal_of, hypotheses};
 ghost use Rattle.sx_arena.specs.Arena.{tree_at, AreBelow};
 ghost use Rattle.sx_rewrite.specs.AcceptedView.{accepted, signature};
+ghost use Rattle.sx_rewrite.specs.PlainRules.{plain_of};
 ghost use Rattle.sx_expand.specs.Expansions.{IsListedAnswer, IsListedFrom, IsExpanding};
 ghost use Rattle.sx_expand.specs.Expansions.{HasOneSubject};
 ghost use Rattle.sx_expand.specs.Listed.{HasEnds, set_in, signature_in, entries_in};
 ghost use Rattle.sx_expand.specs.Readers.{terms_in, IsReader};
-ghost use Rattle.sx_expand.specs.Readings.{IsReading, set_by, signature_by, hyps_by};
+ghost use Rattle.sx_expand.specs.Readings.{IsReading, AreGiven, set_by, signature_by, hyps_by};
 ghost use Rattle.sx_expand.specs.Roots.{IsRoot, IsRootLowered};
 
 use crate::ends::ends_of;
@@ -66,6 +67,68 @@ pub fn expand(
     expand_listing(alloc, &listing, goal, budget)
 }
 
+/// The same of a derivation by the plain rules of the set, from base hypotheses that each have a
+/// term for each place of their form, and no term that passes a limit.
+pub fn expand_open(
+    alloc: Global,
+    set: &Accepted,
+    goal: &Goal,
+    list: &[Entry],
+    given: &Hyps,
+    budget: u64,
+) -> Result<Expanded, RewriteError>
+    requires shallow { AreShallow (goal_of goal.now).terms }
+    requires one { HasOneSubject (forms_in set.now.base) goal.now.form }
+    requires given { AreGiven set.now (hypotheses given.now) }
+    requires listed { (answer : Answer)
+        × IsListedFrom (signature set.now).modes (plain_of (accepted set.now))
+        (hypotheses given.now) (goal_of goal.now) (entries list.now) answer }
+    ensures { (answer : Answer) →
+        IsListedFrom (signature set.now).modes (plain_of (accepted set.now))
+        (hypotheses given.now) (goal_of goal.now) (entries list.now) answer →
+        IsExpanding (plain_of (accepted set.now)) (signature set.now).subjects
+        (hypotheses given.now) answer.0 budget result }
+{
+    let ends = ends_of(alloc, set, list)?;
+    let listing = Listing {
+        set,
+        list,
+        ends: &ends,
+    };
+    expand_plain(alloc, &listing, goal, given, budget)
+}
+
+/// What the derivation of the goal by the plain rules, from the hypotheses, is lowered to that the
+/// listing begins with.
+fn expand_plain(
+    alloc: Global,
+    listing: &Listing,
+    goal: &Goal,
+    given: &Hyps,
+    budget: u64,
+) -> Result<Expanded, RewriteError>
+    requires ends { HasEnds listing.now }
+    requires shallow { AreShallow (goal_of goal.now).terms }
+    requires one { HasOneSubject (forms_in listing.now.set.now.base) goal.now.form }
+    requires given { AreGiven listing.now.set.now (hypotheses given.now) }
+    requires listed { (answer : Answer)
+        × IsListedFrom (signature_in listing.now).modes (plain_of (set_in listing.now))
+        (hypotheses given.now) (goal_of goal.now) (entries_in listing.now) answer }
+    ensures { (answer : Answer) →
+        IsListedFrom (signature_in listing.now).modes (plain_of (set_in listing.now))
+        (hypotheses given.now) (goal_of goal.now) (entries_in listing.now) answer →
+        IsExpanding (plain_of (set_in listing.now)) (signature_in listing.now).subjects
+        (hypotheses given.now) answer.0 budget result }
+{
+    listing.set.facts();
+    let reading = Reading {
+        listing: *listing,
+        rules: listing.set.plain_rules(),
+        given,
+    };
+    expand_reading(alloc, &reading, goal, budget)
+}
+
 /// What the derivation of the goal by the extended rules, without hypotheses, is lowered to that
 /// the listing begins with.
 fn expand_listing(
@@ -86,9 +149,11 @@ fn expand_listing(
         IsExpanding (set_in listing.now) (signature_in listing.now).subjects known.no_hypotheses
         answer.0 budget result }
 {
+    listing.set.facts();
     let none = no_hypotheses(alloc);
     let reading = Reading {
         listing: *listing,
+        rules: listing.set.rules(),
         given: &none,
     };
     let answer = expand_reading(alloc, &reading, goal, budget);
@@ -125,7 +190,6 @@ fn expand_reading(
         IsExpanding (set_by reading.now) (signature_by reading.now).subjects (hyps_by reading.now)
         answer.0 budget result }
 {
-    reading.listing.set.facts();
     let lowered = lower_listing(alloc, &reading.listing, budget)?;
     match lowered_root(alloc, reading, goal) {
         Ok(judgement) => {
@@ -198,7 +262,6 @@ fn read_root(
       terms = map (tree_at (terms_in reader.old)) inputs.now;
     }) j p → IsRootLowered reading.now p result }
 {
-    reading.listing.set.facts();
     let read = read_node(alloc, reading, reader, 0, inputs, true)?;
     let judgement = root_judgement(alloc, reading.listing.set, reader, form, inputs, &read);
     drop(read);

@@ -98,16 +98,8 @@ fn needed_subject(
         IsNodeRead reading.now node.now (terms_in reader.old) work.now subjects.now d →
         IsSubjectRead reading.now node.now (terms_in reader.new) d result }
 {
-    reading.listing.set.facts();
     let bound = node_terms(alloc, reading, reader, work, node)?;
-    let subject = lower_node(
-        alloc,
-        reading.listing.set,
-        reader,
-        node.number,
-        &bound,
-        subjects,
-    );
+    let subject = lower_node(alloc, reading, reader, node.number, &bound, subjects);
     drop(bound);
     subject
 }
@@ -120,6 +112,7 @@ fn node_terms(
     work: &Work,
     node: &Node,
 ) -> Result<Vec<usize>, NoMemory>
+    requires reading { IsReading reading.now }
     requires work { IsWork (terms_in reader.now) work.now }
     requires node { (d : NodeData) × IsNodeIn reading.now node.now d
         × AreFollowed reading.now d.rule d.binds []
@@ -129,7 +122,6 @@ fn node_terms(
         AreFollowed reading.now d.rule d.binds [] (bindings_of (terms_in reader.now) work.now) →
         map (tree_at (terms_in reader.now)) x.items ≡ d.binds) }
 {
-    reading.listing.set.facts();
-    let rule = rule_at(reading.listing.set.rules(), node.number);
+    let rule = rule_at(reading.rules, node.number);
     bound_numbers(alloc, work, rule.vars.len())
 }

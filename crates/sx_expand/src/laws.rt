@@ -27,7 +27,7 @@ pub fn nodes_have_subjects()
 
 /// The boxed `rewrite` answers the same of a derivation as `expand` does of its list, unless memory
 /// is lacking: a derivation with that list, the same judgement and as many copied nodes, or the
-/// same refusal.
+/// same refusal. So do `rewrite_open` and `expand_open`.
 pub fn expanding_is_rewriting()
     ensures { ExpandingIsRewriting }
 {}

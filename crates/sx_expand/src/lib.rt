@@ -2,7 +2,7 @@
 //!
 //! - `expand` expands the list of a goal's derivation to the list of what it is lowered to, and
 //!   tells the judgement of that. The nodes are counted first, and then the terms are measured,
-//!   node by node.
+//!   node by node. `expand_open` is the same of a derivation by plain rules, from hypotheses.
 //! - `lower_list` writes the entries of what a derivation is lowered to, by the entries of the
 //!   derivation and no term. Its nodes are counted first, and each entry is written once.
 //! - `check_node` measures the terms of a lowered node by how deep and how big the terms are that
@@ -11,10 +11,11 @@
 //!   variables get plain images and subjects by number, its limits are told by measures, and of
 //!   its terms the subject alone is made.
 //! - A derivation is read from its list by the numbers of its inputs (`read_node`): what these
-//!   bind, its kids one after another, and then the node. What is not needed is not lowered.
+//!   bind, its kids one after another, and then the node. What is not needed is not lowered. A
+//!   hypothesis is read by its own terms, which are base (`read_given`).
 //! - Laws: what a derivation is lowered to has the order that its own order determines; a node over
 //!   kids that are read is read, with its subject at the number, or refused as it is due; the boxed
-//!   `rewrite` has the same answer as `expand`.
+//!   `rewrite` has the same answer as `expand`, and `rewrite_open` the same as `expand_open`.
 #![tactic(auto)]
 
 mod binding;
@@ -49,7 +50,7 @@ mod tallying;
 mod work;
 
 pub use expanded::Expanded;
-pub use expanding::expand;
+pub use expanding::{expand, expand_open};
 pub use laws::{
     expanding_is_rewriting, kids_are_lowered, nodes_are_measured, nodes_have_subjects,
     orders_are_lowered,

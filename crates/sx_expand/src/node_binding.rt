@@ -12,7 +12,7 @@ ghost use Rattle.sx_expand.specs.Followed.{IsWork, bindings_of};
 ghost use Rattle.sx_expand.specs.ReadDerivations.{AreInputs};
 ghost use Rattle.sx_expand.specs.ReadNodes.{NodeData, IsNodeIn, AreFollowed, KidData, IsKidIn};
 ghost use Rattle.sx_expand.specs.Readers.{terms_in, IsReader, GoesOn};
-ghost use Rattle.sx_expand.specs.Readings.{set_by, signature_by};
+ghost use Rattle.sx_expand.specs.Readings.{IsReading, set_by, signature_by};
 
 use crate::binding::{input_work, take_outputs};
 use crate::kid::Kid;
@@ -32,6 +32,7 @@ pub(crate) fn begin_node(
     node: &Node,
     inputs: &[usize],
 ) -> Result<Work, NoMemory>
+    requires reading { IsReading reading.now }
     requires reader { IsReader (set_by reading.now).table reader.now }
     requires below { AreBelow (length (terms_in reader.now)) inputs.now }
     requires node { (d : NodeData) × IsNodeIn reading.now node.now d
@@ -42,8 +43,7 @@ pub(crate) fn begin_node(
         AreFollowed reading.now d.rule d.binds d.rule.premises
         (bindings_of (terms_in reader.now) w)) }
 {
-    reading.listing.set.facts();
-    let rules = reading.listing.set.rules();
+    let rules = reading.rules;
     rules.facts();
     let rule = rule_at(rules, node.number);
     input_work(alloc, rules, &reader.arena, rule, inputs)
@@ -57,6 +57,7 @@ pub(crate) fn kid_inputs(
     work: &Work,
     kid: &Kid,
 ) -> Result<Vec<usize>, NoMemory>
+    requires reading { IsReading reading.now }
     requires reader { IsReader (set_by reading.now).table reader.old }
     requires work { IsWork (terms_in reader.old) work.now }
     requires shallow { AreShallow (judgement kid.now.premise.now).places }
@@ -67,8 +68,7 @@ pub(crate) fn kid_inputs(
         AreInputs reading.now (terms_in reader.new) x.items
         (judgement_instance (bound_by d.binds) (judgement kid.now.premise.now))) }
 {
-    reading.listing.set.facts();
-    let rules = reading.listing.set.rules();
+    let rules = reading.rules;
     make_places(
         alloc,
         &mut reader.arena,
@@ -88,6 +88,7 @@ pub(crate) fn follow_kid(
     kid: &Kid,
     outputs: &[usize],
 ) -> Result<(), NoMemory>
+    requires reading { IsReading reading.now }
     requires reader { IsReader (set_by reading.now).table reader.now }
     requires work { IsWork (terms_in reader.now) work.old }
     requires shallow { AreShallow (judgement kid.now.premise.now).places }
@@ -106,14 +107,7 @@ pub(crate) fn follow_kid(
         AreFollowed reading.now d.rule d.binds d.rest
         (bindings_of (terms_in reader.now) work.new)) }
 {
-    reading.listing.set.facts();
-    take_outputs(
-        reading.listing.set.rules(),
-        &reader.arena,
-        work,
-        kid.premise,
-        outputs,
-    )
+    take_outputs(reading.rules, &reader.arena, work, kid.premise, outputs)
 }
 
 /// The numbers of the outputs of a node whose premises are followed.
@@ -124,6 +118,7 @@ pub(crate) fn node_outputs(
     work: &Work,
     node: &Node,
 ) -> Result<Vec<usize>, NoMemory>
+    requires reading { IsReading reading.now }
     requires reader { IsReader (set_by reading.now).table reader.old }
     requires work { IsWork (terms_in reader.old) work.now }
     requires node { (d : NodeData) × IsNodeIn reading.now node.now d }
@@ -134,8 +129,7 @@ pub(crate) fn node_outputs(
         map (tree_at (terms_in reader.new)) x.items
         ≡ outputs_of (signature_by reading.now).modes d.judgement) }
 {
-    reading.listing.set.facts();
-    let rules = reading.listing.set.rules();
+    let rules = reading.rules;
     rules.facts();
     let rule = rule_at(rules, node.number);
     make_places(

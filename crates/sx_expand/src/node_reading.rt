@@ -127,8 +127,7 @@ fn read_kids(
         (bindings_of (terms_in reader.old) work.old) →
         AreRead reading.now node.now (terms_in reader.new) work.new d result }
 {
-    reading.listing.set.facts();
-    let rules = reading.listing.set.rules();
+    let rules = reading.rules;
     rules.facts();
     let rule = rule_at(rules, node.number);
     let mut subjects = Vec::new(alloc);
@@ -180,6 +179,7 @@ fn read_kid(
 
 /// Whether what the kid with the number is lowered to is needed.
 fn is_kid_needed(reading: &Reading, node: &Node, kid: usize) -> bool
+    requires { IsReading reading.now }
     ensures { result ≡ node.now.is_needed
         && needed (certificate_at (set_by reading.now) node.now.number) kid }
 {

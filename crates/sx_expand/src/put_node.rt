@@ -6,12 +6,9 @@ ghost use Rattle.sx_rules.specs.Deep.{AreShallow};
 ghost use Rattle.sx_rules.specs.Derivations as spec;
 ghost use Rattle.sx_rules.specs.Rules as known;
 ghost use Rattle.sx_rules.specs.Rules.{judgements_of};
-ghost use Rattle.sx_rules.specs.Sets.{forms_in, bare_rules_in};
-ghost use Rattle.sx_rules.specs.Views.{subjects_in};
+ghost use Rattle.sx_rules.specs.Sets.{bare_rules_in};
 ghost use Rattle.sx_plain.specs.Tables.{FitTable};
-ghost use Rattle.sx_plain.specs.Views.{table_of};
 ghost use Rattle.sx_arena.specs.Arena.{tree_at, AreBelow};
-ghost use Rattle.sx_rewrite.specs.AcceptedView.{accepted};
 ghost use Rattle.sx_rewrite.specs.Needed.{needed};
 ghost use Rattle.sx_rewrite.specs.PutImages.{images_for};
 ghost use Rattle.sx_rewrite.specs.PutSubjects.{IsNodeOf, ArePutBelow};
@@ -19,14 +16,15 @@ ghost use Rattle.sx_rewrite.specs.Stored.{certificate_at};
 ghost use Rattle.sx_expand.specs.KidSubjects.{AreKidSubjects};
 ghost use Rattle.sx_expand.specs.Put.{ArePutAt};
 ghost use Rattle.sx_expand.specs.Readers.{terms_in, IsReader, GoesOn};
+ghost use Rattle.sx_expand.specs.Readings.{IsReading, set_by, signature_by};
 
 use crate::image_numbers::image_numbers;
 use crate::kid_subjects::put_subjects;
 use crate::put_numbers::PutNumbers;
 use crate::reader::Reader;
+use crate::reading::Reading;
 use std::alloc::Global;
 use sx_arena::rule_at;
-use sx_rewrite::Accepted;
 use sx_term::NoMemory;
 
 /// What is put for the variables of the rule at a node to which the terms with these numbers are
@@ -35,40 +33,47 @@ use sx_term::NoMemory;
 /// The one refusal is want of memory.
 pub(crate) fn put_node(
     alloc: Global,
-    set: &Accepted,
+    reading: &Reading,
     reader: &mut Reader,
     number: u32,
     binds: &[usize],
     subjects: &[Option<usize>],
 ) -> Result<PutNumbers, NoMemory>
-    requires reader { IsReader (table_of set.now.plain) reader.old }
-    requires node { IsNodeOf (bare_rules_in set.now.rules) (subjects_in (forms_in set.now.base))
-        number (length binds.now) (length subjects.now) }
+    requires reading { IsReading reading.now }
+    requires reader { IsReader (set_by reading.now).table reader.old }
+    requires node { IsNodeOf (bare_rules_in reading.now.rules.now)
+        (signature_by reading.now).subjects number (length binds.now) (length subjects.now) }
     requires below { AreBelow (length (terms_in reader.old)) binds.now }
     requires shallow { AreShallow (map (tree_at (terms_in reader.old)) binds.now) }
-    requires fit { FitTable (table_of set.now.plain)
+    requires fit { FitTable (set_by reading.now).table
         (forest (map (tree_at (terms_in reader.old)) binds.now)) }
     requires kids { (hyps : known.Hypotheses) × (kids : spec.Proofs)
-        × AreKidSubjects (subjects_in (forms_in set.now.base)) (bare_rules_in set.now.base) hyps
-        (needed (certificate_at (accepted set.now) number)) (terms_in reader.old) kids
+        × AreKidSubjects (signature_by reading.now).subjects (set_by reading.now).base hyps
+        (needed (certificate_at (set_by reading.now) number)) (terms_in reader.old) kids
         subjects.now }
-    ensures on { OnOk result (GoesOn (table_of set.now.plain) reader.old reader.new) }
+    ensures on { OnOk result (GoesOn (set_by reading.now).table reader.old reader.new) }
     ensures put { IfOk result (λ p. (x : known.Rule) →
-        slice_get (bare_rules_in set.now.rules) number ≡ Some x →
+        slice_get (bare_rules_in reading.now.rules.now) number ≡ Some x →
         (hyps : known.Hypotheses) (kids : spec.Proofs) →
-        AreKidSubjects (subjects_in (forms_in set.now.base)) (bare_rules_in set.now.base) hyps
-        (needed (certificate_at (accepted set.now) number)) (terms_in reader.old) kids
+        AreKidSubjects (signature_by reading.now).subjects (set_by reading.now).base hyps
+        (needed (certificate_at (set_by reading.now) number)) (terms_in reader.old) kids
         subjects.now → (more : List Tree)
         × ArePutAt (terms_in reader.new) more p.numbers.items p.measures.items
-        × ArePutBelow (subjects_in (forms_in set.now.base)) (bare_rules_in set.now.base) hyps
-        (needed (certificate_at (accepted set.now) number)) (judgements_of x.premises) kids
-        (length subjects.now) (images_for (table_of set.now.plain) x.sorts
+        × ArePutBelow (signature_by reading.now).subjects (set_by reading.now).base hyps
+        (needed (certificate_at (set_by reading.now) number)) (judgements_of x.premises) kids
+        (length subjects.now) (images_for (set_by reading.now).table x.sorts
         (map (tree_at (terms_in reader.old)) binds.now)) more) }
 {
-    let rule = rule_at(set.rules(), number);
-    let mut puts = image_numbers(alloc, set.plain(), reader, &rule.vars, binds)?;
+    let rule = rule_at(reading.rules, number);
+    let mut puts = image_numbers(
+        alloc,
+        reading.listing.set.plain(),
+        reader,
+        &rule.vars,
+        binds,
+    )?;
     put_subjects(
-        set,
+        reading.listing.set,
         &reader.arena,
         number,
         &rule.premises,

@@ -1,11 +1,13 @@
-//! Derivations in lists, from hypotheses.
+//! Derivations in lists, by rules and from hypotheses.
 
 use crate::listing::Listing;
-use sx_rules::Hyps;
+use sx_rules::{Hyps, RuleSet};
 
-/// The entries of a derivation with their ends, and the hypotheses that it is from.
+/// The entries of a derivation with their ends, the extended rules or the plain rules of the set by
+/// which it is, and the hypotheses that it is from.
 #[derive(Clone, Copy)]
-pub(crate) struct Reading<'a> {
+pub(crate) struct Reading<'a, 'b> {
     pub listing: Listing<'a>,
-    pub given: &'a Hyps,
+    pub rules: &'a RuleSet,
+    pub given: &'b Hyps,
 }

@@ -1,6 +1,5 @@
 use Rattle.std.proofs.Common.{◌≡◌, ◌<◌, ℕ, [], length, arith, sym, ap, ◌∙◌, subst}
 use Rattle.std.proofs.lemmas.Result.{IfOk-weaker}
-use Rattle.sx_rules.specs.Sets.{bare_rules_in}
 use Rattle.sx_rules.specs.Views.{rule}
 use Rattle.sx_arena.specs.Limits.{first_values}
 use Rattle.sx_arena.specs.Matching.{filled, IsBound}
@@ -15,7 +14,7 @@ use Rattle.sx_expand.proofs.finishing.node_terms.Goals as goal
 
 pub rule_at-rule-requires : goal.rule_at-rule-requires
 rule_at-rule-requires c =
-    let d = c.requires.node in number-within _ _ (ap bare_rules_in c.rules.ensures ∙ c.facts.ensures.rules) c.args.node.now.number d.0.rule d.1.found
+    let d = c.requires.node in number-within _ _ c.requires.reading.rules.rules_are c.args.node.now.number d.0.rule d.1.found
 
 count-is : (c : After-len) → c.len.result ≡ length (rule c.rule_at-rule.result.now).sorts
 count-is c =
@@ -29,7 +28,7 @@ bound c d is f =
     let l = c.args.reading.now in
     let env = bindings_of (terms_in c.args.reader.now) c.args.work.now in
     subst (λ (n : ℕ). (v : ℕ) → v < n → IsBound env v) (sym (count-is c))
-    (node-bound (signature_by l).modes (rules_of (set_by l)) (hyps_by l) c.args.node.now.number d.rule (rule c.rule_at-rule.result.now) (rule-same _ _ (ap bare_rules_in c.rules.ensures ∙ c.facts.ensures.rules) c.args.node.now.number d.rule is.found (rule c.rule_at-rule.result.now) c.rule_at-rule.ensures) is.found d.judgement d.binds d.kids is.can.derives env f)
+    (node-bound (signature_by l).modes (rules_of (set_by l)) (hyps_by l) c.args.node.now.number d.rule (rule c.rule_at-rule.result.now) (rule-same _ _ c.requires.reading.rules.rules_are c.args.node.now.number d.rule is.found (rule c.rule_at-rule.result.now) c.rule_at-rule.ensures) is.found d.judgement d.binds d.kids is.can.derives env f)
 
 pub bound_numbers-requires : goal.bound_numbers-requires
 bound_numbers-requires c =
@@ -48,5 +47,5 @@ returns-clause-terms c =
     IfOk-weaker c.bound_numbers.result _ _ (λ x h d is f.
     (h (terms_in c.args.reader.now) c.requires.work (bound c.before d is f)).1
     ∙ ap (λ (n : ℕ). first_values n (filled env)) (count-is c.before)
-    ∙ node-binds (signature_by l).modes (rules_of (set_by l)) (hyps_by l) c.args.node.now.number d.rule (rule c.rule_at-rule.result.now) (rule-same _ _ (ap bare_rules_in c.rules.ensures ∙ c.facts.ensures.rules) c.args.node.now.number d.rule is.found (rule c.rule_at-rule.result.now) c.rule_at-rule.ensures) is.found d.judgement d.binds d.kids is.can.derives env f)
+    ∙ node-binds (signature_by l).modes (rules_of (set_by l)) (hyps_by l) c.args.node.now.number d.rule (rule c.rule_at-rule.result.now) (rule-same _ _ c.requires.reading.rules.rules_are c.args.node.now.number d.rule is.found (rule c.rule_at-rule.result.now) c.rule_at-rule.ensures) is.found d.judgement d.binds d.kids is.can.derives env f)
     c.bound_numbers.ensures

@@ -68,6 +68,7 @@ returns-in-Ok-clause-subject c = λ j at needs.
     let it = judgement c.given_at-it.result.now in
     let new = trees c.given_subject.new.arena in
     let subjects = (signature_by c.args.reading.now).subjects in
-    let here = subst (λ (s : RuleSet). IsSubjectAt new (subjects_of (subjects_in (forms_in s)) it) c.in-Ok.subject) c.base_rules-base.ensures (c.in-Ok.ensures.subject needs) in
+    let here = subst (λ (s : RuleSet). IsSubjectAt new (subjects_of (subjects_in (forms_in s)) it) c.in-Ok.subject)
+    c.base_rules-base.ensures (c.in-Ok.ensures.subject needs) in
     subst (λ (k : Judgement). IsSubjectAt new (subjects_of subjects k) c.in-Ok.subject)
     (one-given (hyps_by c.args.reading.now) c.args.number it j c.given_at-it.ensures at) here

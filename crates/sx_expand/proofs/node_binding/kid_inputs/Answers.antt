@@ -21,11 +21,11 @@ returns-clause-inputs c =
     let l = c.args.reading.now in
     let j = judgement c.args.kid.now.premise.now in
     let env = bindings_of (terms_in c.args.reader.now) c.args.work.now in
-    let modes_are = ap modes_of c.rules-rules.ensures ∙ ap modes_by c.facts.ensures.forms in
+    let modes_are = ap modes_by c.requires.reading.rules.forms_are in
     let ts = map (instance (filled env)) j.places in
     IfOk-weaker c.make_places.result _ _ (λ x h d is.
     h.are
     ∙ ap (λ (us : List Term). inputs (mask_of c.roles.result.now) (map (instance (filled env)) (map tree us))) c.deref.ensures.value
     ∙ ap (λ (m : List Bool). inputs m ts) c.roles.ensures
-    ∙ kid-asks (signature_by l).modes (modes_of c.rules-rules.result.now) modes_are d.rule (bound_by d.binds) j d.rest env is.followed)
+    ∙ kid-asks (signature_by l).modes (modes_of c.args.reading.now.rules.now) modes_are d.rule (bound_by d.binds) j d.rest env is.followed)
     c.make_places.ensures

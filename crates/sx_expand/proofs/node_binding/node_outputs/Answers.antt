@@ -19,11 +19,11 @@ use Rattle.sx_expand.proofs.node_binding.node_outputs.Goals as goal
 
 pub rule_at-rule-requires : goal.rule_at-rule-requires
 rule_at-rule-requires c =
-    let d = c.requires.node in number-within _ _ (ap bare_rules_in c.rules-rules.ensures ∙ c.facts.ensures.rules) c.args.node.now.number d.0.rule d.1.found
+    let d = c.requires.node in number-within _ _ c.requires.reading.rules.rules_are c.args.node.now.number d.0.rule d.1.found
 
 pub make_places-requires-clause-shallow : goal.make_places-requires-clause-shallow
 make_places-requires-clause-shallow c =
-    let h = (rule-shallow (bare_rules_in c.rules-rules.result.now) c.args.node.now.number (rule c.rule_at-rule.result.now) c.facts-2.ensures.shallow c.rule_at-rule.ensures).0 in
+    let h = (rule-shallow (bare_rules_in c.args.reading.now.rules.now) c.args.node.now.number (rule c.rule_at-rule.result.now) c.facts.ensures.shallow c.rule_at-rule.ensures).0 in
     subst (λ (ts : List Term). AreShallow (map tree ts)) (sym c.deref.ensures.value) h
 
 pub returns-clause-on : goal.returns-clause-on
@@ -34,13 +34,13 @@ returns-clause-outputs c =
     let l = c.args.reading.now in
     let code = rule c.rule_at-rule.result.now in
     let env = bindings_of (terms_in c.args.reader.now) c.args.work.now in
-    let modes_are = ap modes_of c.rules-rules.ensures ∙ ap modes_by c.facts.ensures.forms in
-    let rules_are = ap bare_rules_in c.rules-rules.ensures ∙ c.facts.ensures.rules in
+    let modes_are = ap modes_by c.requires.reading.rules.forms_are in
+    let rules_are = c.requires.reading.rules.rules_are in
     let ts = map (instance (filled env)) code.conclusion.places in
     IfOk-weaker c.make_places.result _ _ (λ x h d is f.
     let same = rule-same _ _ rules_are c.args.node.now.number d.rule is.found code c.rule_at-rule.ensures in
     h.are
     ∙ ap (λ (us : List Term). outputs (mask_of c.roles.result.now) (map (instance (filled env)) (map tree us))) c.deref.ensures.value
     ∙ ap (λ (m : List Bool). outputs m ts) c.roles.ensures
-    ∙ ends-concluded (signature_by l).modes (modes_of c.rules-rules.result.now) modes_are (rules_of (set_by l)) (hyps_by l) c.facts.ensures.accepted.moded c.args.node.now.number d.rule code same is.found d.judgement d.binds d.kids is.can.derives env f)
+    ∙ ends-concluded (signature_by l).modes (modes_of c.args.reading.now.rules.now) modes_are (rules_of (set_by l)) (hyps_by l) c.requires.reading.rules.accepted_with.moded c.args.node.now.number d.rule code same is.found d.judgement d.binds d.kids is.can.derives env f)
     c.make_places.ensures

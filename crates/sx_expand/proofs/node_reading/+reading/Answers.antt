@@ -12,6 +12,7 @@ use Rattle.sx_rewrite.specs.declared.rewrite_error.RewriteError.{RewriteError}
 use Rattle.sx_rewrite.specs.Needed.{needed}
 use Rattle.sx_rewrite.specs.Stored.{certificate_at}
 use Rattle.sx_rewrite.proofs.Instanced.{err_is}
+use Rattle.sx_expand.specs.Listed.{set_in}
 use Rattle.sx_expand.specs.Readings.{set_by}
 use Rattle.sx_expand.specs.ReadDerivations.{AreInputs, IsRead, IsReadRefused}
 use Rattle.sx_expand.specs.ReadNodes.{proof_by, IsNodeRead, AreRead, IsKidIn}
@@ -66,8 +67,8 @@ read_kids-loop-premise-init t c = record {
   kids = λ d is f.
       let l = c.args.reading.now in
       let ps = c.deref-premise-items.result.now in
-      let premises_are = ap (map premise) c.deref-premise-items.ensures.value ∙ ap (λ (x : Rule). x.premises) (rule-same _ _ (ap bare_rules_in c.rules-rules.ensures ∙ c.facts.ensures.rules) c.args.node.now.number d.rule is.found (rule c.rule_at-rule.result.now) c.rule_at-rule.ensures) in
-      kids-start l c.facts.ensures.accepted c.requires.reading c.args.node.now d is ps premises_are (c.args.node.now.at + 1) (terms_in c.args.reader.now) c.args.work.now c.new-subjects.result.items refl c.new-subjects.ensures.items f;
+      let premises_are = ap (map premise) c.deref-premise-items.ensures.value ∙ ap (λ (x : Rule). x.premises) (rule-same _ _ c.requires.reading.rules.rules_are c.args.node.now.number d.rule is.found (rule c.rule_at-rule.result.now) c.rule_at-rule.ensures) in
+      kids-start l c.requires.reading c.args.node.now d is ps premises_are (c.args.node.now.at + 1) (terms_in c.args.reader.now) c.args.work.now c.new-subjects.result.items refl c.new-subjects.ensures.items f;
 }
 
 pub read_kids-read_kid-requires : goal.read_kids-read_kid-requires
@@ -81,14 +82,14 @@ read_kids-read_kid-requires t c =
     let so = inv.kids r.0 r.1 r.2 in
     let terms = terms_in c.loop-premise.reader in
     let numbers = c.loop-premise.subjects.items in
-    let next = next-kid l c.facts.ensures.accepted c.requires.reading n r.0 r.1 ps i c.loop-premise.at terms c.loop-premise.work numbers so c.premise-item.result c.loop-premise-test.true c.premise-item.is c.in-Holds.it c.in-Holds.is in
-    let w = listed-within (set_by l) l.listing.list.now c.loop-premise.at next.first next.listed in
+    let next = next-kid l c.requires.reading n r.0 r.1 ps i c.loop-premise.at terms c.loop-premise.work numbers so c.premise-item.result c.loop-premise-test.true c.premise-item.is c.in-Holds.it c.in-Holds.is in
+    let w = listed-within (set_in l.listing) l.listing.list.now c.loop-premise.at next.first next.listed in
     let o = inv.after in
     let v = c.loop-premise.subjects.ok.0 in
     let e = c.len.ensures in
     let count : c.len.result ≡ length numbers = omega (arith, v, e) in
     let needs = c.is_kid_needed.ensures ∙ ap (λ (m : ℕ). n.is_needed && needed (certificate_at (set_by l) n.number) m) count in
-    let shallow = (rule-shallow (bare_rules_in c.rules-rules.result.now) n.number (rule c.rule_at-rule.result.now) c.facts-2.ensures.shallow c.rule_at-rule.ensures).1 in
+    let shallow = (rule-shallow (bare_rules_in c.args.reading.now.rules.now) n.number (rule c.rule_at-rule.result.now) c.facts.ensures.shallow c.rule_at-rule.ensures).1 in
     let low = premise-shallow ps i c.premise-item.result c.in-Holds.it (subst (λ (xs : List PremiseOf). PremisesAreShallow (map premise xs)) (sym c.deref-premise-items.ensures.value) shallow) c.loop-premise-test.true c.premise-item.is c.in-Holds.is in (
       search rules,
       (
@@ -100,8 +101,8 @@ read_kids-read_kid-requires t c =
             (
               low,
               (
-                kid-data l c.facts.ensures.accepted c.requires.reading n r.0 r.1 ps i c.loop-premise.at terms c.loop-premise.work numbers so c.premise-item.result c.loop-premise-test.true c.premise-item.is c.in-Holds.it c.in-Holds.is,
-                kid-in l c.facts.ensures.accepted c.requires.reading n r.0 r.1 ps i c.loop-premise.at terms c.loop-premise.work numbers so c.premise-item.result c.loop-premise-test.true c.premise-item.is c.in-Holds.it c.in-Holds.is _ refl refl needs,
+                kid-data l c.requires.reading n r.0 r.1 ps i c.loop-premise.at terms c.loop-premise.work numbers so c.premise-item.result c.loop-premise-test.true c.premise-item.is c.in-Holds.it c.in-Holds.is,
+                kid-in l c.requires.reading n r.0 r.1 ps i c.loop-premise.at terms c.loop-premise.work numbers so c.premise-item.result c.loop-premise-test.true c.premise-item.is c.in-Holds.it c.in-Holds.is _ refl refl needs,
               ),
             ),
           ),
@@ -124,10 +125,10 @@ read_kids-returns-in_err-read_kid-in-Holds-clause-read t c = λ d is f.
     let needs = c.is_kid_needed.ensures ∙ ap (λ (m : ℕ). n.is_needed && needed (certificate_at (set_by l) n.number) m) count in
     err_is (λ r. AreRead l n (terms_in c.read_kid.new.reader) c.read_kid.new.work d r) c.from_residual.result _ c.from_residual.ensures.1
     (λ e same. subst (λ (x : RewriteError). IsReadRefused l n.is_needed (proof_by n d) x) (sym same)
-    (kid-refuses l c.facts.ensures.accepted c.requires.reading n d is ps i c.loop-premise.at terms c.loop-premise.work numbers so c.premise-item.result c.loop-premise-test.true c.premise-item.is c.in-Holds.it c.in-Holds.is c.is_kid_needed.result needs _
+    (kid-refuses l c.requires.reading n d is ps i c.loop-premise.at terms c.loop-premise.work numbers so c.premise-item.result c.loop-premise-test.true c.premise-item.is c.in-Holds.it c.in-Holds.is c.is_kid_needed.result needs _
     (c.in_err-read_kid-in-Holds.ensures.read
-    (kid-data l c.facts.ensures.accepted c.requires.reading n d is ps i c.loop-premise.at terms c.loop-premise.work numbers so c.premise-item.result c.loop-premise-test.true c.premise-item.is c.in-Holds.it c.in-Holds.is)
-    (kid-in l c.facts.ensures.accepted c.requires.reading n d is ps i c.loop-premise.at terms c.loop-premise.work numbers so c.premise-item.result c.loop-premise-test.true c.premise-item.is c.in-Holds.it c.in-Holds.is _ refl refl needs))))
+    (kid-data l c.requires.reading n d is ps i c.loop-premise.at terms c.loop-premise.work numbers so c.premise-item.result c.loop-premise-test.true c.premise-item.is c.in-Holds.it c.in-Holds.is)
+    (kid-in l c.requires.reading n d is ps i c.loop-premise.at terms c.loop-premise.work numbers so c.premise-item.result c.loop-premise-test.true c.premise-item.is c.in-Holds.it c.in-Holds.is _ refl refl needs))))
 
 pub read_kids-loop-premise-preserved : goal.read_kids-loop-premise-preserved
 read_kids-loop-premise-preserved t c =
@@ -140,7 +141,6 @@ read_kids-loop-premise-preserved t c =
     let terms = terms_in c.loop-premise.reader in
     let work = c.loop-premise.work in
     let numbers = c.loop-premise.subjects.items in
-    let ok = c.facts.ensures.accepted in
     let good = c.requires.reading in
     let p = c.premise-item.result in
     let within = c.loop-premise-test.true in
@@ -153,7 +153,7 @@ read_kids-loop-premise-preserved t c =
           let e = w.len.ensures in
           let count : w.len.result ≡ length numbers = omega (arith, v, e) in
           let needs = w.is_kid_needed.ensures ∙ ap (λ (x : ℕ). n.is_needed && needed (certificate_at (set_by l) n.number) x) count in
-          let later = kid-after l ok good n r.0 r.1 ps i here terms work numbers (inv.kids r.0 r.1 r.2) p within at_i w.in-Holds.it w.in-Holds.is w.number_at-at.result w.number_at-at.ensures in
+          let later = kid-after l good n r.0 r.1 ps i here terms work numbers (inv.kids r.0 r.1 r.2) p within at_i w.in-Holds.it w.in-Holds.is w.number_at-at.result w.number_at-at.ensures in
           let o = inv.after in
           looping-is l n ps (i + 1) c.args.reader.now c.args.work.now m.at w.number_at-at.result m.reader w.read_kid.new.reader m.work w.read_kid.new.work m.subjects.items w.push.new.self.items w.at-is w.reader-is w.work-is (ap (λ x. x.items) w.subjects-is) (record {
             on = goes-then (set_by l).table c.args.reader.now c.loop-premise.reader w.read_kid.new.reader inv.on w.in_ok-read_kid-in-Holds.ensures.on;
@@ -161,24 +161,24 @@ read_kids-loop-premise-preserved t c =
             after = omega (arith, later, o);
             kids = λ d is f.
                 let so = inv.kids d is f in
-                kid-next l ok good n d is ps i here terms work numbers so p within at_i w.in-Holds.it w.in-Holds.is w.is_kid_needed.result needs (terms_in w.read_kid.new.reader) w.read_kid.new.work w.in_ok-read_kid-in-Holds.field-0 w.push.new.self.items w.number_at-at.result
+                kid-next l good n d is ps i here terms work numbers so p within at_i w.in-Holds.it w.in-Holds.is w.is_kid_needed.result needs (terms_in w.read_kid.new.reader) w.read_kid.new.work w.in_ok-read_kid-in-Holds.field-0 w.push.new.self.items w.number_at-at.result
                 w.in_ok-read_kid-in-Holds.ensures.on.extends w.in_ok-push-in-Holds.ensures.items w.number_at-at.ensures
-                (w.in_ok-read_kid-in-Holds.ensures.read (kid-data l ok good n d is ps i here terms work numbers so p within at_i w.in-Holds.it w.in-Holds.is)
-                (kid-in l ok good n d is ps i here terms work numbers so p within at_i w.in-Holds.it w.in-Holds.is _ refl refl needs));
+                (w.in_ok-read_kid-in-Holds.ensures.read (kid-data l good n d is ps i here terms work numbers so p within at_i w.in-Holds.it w.in-Holds.is)
+                (kid-in l good n d is ps i here terms work numbers so p within at_i w.in-Holds.it w.in-Holds.is _ refl refl needs));
           })
       | read_kids-in-Apart w ↦
           looping-is l n ps (i + 1) c.args.reader.now c.args.work.now m.at here m.reader c.loop-premise.reader m.work work m.subjects.items numbers w.at-is w.reader-is w.work-is (ap (λ x. x.items) w.subjects-is) (record {
             on = inv.on;
             work = inv.work;
             after = inv.after;
-            kids = λ d is f. apart-next l ok good n d is ps i here terms work numbers (inv.kids d is f) p within at_i _ _ w.in-Apart.is;
+            kids = λ d is f. apart-next l good n d is ps i here terms work numbers (inv.kids d is f) p within at_i _ _ w.in-Apart.is;
           })
     ]
 
 pub read_kids-returns-clause-read : goal.read_kids-returns-clause-read
 read_kids-returns-clause-read t c = λ d is f.
     let l = c.args.reading.now in
-    kids-end l c.facts.ensures.accepted c.requires.reading c.args.node.now d is c.deref-premise-items.result.now c.loop-premise.premise-index c.loop-premise.at (terms_in c.loop-premise.reader) c.loop-premise.work
+    kids-end l c.requires.reading c.args.node.now d is c.deref-premise-items.result.now c.loop-premise.premise-index c.loop-premise.at (terms_in c.loop-premise.reader) c.loop-premise.work
     c.loop-premise.subjects.items (c.loop-premise.invariant.kids d is f) c.loop-premise-test.false
 
 pub read_by_rule-read_kids-requires : goal.read_by_rule-read_kids-requires
