@@ -23,7 +23,8 @@ fn visit(sorts: &[usize], marks: &mut [bool], stack: &mut Vec<usize>) -> Result<
         IsTrue (slice_index_or marks.new t false)) }
     ensures waits { OnOk result ((t : ℕ) → IsTrue (slice_index_or marks.new t false) →
         IsTrue (slice_index_or marks.old t false) ⊎ Contains stack.new.items t) }
-    ensures stack_kept { OnOk result ((t : ℕ) → Contains stack.old.items t → Contains stack.new.items t) }
+    ensures stack_kept { OnOk result ((t : ℕ) → Contains stack.old.items t →
+        Contains stack.new.items t) }
     ensures stacked { OnOk result ((t : ℕ) → Contains stack.new.items t →
         Contains stack.old.items t ⊎ IsTrue (slice_index_or marks.new t false)) }
     ensures less { OnOk result (2 * count_by not marks.new + length stack.new.items
