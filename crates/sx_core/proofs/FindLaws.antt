@@ -20,7 +20,8 @@ use Rattle.sx_core.specs.declared.terms_row.RowError.TheVariants.{Shape as Bad}
 use Rattle.sx_core.proofs.TableLaws.{one_keyword, parts_stop}
 use Rattle.sx_core.proofs.PartLaws.{sort_same}
 use Rattle.sx_rules.specs.Good.{IsAmong}
-use Rattle.sx_core.proofs.AmongLaws.{contains_among, distinct_snoc}
+use Rattle.sx_rules.proofs.NameLaws.{contains_among}
+use Rattle.sx_core.proofs.AmongLaws.{distinct_snoc}
 use Rattle.sx_core.proofs.RowLaws.{first_of}
 use Rattle.sx_core.proofs.Wording.{map_last}
 

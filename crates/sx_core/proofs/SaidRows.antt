@@ -19,7 +19,7 @@ use Rattle.sx_core.specs.CoreRead.{ReadTo, AreLinesOf}
 use Rattle.sx_core.specs.declared.keyword.Keyword.{Keyword}
 use Rattle.sx_core.specs.declared.keyword.Keyword.TheVariants.{Head, Sort, Con, Form, Rule, If, Not, Then, End, Goal}
 use Rattle.sx_core.proofs.Wording.{map_last}
-use Rattle.sx_core.proofs.AmongLaws.{among_contains, contains_among}
+use Rattle.sx_rules.proofs.NameLaws.{among_contains, contains_among}
 use Rattle.sx_core.proofs.ResolveLaws.{cons_snoc, forms_snoc}
 use Rattle.sx_core.proofs.ReaderLaws.{among_snoc, none_more}
 use Rattle.sx_core.proofs.EndLaws.{sort_or_none, only_sort, declared_rows, sorts_declared}

@@ -14,7 +14,6 @@ use crate::error::CoreFileError;
 use crate::finish::finish;
 use crate::form_table::FormTable;
 use crate::found::Found;
-use crate::names::Names;
 use crate::next_line::read_next;
 use crate::problem::CoreProblem;
 use crate::reader::Reader;
@@ -23,7 +22,7 @@ use crate::sort_table::SortTable;
 use crate::stage::Stage;
 use std::alloc::Global;
 use sx_lines::Rest;
-use sx_term::{NoMemory, Shapes};
+use sx_term::{Names, NoMemory, Shapes};
 
 /// The reader before the first line of a file with these sorts.
 fn begin(alloc: Global, sorts: SortTable) -> Result<Reader, NoMemory>

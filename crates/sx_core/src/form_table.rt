@@ -1,7 +1,7 @@
 //! Forms, found by their names.
 
-use crate::names::Names;
 use sx_rules::Form;
+use sx_term::Names;
 
 /// The forms with the number of each name.
 #[derive(Drop)]

@@ -6,12 +6,11 @@ ghost use Rattle.sx_rules.specs.Views.{form};
 ghost use Rattle.sx_core.specs.Machine.{AddsSort, AddsCon, AddsForm};
 
 use crate::form_table::FormTable;
-use crate::names::Names;
 use crate::rows::{ConRow, SortRow};
 use crate::sort_table::SortTable;
 use std::alloc::Global;
 use sx_rules::Form;
-use sx_term::{Con, NoMemory, Shapes, Text};
+use sx_term::{Con, Names, NoMemory, Shapes, Text};
 
 /// The sorts of the whole file, the names of sorts that are taken so far, and the constructors and
 /// the forms so far.

@@ -10,7 +10,6 @@ mod keyword;
 mod laws;
 mod line_read;
 mod line_reading;
-mod names;
 mod next_line;
 mod problem;
 mod read;

@@ -40,7 +40,7 @@ fn sort_line(alloc: Global, found: &Found, text: &[u8], rest: &[u8]) -> Result<L
 {
     match read_sort(alloc, rest) {
         Ok(row) => {
-            if found.taken.has(&row.name) {
+            if found.taken.has(row.name.bytes()) {
                 return Err(RowError::Shape);
             }
             Ok(LineRead::Sort(row))
@@ -59,7 +59,7 @@ fn con_line(alloc: Global, found: &Found, text: &[u8], rest: &[u8]) -> Result<Li
 {
     match read_con(alloc, rest) {
         Ok(row) => {
-            if found.con_names.has(&row.name) {
+            if found.con_names.has(row.name.bytes()) {
                 drop(row);
                 return Err(RowError::Shape);
             }
@@ -85,7 +85,7 @@ fn form_line(alloc: Global, found: &Found, text: &[u8], rest: &[u8]) -> Result<L
 {
     match read_form(alloc, rest) {
         Ok(row) => {
-            if found.forms.names.has(&row.name) {
+            if found.forms.names.has(row.name.bytes()) {
                 drop(row);
                 return Err(RowError::Shape);
             }

@@ -12,14 +12,13 @@ ghost use Rattle.sx_core.specs.Fitting.{AreSorts};
 ghost use Rattle.sx_core.specs.Machine.{IsSortLine, FindsSort};
 
 use crate::keyword::{Keyword, split_keyword};
-use crate::names::Names;
 use crate::row_reading::read_sort;
 use crate::rows::SortRow;
 use crate::sort_table::SortTable;
 use crate::terms_row::RowError;
 use std::alloc::Global;
 use sx_lines::Rest;
-use sx_term::NoMemory;
+use sx_term::{Names, NoMemory};
 
 /// Adds the names of the lexical sorts to no names.
 fn add_lexical_names(alloc: Global, names: &mut Names) -> Result<(), NoMemory>
@@ -69,7 +68,7 @@ fn find_sort(alloc: Global, table: &mut SortTable, text: &[u8]) -> Result<(), No
 {
     match line_sort(alloc, text)? {
         Some(row) => {
-            if table.names.has(&row.name) {
+            if table.names.has(row.name.bytes()) {
                 drop(row);
                 return Ok(());
             }

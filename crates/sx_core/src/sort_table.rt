@@ -7,11 +7,10 @@ ghost use Rattle.sx_core.specs.Rows.{sort_row};
 ghost use Rattle.sx_core.specs.Stated.{NamesSort, NameSorts};
 ghost use Rattle.sx_core.specs.Resolving.{sort_names, rows_in, IsSortTable, NoneIs};
 
-use crate::names::Names;
 use crate::rows::SortRow;
 use crate::terms_row::RowError;
 use std::alloc::Global;
-use sx_term::{LexKind, Sort, Text};
+use sx_term::{LexKind, Names, Sort, Text};
 
 /// The sorts of a core file with the number of each name: first the lexical ones, then those of the
 /// rows.

@@ -1,36 +1,27 @@
 -- What is numbered of a grammar, and what is numbered of more productions behind it.
-use Rattle.std.proofs.Common.{◌≡◌, ℕ, zero, suc, ◌<◌, ◌≤◌, List, [], ◌∷◌, ◌++◌, length, map, Some, None, ◌⊎◌, inl, inr, ⊎_elim, sym, refl, ap, ◌∙◌, subst, arith}
+use Rattle.std.proofs.Common.{◌≡◌, ℕ, zero, suc, ◌<◌, ◌≤◌, Bool, true, false, IsTrue, ◌↔◌, List, [], ◌∷◌, ◌++◌, length, map, Some, None, ⊎_elim, sym, refl, ap, ◌∙◌, subst, arith}
 use Rattle.std.specs.Prelude.{slice_get, slice_index_or, option_map, Option}
-use Rattle.std.proofs.lemmas.List.{map-append, length-append}
+use Rattle.std.proofs.lemmas.List.{map-append, length-append, append-nil}
 use Rattle.std.proofs.lemmas.Option.{slice_get-map}
+use Rattle.std.proofs.lemmas.Bool.{false≢true}
 use Rattle.sx_grammar.specs.declared.numbered.NumberedSymbol.{NumberedSymbol}
 use Rattle.sx_grammar.specs.declared.numbered.NumberedSymbol.TheVariants.{Lit, Lex, Part}
 use Rattle.sx_grammar.specs.declared.numbered.NumberedProduction.{NumberedProduction}
 use Rattle.sx_grammar.specs.declared.sort_line.SortLine.{SortLine}
 use Rattle.sx_grammar.specs.Grammar as plain
 use Rattle.sx_grammar.specs.Grammar.{Text, Brackets}
-use Rattle.sx_grammar.specs.Parts.{Line, Parts, names, literals, numbered_line, numbered_sort}
+use Rattle.sx_grammar.specs.Parts.{Line, Parts, names, literals, numbered, numbered_line, numbered_pair, numbered_sort}
 use Rattle.sx_grammar.specs.Numbered.{Bare, bare, symbol, production}
 use Rattle.sx_grammar.specs.Distinct.{distinct}
 use Rattle.sx_grammar.specs.Standing.{literals_in}
-use Rattle.sx_grammar.specs.Extended.{extended}
+use Rattle.sx_grammar.specs.Extended.{grown, listed, LacksPair, blank, Grows}
+use Rattle.sx_grammar.specs.Made.{HasKnownSorts}
 use Rattle.sx_grammar.specs.Tables.{literals_of, AreNumbered, HaveLiteralsBelow, IsNumberedPair, AreNumberedPairs}
 use Rattle.sx_grammar.proofs.Finding.{mapped_at}
 use Rattle.sx_grammar.proofs.DistinctLaws.{distinct_goes_on}
+use Rattle.sx_grammar.proofs.NumberLaws.{pairs_push}
 use Rattle.sx_grammar.proofs.Extending.{literals_more}
-
-module _ {X : Type 0} where
-  -- what stands in a list stands there with others behind
-  pub got_kept : (xs ys : List X) (i : ℕ) (x : X) → slice_get xs i ≡ Some x → slice_get (xs ++ ys) i ≡ Some x
-  got_kept [] ys i x e = let clash : None ≡ Some x = e in cc
-  got_kept (z ∷ xs) ys zero x e = e
-  got_kept (z ∷ xs) ys (suc i) x e = got_kept xs ys i x e
-
-  -- what stands in two lists, one behind the other, stands in one of them
-  pub got_cases : (xs ys : List X) (i : ℕ) (x : X) → slice_get (xs ++ ys) i ≡ Some x → (slice_get xs i ≡ Some x) ⊎ ((j : ℕ) × (slice_get ys j ≡ Some x))
-  got_cases [] ys i x e = inr (i, e)
-  got_cases (z ∷ xs) ys zero x e = inl e
-  got_cases (z ∷ xs) ys (suc i) x e = got_cases xs ys i x e
+use Rattle.sx_grammar.proofs.Widening.{got_kept, got_cases, literals_grown, productions_grown}
 
 -- literals keep their numbers
 text_kept : (texts rest : List Text) (n : ℕ) → n < length texts → slice_index_or (texts ++ rest) n [] ≡ slice_index_or texts n []
@@ -69,26 +60,29 @@ below_by_bare bound ps qs same low label p k n at here =
     let found = mapped_at bare qs label (bare p) (ap (λ l. slice_get l label) (sym same) ∙ slice_get-map bare ps label ∙ ap (option_map bare) at) in
     low label found.0 k n found.1 (ap (λ b. slice_get b.symbols k) found.2 ∙ here)
 
--- the literals of the grammar stand first among those of the grammar with more productions
-pub texts_behind : (p : Parts) (more : List Line) → (rest : List Text) × (literals_of (extended p more) ≡ literals_of p ++ rest)
-texts_behind p more =
+-- the literals of the grammar stand first among those of the parts with more behind its parts
+pub texts_behind : (p : Parts) (more : List Line) (whole : Parts) → Grows p more whole → (rest : List Text) × (literals_of whole ≡ literals_of p ++ rest)
+texts_behind p more whole grows =
     let on = distinct_goes_on (literals p) (literals_in more) in
-    (on.0, ap distinct (literals_more p more) ∙ on.1)
+    (on.0, ap distinct (literals_grown p more whole grows ∙ literals_more p more) ∙ on.1)
 
 -- the productions of the grammar, and more productions behind these, with numbers
-pub numbered_both : (p : Parts) (more : List Line) (texts : List Text) (ps qs all : List NumberedProduction) → AreNumbered p ps → HaveLiteralsBelow (length (literals_of p)) ps → texts ≡ literals_of (extended p more)
-    → map (production texts) qs ≡ map (numbered_line (names p)) more → map bare all ≡ map bare (ps ++ qs) → AreNumbered (extended p more) all
-numbered_both p more texts ps qs all own low same new bares =
-    let known = literals_of (extended p more) in
-    let longer = texts_behind p more in
-    let first : map (production known) ps ≡ map (numbered_line (names p)) p.productions = ap (λ l. map (production l) ps) longer.1 ∙ productions_kept (literals_of p) longer.0 ps low ∙ own in
-    let second : map (production known) qs ≡ map (numbered_line (names p)) more = subst (λ l. map (production l) qs ≡ map (numbered_line (names p)) more) same new in
-    same_by_bare known all (ps ++ qs) bares ∙ map-append (production known) ps qs ∙ (λ i. first i ++ second i) ∙ sym (map-append (numbered_line (names p)) p.productions more)
+pub numbered_both : (p : Parts) (more : List Line) (whole : Parts) → Grows p more whole → HasKnownSorts p → (texts ns : List Text) (ps qs all : List NumberedProduction) → AreNumbered p ps → HaveLiteralsBelow (length (literals_of p)) ps
+    → texts ≡ literals_of whole → ns ≡ names whole → map (production texts) qs ≡ map (numbered_line ns) more → map bare all ≡ map bare (ps ++ qs) → AreNumbered whole all
+numbered_both p more whole grows known texts ns ps qs all own low same named new bares =
+    let lits = literals_of whole in
+    let parts = grown p (listed grows.sort) more in
+    let longer = texts_behind p more whole grows in
+    let first : map (production lits) ps ≡ (numbered p).productions = ap (λ l. map (production l) ps) longer.1 ∙ productions_kept (literals_of p) longer.0 ps low ∙ own in
+    let second : map (production lits) qs ≡ map (numbered_line (names parts)) more =
+    subst (λ l. map (production l) qs ≡ map (numbered_line (names parts)) more) same (subst (λ l. map (production texts) qs ≡ map (numbered_line l) more) (named ∙ ap names grows.is) new) in
+    same_by_bare lits all (ps ++ qs) bares ∙ map-append (production lits) ps qs ∙ (λ i. first i ++ second i)
+    ∙ sym (productions_grown p (listed grows.sort) more known) ∙ ap (λ w. (numbered w).productions) (sym grows.is)
 
-pub below_both : (p : Parts) (more : List Line) (texts : List Text) (ps qs all : List NumberedProduction) → HaveLiteralsBelow (length (literals_of p)) ps → texts ≡ literals_of (extended p more)
+pub below_both : (p : Parts) (more : List Line) (whole : Parts) → Grows p more whole → (texts : List Text) (ps qs all : List NumberedProduction) → HaveLiteralsBelow (length (literals_of p)) ps → texts ≡ literals_of whole
     → HaveLiteralsBelow (length texts) qs → map bare all ≡ map bare (ps ++ qs) → HaveLiteralsBelow (length texts) all
-below_both p more texts ps qs all low same new bares =
-    let longer = texts_behind p more in
+below_both p more whole grows texts ps qs all low same new bares =
+    let longer = texts_behind p more whole grows in
     let room : length (literals_of p) ≤ length texts = omega (arith, ap length same, ap length longer.1, length-append (literals_of p) longer.0) in
     below_by_bare (length texts) all (ps ++ qs) bares (λ label q k n at here. ⊎_elim
     (λ own. let less = low label q k n own here in omega (arith, less, room))
@@ -108,7 +102,20 @@ pairs_kept texts rest [] (b ∷ bs) are = absurd are
 pairs_kept texts rest (s ∷ ss) [] are = absurd are
 pairs_kept texts rest (s ∷ ss) (b ∷ bs) are = (pair_kept texts rest (numbered_sort s).brackets b are.0, pairs_kept texts rest ss bs are.1)
 
-pub pairs_behind : (p : Parts) (more : List Line) (texts known : List Text) (bs : List (Option (ℕ × ℕ))) → texts ≡ literals_of p → known ≡ literals_of (extended p more) → AreNumberedPairs texts p.sorts bs → AreNumberedPairs known p.sorts bs
-pairs_behind p more texts known bs own same are =
-    let longer = texts_behind p more in
-    subst (λ l. AreNumberedPairs l p.sorts bs) (sym (same ∙ longer.1)) (pairs_kept (literals_of p) longer.0 p.sorts bs (subst (λ l. AreNumberedPairs l p.sorts bs) own are))
+-- one more sort has no brackets
+pairs_listed : (texts : List Text) (ss : List SortLine) (sort : Option SortLine) (bs : List (Option (ℕ × ℕ))) (wider : Bool) → LacksPair sort → (IsTrue wider ↔ (length ss < length (ss ++ listed sort))) → AreNumberedPairs texts ss bs
+    → AreNumberedPairs texts (ss ++ listed sort) (bs ++ blank wider)
+pairs_listed texts ss None bs true lacks is are = absurd (omega (arith, is.0 refl, ap length (append-nil ss)))
+pairs_listed texts ss None bs false lacks is are = subst (λ l. AreNumberedPairs texts l (bs ++ [])) (sym (append-nil ss)) (subst (AreNumberedPairs texts ss) (sym (append-nil bs)) are)
+pairs_listed texts ss (Some s) bs true lacks is are = pairs_push texts ss bs s None are (subst (λ b. IsNumberedPair texts (numbered_pair b) None) (sym lacks) tt)
+pairs_listed texts ss (Some s) bs false lacks is are = absurd (false≢true (is.1 (omega (arith, length-append ss (s ∷ [])))))
+
+pub pairs_behind : (p : Parts) (more : List Line) (whole : Parts) → Grows p more whole → (texts known : List Text) (bs all : List (Option (ℕ × ℕ))) (wider : Bool) → texts ≡ literals_of p → known ≡ literals_of whole
+    → AreNumberedPairs texts p.sorts bs → (IsTrue wider ↔ (length p.sorts < length whole.sorts)) → all ≡ bs ++ blank wider → AreNumberedPairs known whole.sorts all
+pairs_behind p more whole grows texts known bs all wider own same are is made =
+    let longer = texts_behind p more whole grows in
+    let kept : AreNumberedPairs known p.sorts bs =
+    subst (λ l. AreNumberedPairs l p.sorts bs) (sym (same ∙ longer.1)) (pairs_kept (literals_of p) longer.0 p.sorts bs (subst (λ l. AreNumberedPairs l p.sorts bs) own are)) in
+    subst (AreNumberedPairs known whole.sorts) (sym made)
+    (subst (λ (w : Parts). AreNumberedPairs known w.sorts (bs ++ blank wider)) (sym grows.is)
+    (pairs_listed known p.sorts grows.sort bs wider grows.plain (subst (λ (w : Parts). IsTrue wider ↔ (length p.sorts < length w.sorts)) grows.is is) kept))

@@ -17,7 +17,6 @@ pub mod Searching
 pub mod Climbing
 pub mod FirstLaws
 pub mod DistinctLaws
-pub mod NameLaws
 pub mod TableLaws
 pub mod Finding
 pub mod GrammarLaws
@@ -26,6 +25,7 @@ pub mod MixedLaws
 pub mod LevelLaws
 pub mod MakeLaws
 pub mod LimitLaws
+pub mod Widening
 pub mod Extending
 pub mod Behind
 pub mod TokenLaws

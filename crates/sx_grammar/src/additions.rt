@@ -1,19 +1,18 @@
 //! Whether the literals and names of more productions are good behind those of a grammar.
 
-ghost use Rattle.std.specs.Prelude.{◌++◌, map, Contains, IsTrue, IfOk};
+ghost use Rattle.std.specs.Prelude.{◌≡◌, ◌++◌, map, Contains, IsTrue, IfOk};
 ghost use Rattle.sx_term.specs.Cutting.{AreDistinct};
-ghost use Rattle.sx_grammar.specs.Parts.{line};
+ghost use Rattle.sx_grammar.specs.Parts.{Parts, line, names};
 ghost use Rattle.sx_grammar.specs.Standing.{labels_in, literals_in, sorts_in};
-ghost use Rattle.sx_grammar.specs.Extended.{extended};
+ghost use Rattle.sx_grammar.specs.Extended.{Grows};
 ghost use Rattle.sx_grammar.specs.Made.{HasNone, HasLabels, IsBadLiteral, IsUnknown};
 
 use crate::firsts::{Numbering, first_bad, first_unknown, number};
 use crate::grammar::Grammar;
-use crate::names::Names;
 use crate::production::Production;
 use crate::standing::{labels, literals_in, sorts_named};
 use std::alloc::{AllocError, Global};
-use sx_term::NoMemory;
+use sx_term::{Names, NoMemory};
 
 /// Whether the literals of the productions are words or symbol characters.
 fn have_good_literals(alloc: Global, more: &[Production]) -> Result<bool, AllocError>
@@ -74,16 +73,19 @@ fn have_new_labels(
     }
 }
 
-/// Whether the literals and names of more productions are good behind those of the grammar.
+/// Whether the literals and names of more productions are good behind those of the grammar, where
+/// these are the names of its sorts, and of one more sort or none.
 pub(crate) fn are_well_named(
     alloc: Global,
     base: &Grammar,
+    sorts: &Names,
     more: &[Production],
 ) -> Result<bool, NoMemory>
-    ensures { IfOk result (λ r. IsTrue r →
-        HasLabels (extended base.now.parts (map line more.now))) }
+    ensures { IfOk result (λ r. IsTrue r → (whole : Parts) →
+        Grows base.now.parts (map line more.now) whole → sorts.now ≡ names whole →
+        AreDistinct sorts.now → HasLabels whole) }
 {
-    if !have_good_literals(alloc, more)? || !have_known_sorts(alloc, &base.sort_names, more)? {
+    if !have_good_literals(alloc, more)? || !have_known_sorts(alloc, sorts, more)? {
         return Ok(false);
     }
     have_new_labels(alloc, &base.parts.productions, more)

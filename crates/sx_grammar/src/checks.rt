@@ -7,10 +7,9 @@ ghost use Rattle.sx_grammar.specs.Made.{HasLiterals, HasSorts, HasKnownSorts, Ha
 use crate::firsts::{Numbering, first_bad, first_unknown, number};
 use crate::grammar_error::GrammarError;
 use crate::grammar_parts::GrammarParts;
-use crate::names::Names;
 use crate::standing::{labels, literals, names, sorts_named};
 use std::alloc::Global;
-use sx_term::Text;
+use sx_term::{Names, Text};
 
 /// The brackets and literals in order, or BadLiteral.
 pub(crate) fn good_literals(alloc: Global, from: &GrammarParts) -> Result<Vec<&Text>, GrammarError>

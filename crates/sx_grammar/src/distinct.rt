@@ -5,9 +5,8 @@ ghost use Rattle.sx_grammar.specs.Grammar.{Text as TextOf};
 ghost use Rattle.sx_grammar.specs.Parts.{texts};
 ghost use Rattle.sx_grammar.specs.Distinct.{distinct};
 
-use crate::names::Names;
 use std::alloc::Global;
-use sx_term::{NoMemory, Text};
+use sx_term::{Names, NoMemory, Text};
 
 /// Adds a text that is none of the names, and the same as a name.
 fn add(alloc: Global, text: &Text, out: &mut Vec<Text>, names: &mut Names) -> Result<(), NoMemory>

@@ -1,15 +1,16 @@
-//! Making a grammar of another one and more productions.
+//! Making a grammar of another one, one more sort and more productions.
 
 ghost use Rattle.std.specs.Prelude.{◌≡◌, IfOk, map};
 ghost use Rattle.sx_grammar.specs.Parts.{line, parts};
-ghost use Rattle.sx_grammar.specs.Extended.{extended, IsExtended};
-ghost use Rattle.sx_grammar.specs.Tables.{IsWithinLimits};
+ghost use Rattle.sx_grammar.specs.Extended.{extended, widened, IsExtended};
+ghost use Rattle.sx_grammar.specs.Tables.{IsWithinLimits, IsMade};
 
 use crate::grammar::Grammar;
 use crate::grammar_error::GrammarError;
 use crate::grammar_parts::GrammarParts;
 use crate::growing::tables_behind;
 use crate::production::Production;
+use crate::sort_line::SortLine;
 use std::alloc::Global;
 use sx_term::NoMemory;
 
@@ -40,6 +41,31 @@ fn with_more(
     }
 }
 
+/// The sorts and productions of the parts, and one more sort and more productions behind these.
+fn with_all(
+    alloc: Global,
+    from: &GrammarParts,
+    sort: SortLine,
+    more: Vec<Production>,
+) -> Result<GrammarParts, NoMemory>
+    ensures { IfOk result (λ p. parts p ≡ widened (parts from.now) sort (map line more.items)) }
+{
+    let mut all = match with_more(alloc, from, more) {
+        Ok(all) => all,
+        Err(e) => {
+            drop(sort);
+            return Err(e);
+        }
+    };
+    match all.sorts.push(sort) {
+        Ok(()) => Ok(all),
+        Err(e) => {
+            drop(all);
+            Err(NoMemory::from(e))
+        }
+    }
+}
+
 impl Grammar {
     /// The grammar with these productions behind those of the base, where the base productions of
     /// the base are base and these are not; or the first refusal that holds of all the sorts and
@@ -54,16 +80,30 @@ impl Grammar {
     {
         let parts = with_more(alloc, &base.parts, more)?;
         match tables_behind(alloc, base, &parts) {
-            Ok(made) => Ok(Grammar {
-                parts,
-                base: base.base,
-                literals: made.literals,
-                productions: made.productions,
-                brackets: made.brackets,
-                sort_names: made.sort_names,
-                literal_names: made.literal_names,
-                ranks: made.ranks,
-            }),
+            Ok(made) => Ok(Grammar::of(parts, base.base, made)),
+            Err(e) => {
+                drop(parts);
+                Err(e)
+            }
+        }
+    }
+
+    /// The grammar of the base's sorts with this one behind them and of its productions with these
+    /// behind them, all of which are base; or the first refusal that holds of these sorts and
+    /// productions.
+    pub fn with_sort(
+        alloc: Global,
+        base: &Grammar,
+        sort: SortLine,
+        more: Vec<Production>,
+    ) -> Result<Grammar, GrammarError>
+        requires { IsWithinLimits (widened base.now.parts sort (map line more.items)) }
+        ensures { IsMade (widened base.now.parts sort (map line more.items)) result }
+    {
+        let parts = with_all(alloc, &base.parts, sort, more)?;
+        let count = parts.productions.len();
+        match tables_behind(alloc, base, &parts) {
+            Ok(made) => Ok(Grammar::of(parts, count, made)),
             Err(e) => {
                 drop(parts);
                 Err(e)

@@ -5,9 +5,8 @@ ghost use Rattle.sx_grammar.specs.Parts.{texts};
 ghost use Rattle.sx_grammar.specs.Numbering.{IsNumberedAs};
 ghost use Rattle.sx_grammar.specs.Made.{IsFirst, HasNone, IsBadLiteral, IsLexical, IsUnknown};
 
-use crate::names::Names;
 use std::alloc::Global;
-use sx_term::{LiteralShape, NoMemory, Text, literal_shape};
+use sx_term::{LiteralShape, Names, NoMemory, Text, literal_shape};
 
 /// Whether the text is neither a word nor symbol characters without `//`.
 fn is_bad_literal(text: &Text) -> bool

@@ -1,10 +1,14 @@
 //! Grammars.
 
+ghost use Rattle.std.specs.Prelude.{◌≡◌};
+ghost use Rattle.sx_grammar.specs.Parts.{parts};
+ghost use Rattle.sx_grammar.specs.Tables.{IsTabled};
+
 use crate::grammar_parts::GrammarParts;
-use crate::names::Names;
 use crate::numbered::NumberedProduction;
+use crate::tables::Tables;
 use std::marker::Model;
-use sx_term::Text;
+use sx_term::{Names, Text};
 
 /// Sorts and productions that are well formed and not cyclic, and the tables by which they are read
 /// and printed.
@@ -37,4 +41,24 @@ impl Model for Grammar {
 
     ghost invariant = { λ g. IsTabled (plain.parts g.parts) g.base g.literals.items
         g.productions.items g.brackets.items g.sort_names g.literal_names g.ranks.items };
+}
+
+impl Grammar {
+    /// The grammar of the parts with their tables, of whose productions so many are base.
+    pub(crate) fn of(from: GrammarParts, base: usize, made: Tables) -> Grammar
+        requires { IsTabled (parts from) base made.literals.items made.productions.items
+            made.brackets.items made.sort_names made.literal_names made.ranks.items }
+        ensures { result ≡ record { parts = parts from; base = base } }
+    {
+        Grammar {
+            parts: from,
+            base,
+            literals: made.literals,
+            productions: made.productions,
+            brackets: made.brackets,
+            sort_names: made.sort_names,
+            literal_names: made.literal_names,
+            ranks: made.ranks,
+        }
+    }
 }

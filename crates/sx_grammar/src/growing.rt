@@ -1,12 +1,12 @@
-//! The tables of a grammar with more productions, made of the tables of that grammar.
+//! The tables of a grammar with more sorts and productions, made of the tables of that grammar.
 
-ghost use Rattle.std.specs.Prelude.{◌≡◌, ◌≤◌, ℕ, List, map, length, OnOk, IfOk, IfErr};
-ghost use Rattle.sx_grammar.specs.Parts.{Line, line, parts, names, numbered};
-ghost use Rattle.sx_grammar.specs.Order.{AreRanks};
-ghost use Rattle.sx_grammar.specs.Extended.{extended};
-ghost use Rattle.sx_grammar.specs.Tables.{literals_of, AreNumbered, AreNumberedPairs};
-ghost use Rattle.sx_grammar.specs.Tables.{HaveLiteralsBelow, IsWithinLimits, IsTabled};
-ghost use Rattle.sx_grammar.specs.Made.{HasLabels, IsGrammar, IsRefused};
+ghost use Rattle.std.specs.Prelude.{◌≡◌, ◌≤◌, ℕ, List, Option, map, length, IfOk, IfErr};
+ghost use Rattle.sx_term.specs.Cutting.{AreDistinct};
+ghost use Rattle.sx_grammar.specs.declared.sort_line.SortLine.{SortLine as SortLineOf};
+ghost use Rattle.sx_grammar.specs.Parts.{Line, line, parts, names};
+ghost use Rattle.sx_grammar.specs.Extended.{extended, grown, listed, Grows};
+ghost use Rattle.sx_grammar.specs.Tables.{literals_of, IsWithinLimits, IsTabled};
+ghost use Rattle.sx_grammar.specs.Made.{HasLabels, IsRefused};
 
 use crate::additions::are_well_named;
 use crate::distinct::distinct_behind;
@@ -14,14 +14,14 @@ use crate::grammar::Grammar;
 use crate::grammar_error::GrammarError;
 use crate::grammar_parts::GrammarParts;
 use crate::make::tables;
-use crate::names::Names;
+use crate::more_sorts::names_behind;
 use crate::numbered_behind::numbered_behind;
 use crate::numbered_parts::NumberedParts;
 use crate::production::Production;
 use crate::standing::literals_in;
 use crate::tables::Tables;
 use std::alloc::Global;
-use sx_term::{NoMemory, Text};
+use sx_term::{Names, NoMemory, Text};
 
 /// The literals of the grammar, and behind these those of more productions; and the same as names.
 fn literals_behind(
@@ -38,21 +38,55 @@ fn literals_behind(
     distinct_behind(alloc, &base.literals, &base.literal_names, &list)
 }
 
-/// The tables of these literals, of what is numbered, and of the names of the grammar's sorts.
-fn tables_of(
+/// The literals and what is numbered of the parts, which are those of the grammar with more behind
+/// them, and whose literals and names are good; or why they are no grammar.
+fn all_behind(
+    alloc: Global,
     base: &Grammar,
-    literals: Vec<Text>,
-    literal_names: Names,
-    numbered: NumberedParts,
-) -> Result<Tables, NoMemory>
-    ensures literals { IfOk result (λ t. (t.literals ≡ literals) ×
-        (t.literal_names ≡ literal_names)) }
-    ensures sorts { IfOk result (λ t. t.sort_names ≡ names base.now.parts) }
-    ensures same { IfOk result (λ t. (t.productions ≡ numbered.productions) ×
-        (t.brackets ≡ numbered.brackets) × (t.ranks ≡ numbered.ranks)) }
+    from: &GrammarParts,
+    sorts: &Names,
+    more: &[Production],
+) -> Result<(Vec<Text>, Names, NumberedParts), GrammarError>
+    requires behind { Grows base.now.parts (map line more.now) (parts from.now) }
+    requires labels { HasLabels (parts from.now) }
+    requires sorts { sorts.now ≡ names (parts from.now) }
+    requires limits { IsWithinLimits (parts from.now) }
+    ensures tables { IfOk result (λ r. (base : ℕ) → base ≤ length (parts from.now).productions
+        → IsTabled (parts from.now) base r.0.items r.2.productions.items r.2.brackets.items
+        sorts.now r.1 r.2.ranks.items) }
+    ensures refused { IfErr result (IsRefused (parts from.now)) }
 {
-    match base.sort_names.copy() {
-        Ok(sort_names) => Ok(Tables {
+    let (literals, literal_names) = literals_behind(alloc, base, more)?;
+    match numbered_behind(alloc, base, from, sorts, &literal_names, more) {
+        Ok(numbered) => Ok((literals, literal_names, numbered)),
+        Err(e) => {
+            drop(literal_names);
+            drop(literals);
+            Err(e)
+        }
+    }
+}
+
+/// The tables of the parts, which are those of the grammar with more behind them, and whose
+/// literals and names are good, where these are the names of the sorts; or why they are no grammar.
+fn tables_named(
+    alloc: Global,
+    base: &Grammar,
+    from: &GrammarParts,
+    sort_names: Names,
+    more: &[Production],
+) -> Result<Tables, GrammarError>
+    requires behind { Grows base.now.parts (map line more.now) (parts from.now) }
+    requires labels { HasLabels (parts from.now) }
+    requires sorts { sort_names ≡ names (parts from.now) }
+    requires limits { IsWithinLimits (parts from.now) }
+    ensures tables { IfOk result (λ t. (base : ℕ) → base ≤ length (parts from.now).productions
+        → IsTabled (parts from.now) base t.literals.items t.productions.items t.brackets.items
+        t.sort_names t.literal_names t.ranks.items) }
+    ensures refused { IfErr result (IsRefused (parts from.now)) }
+{
+    match all_behind(alloc, base, from, &sort_names, more) {
+        Ok((literals, literal_names, numbered)) => Ok(Tables {
             literals,
             productions: numbered.productions,
             brackets: numbered.brackets,
@@ -61,48 +95,51 @@ fn tables_of(
             ranks: numbered.ranks,
         }),
         Err(e) => {
-            drop(numbered);
-            drop(literal_names);
-            drop(literals);
+            drop(sort_names);
             Err(e)
         }
     }
 }
 
-/// The tables of the grammar's parts with more productions, whose literals and names are good, or
-/// why these are no grammar.
-fn named_tables(
+/// The same, where the literals and the names of the productions may be bad.
+fn tables_sorted(
     alloc: Global,
     base: &Grammar,
     from: &GrammarParts,
+    sort_names: Names,
     more: &[Production],
 ) -> Result<Tables, GrammarError>
-    requires behind { parts from.now ≡ extended base.now.parts (map line more.now) }
-    requires labels { HasLabels (parts from.now) }
+    requires behind { Grows base.now.parts (map line more.now) (parts from.now) }
+    requires sorts { sort_names ≡ names (parts from.now) }
+    requires distinct { AreDistinct sort_names }
     requires limits { IsWithinLimits (parts from.now) }
     ensures tables { IfOk result (λ t. (base : ℕ) → base ≤ length (parts from.now).productions
         → IsTabled (parts from.now) base t.literals.items t.productions.items t.brackets.items
         t.sort_names t.literal_names t.ranks.items) }
     ensures refused { IfErr result (IsRefused (parts from.now)) }
 {
-    let (literals, literal_names) = literals_behind(alloc, base, more)?;
-    match numbered_behind(alloc, base, from, &literal_names, more) {
-        Ok(numbered) => Ok(tables_of(base, literals, literal_names, numbered)?),
+    match are_well_named(alloc, base, &sort_names, more) {
+        Ok(true) => tables_named(alloc, base, from, sort_names, more),
+        Ok(false) => {
+            drop(sort_names);
+            tables(alloc, from)
+        }
         Err(e) => {
-            drop(literal_names);
-            drop(literals);
-            Err(e)
+            drop(sort_names);
+            Err(GrammarError::from(e))
         }
     }
 }
 
-/// The tables of the grammar's parts with more productions, or why these are no grammar.
+/// The tables of the parts, which are those of the grammar with one more sort or none and more
+/// productions behind them; or why they are no grammar.
 pub(crate) fn tables_behind(
     alloc: Global,
     base: &Grammar,
     from: &GrammarParts,
 ) -> Result<Tables, GrammarError>
-    requires behind { (more : List Line) × (parts from.now ≡ extended base.now.parts more) }
+    requires behind { (sort : Option SortLineOf) × (more : List Line) ×
+        (parts from.now ≡ grown base.now.parts (listed sort) more) }
     requires limits { IsWithinLimits (parts from.now) }
     ensures tables { IfOk result (λ t. (base : ℕ) → base ≤ length (parts from.now).productions
         → IsTabled (parts from.now) base t.literals.items t.productions.items t.brackets.items
@@ -110,8 +147,8 @@ pub(crate) fn tables_behind(
     ensures refused { IfErr result (IsRefused (parts from.now)) }
 {
     let (_own, more) = from.productions.split_at(base.parts.productions.len());
-    if are_well_named(alloc, base, more)? {
-        return named_tables(alloc, base, from, more);
+    match names_behind(alloc, base, from)? {
+        Some(sort_names) => tables_sorted(alloc, base, from, sort_names, more),
+        None => tables(alloc, from),
     }
-    tables(alloc, from)
 }

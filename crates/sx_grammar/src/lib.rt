@@ -23,7 +23,7 @@ mod levels;
 mod limits;
 mod make;
 mod mixing;
-mod names;
+mod more_sorts;
 mod numbered;
 mod numbered_behind;
 mod numbered_parts;

@@ -15,13 +15,12 @@ use crate::grammar_error::GrammarError;
 use crate::grammar_parts::GrammarParts;
 use crate::levels::has_brackets;
 use crate::mixing::keeps_sorts;
-use crate::names::Names;
 use crate::numbered::NumberedProduction;
 use crate::numbered_parts::NumberedParts;
 use crate::numbering::{number_brackets, number_productions};
 use crate::tables::Tables;
 use std::alloc::Global;
-use sx_term::Text;
+use sx_term::{Names, Text};
 
 /// Whether the sorts that are named are known, and the labels distinct.
 fn good_names(alloc: Global, from: &GrammarParts, sorts: &Names) -> Result<(), GrammarError>
@@ -224,16 +223,7 @@ impl Grammar {
     {
         let base = from.productions.len();
         match tables(alloc, &from) {
-            Ok(made) => Ok(Grammar {
-                parts: from,
-                base,
-                literals: made.literals,
-                productions: made.productions,
-                brackets: made.brackets,
-                sort_names: made.sort_names,
-                literal_names: made.literal_names,
-                ranks: made.ranks,
-            }),
+            Ok(made) => Ok(Grammar::of(from, base, made)),
             Err(e) => Err(e),
         }
     }

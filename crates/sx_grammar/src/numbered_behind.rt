@@ -1,10 +1,11 @@
-//! What is numbered of a grammar with more productions, made of what is numbered of that grammar.
+//! What is numbered of a grammar with more sorts and productions, made of what is numbered of that
+//! grammar.
 
-ghost use Rattle.std.specs.Prelude.{◌≡◌, ◌++◌, [], map, length, OnOk, IfOk, IfErr};
-ghost use Rattle.sx_grammar.specs.Parts.{line, parts, numbered};
+ghost use Rattle.std.specs.Prelude.{◌≡◌, ◌++◌, map, length, OnOk, IfOk, IfErr};
+ghost use Rattle.sx_grammar.specs.Parts.{line, parts, names, numbered};
 ghost use Rattle.sx_grammar.specs.Numbered.{bare};
 ghost use Rattle.sx_grammar.specs.Order.{AreRanks};
-ghost use Rattle.sx_grammar.specs.Extended.{extended};
+ghost use Rattle.sx_grammar.specs.Extended.{Grows};
 ghost use Rattle.sx_grammar.specs.Tables.{literals_of, AreNumbered, AreNumberedPairs};
 ghost use Rattle.sx_grammar.specs.Tables.{HaveLiteralsBelow, IsWithinLimits};
 ghost use Rattle.sx_grammar.specs.Made.{HasLabels, IsGrammar, IsRefused};
@@ -15,29 +16,14 @@ use crate::grammar_error::GrammarError;
 use crate::grammar_parts::GrammarParts;
 use crate::levels::has_brackets;
 use crate::mixing::keeps_sorts;
-use crate::names::Names;
+use crate::more_sorts::{brackets_with, has_more, ranks_with};
 use crate::numbered::NumberedProduction;
 use crate::numbered_parts::NumberedParts;
 use crate::numbering::number_productions;
 use crate::production::Production;
 use crate::tokens::have_tokens;
 use std::alloc::Global;
-use sx_term::NoMemory;
-
-/// Fills a list that has no productions with equal ones.
-fn fill(
-    alloc: Global,
-    productions: &[NumberedProduction],
-    copies: &mut Vec<NumberedProduction>,
-) -> Result<(), NoMemory>
-    requires { copies.old.items ≡ [] }
-    ensures { OnOk result (map bare copies.new.items ≡ map bare productions.now) }
-{
-    for i in 0..productions.len() {
-        copies.push(productions[i].copy(alloc)?)?;
-    }
-    Ok(())
-}
+use sx_term::{Names, NoMemory};
 
 /// Equal productions.
 fn copy_numbered(
@@ -47,13 +33,10 @@ fn copy_numbered(
     ensures { IfOk result (λ v. map bare v.items ≡ map bare productions.now) }
 {
     let mut copies = Vec::with_capacity(alloc, productions.len())?;
-    match fill(alloc, productions, &mut copies) {
-        Ok(()) => Ok(copies),
-        Err(e) => {
-            drop(copies);
-            Err(e)
-        }
+    for i in 0..productions.len() {
+        copies.push(productions[i].copy(alloc)?)?;
     }
+    Ok(copies)
 }
 
 /// Productions equal to the first, and the others behind these.
@@ -83,27 +66,10 @@ fn joined(
     }
 }
 
-/// The productions of the grammar with numbers, and behind these more productions with numbers.
-fn productions_behind(
-    alloc: Global,
-    base: &Grammar,
-    literals: &Names,
-    more: &[Production],
-) -> Result<Vec<NumberedProduction>, NoMemory>
-    requires labels { HasLabels (extended base.now.parts (map line more.now)) }
-    requires literals { literals.now ≡ literals_of (extended base.now.parts (map line more.now)) }
-    requires limits { IsWithinLimits (extended base.now.parts (map line more.now)) }
-    ensures same { IfOk result
-        (λ v. AreNumbered (extended base.now.parts (map line more.now)) v.items) }
-    ensures below { IfOk result (λ v. HaveLiteralsBelow (length literals.now) v.items) }
-{
-    let own = number_productions(alloc, &base.sort_names, literals, more)?;
-    joined(alloc, &base.productions, own)
-}
-
-/// The ranks of the sorts of the grammar with more productions: those of the grammar where each of
-/// these has a literal or a lexical kind, so that from no sort it leads to another. Or a plain
-/// production with a typed part, a sort without brackets or a cyclic sort.
+/// The ranks of the sorts of the parts, which are those of the grammar with more behind them: those
+/// of the grammar, where each of these productions has a literal or a lexical kind, so that from no
+/// sort it leads to another. Or a plain production with a typed part, a sort without brackets or a
+/// cyclic sort.
 fn ranks_behind(
     alloc: Global,
     base: &Grammar,
@@ -111,7 +77,7 @@ fn ranks_behind(
     productions: &[NumberedProduction],
     more: &[Production],
 ) -> Result<Vec<u32>, GrammarError>
-    requires behind { parts from.now ≡ extended base.now.parts (map line more.now) }
+    requires behind { Grows base.now.parts (map line more.now) (parts from.now) }
     requires labels { HasLabels (parts from.now) }
     requires numbered { AreNumbered (parts from.now) productions.now }
     requires limits { IsWithinLimits (parts from.now) }
@@ -122,22 +88,24 @@ fn ranks_behind(
     keeps_sorts(alloc, from, productions, base.parts.productions.len())?;
     has_brackets(alloc, from, productions)?;
     if have_tokens(more) {
-        return Ok(Vec::from_slice(alloc, &base.ranks)?);
+        return Ok(ranks_with(alloc, &base.ranks, has_more(base, from))?);
     }
     not_cyclic(alloc, from, productions)
 }
 
-/// The productions with numbers, and the ranks of the sorts, of the grammar with more productions;
-/// or a plain production with a typed part, a sort without brackets or a cyclic sort.
+/// The productions of the parts with numbers, and the ranks of the sorts; or a plain production
+/// with a typed part, a sort without brackets or a cyclic sort.
 fn ranked_behind(
     alloc: Global,
     base: &Grammar,
     from: &GrammarParts,
+    sorts: &Names,
     literals: &Names,
     more: &[Production],
 ) -> Result<(Vec<NumberedProduction>, Vec<u32>), GrammarError>
-    requires behind { parts from.now ≡ extended base.now.parts (map line more.now) }
+    requires behind { Grows base.now.parts (map line more.now) (parts from.now) }
     requires labels { HasLabels (parts from.now) }
+    requires sorts { sorts.now ≡ names (parts from.now) }
     requires literals { literals.now ≡ literals_of (parts from.now) }
     requires limits { IsWithinLimits (parts from.now) }
     ensures good { OnOk result (IsGrammar (parts from.now)) }
@@ -146,7 +114,8 @@ fn ranked_behind(
     ensures ranking { IfOk result (λ r. AreRanks (numbered (parts from.now)) r.1.items) }
     ensures refused { IfErr result (IsRefused (parts from.now)) }
 {
-    let productions = productions_behind(alloc, base, literals, more)?;
+    let own = number_productions(alloc, sorts, literals, more)?;
+    let productions = joined(alloc, &base.productions, own)?;
     match ranks_behind(alloc, base, from, &productions, more) {
         Ok(ranks) => Ok((productions, ranks)),
         Err(e) => {
@@ -156,17 +125,20 @@ fn ranked_behind(
     }
 }
 
-/// What is numbered of the grammar with more productions, whose literals and names are good; or why
-/// these are no grammar. The brackets of the sorts keep their numbers.
+/// What is numbered of the parts, which are those of the grammar with more behind them, and whose
+/// literals and names are good; or why these are no grammar. The brackets of the grammar's sorts
+/// keep their numbers.
 pub(crate) fn numbered_behind(
     alloc: Global,
     base: &Grammar,
     from: &GrammarParts,
+    sorts: &Names,
     literals: &Names,
     more: &[Production],
 ) -> Result<NumberedParts, GrammarError>
-    requires behind { parts from.now ≡ extended base.now.parts (map line more.now) }
+    requires behind { Grows base.now.parts (map line more.now) (parts from.now) }
     requires labels { HasLabels (parts from.now) }
+    requires sorts { sorts.now ≡ names (parts from.now) }
     requires literals { literals.now ≡ literals_of (parts from.now) }
     requires limits { IsWithinLimits (parts from.now) }
     ensures good { OnOk result (IsGrammar (parts from.now)) }
@@ -177,8 +149,8 @@ pub(crate) fn numbered_behind(
         (parts from.now).sorts n.brackets.items) }
     ensures refused { IfErr result (IsRefused (parts from.now)) }
 {
-    let (productions, ranks) = ranked_behind(alloc, base, from, literals, more)?;
-    match Vec::from_slice(alloc, &base.brackets) {
+    let (productions, ranks) = ranked_behind(alloc, base, from, sorts, literals, more)?;
+    match brackets_with(alloc, &base.brackets, has_more(base, from)) {
         Ok(brackets) => Ok(NumberedParts {
             productions,
             ranks,

@@ -11,13 +11,12 @@ ghost use Rattle.sx_grammar.specs.Numbered as plain;
 ghost use Rattle.sx_grammar.specs.Tables.{HaveLiteralsBelow, IsNumberedPair, AreNumberedPairs};
 ghost use Rattle.sx_grammar.specs.Known.{IsAmong, IsKnown, IsKnownLine, IsKnownPair, AreBelow};
 
-use crate::names::Names;
 use crate::numbered::{NumberedProduction, NumberedSymbol};
 use crate::production::Production;
 use crate::sort_line::SortLine;
 use crate::symbol::Symbol;
 use std::alloc::Global;
-use sx_term::{NoMemory, Text};
+use sx_term::{Names, NoMemory, Text};
 
 /// The number of the sort with this name.
 fn number_sort(sorts: &Names, name: &Text) -> u32

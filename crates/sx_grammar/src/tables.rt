@@ -1,8 +1,7 @@
 //! The tables of a grammar.
 
-use crate::names::Names;
 use crate::numbered::NumberedProduction;
-use sx_term::Text;
+use sx_term::{Names, Text};
 
 /// What is made of the parts of a grammar, to read and print by it.
 #[derive(Drop)]

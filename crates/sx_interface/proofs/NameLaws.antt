@@ -1,37 +1,29 @@
--- Names in a set of texts.
-use Rattle.std.proofs.Common.{◌≡◌, ℕ, map, false, List, [], ◌∷◌, ◌++◌, if◌then◌else◌, refl, sym, ap, ◌∙◌}
-use Rattle.std.specs.Global.{Vec}
-use Rattle.std.specs.List.{list_any}
+-- Names among names, and keys.
+use Rattle.std.proofs.Common.{◌≡◌, ℕ, zero, suc, map, IsTrue, ◌↔◌, Bool, true≢false, ◌||◌, List, [], ◌∷◌, ◌⊎◌, inl, inr, Contains, refl, sym, arith}
+use Rattle.std.specs.Bool.{Decides}
 use Rattle.std.specs.Str.{bytes_eq}
 use Rattle.std.proofs.lemmas.Slice.Eq.{bytes_eq-Decides}
-use Rattle.std.proofs.lemmas.Bool.Decides.{same_from_decides}
-use Rattle.std.proofs.lemmas.List.{map-append}
-use Rattle.indexmap.specs.IndexSet.{insert_key}
+use Rattle.std.proofs.lemmas.Bool.Decides.{same_from_decides, Decides-like, Decides-or}
 use Rattle.sx_lines.specs.Rows.{has_key}
 
-abbrev texts_of : List (Vec ℕ) → List (List ℕ)
-texts_of keys = map (λ k. k.items) keys
+first_or_later : (x : List ℕ) (names : List (List ℕ)) (name : List ℕ) → Contains (x ∷ names) name → (x ≡ name) ⊎ Contains names name
+first_or_later x names name (zero, lt, e) = inl e
+first_or_later x names name (suc k, lt, e) = inr (k, omega (arith, lt), e)
 
-bytes_eq_sym : (a b : List ℕ) → bytes_eq a b ≡ bytes_eq b a
-bytes_eq_sym a b =
-    let d = bytes_eq-Decides a b in
-    let e = bytes_eq-Decides b a in
-    same_from_decides (bytes_eq a b) (bytes_eq b a) d (λ t. sym (e.0 t), λ same. e.1 (sym same))
+there : (x : List ℕ) (names : List (List ℕ)) (name : List ℕ) → (x ≡ name) ⊎ Contains names name → Contains (x ∷ names) name
+there x names name (inl e) = (zero, omega arith, e)
+there x names name (inr h) = (suc h.0, omega (arith, h.1), h.2)
 
--- a name is found exactly where it is one of the names
-pub found_is : (keys : List (Vec ℕ)) (name : List ℕ) → list_any (λ k. bytes_eq name k.items) keys ≡ has_key (λ x. x) (texts_of keys) name
+tells : (names : List (List ℕ)) (name : List ℕ) → Decides (has_key (λ x. x) names name) (Contains names name)
 unfolding has_key
-found_is [] name = refl
-found_is (k ∷ keys) name = rw (bytes_eq_sym name k.items, found_is keys name) refl
+tells [] name = ((λ e. absurd (true≢false (sym e))), λ h. absurd (omega (arith, h.1)))
+tells (x ∷ names) name =
+    Decides-like (bytes_eq x name || has_key (λ x. x) names name) (there x names name) (first_or_later x names name)
+    (Decides-or (bytes_eq x name) (has_key (λ x. x) names name) (bytes_eq-Decides x name) (tells names name))
 
--- a name that is none of the names goes last
-pub added_is : (keys after : List (Vec ℕ)) (k : Vec ℕ) (name : List ℕ) → k.items ≡ name → has_key (λ x. x) (texts_of keys) name ≡ false
-    → after ≡ insert_key (λ x y. bytes_eq x.items y.items) keys k → texts_of after ≡ texts_of keys ++ name ∷ []
-added_is keys after k name same fresh e =
-    let new : list_any (λ x. bytes_eq k.items x.items) keys ≡ false = found_is keys k.items ∙ ap (has_key (λ x. x) (texts_of keys)) same ∙ fresh in
-    ap texts_of (e ∙ ap (λ b. if b then keys else (keys ++ k ∷ [])) new)
-    ∙ map-append (λ x. x.items) keys (k ∷ [])
-    ∙ ap (λ x. texts_of keys ++ x ∷ []) same
+-- the test of the names says whether one is there
+pub has_is : (names : List (List ℕ)) (name : List ℕ) (b : Bool) → (IsTrue b ↔ Contains names name) → has_key (λ x. x) names name ≡ b
+has_is names name b h = same_from_decides (has_key (λ x. x) names name) b (tells names name) h
 
 -- a key is one of the keys exactly where an item has it
 pub keys_have : {A : Type 0} (key : A → List ℕ) (items : List A) (name : List ℕ) → has_key (λ x. x) (map key items) name ≡ has_key key items name

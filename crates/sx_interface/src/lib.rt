@@ -11,7 +11,6 @@ mod interfaces;
 mod laws;
 mod mark_rows;
 mod marks;
-mod names;
 mod rows;
 mod texts;
 mod version;

@@ -13,10 +13,10 @@ ghost use Rattle.sx_interface.specs.Reading.{Refuses};
 use crate::error::HeaderError;
 use crate::interfaces::ImportMark;
 use crate::marks::{Digest, read_digest};
-use crate::names::Names;
 use crate::texts::name_text;
 use std::alloc::Global;
 use sx_lines::{Rest, after, is_name, split_word};
+use sx_term::Names;
 
 /// The name and the digest that a text states.
 #[tactic(auto, unfolding(crate::specs::Interfaces::mark_of))]
@@ -84,10 +84,10 @@ fn add_rows<'a>(
     'rows: while let Ok((line, more)) = rest.next() {
         match mark_after(line.text, front) {
             Some((name, digest)) => {
-                if seen.contains(name) {
+                if seen.has(name) {
                     return Err(HeaderError::Header(line.number));
                 }
-                seen.add(alloc, name)?;
+                seen.push(alloc, name)?;
                 let name = name_text(alloc, name)?;
                 marks.push(ImportMark { name, digest })?;
             }

@@ -11,11 +11,10 @@ ghost use Rattle.sx_lines.specs.Words.{is_name};
 ghost use Rattle.sx_interface.specs.Reading.{Refuses};
 
 use crate::error::HeaderError;
-use crate::names::Names;
 use crate::texts::name_text;
 use std::alloc::Global;
 use sx_lines::{Rest, after, is_name};
-use sx_term::Text;
+use sx_term::{Names, Text};
 
 /// The name that a row with this front states.
 #[tactic(auto, unfolding(sx_lines::specs::Rows::name_after))]
@@ -88,10 +87,10 @@ fn add_rows<'a>(
     'rows: while let Ok((line, more)) = rest.next_kept() {
         match name_after(line.text, front) {
             Some(name) => {
-                if seen.contains(name) {
+                if seen.has(name) {
                     return Err(HeaderError::Header(line.number));
                 }
-                seen.add(alloc, name)?;
+                seen.push(alloc, name)?;
                 names.push(name_text(alloc, name)?)?;
             }
             None => return Ok(rest),

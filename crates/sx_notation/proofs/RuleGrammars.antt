@@ -1,5 +1,5 @@
 -- The grammar by which rules are read, and the grammar of the language.
-use Rattle.std.proofs.Common.{◌≡◌, ℕ, zero, suc, ◌+◌, ◌<◌, List, [], ◌∷◌, ◌++◌, length, length-append, map, Some, refl, ap, ◌∙◌, subst, arith, Contains, inl, cond}
+use Rattle.std.proofs.Common.{◌≡◌, ℕ, zero, suc, ◌+◌, ◌<◌, List, [], ◌∷◌, ◌++◌, length, length-append, map, Some, refl, ap, ◌∙◌, subst, arith, Contains, cond}
 use Rattle.std.specs.Prelude.{None, Option, slice_get, option_map, flat_map}
 use Rattle.std.specs.List.{AllByRecursion}
 use Rattle.std.proofs.lemmas.Option.{slice_get_within, slice_get-map, none-some}
@@ -8,14 +8,13 @@ use Rattle.sx_term.specs.declared.sort.Sort.{Sort}
 use Rattle.sx_term.specs.declared.sort.Sort.TheVariants as TheSort
 use Rattle.sx_term.specs.Tree.{Tree, Trees}
 use Rattle.sx_term.specs.Sorts.{HaveSorts}
-use Rattle.sx_grammar.specs.declared.symbol.Symbol as declared
-use Rattle.sx_grammar.specs.declared.symbol.Symbol.TheVariants as names_of
-use Rattle.sx_grammar.specs.Grammar.{Text, Symbol, part, Stem}
-use Rattle.sx_grammar.specs.Parts.{Line, Parts, names, number_of, numbered, numbered_symbol, numbered_line, symbol_sorts, sorts_named}
+use Rattle.sx_grammar.specs.Grammar.{Text, Symbol, Production, Stem}
+use Rattle.sx_grammar.specs.Parts.{Parts, names, number_of, numbered, numbered_symbol, numbered_line}
 use Rattle.sx_grammar.specs.Made.{IsGrammar}
 use Rattle.sx_grammar.specs.Told.{is_typed, sort_with, kid_sorts, shapes_of}
 use Rattle.sx_grammar.specs.Print.{Fits, node_fits, lexeme_fits, hole_fits, AllFit, none_fit, past_literal_fit, lexical_fit, part_fit}
-use Rattle.sx_grammar.proofs.Finding.{at_contains, is_head, past_head, in_flat_map, mapped_at, named_at}
+use Rattle.sx_grammar.proofs.Finding.{mapped_at, named_at}
+use Rattle.sx_grammar.proofs.Widening.{number_stays, productions_grown, got_kept}
 use Rattle.sx_print.specs.Sorted.{place_of}
 use Rattle.sx_print.proofs.Sorting.{sorted_fits}
 use Rattle.sx_rules.specs.Views.{modes_of, sorts_of}
@@ -28,7 +27,7 @@ use Rattle.sx_notation.specs.RuleParts.{judgement_sort, symbol_for, form_line, a
 use Rattle.sx_notation.specs.Forms.{IsFormAt, HaveFits, MayFit}
 use Rattle.sx_notation.specs.GoalText.{form_label}
 use Rattle.sx_notation.specs.RuleLaws.{places_of, form_of, HasSortOf, HaveSortsOf, MayHaveSorts, ProductionsStay, FormsFollow, SortedGoalsFit}
-use Rattle.sx_notation.proofs.Growing.{got_before, got_behind-at, number_stays}
+use Rattle.sx_notation.proofs.Growing.{got_before, got_behind-at}
 
 -- the names of the sorts go on
 names_go_on : (p : Parts) (fs : List FormLine) → names (rule_parts p fs) ≡ names p ++ judgement_sort.name ∷ []
@@ -41,51 +40,11 @@ sort_stays p fs n lt = ap (λ line. cond (is_typed line) (TheSort.Typed n) (TheS
 known_number : (p : Parts) (fs : List FormLine) (name : Text) → ¬ (¬ (Contains (names p) name)) → number_of (names (rule_parts p fs)) name ≡ number_of (names p) name
 known_number p fs name known = ap (λ ns. number_of ns name) (names_go_on p fs) ∙ number_stays (names p) (judgement_sort.name ∷ []) name known
 
--- productions whose sorts are known
-abbrev IsKnownSymbol : Parts → declared.Symbol → Type 0
-IsKnownSymbol p (names_of.Lit text) = Unit {0}
-IsKnownSymbol p (names_of.Lex kind) = Unit {0}
-IsKnownSymbol p (names_of.Part name least) = ¬ (¬ (Contains (names p) name))
-
-symbol_stays : (p : Parts) (fs : List FormLine) (s : declared.Symbol) → IsKnownSymbol p s → numbered_symbol (names (rule_parts p fs)) s ≡ numbered_symbol (names p) s
-symbol_stays p fs (names_of.Lit text) known = refl
-symbol_stays p fs (names_of.Lex kind) known = refl
-symbol_stays p fs (names_of.Part name least) known = ap (λ n. part n least) (known_number p fs name known)
-
-symbols_stay : (p : Parts) (fs : List FormLine) (ss : List declared.Symbol) → AllByRecursion (IsKnownSymbol p) ss → map (numbered_symbol (names (rule_parts p fs))) ss ≡ map (numbered_symbol (names p)) ss
-symbols_stay p fs [] known = refl
-symbols_stay p fs (s ∷ ss) known = λ i. symbol_stays p fs s known.0 i ∷ symbols_stay p fs ss known.1 i
-
-line_stays : (p : Parts) (fs : List FormLine) (r : Line) → ¬ (¬ (Contains (names p) r.sort)) → AllByRecursion (IsKnownSymbol p) r.symbols → numbered_line (names (rule_parts p fs)) r ≡ numbered_line (names p) r
-line_stays p fs r known all = λ i. record { sort = known_number p fs r.sort known i; level = r.level; symbols = symbols_stay p fs r.symbols all i }
-
--- the sorts that productions of a grammar name are known
-not_unknown : (p : Parts) (name : Text) → IsGrammar p → Contains (sorts_named p) name → ¬ (¬ (Contains (names p) name))
-not_unknown p name is has missing = is.0.0.0.0.1 name has (inl missing)
-
-known_symbols : (p : Parts) (r : Line) → IsGrammar p → Contains p.productions r → (ss : List declared.Symbol) → ((s : declared.Symbol) → Contains ss s → Contains r.symbols s) → AllByRecursion (IsKnownSymbol p) ss
-known_symbols p r is has [] inside = tt
-known_symbols p r is has (s ∷ ss) inside = (one s (inside s (is_head s ss)), known_symbols p r is has ss (λ t here. inside t (past_head s ss t here)))
-  where
-    one : (s : declared.Symbol) → Contains r.symbols s → IsKnownSymbol p s
-    one (names_of.Lit text) here = tt
-    one (names_of.Lex kind) here = tt
-    one (names_of.Part name least) here =
-        not_unknown p name is (in_flat_map (λ l. l.sort ∷ flat_map symbol_sorts l.symbols) p.productions r name has
-        (past_head r.sort (flat_map symbol_sorts r.symbols) name (in_flat_map symbol_sorts r.symbols (names_of.Part name least) name here (is_head name []))))
-
-known_sort : (p : Parts) (r : Line) → IsGrammar p → Contains p.productions r → ¬ (¬ (Contains (names p) r.sort))
-known_sort p r is has = not_unknown p r.sort is (in_flat_map (λ l. l.sort ∷ flat_map symbol_sorts l.symbols) p.productions r r.sort has (is_head r.sort (flat_map symbol_sorts r.symbols)))
-
 pub productions_stay : ProductionsStay
 productions_stay p fs label r is at =
     let more = map form_line fs ++ apart_lines in
-    let line = mapped_at (numbered_line (names p)) p.productions label r at in
-    let has = at_contains p.productions label line.0 line.1 in
-    let stays = line_stays p fs line.0 (known_sort p line.0 is has) (known_symbols p line.0 is has line.0.symbols (λ s here. here)) in
-    slice_get-map (numbered_line (names (rule_parts p fs))) (p.productions ++ more) label
-    ∙ ap (option_map (numbered_line (names (rule_parts p fs)))) (got_before p.productions more label (slice_get_within p.productions label line.0 line.1) ∙ line.1)
-    ∙ ap Some (stays ∙ line.2)
+    ap (λ (l : List Production). slice_get l label) (productions_grown p (judgement_sort ∷ []) more is.0.0.0.0)
+    ∙ got_kept (numbered p).productions (map (numbered_line (names (rule_parts p fs))) more) label r at
 
 -- a sort that is spelled is the same
 sort_same : (p : Parts) (fs : List FormLine) (name : Text) → Contains (names p) name → sort_with (rule_parts p fs).sorts (number_of (names (rule_parts p fs)) name) ≡ sort_with p.sorts (number_of (names p) name)

@@ -2,9 +2,8 @@
 //!
 //! - `print_goal` appends the text of a goal: the symbols of its form with the goal's inputs in
 //!   their places, and its outputs as they were got or as `_`.
-//! - `rule_grammar`: the grammar by which rules are read, and `rule_parts`: its parts.
-//!   `extended_rule_grammar`: that of an extension. `forms_of`: the forms that lines spell, with
-//!   the sorts of a grammar.
+//! - `rule_grammar`: the grammar by which rules are read. `extended_rule_grammar`: that of an
+//!   extension. `forms_of`: the forms that lines spell, with the sorts of a grammar.
 //! - `rule_grammars_go_on`: productions keep their labels in the grammar of rules, and the forms
 //!   follow them in order. `sorted_goals_fit`: a goal that is well sorted by the language's grammar
 //!   meets the conditions of `print_goal`.
@@ -42,7 +41,7 @@ pub use laws::{
 pub use line_reader::LineReader;
 pub use notation_error::NotationError;
 pub use resolving::{forms_of, sort_with};
-pub use rule_productions::{extended_rule_grammar, rule_grammar, rule_parts};
+pub use rule_productions::{extended_rule_grammar, rule_grammar};
 pub use sx_directives::Directive;
 pub use sx_lines::Kind;
 pub use sx_outline::MainForm;

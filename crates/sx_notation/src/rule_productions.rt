@@ -3,6 +3,7 @@
 ghost use Rattle.std.specs.Prelude.{◌≡◌, ◌++◌, ◌∷◌, [], List, IfOk, OnOk, map, length, codes};
 ghost use Rattle.std.specs.Str.{IsUtf8};
 ghost use Rattle.sx_grammar.specs.Parts.{Parts, line, parts};
+ghost use Rattle.sx_grammar.specs.Extended.{widened};
 ghost use Rattle.sx_grammar.specs.Tables.{IsWithinLimits, IsMade};
 ghost use Rattle.sx_directives.specs.Spelling.{lex_text};
 ghost use Rattle.sx_directives.specs.declared.rows.FormLine.{FormLine as FormData};
@@ -117,26 +118,39 @@ fn judgement_sort(alloc: Global) -> Result<SortLine, NoMemory>
     })
 }
 
-/// The parts of the grammar by which rules are read: those of the language's grammar, a sort of
-/// judgements, one production for each form, and for each lexical kind one of two lexemes with `!=`
-/// between them. The names of the sort and of these productions have a blank, so no sort and no
-/// production of a language file has them.
-pub fn rule_parts(
-    alloc: Global,
-    from: &GrammarParts,
-    forms: &[FormLine],
-) -> Result<GrammarParts, NoMemory>
-    ensures { IfOk result (λ r. parts r ≡ rule_parts (parts from.now) forms.now) }
+/// The productions of the forms, and those of lexemes that are to be apart.
+fn rule_productions(alloc: Global, forms: &[FormLine]) -> Result<Vec<Production>, NoMemory>
+    ensures { IfOk result (λ v. map line v.items ≡ map form_line forms.now ++ apart_lines) }
 {
-    let mut all = from.copy(alloc)?;
-    all.sorts.push(judgement_sort(alloc)?)?;
-    add_forms(alloc, forms, &mut all.productions)?;
-    add_aparts(alloc, &mut all.productions)?;
+    let mut all = Vec::new(alloc);
+    add_forms(alloc, forms, &mut all)?;
+    add_aparts(alloc, &mut all)?;
     Ok(all)
 }
 
-/// The grammar by which rules are read, whose parts are those of `rule_parts`, or the first refusal
-/// that holds of these parts.
+/// The grammar by which rules are read, with the sorts and productions of the language's grammar, a
+/// sort of judgements and these productions; or the first refusal that holds of its parts.
+fn with_judgements(
+    alloc: Global,
+    grammar: &Grammar,
+    more: Vec<Production>,
+) -> Result<Grammar, GrammarError>
+    requires { IsWithinLimits (widened grammar.now.parts judgement_sort (map line more.items)) }
+    ensures { IsMade (widened grammar.now.parts judgement_sort (map line more.items)) result }
+{
+    match judgement_sort(alloc) {
+        Ok(sort) => Grammar::with_sort(alloc, grammar, sort, more),
+        Err(e) => {
+            drop(more);
+            Err(GrammarError::from(e))
+        }
+    }
+}
+
+/// The grammar by which rules are read: the sorts and productions of the language's grammar, a sort
+/// of judgements, one production for each form, and for each lexical kind one of two lexemes with
+/// `!=` between them. The names of the sort and of these productions have a blank, so no sort and
+/// no production of a language file has them. Or the first refusal that holds of these parts.
 pub fn rule_grammar(
     alloc: Global,
     grammar: &Grammar,
@@ -145,46 +159,38 @@ pub fn rule_grammar(
     requires { IsWithinLimits (rule_parts grammar.now.parts forms.now) }
     ensures { IsMade (rule_parts grammar.now.parts forms.now) result }
 {
-    let parts = rule_parts(alloc, grammar.parts(), forms)?;
-    Grammar::make(alloc, parts)
+    let more = rule_productions(alloc, forms)?;
+    with_judgements(alloc, grammar, more)
 }
 
-/// Adds equal productions.
-fn add_copies(
-    alloc: Global,
-    productions: &[Production],
-    into: &mut Vec<Production>,
-) -> Result<(), NoMemory>
-    ensures { OnOk result (map line into.new.items ≡ map line into.old.items ++ map line
-        productions.now) }
+/// Equal productions.
+fn copies(alloc: Global, productions: &[Production]) -> Result<Vec<Production>, NoMemory>
+    ensures { IfOk result (λ v. map line v.items ≡ map line productions.now) }
 {
+    let mut all = Vec::with_capacity(alloc, productions.len())?;
     for i in 0..productions.len() {
         let production = &productions[i];
-        into.push(production.copy(alloc)?)?;
+        all.push(production.copy(alloc)?)?;
     }
-    Ok(())
+    Ok(all)
 }
 
-/// The parts of the one, with a sort of judgements and the last productions of the other: those of
-/// so many forms, and three for `!=`.
-fn further_parts(
+/// The last productions of a grammar by which rules are read: those of so many forms, and three for
+/// `!=`.
+fn last_productions(
     alloc: Global,
-    from: &GrammarParts,
     by_rules: &GrammarParts,
     forms: usize,
-) -> Result<GrammarParts, NoMemory>
+) -> Result<Vec<Production>, NoMemory>
     requires { (lines : List FormData) × (p : Parts) ×
         (parts by_rules.now ≡ rule_parts p lines) × (length lines ≡ forms) }
-    ensures { IfOk result (λ r. (lines : List FormData) (p : Parts) →
+    ensures { IfOk result (λ v. (lines : List FormData) (p : Parts) →
         parts by_rules.now ≡ rule_parts p lines → length lines ≡ forms →
-        parts r ≡ rule_parts (parts from.now) lines) }
+        map line v.items ≡ map form_line lines ++ apart_lines) }
 {
-    let mut all = from.copy(alloc)?;
-    all.sorts.push(judgement_sort(alloc)?)?;
     let first = by_rules.productions.len() - (forms + 3);
-    let further = by_rules.productions.split_at(first).1;
-    add_copies(alloc, further, &mut all.productions)?;
-    Ok(all)
+    let last = by_rules.productions.split_at(first).1;
+    copies(alloc, last)
 }
 
 /// The grammar by which the rules of an extension are read: that of `rule_grammar`, where the
@@ -203,6 +209,6 @@ pub fn extended_rule_grammar(
         rule_grammar.now.parts ≡ rule_parts p lines → length lines ≡ forms →
         IsMade (rule_parts grammar.now.parts lines) result }
 {
-    let parts = further_parts(alloc, grammar.parts(), rule_grammar.parts(), forms)?;
-    Grammar::make(alloc, parts)
+    let more = last_productions(alloc, rule_grammar.parts(), forms)?;
+    with_judgements(alloc, grammar, more)
 }

@@ -1,5 +1,6 @@
 -- Rules after those of a set, and more shapes.
-use Rattle.std.proofs.Common.{◌≡◌, ℕ, zero, suc, ◌+◌, ◌≤◌, List, [], ◌∷◌, ◌++◌, inr, map, length, Some, Ok, Err, refl, ap, sym, subst, arith, append_assoc}
+use Rattle.std.proofs.Common.{◌≡◌, ℕ, zero, suc, ◌+◌, ◌≤◌, List, [], ◌∷◌, ◌++◌, inr, map, length, Some, Ok, Err, refl, ap, sym, subst, arith, append_assoc, ◌∙◌}
+use Rattle.std.proofs.lemmas.List.{map-append}
 use Rattle.std.specs.Prelude.{slice_get, Result}
 use Rattle.sx_term.specs.Tree.{Tree, Trees, node, lexeme, hole, none, ◌▹◌}
 use Rattle.sx_term.specs.declared.sort.Sort.{Sort}
@@ -83,6 +84,12 @@ module _ (shapes : List Shape) (forms : List FormData) where
   breach_after names (r ∷ rs) more e h k =
       inr (h.0, breach_after (names ++ r.name ∷ []) rs more e h.1 (subst (λ (ns : List (List ℕ)). IsFirstBreach shapes forms ns more e) (sym (one_after names r rs)) k))
 
+-- the names of rules that are those of two lists
+pub names_joined : (all base more : List RuleOf) → map named all ≡ map named base ++ map named more → names_of all ≡ names_of base ++ names_of more
+names_joined all base more e =
+    sym (same_names all) ∙ ap named_in e ∙ map-append (λ r. r.name) (map named base) (map named more)
+    ∙ (λ i. same_names base i ++ same_names more i)
+
 counted : (rs : List RuleOf) → length (map named rs) ≡ length rs
 counted [] = refl
 counted (r ∷ rs) = ap suc (counted rs)
@@ -103,7 +110,7 @@ module _ (shapes new : List Shape) (forms : List FormData) (rs : List RuleOf) (m
   first e k = breach_after (shapes ++ new) forms [] (map named rs) more e kept
       (subst (λ (ns : List (List ℕ)). IsFirstBreach (shapes ++ new) forms ns more e) (sym (same_names rs)) k)
 
-  pub admitted : (result : Result (Unit {0}) RuleError) → AreChecked (shapes ++ new) forms (names_of rs) more result → IsAdmitted (shapes ++ new) forms (map named rs ++ more) result
+  admitted : (result : Result (Unit {0}) RuleError) → AreChecked (shapes ++ new) forms (names_of rs) more result → IsAdmitted (shapes ++ new) forms (map named rs ++ more) result
   admitted (Ok x) k = (
     few,
     good_after (shapes ++ new) forms [] (map named rs) more kept
@@ -116,3 +123,12 @@ module _ (shapes new : List Shape) (forms : List FormData) (rs : List RuleOf) (m
   admitted (Err (SortDiffers n)) k = (few, first (SortDiffers n) k)
   admitted (Err (Discipline n p q)) k = (few, first (Discipline n p q) k)
   admitted (Err (NotModed n v)) k = (few, first (NotModed n v) k)
+
+  -- the same of equal shapes, forms and names
+  pub admitted_as : (all : List Shape) (known : List FormData) (names : List (List ℕ)) → all ≡ shapes ++ new → known ≡ forms → names ≡ names_of rs → (result : Result (Unit {0}) RuleError) → AreChecked all known names more result → IsAdmitted all forms (map named rs ++ more) result
+  admitted_as all known names a f n result k =
+      subst (λ (ss : List Shape). IsAdmitted ss forms (map named rs ++ more) result) (sym a)
+      (admitted result
+      (subst (λ (ns : List (List ℕ)). AreChecked (shapes ++ new) forms ns more result) n
+      (subst (λ (fs : List FormData). AreChecked (shapes ++ new) fs names more result) f
+      (subst (λ (ss : List Shape). AreChecked ss known names more result) a k))))

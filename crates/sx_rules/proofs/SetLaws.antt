@@ -57,6 +57,10 @@ pub nothing_more : (names : List (List ℕ)) → names ++ [] ≡ names
 nothing_more [] = refl
 nothing_more (n ∷ names) = ap (λ (ns : List (List ℕ)). n ∷ ns) (nothing_more names)
 
+-- the names before, those that were there, and those of the rules so far
+pub names_so_far : (before old names so_far : List (List ℕ)) → names ≡ old ++ so_far → before ++ names ≡ (before ++ old) ++ so_far
+names_so_far before old names so_far e = ap (λ (ns : List (List ℕ)). before ++ ns) e ∙ sym (append_assoc before old so_far)
+
 module _ (S : List Shape) (F : List FormData) where
   pub is_good : (names : List (List ℕ)) (r : NamedRule) → length r.rule.sorts ≤ 64 → (IsAmong r.name names → ⊥) → RuleFits S F r.rule → broken_part F r.rule ≡ None → unbound F r.rule ≡ None → IsGood S F names r
   is_good names r few fresh fits d m = record { few = few; fresh = fresh; fits = fits; disciplined = disciplined_of_none F r.rule d; moded = moded_of_none F S r.rule fits m }

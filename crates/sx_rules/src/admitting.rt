@@ -10,11 +10,10 @@ ghost use Rattle.sx_rules.specs.Admitted.{IsAdmitted};
 
 use crate::checking::Checking;
 use crate::error::RuleError;
-use crate::names::Names;
 use crate::rule::Rule;
 use crate::rule_set::{MOST_RULES, RuleSet};
 use std::alloc::Global;
-use sx_term::Shapes;
+use sx_term::{Names, Shapes};
 
 impl RuleSet {
     /// Whether the rules of the set and then more are a rule set with the forms of the set and with

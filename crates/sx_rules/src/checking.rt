@@ -1,6 +1,6 @@
 //! Checking rules one after the other.
 
-ghost use Rattle.std.specs.Prelude.{◌≡◌, ◌↔◌, ◌++◌, [], map, IsTrue, OnOk};
+ghost use Rattle.std.specs.Prelude.{◌≡◌, ◌↔◌, ◌++◌, map, IsTrue, OnOk};
 ghost use Rattle.sx_term.specs.Shapes.{shapes};
 ghost use Rattle.sx_rules.specs.Deep.{RuleIsShallow, RulesAreShallow};
 ghost use Rattle.sx_rules.specs.Views.{forms, named, rule};
@@ -10,10 +10,9 @@ use crate::discipline::broken_part;
 use crate::error::RuleError;
 use crate::fitting::rule_fits;
 use crate::modes::unbound;
-use crate::names::Names;
 use crate::rule::{Form, Rule};
 use std::alloc::Global;
-use sx_term::Shapes;
+use sx_term::{Names, Shapes};
 
 /// The greatest number of variables of a rule.
 pub(crate) const MOST_VARIABLES: usize = 64;
@@ -33,7 +32,7 @@ impl<'a> Checking<'a> {
     fn is_taken(&self, seen: &Names, name: &[u8]) -> bool
         ensures { IsTrue result ↔ IsAmong name.now (self.now.before.now ++ seen.now) }
     {
-        self.before.number(name).is_some() || seen.number(name).is_some()
+        self.before.has(name) || seen.has(name)
     }
 
     /// Checks one rule, after those before and those with these names.
@@ -61,13 +60,13 @@ impl<'a> Checking<'a> {
         Ok(())
     }
 
-    /// Checks the rules in order, and notes their names.
+    /// Checks the rules in order, after those before and those with these names, and notes their
+    /// names behind these.
     pub(crate) fn check_rules(&self, rules: &[Rule], names: &mut Names) -> Result<(), RuleError>
-        requires shallow { RulesAreShallow (map rule rules.now) }
-        requires none { names.old ≡ [] }
+        requires { RulesAreShallow (map rule rules.now) }
         ensures checked { AreChecked (shapes self.now.shapes.now) (forms self.now.forms.now)
-            self.now.before.now (map named rules.now) result }
-        ensures names { OnOk result (names.new ≡ names_of rules.now) }
+            (self.now.before.now ++ names.old) (map named rules.now) result }
+        ensures names { OnOk result (names.new ≡ names.old ++ names_of rules.now) }
     {
         for i in 0..rules.len() {
             let it = &rules[i];

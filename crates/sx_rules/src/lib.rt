@@ -18,7 +18,6 @@ mod list_writing;
 mod look_up;
 mod make;
 mod modes;
-mod names;
 mod nothing_given;
 mod order;
 mod proof;

@@ -9,11 +9,10 @@ ghost use Rattle.sx_rules.specs.Made.{IsMade};
 
 use crate::checking::Checking;
 use crate::error::RuleError;
-use crate::names::Names;
 use crate::rule::{Form, Rule};
 use crate::rule_set::{MOST_RULES, RuleSet};
 use std::alloc::Global;
-use sx_term::Shapes;
+use sx_term::{Names, Shapes};
 
 /// The names of the rules, where each is good after those before it.
 fn checked_names(

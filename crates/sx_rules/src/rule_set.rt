@@ -6,9 +6,8 @@ ghost use Rattle.sx_rules.specs.Deep.{RulesAreShallow};
 ghost use Rattle.sx_term.specs.Shapes as known;
 ghost use Rattle.sx_rules.specs.Views as view;
 
-use crate::names::Names;
 use crate::rule::{Form, Rule};
-use sx_term::Shapes;
+use sx_term::{Names, Shapes};
 
 /// The greatest number of rules of a set.
 pub(crate) const MOST_RULES: usize = 4096;

@@ -26,3 +26,5 @@ pub mod SymbolRuns
 pub mod SortLaws
 pub mod VarLemmas
 pub mod Instancing
+pub mod NameLaws
+pub mod ShapeLaws

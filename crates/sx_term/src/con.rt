@@ -1,6 +1,6 @@
 //! Constructors.
 
-ghost use Rattle.std.specs.Prelude.{◌≡◌, IfOk};
+ghost use Rattle.std.specs.Prelude.{◌≡◌, ◌↔◌, IsTrue, IfOk};
 ghost use Rattle.sx_term.specs.Shapes.{shape};
 
 use crate::no_memory::NoMemory;
@@ -23,5 +23,12 @@ impl Con {
             sort: self.sort,
             kids: Vec::from_slice(alloc, &self.kids)?,
         })
+    }
+
+    /// Whether the constructors are the same.
+    pub(crate) fn same(&self, other: &Con) -> bool
+        ensures { IsTrue result ↔ (shape self.now ≡ shape other.now) }
+    {
+        self.sort == other.sort && self.kids == other.kids
     }
 }

@@ -1,7 +1,7 @@
 //! Terms: what every other crate of soundx speaks of.
 //!
 //! - Terms and what they are made of: `Term`, `LexKind`, `Text`, `Path`; the names of variables:
-//!   `Vars`.
+//!   `Vars`; names of any kind, found by their hash: `Names`.
 //! - Sorts of terms: `Sort`, `Con`, `Shapes`. What the places of judgements are for: `Role`.
 //! - Instances and matching: `Bindings`, `subst`, `match_term`, `Fit`.
 //! - Core notation, in which a term is one line of text: `write_core`, `read_core`, and the laws
@@ -11,8 +11,9 @@
 //! - `Steps` counts the tries of a search.
 //!
 //! Contracts see a term as a plain tree (`specs/Tree.antt`), a text as its bytes, bindings as a
-//! list of variables with trees, and shapes as lists of sorts. What a call that can refuse answers
-//! is one definition by cases on its result, in which `Memory` is free.
+//! list of variables with trees, names as a list of byte lists, and shapes as lists of sorts. What
+//! a call that can refuse answers is one definition by cases on its result, in which `Memory` is
+//! free.
 #![tactic(auto)]
 
 mod binding;
@@ -30,6 +31,7 @@ mod lex_kind;
 mod literal;
 mod mark;
 mod matching;
+mod names;
 mod no_memory;
 mod path;
 mod read;
@@ -57,6 +59,7 @@ pub use lex_kind::LexKind;
 pub use literal::{LiteralShape, literal_shape};
 pub use mark::Mark;
 pub use matching::match_term;
+pub use names::Names;
 pub use no_memory::NoMemory;
 pub use path::Path;
 pub use read::read_core;

@@ -1,10 +1,10 @@
 //! The shapes of constructors, and well sorted terms.
 
-ghost use Rattle.std.specs.Prelude.{◌≡◌, ℕ, ◌+◌, ◌≤◌, ◌↔◌, IsTrue, IfOk, map, slice_get};
-ghost use Rattle.std.specs.Prelude.{MatchOption, Some, None};
+ghost use Rattle.std.specs.Prelude.{◌≡◌, ℕ, ◌+◌, ◌≤◌, ◌↔◌, ◌++◌, IsTrue, IfOk, List, map};
+ghost use Rattle.std.specs.Prelude.{slice_get, MatchOption, Some, None};
 ghost use Rattle.sx_term.specs.Tree.{depth_of, greatest_depth, forest};
 ghost use Rattle.sx_term.specs.Term.{tree};
-ghost use Rattle.sx_term.specs.Sorts.{HasSort, KidsHaveSorts};
+ghost use Rattle.sx_term.specs.Sorts.{Shape, HasSort, KidsHaveSorts};
 ghost use Rattle.sx_term.specs.Shapes.{shape, shapes};
 
 use crate::con::Con;
@@ -85,6 +85,32 @@ impl Shapes {
         }
         Ok(Shapes { cons })
     }
+
+    /// Whether these shapes go on from the others: whether they are those, each at its label, and
+    /// then any more.
+    pub fn goes_on_from(&self, first: &Shapes) -> bool
+        ensures { IsTrue result ↔
+            ((new : List Shape) × (shapes self.now ≡ shapes first.now ++ new)) }
+    {
+        go_on_from(&self.cons, &first.cons)
+    }
+}
+
+/// Whether the constructors are the first ones and then any more.
+fn go_on_from(all: &[Con], first: &[Con]) -> bool
+    ensures { IsTrue result ↔
+        ((new : List Shape) × (map shape all.now ≡ map shape first.now ++ new)) }
+{
+    if all.len() < first.len() {
+        return false;
+    }
+    for i in 0..first.len() {
+        let con = &first[i];
+        if !con.same(&all[i]) {
+            return false;
+        }
+    }
+    true
 }
 
 /// Whether the terms have these sorts, each its own.

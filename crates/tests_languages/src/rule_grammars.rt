@@ -6,7 +6,7 @@ use std::alloc::Global;
 use std::test::*;
 use sx_directives::{FileKind, FormLine, Row, read_row};
 use sx_grammar::{Grammar, GrammarParts};
-use sx_notation::{forms_of, rule_parts};
+use sx_notation::forms_of;
 use sx_rules::{Form, Place};
 use sx_term::{NoMemory, Role, Sort};
 
@@ -53,28 +53,11 @@ fn are_rule_parts(parts: &GrammarParts) -> bool {
 /// A line of a form with a sum in brackets.
 const TYPING: &[u8] = b"form typing : in:Env \"|-\" sub:Exp@51 \":\" out:Ty";
 
-/// Whether the grammar with that form has those parts.
-fn has_rule_parts(alloc: Global, grammar: &Grammar) -> bool {
-    match form_line(alloc, TYPING) {
-        Ok(lines) => {
-            let parts = rule_parts(alloc, grammar.parts(), &lines);
-            drop(lines);
-            let answer = match &parts {
-                Ok(parts) => are_rule_parts(parts),
-                Err(_) => false,
-            };
-            drop(parts);
-            answer
-        }
-        Err(_) => false,
-    }
-}
-
 #[test]
 fn the_parts_by_which_rules_are_read(rt: HostRuntime) {
     let read = read(rt.alloc(), b"Sums", SUMS);
     let is = match &read {
-        Ok(language) => has_rule_parts(rt.alloc(), &language.grammar),
+        Ok(language) => are_rule_parts(language.rule_grammar.parts()),
         Err(_) => false,
     };
     drop(read);

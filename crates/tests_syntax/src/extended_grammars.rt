@@ -16,7 +16,11 @@ use sx_grammar::{Grammar, GrammarError, GrammarParts, Production};
 use sx_term::{NoMemory, Term, read_core};
 
 /// Adds copies of the productions.
-fn add_copies(alloc: Global, parts: &mut GrammarParts, more: &[Production]) -> Result<(), NoMemory>
+pub(crate) fn add_copies(
+    alloc: Global,
+    parts: &mut GrammarParts,
+    more: &[Production],
+) -> Result<(), NoMemory>
     ensures { OnOk result (parts_of parts.new ≡ extended (parts_of parts.old) (map line more.now)) }
 {
     for i in 0..more.len() {
@@ -38,10 +42,15 @@ fn is_extensible(alloc: Global, base: &Grammar, more: &[Production]) -> Result<b
     Ok(answer?)
 }
 
-/// One production of the sort `Exp`, of one symbol.
-fn one(alloc: Global, label: &str, piece: Piece) -> Result<Vec<Production>, Fail> {
+/// One production of the sort, of one symbol.
+pub(crate) fn one(
+    alloc: Global,
+    label: &str,
+    sort: &str,
+    piece: Piece,
+) -> Result<Vec<Production>, Fail> {
     let mut parts = nothing(alloc);
-    match add(alloc, &mut parts, label, "Exp", 90, &[piece]) {
+    match add(alloc, &mut parts, label, sort, 90, &[piece]) {
         Ok(()) => {
             let GrammarParts { sorts, productions } = parts;
             drop(sorts);
@@ -78,8 +87,8 @@ fn shape(alloc: Global, grammar: &Grammar) -> Result<String, Fail> {
     Ok(format!(in alloc; "{count} {first} {second} {third}")?)
 }
 
-/// What came of extending, in words.
-fn told(alloc: Global, made: Result<Grammar, GrammarError>) -> Result<String, Fail> {
+/// What was made, in words.
+pub(crate) fn told(alloc: Global, made: Result<Grammar, GrammarError>) -> Result<String, Fail> {
     let answer = match &made {
         Ok(grammar) => shape(alloc, grammar),
         Err(error) => words(alloc, error),
@@ -105,7 +114,7 @@ fn tried(alloc: Global, base: &Grammar, more: Vec<Production>) -> Result<String,
 
 /// What comes of extending the rows by one production.
 fn rows_with(alloc: Global, label: &str, piece: Piece) -> Result<String, Fail> {
-    let more = one(alloc, label, piece)?;
+    let more = one(alloc, label, "Exp", piece)?;
     match grammar_of(alloc, Sample::Rows) {
         Ok(base) => {
             let answer = tried(alloc, &base, more);

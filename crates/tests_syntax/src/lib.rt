@@ -23,3 +23,5 @@ mod symbols;
 mod told;
 #[cfg(test)]
 mod two_readings;
+#[cfg(test)]
+mod widened_grammars;

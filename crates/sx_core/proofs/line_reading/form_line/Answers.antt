@@ -12,14 +12,14 @@ use Rattle.sx_core.proofs.line_reading.form_line.Goals as goal
 pub returns-then-has : goal.returns-then-has
 returns-then-has c =
     line_refused (context c.args.found.now) word.Form c.args.text.now c.args.rest.now Bad c.requires.line
-    (form_taken (context c.args.found.now) c.args.rest.now (form_row c.in-Ok.row) c.in-Ok.ensures (subst (λ names. Contains names c.in-Ok.row.name) c.requires.found.forms.names (c.has.ensures.0 c.if-has.true)))
+    (form_taken (context c.args.found.now) c.args.rest.now (form_row c.in-Ok.row) c.in-Ok.ensures (subst (λ names. Contains names c.in-Ok.row.name) c.requires.found.forms.names ((rw c.bytes.ensures.value at c.has.ensures).0 c.if-has.true)))
 
 pub returns-in-Ok-made : goal.returns-in-Ok-made
 returns-in-Ok-made c = (
   form_row c.in-Ok.row,
   line_fits (context c.args.found.now) word.Form c.args.text.now c.args.rest.now c.requires.line (form_row c.in-Ok.row)
       (form_part (context c.args.found.now) c.args.rest.now (form_row c.in-Ok.row) (form c.in-Ok-made.form) c.in-Ok.ensures
-      (λ h. false≢true (sym c.if-has.false ∙ c.has.ensures.1 (subst (λ names. Contains names c.in-Ok.row.name) (sym c.requires.found.forms.names) h))) c.in-Ok-made.ensures),
+      (λ h. false≢true (sym c.if-has.false ∙ (rw c.bytes.ensures.value at c.has.ensures).1 (subst (λ names. Contains names c.in-Ok.row.name) (sym c.requires.found.forms.names) h))) c.in-Ok-made.ensures),
   c.in-Ok-made.ensures,
 )
 

@@ -1,7 +1,7 @@
-use Rattle.std.proofs.Common.{◌∙◌, ap, map, sym, subst}
+use Rattle.std.proofs.Common.{◌∙◌, ◌++◌, ◌<◌, ◌↔◌, IsTrue, ap, map, length, sym, subst}
 use Rattle.sx_grammar.specs.Parts.{line, parts}
-use Rattle.sx_grammar.specs.Extended.{extended}
-use Rattle.sx_grammar.specs.Tables.{literals_of, AreNumberedPairs}
+use Rattle.sx_grammar.specs.Extended.{Grows, blank}
+use Rattle.sx_grammar.specs.Tables.{GrammarData}
 use Rattle.sx_grammar.proofs.Behind.{pairs_behind}
 use Rattle.sx_grammar.proofs.numbered_behind.numbered_behind.Goals as goal
 
@@ -9,8 +9,8 @@ pub returns-in-Ok-clause-pairs : goal.returns-in-Ok-clause-pairs
 returns-in-Ok-clause-pairs c =
     let p = parts c.base.inside.parts in
     let more = map line c.args.more.now in
-    let known = c.args.literals.now in
-    let is = c.requires.behind ∙ ap (λ d. extended d.parts more) (sym c.base.view_is) in
-    subst (λ w. AreNumberedPairs known w.sorts c.in-Ok.brackets.items) (sym is)
-    (subst (AreNumberedPairs known p.sorts) (sym (c.in-Ok.ensures.items ∙ c.deref.ensures.value))
-    (pairs_behind p more c.base.inside.literals.items known c.base.inside.brackets.items c.base.invariant.has_texts (c.requires.literals ∙ ap literals_of is) c.base.invariant.has_brackets))
+    let whole = parts c.args.from.now in
+    let grows = subst (λ (d : GrammarData). Grows d.parts more whole) (sym c.base.view_is) c.requires.behind in
+    let wider = subst (λ (d : GrammarData). IsTrue c.has_more.result ↔ (length d.parts.sorts < length whole.sorts)) (sym c.base.view_is) c.has_more.ensures in
+    pairs_behind p more whole grows c.base.inside.literals.items c.args.literals.now c.base.inside.brackets.items c.in-Ok.brackets.items c.has_more.result c.base.invariant.has_texts c.requires.literals
+    c.base.invariant.has_brackets wider (c.in-Ok.ensures ∙ ap (λ l. l ++ blank c.has_more.result) c.deref.ensures.value)

@@ -1,13 +1,59 @@
-use Rattle.std.proofs.Common.{◌∙◌, ap, subst}
-use Rattle.sx_grammar.specs.Tables.{literals_of, IsWithinLimits}
-use Rattle.sx_grammar.specs.Made.{HasLabels}
+use Rattle.std.proofs.Common.{◌∙◌, ◌++◌, List, ap, map, sym, subst, length, Contains}
+use Rattle.std.proofs.lemmas.List.Elements.{Contains-append_right}
+use Rattle.sx_grammar.specs.declared.numbered.NumberedProduction.{NumberedProduction}
+use Rattle.sx_grammar.specs.Parts.{Parts, line, parts}
+use Rattle.sx_grammar.specs.Numbered.{bare}
+use Rattle.sx_grammar.specs.Extended.{Grows}
+use Rattle.sx_grammar.specs.Tables.{GrammarData, AreNumbered, HaveLiteralsBelow}
+use Rattle.sx_grammar.proofs.MakeLaws.{line_known_here, lines_contain, few_names, few_texts}
+use Rattle.sx_grammar.proofs.Behind.{numbered_both, below_both}
 use Rattle.sx_grammar.proofs.numbered_behind.ranked_behind.Goals as goal
 
-pub productions_behind-requires-clause-labels : goal.productions_behind-requires-clause-labels
-productions_behind-requires-clause-labels c = subst HasLabels c.requires.behind c.requires.labels
+pub number_productions-requires-clause-known : goal.number_productions-requires-clause-known
+number_productions-requires-clause-known c =
+    let more = map line c.args.more.now in
+    λ r has. line_known_here (parts c.args.from.now) c.args.sorts.now c.args.literals.now c.requires.labels.0 c.requires.sorts c.requires.literals r
+    (subst (λ (w : Parts). Contains w.productions (line r)) (sym c.requires.behind.is) (Contains-append_right c.args.base.now.parts.productions more (line r) (lines_contain c.args.more.now r has)))
 
-pub productions_behind-requires-clause-literals : goal.productions_behind-requires-clause-literals
-productions_behind-requires-clause-literals c = c.requires.literals ∙ ap literals_of c.requires.behind
+pub number_productions-requires-clause-few : goal.number_productions-requires-clause-few
+number_productions-requires-clause-few c = few_names (parts c.args.from.now) c.args.sorts.now c.requires.sorts c.requires.limits.sorts
 
-pub productions_behind-requires-clause-limits : goal.productions_behind-requires-clause-limits
-productions_behind-requires-clause-limits c = subst IsWithinLimits c.requires.behind c.requires.limits
+pub number_productions-requires-clause-few_literals : goal.number_productions-requires-clause-few_literals
+number_productions-requires-clause-few_literals c = few_texts (parts c.args.from.now) c.args.literals.now c.requires.literals c.requires.limits.literals
+
+pub ranks_behind-requires-clause-numbered : goal.ranks_behind-requires-clause-numbered
+ranks_behind-requires-clause-numbered c =
+    let p = parts c.base.inside.parts in
+    let whole = parts c.args.from.now in
+    let more = map line c.args.more.now in
+    let ps = c.base.inside.productions.items in
+    let qs = c.in_ok-own.own.items in
+    let grows = subst (λ (d : GrammarData). Grows d.parts more whole) (sym c.base.view_is) c.requires.behind in
+    let low = subst (λ l. HaveLiteralsBelow (length l) ps) c.base.invariant.has_texts c.base.invariant.below in
+    subst (AreNumbered whole) (sym c.deref-2.ensures.value)
+    (numbered_both p more whole grows c.base.invariant.is_grammar.0.0.0.0 c.args.literals.now c.args.sorts.now ps qs c.in_ok-productions.productions.items c.base.invariant.has_productions low
+    c.requires.literals c.requires.sorts c.in_ok-own.ensures.same (c.in_ok-productions.ensures ∙ ap (λ (l : List NumberedProduction). map bare (l ++ qs)) c.deref.ensures.value))
+
+pub returns-in-Ok-clause-same : goal.returns-in-Ok-clause-same
+returns-in-Ok-clause-same c =
+    let p = parts c.base.inside.parts in
+    let whole = parts c.args.from.now in
+    let more = map line c.args.more.now in
+    let ps = c.base.inside.productions.items in
+    let qs = c.in_ok-own.own.items in
+    let grows = subst (λ (d : GrammarData). Grows d.parts more whole) (sym c.base.view_is) c.requires.behind in
+    let low = subst (λ l. HaveLiteralsBelow (length l) ps) c.base.invariant.has_texts c.base.invariant.below in
+    numbered_both p more whole grows c.base.invariant.is_grammar.0.0.0.0 c.args.literals.now c.args.sorts.now ps qs c.in_ok-productions.productions.items c.base.invariant.has_productions low
+    c.requires.literals c.requires.sorts c.in_ok-own.ensures.same (c.in_ok-productions.ensures ∙ ap (λ (l : List NumberedProduction). map bare (l ++ qs)) c.deref.ensures.value)
+
+pub returns-in-Ok-clause-below : goal.returns-in-Ok-clause-below
+returns-in-Ok-clause-below c =
+    let p = parts c.base.inside.parts in
+    let whole = parts c.args.from.now in
+    let more = map line c.args.more.now in
+    let ps = c.base.inside.productions.items in
+    let qs = c.in_ok-own.own.items in
+    let grows = subst (λ (d : GrammarData). Grows d.parts more whole) (sym c.base.view_is) c.requires.behind in
+    let low = subst (λ l. HaveLiteralsBelow (length l) ps) c.base.invariant.has_texts c.base.invariant.below in
+    below_both p more whole grows c.args.literals.now ps qs c.in_ok-productions.productions.items low c.requires.literals c.in_ok-own.ensures.below
+    (c.in_ok-productions.ensures ∙ ap (λ (l : List NumberedProduction). map bare (l ++ qs)) c.deref.ensures.value)

@@ -1,7 +1,8 @@
-use Rattle.std.proofs.Common.{◌∙◌, ap, sym, subst, map, refl, arith}
+use Rattle.std.proofs.Common.{◌≡◌, sym, subst, map, refl, arith, ℕ}
 use Rattle.sx_grammar.specs.Parts.{line, parts, numbered}
-use Rattle.sx_grammar.specs.Order.{AreRanks, rank_at}
-use Rattle.sx_grammar.specs.Extended.{extended}
+use Rattle.sx_grammar.specs.Order.{rank_at}
+use Rattle.sx_grammar.specs.Extended.{Grows}
+use Rattle.sx_grammar.specs.Tables.{GrammarData}
 use Rattle.sx_grammar.proofs.Ordering.{ranked_not_cyclic}
 use Rattle.sx_grammar.proofs.TokenLaws.{none_mixed, ranks_kept}
 use Rattle.sx_grammar.proofs.numbered_behind.ranks_behind.Goals as goal
@@ -10,23 +11,25 @@ pub keeps_sorts-requires-clause-before : goal.keeps_sorts-requires-clause-before
 keeps_sorts-requires-clause-before c =
     let p = parts c.base.inside.parts in
     let more = map line c.args.more.now in
-    let is = c.requires.behind ∙ ap (λ d. extended d.parts more) (sym c.base.view_is) in
-    none_mixed p more c.base.inside.parts.productions.items (parts c.args.from.now) c.len.result refl is (omega (arith, c.len.ensures)) c.base.invariant.is_grammar.0.0.1
-
-pub returns-then-have_tokens-clause-good : goal.returns-then-have_tokens-clause-good
-returns-then-have_tokens-clause-good c =
-    let p = parts c.base.inside.parts in
-    let more = map line c.args.more.now in
     let whole = parts c.args.from.now in
-    let is = c.requires.behind ∙ ap (λ d. extended d.parts more) (sym c.base.view_is) in
-    let ranks = ranks_kept p more whole c.base.inside.ranks.items is (c.have_tokens.ensures c.if-have_tokens.true) c.base.invariant.ranked in
-    (c.in_ok-has_brackets.ensures.good, ranked_not_cyclic (numbered whole) (rank_at c.base.inside.ranks.items) ranks.0)
+    let grows = subst (λ (d : GrammarData). Grows d.parts more whole) (sym c.base.view_is) c.requires.behind in
+    let is = c.base.invariant.is_grammar in
+    none_mixed p more whole grows is.0.0.0.0 c.requires.labels.0.0.1 c.base.inside.parts.productions.items c.len.result refl (omega (arith, c.len.ensures)) is.0.0.1
 
 pub returns-then-have_tokens-clause-ranking : goal.returns-then-have_tokens-clause-ranking
 returns-then-have_tokens-clause-ranking c =
     let p = parts c.base.inside.parts in
     let more = map line c.args.more.now in
     let whole = parts c.args.from.now in
-    let is = c.requires.behind ∙ ap (λ d. extended d.parts more) (sym c.base.view_is) in
-    let ranks = ranks_kept p more whole c.base.inside.ranks.items is (c.have_tokens.ensures c.if-have_tokens.true) c.base.invariant.ranked in
-    subst (AreRanks (numbered whole)) (sym (c.in_ok-from_slice.ensures.items ∙ c.deref.ensures.value)) ranks
+    let grows = subst (λ (d : GrammarData). Grows d.parts more whole) (sym c.base.view_is) c.requires.behind in
+    let same = λ (sort : ℕ). subst (λ l. rank_at c.in_ok-ranks_with.field-0.items sort ≡ rank_at l sort) c.deref.ensures.value (c.in_ok-ranks_with.ensures sort) in
+    ranks_kept p more whole grows c.base.invariant.is_grammar.0.0.0.0 (c.have_tokens.ensures c.if-have_tokens.true) c.base.inside.ranks.items c.in_ok-ranks_with.field-0.items same c.base.invariant.ranked
+
+pub returns-then-have_tokens-clause-good : goal.returns-then-have_tokens-clause-good
+returns-then-have_tokens-clause-good c =
+    let p = parts c.base.inside.parts in
+    let more = map line c.args.more.now in
+    let whole = parts c.args.from.now in
+    let grows = subst (λ (d : GrammarData). Grows d.parts more whole) (sym c.base.view_is) c.requires.behind in
+    let ranks = ranks_kept p more whole grows c.base.invariant.is_grammar.0.0.0.0 (c.have_tokens.ensures c.if-have_tokens.true) c.base.inside.ranks.items c.base.inside.ranks.items (λ sort. refl) c.base.invariant.ranked in
+    (c.in_ok-has_brackets.ensures.good, ranked_not_cyclic (numbered whole) (rank_at c.base.inside.ranks.items) ranks.0)

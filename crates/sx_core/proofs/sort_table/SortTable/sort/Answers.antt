@@ -9,10 +9,10 @@ use Rattle.sx_core.proofs.sort_table.SortTable.sort.Goals as goal
 pub returns-in-Some : goal.returns-in-Some
 returns-in-Some c =
     sort_found_at (rows_in c.args.self.now) c.args.name.now c.in-Some.number c.sort_at.result
-    (subst (λ names. slice_get names c.in-Some.number ≡ Some c.args.name.now) c.requires.names (c.in-Some.ensures ∙ ap Some c.bytes.ensures.value))
+    (subst (λ names. slice_get names c.in-Some.number ≡ Some c.args.name.now) c.requires.names (c.in-Some.ensures.exact ∙ ap Some c.bytes.ensures.value))
     (subst (λ rows. MatchOption c.sort_at.result (slice_get (sort_names (map sort_row rows)) c.in-Some.number ≡ None)
     (λ s. (name : List ℕ) → slice_get (sort_names (map sort_row rows)) c.in-Some.number ≡ Some name → NamesSort (map sort_row rows) name s)) c.deref.ensures.value c.sort_at.ensures)
 
 pub returns-in-None : goal.returns-in-None
 returns-in-None c =
-    no_sort (rows_in c.args.self.now) c.args.name.now (subst (λ names. Contains names c.args.name.now → ⊥) c.requires.names (rw c.bytes.ensures.value at c.in-None.ensures))
+    no_sort (rows_in c.args.self.now) c.args.name.now (subst (λ names. Contains names c.args.name.now → ⊥) c.requires.names (rw c.bytes.ensures.value at c.in-None.ensures.exact))

@@ -1,6 +1,0 @@
-use Rattle.std.proofs.Common.{◌≡◌, map, take}
-use Rattle.sx_grammar.specs.Numbered.{bare}
-use Rattle.sx_grammar.proofs.numbered_behind.fill.Given as goal
-
-abbrev pub invariant-loop-i : goal.invariant-loop-i
-invariant-loop-i l = map bare l.copies.items ≡ map bare (take l.i l.productions)

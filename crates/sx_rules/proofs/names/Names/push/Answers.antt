@@ -1,9 +1,0 @@
-use Rattle.std.proofs.Common.{subst, ap, ◌∙◌, ◌++◌, ◌∷◌, []}
-use Rattle.sx_rules.specs.Good.{IsAmong}
-use Rattle.sx_rules.proofs.NameLaws.{pushed_is}
-use Rattle.sx_rules.proofs.names.Names.push.Goals as goal
-
-pub returns : goal.returns
-returns c =
-    pushed_is c.self.inside.texts.keys c.insert.new.self.keys c.in_ok-from_slice.field-0 c.args.name.now c.in_ok-from_slice.ensures.items (λ h. c.requires (subst (λ names. IsAmong c.args.name.now names) c.self.view_is h)) c.in_ok-insert.ensures.keys
-    ∙ ap (λ names. names ++ c.args.name.now ∷ []) c.self.view_is
