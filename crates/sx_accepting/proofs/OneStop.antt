@@ -1,7 +1,7 @@
 -- The stop of a rule that is refused.
 use Rattle.std.proofs.Common.{◌≡◌, Some, refl, sym, ap, ◌∙◌}
 use Rattle.sx_grammar.specs.Grammar.{Text}
-use Rattle.sx_words.specs.declared.place.Place.TheVariants as place
+use Rattle.sx_words.specs.declared.position.Position.TheVariants as place
 use Rattle.sx_words.specs.declared.refusal.Defect.{Defect}
 use Rattle.sx_words.specs.declared.refusal.Defect.TheVariants as defect
 use Rattle.sx_steps.specs.Stops.{at}

@@ -24,7 +24,7 @@ use Rattle.sx_extension.specs.declared.extension_error.ExtensionError.TheVariant
 use Rattle.sx_extension.specs.declared.plain_defect.PlainDefect.{PlainDefect}
 use Rattle.sx_extension.specs.declared.plain_defect.PlainDefect.TheVariants as plain_defect
 use Rattle.sx_derive.specs.declared.blame.Blame.{Blame}
-use Rattle.sx_words.specs.declared.place.Place.TheVariants as places
+use Rattle.sx_words.specs.declared.position.Position.TheVariants as places
 use Rattle.sx_steps.specs.Steps.{NoTries, Untried}
 use Rattle.sx_steps.specs.Stops.{at}
 use Rattle.sx_steps.specs.declared.stop.Stop.{Stop}

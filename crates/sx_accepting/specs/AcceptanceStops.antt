@@ -7,7 +7,7 @@ use Rattle.sx_rules.specs.Sets.{forms_in, rules_in}
 use Rattle.sx_rules.specs.Views.{FormData, NamedRule}
 use Rattle.sx_derive.specs.Blames.{blame_of}
 use Rattle.sx_derive.specs.declared.blame.Blame.{Blame as BlameOf}
-use Rattle.sx_words.specs.declared.place.Place.TheVariants as place
+use Rattle.sx_words.specs.declared.position.Position.TheVariants as place
 use Rattle.sx_words.specs.declared.text_defect.TextDefect.TheVariants as text_defect
 use Rattle.sx_words.specs.declared.budget_defect.BudgetDefect.TheVariants as budget_defect
 use Rattle.sx_words.specs.declared.refusal.Defect.{Defect}

@@ -1,6 +1,6 @@
 -- The stops of extension files that are refused.
 use Rattle.std.specs.Prelude.{List, ℕ, ◌++◌, codes, Option, Some, None}
-use Rattle.sx_words.specs.declared.place.Place.TheVariants as place
+use Rattle.sx_words.specs.declared.position.Position.TheVariants as place
 use Rattle.sx_words.specs.declared.text_defect.TextDefect.TheVariants as text_defect
 use Rattle.sx_words.specs.declared.extension_defect.ExtensionDefect.{ExtensionDefect}
 use Rattle.sx_words.specs.declared.extension_defect.ExtensionDefect.TheVariants as extension_defect

@@ -9,7 +9,7 @@ use Rattle.sx_notation.specs.declared.unread.Unread.{Unread}
 use Rattle.sx_notation.specs.declared.unread.Unread.TheVariants as unread
 use Rattle.sx_notation.specs.declared.notation_error.NotationError.{NotationError}
 use Rattle.sx_notation.specs.declared.notation_error.NotationError.TheVariants as notation_error
-use Rattle.sx_words.specs.declared.place.Place.TheVariants.{Line, Spot}
+use Rattle.sx_words.specs.declared.position.Position.TheVariants.{Line, Spot}
 use Rattle.sx_words.specs.declared.file_defect.FileDefect.TheVariants as file_defect
 use Rattle.sx_words.specs.declared.text_defect.TextDefect.{TextDefect}
 use Rattle.sx_words.specs.declared.text_defect.TextDefect.TheVariants as text_defect

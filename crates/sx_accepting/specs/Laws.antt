@@ -7,7 +7,7 @@ use Rattle.sx_rewrite.specs.Accepted.{IsAccepted}
 use Rattle.sx_rewrite.specs.Stored.{signature_of}
 use Rattle.sx_extcheck.specs.declared.budgets.Budgets.{Budgets}
 use Rattle.sx_extcheck.specs.Accepts.{HasUnsound}
-use Rattle.sx_words.specs.declared.place.Place.TheVariants.{Rule}
+use Rattle.sx_words.specs.declared.position.Position.TheVariants.{Rule}
 use Rattle.sx_steps.specs.declared.stop.Stop.{Stop}
 use Rattle.sx_steps.specs.declared.step_error.StepError.{StepError}
 use Rattle.sx_steps.specs.declared.step_error.StepError.TheVariants as errors

@@ -13,7 +13,7 @@ use sx_extcheck::{AcceptError, RuleDefect};
 use sx_steps::{Stop, refused_at};
 use sx_stuck::{Telling, stuck_text};
 use sx_term::{NoMemory, Text, Vars};
-use sx_words::{BudgetDefect, Defect, Place, TextDefect};
+use sx_words::{BudgetDefect, Defect, Position, TextDefect};
 
 /// The names of the metavariables of the first rule with this name, or None where there are none.
 fn vars_of<'a>(names: &[Text], vars: &'a [Vars], name: &Text) -> Option<&'a Vars>
@@ -112,7 +112,7 @@ pub fn bad_acceptance(
     match error {
         AcceptError::Memory => Err(NoMemory::Memory),
         AcceptError::Rule(name, what) => match rule_defect(alloc, refusing, &name, what) {
-            Ok(defect) => refused_at(alloc, file, Place::Rule(name), defect),
+            Ok(defect) => refused_at(alloc, file, Position::Rule(name), defect),
             Err(e) => {
                 drop(name);
                 Err(e)

@@ -8,7 +8,7 @@ use std::alloc::Global;
 use sx_extension::{ExtensionError, PlainDefect};
 use sx_steps::{Stop, joined, refused, refused_at};
 use sx_term::{NoMemory, Text};
-use sx_words::{Defect, ExtensionDefect, Place, TextDefect};
+use sx_words::{Defect, ExtensionDefect, Position, TextDefect};
 
 /// The name of a metavariable, with the mark before it.
 fn marked(alloc: Global, name: &Text) -> Result<Text, NoMemory>
@@ -22,7 +22,7 @@ fn marked(alloc: Global, name: &Text) -> Result<Text, NoMemory>
 fn of_plain(alloc: Global, file: &Text, label: Text, what: Defect) -> Result<Stop, NoMemory>
     ensures { IfOk result (λ stop. stop ≡ stops.of_plain file.now label what) }
 {
-    refused_at(alloc, file, Place::Plain(label), what)
+    refused_at(alloc, file, Position::Plain(label), what)
 }
 
 /// The refusal of a plain body that drops the part with this name.
@@ -62,7 +62,7 @@ fn bad_plain(alloc: Global, file: &Text, label: Text, error: PlainDefect) -> Res
 fn of_rule(alloc: Global, file: &Text, name: Text, what: ExtensionDefect) -> Result<Stop, NoMemory>
     ensures { IfOk result (λ stop. stop ≡ stops.of_rule file.now name what) }
 {
-    refused_at(alloc, file, Place::Rule(name), Defect::Extension(what))
+    refused_at(alloc, file, Position::Rule(name), Defect::Extension(what))
 }
 
 /// The refusal of a plain production without a plain body.
@@ -72,7 +72,7 @@ fn without_plain(alloc: Global, file: &Text, label: Text) -> Result<Stop, NoMemo
     refused_at(
         alloc,
         file,
-        Place::Production(label),
+        Position::Production(label),
         Defect::Extension(ExtensionDefect::NoPlain),
     )
 }

@@ -10,7 +10,7 @@ use sx_rules::RuleError;
 use sx_steps::{Stop, bad_line, bad_rules, joined, refused, refused_at};
 use sx_term::{NoMemory, Text};
 use sx_token::TokenError;
-use sx_words::{Defect, FileDefect, GrammarDefect, Place, TextDefect};
+use sx_words::{Defect, FileDefect, GrammarDefect, Position, TextDefect};
 
 /// The column of a place in a line, where it is below 2^64. No line in memory is longer.
 fn column_of(place: usize) -> Result<u64, NoMemory>
@@ -37,7 +37,7 @@ fn at_place(
     refused_at(
         alloc,
         file,
-        Place::Spot { line, column },
+        Position::Spot { line, column },
         Defect::Text(defect),
     )
 }
@@ -46,7 +46,7 @@ fn at_place(
 fn at_line(alloc: Global, file: &Text, line: u32, defect: TextDefect) -> Result<Stop, NoMemory>
     ensures { IfOk result (λ stop. stop ≡ stops.at_line file.now line defect) }
 {
-    refused_at(alloc, file, Place::Line(line), Defect::Text(defect))
+    refused_at(alloc, file, Position::Line(line), Defect::Text(defect))
 }
 
 /// The refusal of a line that is not cut into tokens.
@@ -58,7 +58,7 @@ fn uncut_line(alloc: Global, file: &Text, line: u32, error: TokenError) -> Resul
         TokenError::NotUtf8(place) => refused_at(
             alloc,
             file,
-            Place::Line(line),
+            Position::Line(line),
             Defect::File(FileDefect::NotUtf8(u64::from(place))),
         ),
         TokenError::BadToken(place) => at_place(

@@ -8,7 +8,7 @@ use sx_headers::{uncut_text, unread_text};
 use sx_steps::{Stop, refused, refused_at};
 use sx_term::{NoMemory, Text};
 use sx_unit::ModuleError;
-use sx_words::{BudgetDefect, Defect, GoalDefect, Place, TextDefect};
+use sx_words::{BudgetDefect, Defect, GoalDefect, Position, TextDefect};
 
 /// The refusal of a body without a type.
 fn untyped(
@@ -20,7 +20,12 @@ fn untyped(
 ) -> Result<Stop, NoMemory>
     ensures { IfOk result (λ stop. stop ≡ stops.untyped file.now line column why) }
 {
-    refused_at(alloc, file, Place::Spot { line, column }, Defect::Goal(why))
+    refused_at(
+        alloc,
+        file,
+        Position::Spot { line, column },
+        Defect::Goal(why),
+    )
 }
 
 /// The refusal of a module that is not compiled.

@@ -2,7 +2,7 @@
 use Rattle.std.specs.Prelude.{ℕ, List, Option, Some, None}
 use Rattle.sx_interface.specs.declared.error.HeaderError.{HeaderError}
 use Rattle.sx_interface.specs.declared.error.HeaderError.TheVariants as header_error
-use Rattle.sx_words.specs.declared.place.Place.TheVariants.{Line}
+use Rattle.sx_words.specs.declared.position.Position.TheVariants.{Line}
 use Rattle.sx_words.specs.declared.file_defect.FileDefect.TheVariants as file_defect
 use Rattle.sx_words.specs.declared.refusal.Defect.TheVariants as defect
 use Rattle.sx_steps.specs.declared.stop.Stop.{Stop}

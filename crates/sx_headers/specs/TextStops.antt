@@ -4,7 +4,7 @@ use Rattle.sx_token.specs.declared.token_error.TokenError.{TokenError}
 use Rattle.sx_token.specs.declared.token_error.TokenError.TheVariants as token_error
 use Rattle.sx_notation.specs.declared.unread.Unread.{Unread}
 use Rattle.sx_notation.specs.declared.unread.Unread.TheVariants as unread
-use Rattle.sx_words.specs.declared.place.Place.TheVariants.{Spot}
+use Rattle.sx_words.specs.declared.position.Position.TheVariants.{Spot}
 use Rattle.sx_words.specs.declared.text_defect.TextDefect.{TextDefect}
 use Rattle.sx_words.specs.declared.text_defect.TextDefect.TheVariants as text_defect
 use Rattle.sx_words.specs.declared.refusal.Defect.TheVariants as defect

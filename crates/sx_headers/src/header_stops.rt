@@ -7,7 +7,7 @@ use std::alloc::Global;
 use sx_interface::HeaderError;
 use sx_steps::{Stop, refused, refused_at};
 use sx_term::{NoMemory, Text};
-use sx_words::{Defect, FileDefect, Place};
+use sx_words::{Defect, FileDefect, Position};
 
 /// The refusal of a header for this line.
 pub fn bad_line_of_header(alloc: Global, file: &Text, line: u32) -> Result<Stop, NoMemory>
@@ -16,7 +16,7 @@ pub fn bad_line_of_header(alloc: Global, file: &Text, line: u32) -> Result<Stop,
     refused_at(
         alloc,
         file,
-        Place::Line(line),
+        Position::Line(line),
         Defect::File(FileDefect::Header),
     )
 }

@@ -8,7 +8,7 @@ use sx_notation::Unread;
 use sx_steps::{Stop, refused, refused_at};
 use sx_term::{NoMemory, Text};
 use sx_token::TokenError;
-use sx_words::{Defect, FileDefect, Place, TextDefect};
+use sx_words::{Defect, FileDefect, Position, TextDefect};
 
 /// A defect of the text at a line and a column.
 fn at_spot(
@@ -23,7 +23,7 @@ fn at_spot(
     refused_at(
         alloc,
         file,
-        Place::Spot { line, column },
+        Position::Spot { line, column },
         Defect::Text(what),
     )
 }

@@ -2,7 +2,7 @@
 use Rattle.std.specs.Prelude.{ℕ, List, codes}
 use Rattle.sx_words.specs.Lines.{line_text}
 use Rattle.sx_words.specs.RefusalText.{refusal_text}
-use Rattle.sx_words.specs.declared.place.Place.TheVariants.{Nowhere}
+use Rattle.sx_words.specs.declared.position.Position.TheVariants.{Nowhere}
 use Rattle.sx_words.specs.declared.file_defect.FileDefect.{FileDefect}
 use Rattle.sx_words.specs.declared.file_defect.FileDefect.TheVariants as file_defect
 use Rattle.sx_words.specs.declared.refusal.Defect.{Defect}

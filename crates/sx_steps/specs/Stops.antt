@@ -4,8 +4,8 @@ use Rattle.sx_rules.specs.declared.error.RuleError.{RuleError}
 use Rattle.sx_rules.specs.declared.error.RuleError.TheVariants as rule_error
 use Rattle.sx_lines.specs.declared.kind.Kind.{Kind}
 use Rattle.sx_lines.specs.declared.kind.Kind.TheVariants as kind
-use Rattle.sx_words.specs.declared.place.Place.{Place}
-use Rattle.sx_words.specs.declared.place.Place.TheVariants.{Line, Rule}
+use Rattle.sx_words.specs.declared.position.Position.{Position}
+use Rattle.sx_words.specs.declared.position.Position.TheVariants.{Line, Rule}
 use Rattle.sx_words.specs.declared.file_defect.FileDefect.TheVariants as file_defect
 use Rattle.sx_words.specs.declared.text_defect.TextDefect.TheVariants as text_defect
 use Rattle.sx_words.specs.declared.rule_defect.RuleDefect.{RuleDefect}
@@ -17,7 +17,7 @@ use Rattle.sx_steps.specs.declared.stop.Stop.{Stop}
 use Rattle.sx_steps.specs.Refusal.{about}
 
 -- a defect of a file, at a place
-abbrev pub at : Place → List ℕ → Defect → Stop
+abbrev pub at : Position → List ℕ → Defect → Stop
 at place file what = record { file = file; refusal = record { place = place; defect = what } }
 
 -- ---- files

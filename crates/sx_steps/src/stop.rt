@@ -9,7 +9,7 @@ ghost use Rattle.sx_words.specs.RefusalText.{refusal_text};
 use crate::status::Status;
 use std::alloc::Global;
 use sx_term::{NoMemory, Text};
-use sx_words::{Defect, FileDefect, Place, Refusal, write_refusal};
+use sx_words::{Defect, FileDefect, Position, Refusal, write_refusal};
 
 /// Why a command ends early: a refusal, or a fault of reading a file, with the file that it is
 /// about.
@@ -26,7 +26,7 @@ pub fn about(file: Text, defect: Defect) -> Stop
     Stop {
         file,
         refusal: Refusal {
-            place: Place::Nowhere,
+            place: Position::Nowhere,
             defect,
         },
     }

@@ -9,7 +9,7 @@ use std::alloc::Global;
 use sx_lines::Kind;
 use sx_rules::RuleError;
 use sx_term::{NoMemory, Text};
-use sx_words::{Defect, FileDefect, Place, Refusal, RuleDefect};
+use sx_words::{Defect, FileDefect, Position, Refusal, RuleDefect};
 
 /// A defect of the file, of which the line says no place.
 pub fn refused(alloc: Global, file: &Text, defect: Defect) -> Result<Stop, NoMemory>
@@ -28,7 +28,7 @@ pub fn refused(alloc: Global, file: &Text, defect: Defect) -> Result<Stop, NoMem
 pub fn refused_at(
     alloc: Global,
     file: &Text,
-    place: Place,
+    place: Position,
     defect: Defect,
 ) -> Result<Stop, NoMemory>
     ensures { IfOk result (λ stop. stop ≡ stops.at place file.now defect) }
@@ -67,14 +67,14 @@ pub fn bad_line(alloc: Global, file: &Text, line: u32, kind: Kind) -> Result<Sto
 {
     let kind = Text::of_str(alloc, kind_name(kind))?;
     let defect = Defect::File(FileDefect::Notation(kind));
-    refused_at(alloc, file, Place::Line(line), defect)
+    refused_at(alloc, file, Position::Line(line), defect)
 }
 
 /// A defect of the rule with the name.
 fn of_rule(alloc: Global, file: &Text, name: Text, what: RuleDefect) -> Result<Stop, NoMemory>
     ensures { IfOk result (λ stop. stop ≡ stops.of_rule file.now name what) }
 {
-    refused_at(alloc, file, Place::Rule(name), Defect::Rule(what))
+    refused_at(alloc, file, Position::Rule(name), Defect::Rule(what))
 }
 
 /// The refusal of rules that are no rule set. A variable that is not bound is told by this name.

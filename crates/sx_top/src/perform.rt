@@ -14,7 +14,7 @@ use std::alloc::Global;
 use sx_outside::{Shelf, Sink, WriteAnswer};
 use sx_steps::{Output, Status, Work, refusal_line};
 use sx_term::Text;
-use sx_words::{Defect, FileDefect, Place, Refusal};
+use sx_words::{Defect, FileDefect, Position, Refusal};
 
 /// How writing the files of a plan ended: by the number of the file that was not written.
 #[derive(Clone, Copy, PartialEq, Eq)]
@@ -50,7 +50,7 @@ fn send_fault<K: Sink>(alloc: Global, name: &Text, out: &mut K) -> WriteAnswer
         (K.faults out.old) (K.faults out.new) }
 {
     let refusal = Refusal {
-        place: Place::Nowhere,
+        place: Position::Nowhere,
         defect: Defect::File(FileDefect::WriteFault),
     };
     let line = refusal_line(alloc, name, &refusal);

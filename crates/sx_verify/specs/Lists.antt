@@ -7,7 +7,7 @@ use Rattle.sx_rules.specs.ListText.{StatesList}
 use Rattle.sx_rules.specs.BadLine.{IsFirstBad}
 use Rattle.sx_replay.specs.declared.replay_error.ReplayError.{ReplayError}
 use Rattle.sx_replay.specs.declared.replay_error.ReplayError.TheVariants as replay_error
-use Rattle.sx_words.specs.declared.place.Place.TheVariants.{Line}
+use Rattle.sx_words.specs.declared.position.Position.TheVariants.{Line}
 use Rattle.sx_words.specs.declared.file_defect.FileDefect.TheVariants as file_defect
 use Rattle.sx_words.specs.declared.list_defect.ListDefect.{ListDefect}
 use Rattle.sx_words.specs.declared.list_defect.ListDefect.TheVariants as list_defect

@@ -9,7 +9,7 @@ use std::alloc::Global;
 use sx_replay::ReplayError;
 use sx_steps::{Stop, refused, refused_at};
 use sx_term::{NoMemory, Text};
-use sx_words::{Defect, FileDefect, ListDefect, Place, TextDefect};
+use sx_words::{Defect, FileDefect, ListDefect, Position, TextDefect};
 
 /// The refusal of a list with a bad line.
 pub fn bad_entry(alloc: Global, file: &Text, line: u32) -> Result<Stop, NoMemory>
@@ -18,7 +18,7 @@ pub fn bad_entry(alloc: Global, file: &Text, line: u32) -> Result<Stop, NoMemory
     refused_at(
         alloc,
         file,
-        Place::Line(line),
+        Position::Line(line),
         Defect::File(FileDefect::BadList),
     )
 }

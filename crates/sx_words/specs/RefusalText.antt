@@ -26,8 +26,8 @@ use Rattle.sx_words.specs.declared.closure_defect.Kept.{Kept}
 use Rattle.sx_words.specs.declared.closure_defect.Kept.TheVariants as kept
 use Rattle.sx_words.specs.declared.closure_defect.ClosureDefect.{ClosureDefect}
 use Rattle.sx_words.specs.declared.closure_defect.ClosureDefect.TheVariants as closure
-use Rattle.sx_words.specs.declared.place.Place.{Place}
-use Rattle.sx_words.specs.declared.place.Place.TheVariants as place
+use Rattle.sx_words.specs.declared.position.Position.{Position}
+use Rattle.sx_words.specs.declared.position.Position.TheVariants as place
 use Rattle.sx_words.specs.declared.refusal.Defect.{Defect}
 use Rattle.sx_words.specs.declared.refusal.Defect.TheVariants as defect
 use Rattle.sx_words.specs.declared.refusal.Refusal.{Refusal}
@@ -168,7 +168,7 @@ closure_text closure.CoreDiffers = joined (codes "differs" ∷ [])
 -- ---- whole texts
 
 -- what a text says first
-abbrev pub place_text : Place → List ℕ
+abbrev pub place_text : Position → List ℕ
 place_text place.Nowhere = []
 place_text (place.Line number) = joined (codes "line " ∷ decimal number ∷ codes ": " ∷ [])
 place_text (place.Spot number column) = joined

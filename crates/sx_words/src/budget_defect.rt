@@ -7,7 +7,7 @@ use crate::parts::{put_number, put_words};
 use std::alloc::Global;
 use sx_term::NoMemory;
 
-/// Which budget or limit a derivation passes. At `Place::Rule` in accepting a rule.
+/// Which budget or limit a derivation passes. At `Position::Rule` in accepting a rule.
 #[derive(Drop)]
 pub enum BudgetDefect {
     /// The tries that the walk may take.

@@ -11,19 +11,19 @@ use sx_term::{NoMemory, Text};
 pub enum ExtensionDefect {
     /// The language that the extension is written for.
     WrongLanguage(Text),
-    /// A conclusion with a subject has no body. At `Place::Rule`.
+    /// A conclusion with a subject has no body. At `Position::Rule`.
     NoBody,
-    /// A conclusion without a subject has a body. At `Place::Rule`.
+    /// A conclusion without a subject has a body. At `Position::Rule`.
     BodySort,
-    /// A body has syntax that is no base syntax. At `Place::Rule`.
+    /// A body has syntax that is no base syntax. At `Position::Rule`.
     BodyExtended,
     /// The label of two plain bodies.
     Twice(Text),
-    /// The label that a plain body uses before its own body stands. At `Place::Plain`.
+    /// The label that a plain body uses before its own body stands. At `Position::Plain`.
     UsesLater(Text),
-    /// A part that a plain body drops, with the mark before its name. At `Place::Plain`.
+    /// A part that a plain body drops, with the mark before its name. At `Position::Plain`.
     Drops(Text),
-    /// A plain production has no body. At `Place::Production`.
+    /// A plain production has no body. At `Position::Production`.
     NoPlain,
 }
 

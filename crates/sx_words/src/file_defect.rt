@@ -22,13 +22,13 @@ pub enum FileDefect {
     WriteFault,
     /// How many bytes stand before the first that are not UTF-8.
     NotUtf8(u64),
-    /// The kind of a bad line in lower case. At `Place::Line`.
+    /// The kind of a bad line in lower case. At `Position::Line`.
     Notation(Text),
-    /// A bad line of a header or an interface. At `Place::Line`.
+    /// A bad line of a header or an interface. At `Position::Line`.
     Header,
     /// Another version than 1.
     Version(u64),
-    /// A bad line of a derivation list. At `Place::Line`.
+    /// A bad line of a derivation list. At `Position::Line`.
     BadList,
 }
 

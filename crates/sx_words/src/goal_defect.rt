@@ -8,7 +8,7 @@ use std::alloc::Global;
 use sx_term::{NoMemory, Text};
 
 /// Why a goal has no derivation: the goal where the walk is stuck, as it is printed. At
-/// `Place::Spot` in a module file, at `Place::Rule` in accepting a rule, and at `Place::Nowhere` in
+/// `Position::Spot` in a module file, at `Position::Rule` in accepting a rule, and at `Position::Nowhere` in
 /// a core file.
 #[derive(Drop)]
 pub enum GoalDefect {

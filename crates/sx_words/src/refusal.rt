@@ -13,7 +13,7 @@ use crate::grammar_defect::{GrammarDefect, put_grammar};
 use crate::line::append_line;
 use crate::list_defect::{ListDefect, put_list};
 use crate::parts::{number, put};
-use crate::place::{Place, put_place};
+use crate::position::{Position, put_place};
 use crate::print_defect::{PrintDefect, PrintedPart, put_part, put_print};
 use crate::rule_defect::{RuleDefect, put_rule};
 use crate::text_defect::{TextDefect, put_text};
@@ -61,7 +61,7 @@ pub enum Defect {
 #[derive(Drop)]
 pub struct Refusal {
     /// Where the thing stands.
-    pub place: Place,
+    pub place: Position,
     /// What is wrong with it.
     pub defect: Defect,
 }

@@ -12,16 +12,16 @@ use sx_term::{NoMemory, Text};
 pub enum RuleDefect {
     /// More rules than a set may have.
     TooManyRules,
-    /// More variables than a rule may have. At `Place::Rule`.
+    /// More variables than a rule may have. At `Position::Rule`.
     TooManyVars,
     /// The name of two rules.
     SameRule(Text),
-    /// A term of another sort than its place. At `Place::Rule`.
+    /// A term of another sort than its place. At `Position::Rule`.
     SortDiffers,
-    /// A part of the discipline that a premise breaks. At `Place::Rule`.
+    /// A part of the discipline that a premise breaks. At `Position::Rule`.
     Discipline { part: u32, premise: u64 },
     /// A variable that is not bound, with the mark before its name: `~V`, in a core file `?N`. At
-    /// `Place::Rule`.
+    /// `Position::Rule`.
     NotModed(Text),
 }
 

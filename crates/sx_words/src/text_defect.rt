@@ -10,22 +10,22 @@ use sx_term::{NoMemory, Text};
 /// What is wrong with a text that is cut into tokens and read.
 #[derive(Drop)]
 pub enum TextDefect {
-    /// No token begins there. At `Place::Spot`.
+    /// No token begins there. At `Position::Spot`.
     BadToken,
-    /// A string has no end in its line. At `Place::Spot`.
+    /// A string has no end in its line. At `Position::Spot`.
     OpenString,
-    /// No reading goes on there. At `Place::Spot`.
+    /// No reading goes on there. At `Position::Spot`.
     NoReading,
-    /// At `Place::Line` in a language or extension file.
+    /// At `Position::Line` in a language or extension file.
     TooManyTokens,
-    /// At `Place::Line` in a language or extension file.
+    /// At `Position::Line` in a language or extension file.
     TooHard,
-    /// The depth of a reading or a term. At `Place::Line` of a line that is read, at `Place::Rule`
-    /// in accepting a rule, at `Place::Plain` of a plain body.
+    /// The depth of a reading or a term. At `Position::Line` of a line that is read, at `Position::Rule`
+    /// in accepting a rule, at `Position::Plain` of a plain body.
     TooDeep(u64),
-    /// The size of a term. At `Place::Rule` in accepting a rule, at `Place::Plain` of a plain body.
+    /// The size of a term. At `Position::Rule` in accepting a rule, at `Position::Plain` of a plain body.
     TooBig(u64),
-    /// Two readings. At `Place::Line` of a line that is read by a grammar.
+    /// Two readings. At `Position::Line` of a line that is read by a grammar.
     Ambiguous { one: Text, other: Text },
 }
 

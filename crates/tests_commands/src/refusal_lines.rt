@@ -3,7 +3,7 @@
 use std::alloc::Global;
 use sx_term::Text;
 use sx_words::{
-    ClosureDefect, Defect, FileDefect, GoalDefect, Place, PrintDefect, PrintedPart, Refusal,
+    ClosureDefect, Defect, FileDefect, GoalDefect, Position, PrintDefect, PrintedPart, Refusal,
     RuleDefect, TextDefect, write_line, write_refusal,
 };
 
@@ -36,7 +36,7 @@ fn is_line(alloc: Global, refusal: &Refusal, want: &[u8]) -> bool {
 }
 
 /// The same for what is put together here.
-fn has_line(alloc: Global, place: Place, defect: Defect, want: &[u8]) -> bool {
+fn has_line(alloc: Global, place: Position, defect: Defect, want: &[u8]) -> bool {
     let refusal = Refusal { place, defect };
     let is = is_line(alloc, &refusal, want);
     drop(refusal);
@@ -75,7 +75,7 @@ fn a_line(rt: HostRuntime) {
 #[test]
 fn lines_with_places(rt: HostRuntime) {
     let alloc = rt.alloc();
-    let spot = Place::Spot { line: 3, column: 7 };
+    let spot = Position::Spot { line: 3, column: 7 };
     let token = Defect::Text(TextDefect::BadToken);
     let at = b"soundx: M.mod: line 3 column 7: bad token\n";
     let absent = Defect::File(FileDefect::Absent);
@@ -83,8 +83,8 @@ fn lines_with_places(rt: HostRuntime) {
     let line = b"soundx: M.mod: line 4: bad header\n";
     let hold = [
         has_line(alloc, spot, token, at),
-        has_line(alloc, Place::Nowhere, absent, b"soundx: M.mod: absent\n"),
-        has_line(alloc, Place::Line(4), header, line),
+        has_line(alloc, Position::Nowhere, absent, b"soundx: M.mod: absent\n"),
+        has_line(alloc, Position::Line(4), header, line),
     ];
     assert_eq!(rt; hold, [true; 3]);
 }
@@ -97,7 +97,7 @@ fn a_line_of_a_rule(rt: HostRuntime) {
         Some(rule) => match text(alloc, b"~t") {
             Some(name) => {
                 let defect = Defect::Rule(RuleDefect::NotModed(name));
-                has_line(alloc, Place::Rule(rule), defect, want)
+                has_line(alloc, Position::Rule(rule), defect, want)
             }
             None => {
                 drop(rule);
@@ -121,7 +121,7 @@ fn a_line_of_a_goal(rt: HostRuntime) {
                     premise: 2,
                     rule,
                 });
-                has_line(alloc, Place::Nowhere, defect, want)
+                has_line(alloc, Position::Nowhere, defect, want)
             }
             None => {
                 drop(goal);
@@ -140,7 +140,7 @@ fn a_line_of_a_print(rt: HostRuntime) {
         defect: PrintDefect::Depth(1001),
     };
     let want = b"soundx: M.mod: printed signature has depth 1001, over 1000\n";
-    assert!(rt; has_line(rt.alloc(), Place::Nowhere, defect, want));
+    assert!(rt; has_line(rt.alloc(), Position::Nowhere, defect, want));
 }
 
 #[test]
@@ -150,7 +150,7 @@ fn a_line_of_a_stated_print(rt: HostRuntime) {
         defect: PrintDefect::Bytes(262_145),
     };
     let want = b"soundx: M.mod: printed stated signature has 262145 bytes, over 262144\n";
-    assert!(rt; has_line(rt.alloc(), Place::Nowhere, defect, want));
+    assert!(rt; has_line(rt.alloc(), Position::Nowhere, defect, want));
 }
 
 /// Appends the name, and answers whether memory was there for it.
@@ -167,6 +167,11 @@ fn a_line_of_a_cycle(rt: HostRuntime) {
     let mut names = Vec::new(alloc);
     let are = put_name(alloc, b"A", &mut names) && put_name(alloc, b"A", &mut names);
     let defect = Defect::Closure(ClosureDefect::Cycle(names));
-    let is = has_line(alloc, Place::Nowhere, defect, b"soundx: M.mod: cycle A A\n");
+    let is = has_line(
+        alloc,
+        Position::Nowhere,
+        defect,
+        b"soundx: M.mod: cycle A A\n",
+    );
     assert!(rt; are && is);
 }

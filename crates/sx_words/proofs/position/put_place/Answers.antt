@@ -1,4 +1,4 @@
-use Rattle.sx_words.proofs.place.put_place.Goals as goal
+use Rattle.sx_words.proofs.position.put_place.Goals as goal
 
 pub returns-in-Rule : goal.returns-in-Rule
 returns-in-Rule c = rw c.in-Rule.is c.put_named.ensures

@@ -10,7 +10,7 @@ use sx_term::{NoMemory, Text};
 /// Where in its file the thing stands that a refusal names: what its text says first. The defects
 /// say which of these they take; where they say nothing it is `Nowhere`.
 #[derive(Drop)]
-pub enum Place {
+pub enum Position {
     /// The text says no place.
     Nowhere,
     /// A line, from 1.
@@ -26,13 +26,13 @@ pub enum Place {
 }
 
 /// Appends the place.
-pub(crate) fn put_place(alloc: Global, place: &Place, into: &mut Vec<u8>) -> Result<(), NoMemory>
+pub(crate) fn put_place(alloc: Global, place: &Position, into: &mut Vec<u8>) -> Result<(), NoMemory>
     ensures { OnOk result (into.new.items ≡ into.old.items ++ place_text place.now) }
 {
     match place {
-        Place::Nowhere => put(&[], into),
-        Place::Line(line) => put_number(alloc, b"line ", u64::from(*line), b": ", into),
-        Place::Spot { line, column } => {
+        Position::Nowhere => put(&[], into),
+        Position::Line(line) => put_number(alloc, b"line ", u64::from(*line), b": ", into),
+        Position::Spot { line, column } => {
             let line = number(alloc, *line)?;
             let column = number(alloc, *column)?;
             put(
@@ -46,8 +46,8 @@ pub(crate) fn put_place(alloc: Global, place: &Place, into: &mut Vec<u8>) -> Res
                 into,
             )
         }
-        Place::Rule(rule) => put_named(b"rule ", rule, b": ", into),
-        Place::Plain(label) => put_named(b"plain ", label, b": ", into),
-        Place::Production(label) => put_named(b"production ", label, b": ", into),
+        Position::Rule(rule) => put_named(b"rule ", rule, b": ", into),
+        Position::Plain(label) => put_named(b"plain ", label, b": ", into),
+        Position::Production(label) => put_named(b"production ", label, b": ", into),
     }
 }
