@@ -1,5 +1,5 @@
 -- Tasks and their events.
-use Rattle.std.proofs.Common.{◌≡◌, ℕ, zero, suc, ◌+◌, ◌-◌, ◌<◌, ◌≤◌, Bool, true, false, List, [], ◌∷◌, ◌++◌, drop, length, get_or, Some, refl, sym, ap, ◌∙◌, arith, subst}
+use Rattle.std.proofs.Common.{◌≡◌, ℕ, zero, suc, ◌+◌, ◌-◌, ◌<◌, ◌≤◌, Bool, true, false, List, [], ◌∷◌, ◌++◌, drop, length, get_or, Some, refl, sym, ap, ◌∙◌, arith}
 use Rattle.std.specs.Prelude.{slice_get, nat_lt}
 use Rattle.sx_term.specs.Tree.{Tree}
 use Rattle.sx_rules.specs.Rules.{Judgement, Rule, Hypotheses}
@@ -34,13 +34,13 @@ drop_past (x ∷ xs) zero h = absurd (omega arith)
 drop_past (x ∷ xs) (suc i) h = drop_past xs i (omega arith)
 
 -- the hypothesis of a fact
-pub fact_at : (modes : Modes) (ts : List Tree) (js : List Judgement) (fs : List Fact) → AreFacts modes ts js fs → (i : ℕ) (f : Fact) → i < length fs → f ≡ get_or fs i f →
-    (j : Judgement) × (slice_get js i ≡ Some j) × IsFact modes ts j f
-fact_at modes ts [] [] a i f l e = absurd (omega arith)
-fact_at modes ts [] (g ∷ fs) a i f l e = absurd a
-fact_at modes ts (j ∷ js) [] a i f l e = absurd a
-fact_at modes ts (j ∷ js) (g ∷ fs) a zero f l e = (j, refl, subst (λ (x : Fact). IsFact modes ts j x) (sym e) a.0)
-fact_at modes ts (j ∷ js) (g ∷ fs) a (suc i) f l e = fact_at modes ts js fs a.1 i f (omega arith) e
+pub fact_at : (modes : Modes) (ts : List Tree) (js : List Judgement) (fs : List Fact) → AreFacts modes ts js fs → (i : ℕ) (f : Fact) → i < length fs →
+    (j : Judgement) × (slice_get js i ≡ Some j) × IsFact modes ts j (get_or fs i f)
+fact_at modes ts [] [] a i f l = absurd (omega arith)
+fact_at modes ts [] (g ∷ fs) a i f l = absurd a
+fact_at modes ts (j ∷ js) [] a i f l = absurd a
+fact_at modes ts (j ∷ js) (g ∷ fs) a zero f l = (j, refl, a.0)
+fact_at modes ts (j ∷ js) (g ∷ fs) a (suc i) f l = fact_at modes ts js fs a.1 i f (omega arith)
 
 pub facts_length : (modes : Modes) (ts : List Tree) (js : List Judgement) (fs : List Fact) → AreFacts modes ts js fs → length fs ≡ length js
 facts_length modes ts [] [] a = refl

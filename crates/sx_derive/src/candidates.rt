@@ -11,63 +11,64 @@ ghost use Rattle.sx_arena.specs.Pairs.{ArePairs};
 ghost use Rattle.sx_derive.specs.Store.{IsStore, store_trees};
 ghost use Rattle.sx_arena.specs.Views.{rules_of, modes_of};
 
-use crate::chains::Head;
+use crate::chains::{Head, Waiting};
+use crate::given::Given;
 use crate::handing::hand_on;
 use crate::premise_loop::premises;
 use crate::step::Step;
 use crate::store::Store;
-use std::alloc::Global;
-use sx_arena::{Fact, Pair, copied, fit_places, roles, rule_at, same_numbers};
-use sx_rules::RuleSet;
+use crate::tasks::Task;
+use sx_arena::{Fact, copied, fit_places, roles, rule_at, same_numbers};
 use sx_term::NoMemory;
 
 /// What comes of a rule against a goal.
 pub(crate) fn try_rule(
-    alloc: Global,
-    rules: &RuleSet,
-    pairs: &[Pair],
+    given: &Given,
     store: &mut Store,
     number: u32,
-    form: u32,
-    terms: &[usize],
-    levels: usize,
-    frames: usize,
+    task: &Task,
 ) -> Result<Step, NoMemory>
-    requires shallow { RulesAreShallow (rules_of rules.now) }
-    requires number { number < length (rules_of rules.now) }
-    requires store { IsStore (modes_of rules.now) (rules_of rules.now) store.old }
-    requires pairs { ArePairs (length (store_trees store.old)) pairs.now }
-    requires frames { frames ≤ length store.old.frames.items }
-    requires terms { AreBelow (length (store_trees store.old)) terms.now }
+    requires shallow { RulesAreShallow (rules_of given.now.rules.now) }
+    requires number { number < length (rules_of given.now.rules.now) }
+    requires store { IsStore (modes_of given.now.rules.now) (rules_of given.now.rules.now) store.old }
+    requires pairs { ArePairs (length (store_trees store.old)) given.now.pairs.now }
+    requires frames { task.now.frames ≤ length store.old.frames.items }
+    requires terms { AreBelow (length (store_trees store.old)) task.now.terms.items }
     ensures { IfOk result (λ step. (rule : Rule) →
-        slice_get (rules_of rules.now) number ≡ Some rule →
-        IsTried (modes_of rules.now) (rules_of rules.now) pairs.now store.old store.new
-        (λ hyps. rule_result (modes_of rules.now) hyps number rule levels
-        (goal_in store.old form terms.now)
-        (frames_in (modes_of rules.now) (rules_of rules.now) store.old frames)) step) }
+        slice_get (rules_of given.now.rules.now) number ≡ Some rule →
+        IsTried (modes_of given.now.rules.now) (rules_of given.now.rules.now) given.now.pairs.now
+        store.old store.new
+        (λ hyps. rule_result (modes_of given.now.rules.now) hyps number rule task.now.levels
+        (goal_in store.old task.now.form task.now.terms.items)
+        (frames_in (modes_of given.now.rules.now) (rules_of given.now.rules.now) store.old
+        task.now.frames)) step) }
 {
-    let rule = rule_at(rules, number);
-    if rule.conclusion.form != form {
+    let rule = rule_at(given.rules, number);
+    if rule.conclusion.form != task.form {
         return Ok(Step::Nothing);
     }
     let fit = fit_places(
         &store.arena,
         &mut store.binds,
         0,
-        roles(rules, rule.conclusion.form),
+        roles(given.rules, rule.conclusion.form),
         false,
         &rule.conclusion.places,
-        terms,
+        &task.terms,
     )?;
     match fit {
         None => Ok(Step::Nothing),
         Some(env) => {
-            match premises(
-                alloc, rules, rule, number, 0, pairs, store, env, 0, levels, frames,
-            )? {
-                Step::Done { head, outputs } => {
-                    hand_on(alloc, rules, pairs, store, head, outputs, frames)
-                }
+            let from = Waiting {
+                rule: number,
+                premise: 0,
+                env,
+                kids: 0,
+                levels: task.levels,
+                before: task.frames,
+            };
+            match premises(given, rule, from, store)? {
+                Step::Done { head, outputs } => hand_on(given, store, head, outputs, task.frames),
                 other => Ok(other),
             }
         }
@@ -76,43 +77,34 @@ pub(crate) fn try_rule(
 
 /// What comes of a hypothesis against a goal.
 pub(crate) fn try_given(
-    alloc: Global,
-    rules: &RuleSet,
-    pairs: &[Pair],
+    given: &Given,
     store: &mut Store,
     fact: &Fact,
     number: u32,
-    form: u32,
-    terms: &[usize],
-    frames: usize,
+    task: &Task,
 ) -> Result<Step, NoMemory>
-    requires shallow { RulesAreShallow (rules_of rules.now) }
-    requires store { IsStore (modes_of rules.now) (rules_of rules.now) store.old }
-    requires pairs { ArePairs (length (store_trees store.old)) pairs.now }
-    requires frames { frames ≤ length store.old.frames.items }
-    requires terms { AreBelow (length (store_trees store.old)) terms.now }
+    requires shallow { RulesAreShallow (rules_of given.now.rules.now) }
+    requires store { IsStore (modes_of given.now.rules.now) (rules_of given.now.rules.now) store.old }
+    requires pairs { ArePairs (length (store_trees store.old)) given.now.pairs.now }
+    requires frames { task.now.frames ≤ length store.old.frames.items }
+    requires terms { AreBelow (length (store_trees store.old)) task.now.terms.items }
     requires fact { (j : Judgement)
-        × IsFact (modes_of rules.now) (store_trees store.old) j fact.now }
+        × IsFact (modes_of given.now.rules.now) (store_trees store.old) j fact.now }
     ensures { IfOk result (λ step. (j : Judgement) →
-        IsFact (modes_of rules.now) (store_trees store.old) j fact.now →
-        IsTried (modes_of rules.now) (rules_of rules.now) pairs.now store.old store.new
-        (λ hyps. given_result (modes_of rules.now) hyps number j (goal_in store.old form terms.now)
-        (frames_in (modes_of rules.now) (rules_of rules.now) store.old frames)) step) }
+        IsFact (modes_of given.now.rules.now) (store_trees store.old) j fact.now →
+        IsTried (modes_of given.now.rules.now) (rules_of given.now.rules.now) given.now.pairs.now
+        store.old store.new
+        (λ hyps. given_result (modes_of given.now.rules.now) hyps number j (goal_in store.old
+        task.now.form task.now.terms.items)
+        (frames_in (modes_of given.now.rules.now) (rules_of given.now.rules.now) store.old
+        task.now.frames)) step) }
 {
-    if fact.form != form {
+    if fact.form != task.form {
         return Ok(Step::Nothing);
     }
-    if !same_numbers(&fact.inputs, terms) {
+    if !same_numbers(&fact.inputs, &task.terms) {
         return Ok(Step::Nothing);
     }
-    let outputs = copied(alloc, &fact.outputs)?;
-    hand_on(
-        alloc,
-        rules,
-        pairs,
-        store,
-        Head::Given(number),
-        outputs,
-        frames,
-    )
+    let outputs = copied(given.alloc, &fact.outputs)?;
+    hand_on(given, store, Head::Given(number), outputs, task.frames)
 }

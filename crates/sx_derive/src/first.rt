@@ -12,6 +12,7 @@ ghost use Rattle.sx_arena.specs.Views.{rules_of, modes_of};
 
 use crate::bounds::Bounds;
 use crate::given::Given;
+use crate::numbered_goal::NumberedGoal;
 use crate::store::Store;
 use crate::tasks::Ending;
 use crate::walk::{first_task, walk_uncounted};
@@ -48,7 +49,12 @@ pub(crate) fn first_answer(
         terms.items) r) }
 {
     let mark = store.mark();
-    let tasks = first_task(given.alloc, form, terms, bounds.levels, mark)?;
+    let goal = NumberedGoal {
+        form,
+        terms,
+        levels: bounds.levels,
+    };
+    let tasks = first_task(given.alloc, goal, mark)?;
     let wanted: Option<Vec<usize>> = None;
     let ending = walk_uncounted(given, store, &wanted, tasks, bounds.budget)?;
     match ending {

@@ -1,4 +1,4 @@
-//! What the search for a stuck goal is given.
+//! What a search is given.
 
 use std::alloc::Global;
 use sx_arena::{Fact, Pair};

@@ -10,35 +10,35 @@ ghost use Rattle.sx_derive.specs.Store.{IsStore, store_trees, store_envs, store_
 ghost use Rattle.sx_arena.specs.Views.{rules_of, modes_of};
 
 use crate::chains::{Head, Waiting, push_kid};
+use crate::given::Given;
 use crate::premise_loop::premises;
 use crate::step::Step;
 use crate::store::Store;
-use std::alloc::Global;
-use sx_arena::{Pair, fit_places, roles, rule_at};
-use sx_rules::{Premise, RuleSet};
+use sx_arena::{fit_places, roles, rule_at};
+use sx_rules::Premise;
 use sx_term::NoMemory;
 
 /// What comes of an answer at the frame that waits for it.
 fn resume(
-    alloc: Global,
-    rules: &RuleSet,
-    pairs: &[Pair],
+    given: &Given,
     store: &mut Store,
     frame: Waiting,
     head: Head,
     outputs: &[usize],
 ) -> Result<Step, NoMemory>
-    requires shallow { RulesAreShallow (rules_of rules.now) }
-    requires store { IsStore (modes_of rules.now) (rules_of rules.now) store.old }
-    requires pairs { ArePairs (length (store_trees store.old)) pairs.now }
-    requires frame { IsWaiting (modes_of rules.now) (rules_of rules.now) store.old frame }
+    requires shallow { RulesAreShallow (rules_of given.now.rules.now) }
+    requires store { IsStore (modes_of given.now.rules.now) (rules_of given.now.rules.now) store.old }
+    requires pairs { ArePairs (length (store_trees store.old)) given.now.pairs.now }
+    requires frame { IsWaiting (modes_of given.now.rules.now) (rules_of given.now.rules.now)
+        store.old frame }
     requires head { HeadFits (length (store_envs store.old)) (length (store_kids store.old)) head }
     requires outputs { AreBelow (length (store_trees store.old)) outputs.now }
     ensures { IfOk result
-        (λ step. IsResumed (modes_of rules.now) (rules_of rules.now) pairs.now store.old store.new
+        (λ step. IsResumed (modes_of given.now.rules.now) (rules_of given.now.rules.now)
+        given.now.pairs.now store.old store.new
         frame head outputs.now step) }
 {
-    let rule = rule_at(rules, frame.rule);
+    let rule = rule_at(given.rules, frame.rule);
     match &rule.premises[frame.premise] {
         Premise::Apart(_, _) => unreachable!(),
         Premise::Holds(judgement) => {
@@ -46,7 +46,7 @@ fn resume(
                 &store.arena,
                 &mut store.binds,
                 frame.env,
-                roles(rules, judgement.form),
+                roles(given.rules, judgement.form),
                 true,
                 &judgement.places,
                 outputs,
@@ -55,19 +55,15 @@ fn resume(
                 None => Ok(Step::Nothing),
                 Some(env) => {
                     let kids = push_kid(&mut store.kids, frame.kids, head)?;
-                    premises(
-                        alloc,
-                        rules,
-                        rule,
-                        frame.rule,
-                        frame.premise + 1,
-                        pairs,
-                        store,
+                    let from = Waiting {
+                        rule: frame.rule,
+                        premise: frame.premise + 1,
                         env,
                         kids,
-                        frame.levels,
-                        frame.before,
-                    )
+                        levels: frame.levels,
+                        before: frame.before,
+                    };
+                    premises(given, rule, from, store)
                 }
             }
         }
@@ -76,22 +72,21 @@ fn resume(
 
 /// What comes of an answer that is handed to the frames of a chain.
 pub(crate) fn hand_on(
-    alloc: Global,
-    rules: &RuleSet,
-    pairs: &[Pair],
+    given: &Given,
     store: &mut Store,
     head: Head,
     outputs: Vec<usize>,
     frames: usize,
 ) -> Result<Step, NoMemory>
-    requires shallow { RulesAreShallow (rules_of rules.now) }
-    requires store { IsStore (modes_of rules.now) (rules_of rules.now) store.old }
-    requires pairs { ArePairs (length (store_trees store.old)) pairs.now }
+    requires shallow { RulesAreShallow (rules_of given.now.rules.now) }
+    requires store { IsStore (modes_of given.now.rules.now) (rules_of given.now.rules.now) store.old }
+    requires pairs { ArePairs (length (store_trees store.old)) given.now.pairs.now }
     requires frames { frames ≤ length store.old.frames.items }
     requires head { HeadFits (length (store_envs store.old)) (length (store_kids store.old)) head }
     requires outputs { AreBelow (length (store_trees store.old)) outputs.items }
     ensures { IfOk result
-        (λ step. IsHanded (modes_of rules.now) (rules_of rules.now) pairs.now store.old store.new
+        (λ step. IsHanded (modes_of given.now.rules.now) (rules_of given.now.rules.now)
+        given.now.pairs.now store.old store.new
         frames head outputs.items step) }
 {
     let mut head = head;
@@ -99,7 +94,7 @@ pub(crate) fn hand_on(
     let mut waiting = frames;
     while waiting > 0 {
         let frame = store.frames[waiting - 1];
-        match resume(alloc, rules, pairs, store, frame, head, &outputs)? {
+        match resume(given, store, frame, head, &outputs)? {
             Step::Done {
                 head: next,
                 outputs: made,

@@ -8,48 +8,43 @@ ghost use Rattle.sx_derive.specs.Store.{IsStore, store_trees};
 ghost use Rattle.sx_derive.specs.Premises.{IsPremises};
 
 use crate::chains::Waiting;
+use crate::given::Given;
 use crate::step::{Step, asked, concluded};
 use crate::store::Store;
-use std::alloc::Global;
-use sx_arena::{Pair, instances_apart};
-use sx_rules::{Premise, Rule, RuleSet};
+use sx_arena::instances_apart;
+use sx_rules::{Premise, Rule};
 use sx_term::NoMemory;
 
-/// What comes of the premises from a number on.
-pub fn premises(
-    alloc: Global,
-    rules: &RuleSet,
+/// What comes of the rule's premises from the first on that it waits for.
+pub(crate) fn premises(
+    given: &Given,
     rule: &Rule,
-    number: u32,
-    from: usize,
-    pairs: &[Pair],
+    from: Waiting,
     store: &mut Store,
-    env: usize,
-    kids: usize,
-    levels: usize,
-    frames: usize,
 ) -> Result<Step, NoMemory>
-    requires found { slice_get (rules_of rules.now) number ≡ Some (rule_of rule.now) }
+    requires found { slice_get (rules_of given.now.rules.now) from.rule
+        ≡ Some (rule_of rule.now) }
     requires shallow { RuleIsShallow (rule_of rule.now) }
-    requires store { IsStore (modes_of rules.now) (rules_of rules.now) store.old }
-    requires pairs { ArePairs (length (store_trees store.old)) pairs.now }
-    requires env { env ≤ length store.old.binds.cells.items }
-    requires kids { kids ≤ length store.old.kids.items }
-    requires frames { frames ≤ length store.old.frames.items }
+    requires store { IsStore (modes_of given.now.rules.now) (rules_of given.now.rules.now)
+        store.old }
+    requires pairs { ArePairs (length (store_trees store.old)) given.now.pairs.now }
+    requires env { from.env ≤ length store.old.binds.cells.items }
+    requires kids { from.kids ≤ length store.old.kids.items }
+    requires frames { from.before ≤ length store.old.frames.items }
     ensures { IfOk result
-        (λ step. IsPremises (modes_of rules.now) (rules_of rules.now) pairs.now store.old store.new
-        number (rule_of rule.now) levels env kids frames
-        (drop from (map premise_of rule.now.premises.items)) step) }
+        (λ step. IsPremises (modes_of given.now.rules.now) (rules_of given.now.rules.now)
+        given.now.pairs.now store.old store.new from.rule (rule_of rule.now) from.levels from.env
+        from.kids from.before (drop from.premise (map premise_of rule.now.premises.items)) step) }
 {
-    for k in from..rule.premises.len() {
+    for k in from.premise..rule.premises.len() {
         match &rule.premises[k] {
             Premise::Apart(first, second) => {
                 if !instances_apart(
-                    alloc,
+                    given.alloc,
                     &mut store.arena,
                     &store.binds,
-                    env,
-                    pairs,
+                    from.env,
+                    given.pairs,
                     first,
                     second,
                 )? {
@@ -57,22 +52,17 @@ pub fn premises(
                 }
             }
             Premise::Holds(judgement) => {
-                return asked(
-                    alloc,
-                    rules,
-                    judgement,
-                    store,
-                    Waiting {
-                        rule: number,
-                        premise: k,
-                        env,
-                        kids,
-                        levels,
-                        before: frames,
-                    },
-                );
+                let waiting = Waiting {
+                    rule: from.rule,
+                    premise: k,
+                    env: from.env,
+                    kids: from.kids,
+                    levels: from.levels,
+                    before: from.before,
+                };
+                return asked(given, judgement, store, waiting);
             }
         }
     }
-    concluded(alloc, rules, rule, number, store, env, kids)
+    concluded(given, rule, from, store)
 }

@@ -11,6 +11,8 @@ ghost use Rattle.sx_derive.specs.Problems.{IsProblem, IsSearched};
 ghost use Rattle.sx_arena.specs.Views.{rules_of, modes_of};
 
 use crate::entered::{Entered, enter_parts};
+use crate::given::Given;
+use crate::numbered_goal::{LEVELS_BELOW, NumberedGoal};
 use crate::store::Store;
 use crate::tasks::Ending;
 use crate::walk::walk;
@@ -108,9 +110,18 @@ pub(crate) fn search<L: Ledger>(
         wanted,
     } = problem;
     let mut store = store;
-    match walk(
-        alloc, rules, &facts, &pairs, &mut store, &wanted, goal.form, terms, 2999, budget, steps,
-    ) {
+    let known = Given {
+        alloc,
+        rules,
+        facts: &facts,
+        pairs: &pairs,
+    };
+    let goal = NumberedGoal {
+        form: goal.form,
+        terms,
+        levels: LEVELS_BELOW,
+    };
+    match walk(&known, &mut store, &wanted, goal, budget, steps) {
         Ok(ending) => {
             drop(wanted);
             drop(pairs);

@@ -25,13 +25,11 @@ ghost use Rattle.sx_derive.specs.Tasks.{events_left, TasksFit};
 ghost use Rattle.sx_derive.specs.declared.store.Store.{Store as StoreOf};
 ghost use Rattle.sx_derive.specs.declared.tasks.Task.{Task as TaskOf};
 
+use crate::given::Given;
 use crate::store::Store;
 use crate::tasks::{Ending, Task, is_candidate};
 use crate::turns::turn;
-use std::alloc::Global;
 use std::sync::ledger::Ledger;
-use sx_arena::{Fact, Pair};
-use sx_rules::RuleSet;
 use sx_term::{NoMemory, Steps};
 
 /// What a search comes to, and how many tries lead there.
@@ -42,18 +40,19 @@ pub(crate) struct Reached {
 }
 
 /// Whether a task has a candidate left; the tasks after the last such are dropped.
-fn settle(rules: &RuleSet, facts: &[Fact], tasks: &mut Vec<Task>) -> bool
+fn settle(given: &Given, tasks: &mut Vec<Task>) -> bool
     ensures settled { (pairs : List PairOf) (js : List Judgement) (s : StoreOf) →
-        length js ≡ length facts.now →
-        IsSettled (modes_of rules.now) (rules_of rules.now) pairs js s
-        (length facts.now + length (rules_of rules.now)) tasks.old.items tasks.new.items }
+        length js ≡ length given.now.facts.now →
+        IsSettled (modes_of given.now.rules.now) (rules_of given.now.rules.now) pairs js s
+        (length given.now.facts.now + length (rules_of given.now.rules.now)) tasks.old.items
+        tasks.new.items }
     ensures last { MatchBool result
         ((front : List TaskOf) × (t : TaskOf) × (tasks.new.items ≡ front ++ t ∷ [])
-        × (t.next < length facts.now + length (rules_of rules.now)))
+        × (t.next < length given.now.facts.now + length (rules_of given.now.rules.now)))
         (tasks.new.items ≡ []) }
 {
     while tasks.len() > 0 {
-        if is_candidate(rules, facts, tasks[tasks.len() - 1].next) {
+        if is_candidate(given, tasks[tasks.len() - 1].next) {
             return true;
         }
         tasks.pop();
@@ -64,32 +63,33 @@ fn settle(rules: &RuleSet, facts: &[Fact], tasks: &mut Vec<Task>) -> bool
 /// The next answer or stop of the tasks, or where the tries or the events end before it. Each try
 /// is counted.
 pub(crate) fn reach<L: Ledger>(
-    alloc: Global,
-    rules: &RuleSet,
-    facts: &[Fact],
-    pairs: &[Pair],
+    given: &Given,
     store: &mut Store,
     tasks: &mut Vec<Task>,
     budget: u64,
     steps: &mut Steps<L>,
 ) -> Result<Reached, NoMemory>
-    requires few { length facts.now < 2 ^ 32 }
+    requires few { length given.now.facts.now < 2 ^ 32 }
     requires facts { (js : List Judgement)
-        × AreFacts (modes_of rules.now) (store_trees store.old) js facts.now }
-    requires store { IsStore (modes_of rules.now) (rules_of rules.now) store.old }
-    requires pairs { ArePairs (length (store_trees store.old)) pairs.now }
-    requires tasks { TasksFit (modes_of rules.now) (rules_of rules.now) store.old
-        (length facts.now + length (rules_of rules.now)) tasks.old.items }
+        × AreFacts (modes_of given.now.rules.now) (store_trees store.old) js given.now.facts.now }
+    requires store { IsStore (modes_of given.now.rules.now) (rules_of given.now.rules.now) store.old }
+    requires pairs { ArePairs (length (store_trees store.old)) given.now.pairs.now }
+    requires tasks { TasksFit (modes_of given.now.rules.now) (rules_of given.now.rules.now)
+        store.old
+        (length given.now.facts.now + length (rules_of given.now.rules.now)) tasks.old.items }
     ensures { (js : List Judgement) →
-        AreFacts (modes_of rules.now) (store_trees store.old) js facts.now →
-        IsReached (modes_of rules.now) (rules_of rules.now) pairs.now js
-        (length facts.now + length (rules_of rules.now)) store.old store.new tasks.new.items budget
+        AreFacts (modes_of given.now.rules.now) (store_trees store.old) js given.now.facts.now →
+        IsReached (modes_of given.now.rules.now) (rules_of given.now.rules.now) given.now.pairs.now
+        js
+        (length given.now.facts.now + length (rules_of given.now.rules.now)) store.old store.new
+        tasks.new.items budget
         steps.old steps.new
-        (events_left (modes_of rules.now) (rules_of rules.now) pairs.now js store.old
+        (events_left (modes_of given.now.rules.now) (rules_of given.now.rules.now)
+        given.now.pairs.now js store.old
         tasks.old.items) result }
 {
     let mut tries: u64 = 0;
-    while settle(rules, facts, tasks) {
+    while settle(given, tasks) {
         if tries == budget {
             return Ok(Reached {
                 ending: Ending::Spent,
@@ -101,7 +101,7 @@ pub(crate) fn reach<L: Ledger>(
             Some(task) => {
                 tries += 1;
                 steps.tick();
-                match turn(alloc, rules, facts, pairs, store, &None, task, tasks) {
+                match turn(given, store, &None, task, tasks) {
                     Err(e) => return Err(e),
                     Ok(None) => {}
                     Ok(Some(ending)) => return Ok(Reached { ending, tries }),

@@ -13,6 +13,8 @@ ghost use Rattle.sx_rules.specs.Views.{goal as goal_of, hypotheses};
 
 use crate::derived::export_answer;
 use crate::found::Found;
+use crate::given::Given;
+use crate::numbered_goal::{LEVELS_BELOW, NumberedGoal};
 use crate::problem::{Problem, enter_problem};
 use crate::reach::{Reached, reach};
 use crate::search_error::SearchError;
@@ -67,7 +69,15 @@ impl Search {
     {
         let problem = enter_problem(alloc, rules, given, &goal, None)?;
         let mark = problem.store.mark();
-        let tasks = first_task(alloc, goal.form, problem.terms, 2999, mark)?;
+        let tasks = first_task(
+            alloc,
+            NumberedGoal {
+                form: goal.form,
+                terms: problem.terms,
+                levels: LEVELS_BELOW,
+            },
+            mark,
+        )?;
         Ok(Search {
             store: problem.store,
             facts: problem.facts,
@@ -127,16 +137,13 @@ impl Search {
             steps.old steps.new es self.new result }
     {
         let alloc = *self.tasks.allocator();
-        let reached = reach(
+        let known = Given {
             alloc,
             rules,
-            &self.facts,
-            &self.pairs,
-            &mut self.store,
-            &mut self.tasks,
-            budget,
-            steps,
-        );
+            facts: &self.facts,
+            pairs: &self.pairs,
+        };
+        let reached = reach(&known, &mut self.store, &mut self.tasks, budget, steps);
         let Reached { ending, tries } = match reached {
             Ok(reached) => reached,
             Err(_) => return Err(self.fail()),

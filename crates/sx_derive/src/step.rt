@@ -13,10 +13,10 @@ ghost use Rattle.sx_derive.specs.Store.{IsStore, store_envs, store_kids};
 ghost use Rattle.sx_derive.specs.Step.{IsConcluded, IsAsked, Awaits};
 
 use crate::chains::{Head, Waiting, push_waiting};
+use crate::given::Given;
 use crate::store::Store;
-use std::alloc::Global;
 use sx_arena::{Limit, make_places, passed, roles};
-use sx_rules::{Judgement, Rule, RuleSet};
+use sx_rules::{Judgement, Rule};
 use sx_term::NoMemory;
 
 /// What comes of a candidate: nothing, a limit, an answer for the frames that wait, or a new goal
@@ -39,30 +39,28 @@ pub enum Step {
 }
 
 /// The answer of a rule whose premises are done.
-pub fn concluded(
-    alloc: Global,
-    rules: &RuleSet,
+pub(crate) fn concluded(
+    given: &Given,
     rule: &Rule,
-    number: u32,
+    from: Waiting,
     store: &mut Store,
-    env: usize,
-    kids: usize,
 ) -> Result<Step, NoMemory>
     requires shallow { AreShallow (map tree rule.now.conclusion.places.items) }
-    requires store { IsStore (modes_of rules.now) (rules_of rules.now) store.old }
-    requires env { env ≤ length store.old.binds.cells.items }
-    requires kids { kids ≤ length store.old.kids.items }
+    requires store { IsStore (modes_of given.now.rules.now) (rules_of given.now.rules.now) store.old }
+    requires env { from.env ≤ length store.old.binds.cells.items }
+    requires kids { from.kids ≤ length store.old.kids.items }
     ensures { IfOk result
-        (λ step. IsConcluded (modes_of rules.now) (rules_of rules.now) store.old store.new number
-        (rule_of rule.now) (filled (env_at (store_envs store.old) env))
-        (kids_at (store_kids store.old) kids) step) }
+        (λ step. IsConcluded (modes_of given.now.rules.now) (rules_of given.now.rules.now) store.old
+        store.new from.rule
+        (rule_of rule.now) (filled (env_at (store_envs store.old) from.env))
+        (kids_at (store_kids store.old) from.kids) step) }
 {
     let outputs = make_places(
-        alloc,
+        given.alloc,
         &mut store.arena,
         &store.binds,
-        env,
-        roles(rules, rule.conclusion.form),
+        from.env,
+        roles(given.rules, rule.conclusion.form),
         true,
         &rule.conclusion.places,
     )?;
@@ -70,10 +68,10 @@ pub fn concluded(
         Some(limit) => Ok(Step::Passed(limit)),
         None => Ok(Step::Done {
             head: Head::By {
-                number,
+                number: from.rule,
                 variables: rule.vars.len(),
-                env,
-                kids,
+                env: from.env,
+                kids: from.kids,
             },
             outputs,
         }),
@@ -81,29 +79,29 @@ pub fn concluded(
 }
 
 /// The goal of a judgement premise, whose rule waits for it.
-pub fn asked(
-    alloc: Global,
-    rules: &RuleSet,
+pub(crate) fn asked(
+    given: &Given,
     judgement: &Judgement,
     store: &mut Store,
     waiting: Waiting,
 ) -> Result<Step, NoMemory>
     requires shallow { AreShallow (map tree judgement.now.places.items) }
-    requires store { IsStore (modes_of rules.now) (rules_of rules.now) store.old }
-    requires waits { Awaits (rules_of rules.now) (judgement_of judgement.now) waiting }
+    requires store { IsStore (modes_of given.now.rules.now) (rules_of given.now.rules.now) store.old }
+    requires waits { Awaits (rules_of given.now.rules.now) (judgement_of judgement.now) waiting }
     requires env { waiting.env ≤ length store.old.binds.cells.items }
     requires kids { waiting.kids ≤ length store.old.kids.items }
     requires before { waiting.before ≤ length store.old.frames.items }
     ensures { IfOk result
-        (λ step. IsAsked (modes_of rules.now) (rules_of rules.now) store.old store.new
+        (λ step. IsAsked (modes_of given.now.rules.now) (rules_of given.now.rules.now) store.old
+        store.new
         (judgement_of judgement.now) waiting step) }
 {
     let terms = make_places(
-        alloc,
+        given.alloc,
         &mut store.arena,
         &store.binds,
         waiting.env,
-        roles(rules, judgement.form),
+        roles(given.rules, judgement.form),
         false,
         &judgement.places,
     )?;

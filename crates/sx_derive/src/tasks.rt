@@ -25,11 +25,10 @@ ghost use Rattle.sx_arena.specs.Views.{rules_of, modes_of};
 
 use crate::candidates::{try_given, try_rule};
 use crate::chains::Head;
+use crate::given::Given;
 use crate::step::Step;
 use crate::store::{Mark, Store};
-use std::alloc::Global;
-use sx_arena::{Fact, Limit, Pair};
-use sx_rules::RuleSet;
+use sx_arena::Limit;
 use sx_term::NoMemory;
 
 /// The candidates of a goal that are still to be tried: first the hypotheses and then the rules,
@@ -55,65 +54,47 @@ pub enum Ending {
 }
 
 /// Whether there is a candidate with this number.
-pub(crate) fn is_candidate(rules: &RuleSet, facts: &[Fact], next: usize) -> bool
-    ensures { IsTrue result ↔ (next < length facts.now + length (rules_of rules.now)) }
+pub(crate) fn is_candidate(given: &Given, next: usize) -> bool
+    ensures { IsTrue result ↔ (next < length given.now.facts.now + length (rules_of
+        given.now.rules.now)) }
 {
-    rules.facts();
-    if next < facts.len() {
+    given.rules.facts();
+    if next < given.facts.len() {
         return true;
     }
-    match u32::try_from(next - facts.len()) {
-        Ok(number) => rules.rule(number).is_some(),
+    match u32::try_from(next - given.facts.len()) {
+        Ok(number) => given.rules.rule(number).is_some(),
         Err(_) => false,
     }
 }
 
 /// What comes of the next candidate of a task.
-pub(crate) fn try_next(
-    alloc: Global,
-    rules: &RuleSet,
-    facts: &[Fact],
-    pairs: &[Pair],
-    store: &mut Store,
-    task: &Task,
-) -> Result<Step, NoMemory>
-    requires few { length facts.now < 2 ^ 32 }
+pub(crate) fn try_next(given: &Given, store: &mut Store, task: &Task) -> Result<Step, NoMemory>
+    requires few { length given.now.facts.now < 2 ^ 32 }
     requires facts { (js : List Judgement)
-        × AreFacts (modes_of rules.now) (store_trees store.old) js facts.now }
-    requires store { IsStore (modes_of rules.now) (rules_of rules.now) store.old }
-    requires pairs { ArePairs (length (store_trees store.old)) pairs.now }
-    requires task { TaskFits (modes_of rules.now) (rules_of rules.now) store.old
-        (length facts.now + length (rules_of rules.now)) task.now }
-    requires next { task.now.next < length facts.now + length (rules_of rules.now) }
+        × AreFacts (modes_of given.now.rules.now) (store_trees store.old) js given.now.facts.now }
+    requires store { IsStore (modes_of given.now.rules.now) (rules_of given.now.rules.now) store.old }
+    requires pairs { ArePairs (length (store_trees store.old)) given.now.pairs.now }
+    requires task { TaskFits (modes_of given.now.rules.now) (rules_of given.now.rules.now) store.old
+        (length given.now.facts.now + length (rules_of given.now.rules.now)) task.now }
+    requires next { task.now.next < length given.now.facts.now + length (rules_of
+        given.now.rules.now) }
     ensures { IfOk result (λ step. (js : List Judgement) →
-        AreFacts (modes_of rules.now) (store_trees store.old) js facts.now →
-        IsNext (modes_of rules.now) (rules_of rules.now) pairs.now js store.old store.new task.now
+        AreFacts (modes_of given.now.rules.now) (store_trees store.old) js given.now.facts.now →
+        IsNext (modes_of given.now.rules.now) (rules_of given.now.rules.now) given.now.pairs.now js
+        store.old store.new task.now
         step) }
 {
-    rules.facts();
-    if task.next < facts.len() {
+    given.rules.facts();
+    if task.next < given.facts.len() {
         return try_given(
-            alloc,
-            rules,
-            pairs,
+            given,
             store,
-            &facts[task.next],
+            &given.facts[task.next],
             task.next as u32,
-            task.form,
-            &task.terms,
-            task.frames,
+            task,
         );
     }
-    let number = (task.next - facts.len()) as u32;
-    try_rule(
-        alloc,
-        rules,
-        pairs,
-        store,
-        number,
-        task.form,
-        &task.terms,
-        task.levels,
-        task.frames,
-    )
+    let number = (task.next - given.facts.len()) as u32;
+    try_rule(given, store, number, task)
 }

@@ -25,12 +25,11 @@ ghost use Rattle.sx_arena.specs.Views.{rules_of, modes_of};
 ghost use Rattle.sx_arena.specs.declared.pairs.Pair.{Pair as PairOf};
 ghost use Rattle.sx_derive.specs.declared.store.Store.{Store as StoreOf};
 
+use crate::given::Given;
 use crate::step::Step;
 use crate::store::Store;
 use crate::tasks::{Ending, Task, is_candidate, try_next};
-use std::alloc::Global;
-use sx_arena::{Fact, Pair, same_numbers};
-use sx_rules::RuleSet;
+use sx_arena::same_numbers;
 use sx_term::NoMemory;
 
 /// Whether the outputs are the wanted ones, where some are wanted.
@@ -45,14 +44,15 @@ fn is_wanted(wanted: &Option<Vec<usize>>, outputs: &[usize]) -> bool
 }
 
 /// The last task that has a candidate left.
-pub(crate) fn next_task(rules: &RuleSet, facts: &[Fact], tasks: &mut Vec<Task>) -> Option<Task>
+pub(crate) fn next_task(given: &Given, tasks: &mut Vec<Task>) -> Option<Task>
     ensures { (pairs : List PairOf) (js : List Judgement) (s : StoreOf) →
-        length js ≡ length facts.now →
-        IsPopped (modes_of rules.now) (rules_of rules.now) pairs js s
-        (length facts.now + length (rules_of rules.now)) tasks.old.items tasks.new.items result }
+        length js ≡ length given.now.facts.now →
+        IsPopped (modes_of given.now.rules.now) (rules_of given.now.rules.now) pairs js s
+        (length given.now.facts.now + length (rules_of given.now.rules.now)) tasks.old.items
+        tasks.new.items result }
 {
     while let Some(task) = tasks.pop() {
-        if is_candidate(rules, facts, task.next) {
+        if is_candidate(given, task.next) {
             return Some(task);
         }
     }
@@ -61,29 +61,24 @@ pub(crate) fn next_task(rules: &RuleSet, facts: &[Fact], tasks: &mut Vec<Task>) 
 
 /// What comes of the next candidate of a task. Where it is nothing, what was made for it is cut
 /// off.
-fn try_task(
-    alloc: Global,
-    rules: &RuleSet,
-    facts: &[Fact],
-    pairs: &[Pair],
-    store: &mut Store,
-    task: &Task,
-) -> Result<Step, NoMemory>
-    requires few { length facts.now < 2 ^ 32 }
+fn try_task(given: &Given, store: &mut Store, task: &Task) -> Result<Step, NoMemory>
+    requires few { length given.now.facts.now < 2 ^ 32 }
     requires facts { (js : List Judgement)
-        × AreFacts (modes_of rules.now) (store_trees store.old) js facts.now }
-    requires store { IsStore (modes_of rules.now) (rules_of rules.now) store.old }
-    requires pairs { ArePairs (length (store_trees store.old)) pairs.now }
-    requires task { TaskFits (modes_of rules.now) (rules_of rules.now) store.old
-        (length facts.now + length (rules_of rules.now)) task.now }
-    requires next { task.now.next < length facts.now + length (rules_of rules.now) }
+        × AreFacts (modes_of given.now.rules.now) (store_trees store.old) js given.now.facts.now }
+    requires store { IsStore (modes_of given.now.rules.now) (rules_of given.now.rules.now) store.old }
+    requires pairs { ArePairs (length (store_trees store.old)) given.now.pairs.now }
+    requires task { TaskFits (modes_of given.now.rules.now) (rules_of given.now.rules.now) store.old
+        (length given.now.facts.now + length (rules_of given.now.rules.now)) task.now }
+    requires next { task.now.next < length given.now.facts.now + length (rules_of
+        given.now.rules.now) }
     ensures { IfOk result (λ step. (js : List Judgement) →
-        AreFacts (modes_of rules.now) (store_trees store.old) js facts.now →
-        IsNext (modes_of rules.now) (rules_of rules.now) pairs.now js store.old store.new task.now
+        AreFacts (modes_of given.now.rules.now) (store_trees store.old) js given.now.facts.now →
+        IsNext (modes_of given.now.rules.now) (rules_of given.now.rules.now) given.now.pairs.now js
+        store.old store.new task.now
         step) }
 {
     let mark = store.mark();
-    match try_next(alloc, rules, facts, pairs, store, task)? {
+    match try_next(given, store, task)? {
         Step::Nothing => {
             store.cut(mark);
             Ok(Step::Nothing)
@@ -94,33 +89,33 @@ fn try_task(
 
 /// A try of the task, and how the walk ends where it ends with it.
 pub(crate) fn turn(
-    alloc: Global,
-    rules: &RuleSet,
-    facts: &[Fact],
-    pairs: &[Pair],
+    given: &Given,
     store: &mut Store,
     wanted: &Option<Vec<usize>>,
     task: Task,
     tasks: &mut Vec<Task>,
 ) -> Result<Option<Ending>, NoMemory>
-    requires few { length facts.now < 2 ^ 32 }
+    requires few { length given.now.facts.now < 2 ^ 32 }
     requires facts { (js : List Judgement)
-        × AreFacts (modes_of rules.now) (store_trees store.old) js facts.now }
-    requires store { IsStore (modes_of rules.now) (rules_of rules.now) store.old }
-    requires pairs { ArePairs (length (store_trees store.old)) pairs.now }
+        × AreFacts (modes_of given.now.rules.now) (store_trees store.old) js given.now.facts.now }
+    requires store { IsStore (modes_of given.now.rules.now) (rules_of given.now.rules.now) store.old }
+    requires pairs { ArePairs (length (store_trees store.old)) given.now.pairs.now }
     requires wanted { WantedBelow (length (store_trees store.old)) wanted.now }
-    requires task { TaskFits (modes_of rules.now) (rules_of rules.now) store.old
-        (length facts.now + length (rules_of rules.now)) task }
-    requires next { task.next < length facts.now + length (rules_of rules.now) }
-    requires tasks { TasksFit (modes_of rules.now) (rules_of rules.now) store.old
-        (length facts.now + length (rules_of rules.now)) tasks.old.items }
+    requires task { TaskFits (modes_of given.now.rules.now) (rules_of given.now.rules.now) store.old
+        (length given.now.facts.now + length (rules_of given.now.rules.now)) task }
+    requires next { task.next < length given.now.facts.now + length (rules_of given.now.rules.now) }
+    requires tasks { TasksFit (modes_of given.now.rules.now) (rules_of given.now.rules.now)
+        store.old
+        (length given.now.facts.now + length (rules_of given.now.rules.now)) tasks.old.items }
     ensures { IfOk result (λ o. (js : List Judgement) →
-        AreFacts (modes_of rules.now) (store_trees store.old) js facts.now →
-        IsTurn (modes_of rules.now) (rules_of rules.now) pairs.now js wanted.now
-        (length facts.now + length (rules_of rules.now)) store.old store.new task tasks.old.items
+        AreFacts (modes_of given.now.rules.now) (store_trees store.old) js given.now.facts.now →
+        IsTurn (modes_of given.now.rules.now) (rules_of given.now.rules.now) given.now.pairs.now js
+        wanted.now
+        (length given.now.facts.now + length (rules_of given.now.rules.now)) store.old store.new
+        task tasks.old.items
         tasks.new.items o) }
 {
-    let step = try_task(alloc, rules, facts, pairs, store, &task)?;
+    let step = try_task(given, store, &task)?;
     tasks.push(Task {
         next: task.next + 1,
         form: task.form,

@@ -174,13 +174,13 @@ module _ (modes : Modes) (rules : List Rule) (pairs : List Pair) (s : Reader) (j
       }
 
 -- the hypothesis of a fact
-pub fact_at : (modes : Modes) (ts : List Tree) (js : List Judgement) (fs : List Fact) → AreFacts modes ts js fs → (i : ℕ) (f : Fact) → i < length fs → f ≡ get_or fs i f →
-    (j : Judgement) × (slice_get js i ≡ Some j) × IsFact modes ts j f
-fact_at modes ts [] [] a i f l e = absurd (omega arith)
-fact_at modes ts [] (g ∷ fs) a i f l e = absurd a
-fact_at modes ts (j ∷ js) [] a i f l e = absurd a
-fact_at modes ts (j ∷ js) (g ∷ fs) a zero f l e = (j, refl, subst (λ (x : Fact). IsFact modes ts j x) (sym e) a.0)
-fact_at modes ts (j ∷ js) (g ∷ fs) a (suc i) f l e = fact_at modes ts js fs a.1 i f (omega arith) e
+pub fact_at : (modes : Modes) (ts : List Tree) (js : List Judgement) (fs : List Fact) → AreFacts modes ts js fs → (i : ℕ) (f : Fact) → i < length fs →
+    (j : Judgement) × (slice_get js i ≡ Some j) × IsFact modes ts j (get_or fs i f)
+fact_at modes ts [] [] a i f l = absurd (omega arith)
+fact_at modes ts [] (g ∷ fs) a i f l = absurd a
+fact_at modes ts (j ∷ js) [] a i f l = absurd a
+fact_at modes ts (j ∷ js) (g ∷ fs) a zero f l = (j, refl, a.0)
+fact_at modes ts (j ∷ js) (g ∷ fs) a (suc i) f l = fact_at modes ts js fs a.1 i f (omega arith)
 
 pub no_fact_at : (modes : Modes) (ts : List Tree) (js : List Judgement) (fs : List Fact) → AreFacts modes ts js fs → (i : ℕ) → length fs ≤ i → slice_get js i ≡ None
 no_fact_at modes ts [] [] a i l = refl
@@ -202,10 +202,10 @@ module _ (modes : Modes) (rules : List Rule) (pairs : List Pair) (old new : Read
   abbrev pub IsEntered : Reader → Step → Entry → Type 0
   IsEntered r step e = GoesOn rules old r × IsStep modes rules [] r ends step (entry_of_old e)
 
-  pub given_entered : (i : ℕ) (fact : Fact) (step : Step) → i < length facts → fact ≡ get_or facts i fact →
-      ((j : Judgement) → IsFact modes (reader_trees old) j fact → IsMoved modes rules pairs old new (λ hyps. given_move modes hyps j (goal_in old form terms) (stack modes rules old) old.noted) step) → IsEntered new step (of_given i)
-  given_entered i fact step l e h =
-      let f = fact_at modes (reader_trees old) js facts a i fact l e in
+  pub given_entered : (i : ℕ) (fact : Fact) (step : Step) → i < length facts →
+      ((j : Judgement) → IsFact modes (reader_trees old) j (get_or facts i fact) → IsMoved modes rules pairs old new (λ hyps. given_move modes hyps j (goal_in old form terms) (stack modes rules old) old.noted) step) → IsEntered new step (of_given i)
+  given_entered i fact step l h =
+      let f = fact_at modes (reader_trees old) js facts a i fact l in
       let m = h f.0 f.2 in
       (m.grows, subst (λ (o : Option Judgement). IsStep modes rules [] new ends step (given_named modes (hyps_in pairs old js) o (goal_in old form terms) (stack modes rules old) old.noted)) (sym f.1) (m.is js))
 

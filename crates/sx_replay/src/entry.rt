@@ -13,36 +13,35 @@ ghost use Rattle.sx_replay.specs.Machine.{rule_move, given_move, entry_move, end
 ghost use Rattle.sx_replay.specs.Reader.{IsReader, IsMoved, reader_trees, base_trees, stack};
 ghost use Rattle.sx_replay.specs.Reader.{goal_in, hyps_in, IsStep, GoesOn};
 
+use crate::given::Given;
 use crate::handing::hand_on;
 use crate::premise_loop::premises;
 use crate::reader::Reader;
 use crate::step::Step;
-use std::alloc::Global;
-use sx_arena::{Fact, Pair, copied, fit_places, roles, same_numbers};
-use sx_rules::{Entry, Rule, RuleSet};
+use sx_arena::{Fact, copied, fit_places, roles, same_numbers};
+use sx_rules::{Entry, Rule};
 use sx_term::NoMemory;
 
 /// What comes of a rule against a goal.
 fn try_rule(
-    alloc: Global,
-    rules: &RuleSet,
+    given: &Given,
     rule: &Rule,
     number: u32,
-    pairs: &[Pair],
     reader: &mut Reader,
     form: u32,
     terms: &[usize],
 ) -> Result<Step, NoMemory>
-    requires found { slice_get (rules_of rules.now) number ≡ Some (rule_of rule.now) }
-    requires shallow { RulesAreShallow (rules_of rules.now) }
-    requires reader { IsReader (rules_of rules.now) reader.old }
-    requires pairs { ArePairs (length (base_trees reader.old)) pairs.now }
+    requires found { slice_get (rules_of given.now.rules.now) number ≡ Some (rule_of rule.now) }
+    requires shallow { RulesAreShallow (rules_of given.now.rules.now) }
+    requires reader { IsReader (rules_of given.now.rules.now) reader.old }
+    requires pairs { ArePairs (length (base_trees reader.old)) given.now.pairs.now }
     requires terms { AreBelow (length (reader_trees reader.old)) terms.now }
-    ensures { IfOk result (λ step. IsMoved (modes_of rules.now)
-        (rules_of rules.now) pairs.now reader.old reader.new
-        (λ hyps. rule_move (modes_of rules.now) hyps (rule_of rule.now)
+    ensures { IfOk result (λ step. IsMoved (modes_of given.now.rules.now)
+        (rules_of given.now.rules.now) given.now.pairs.now reader.old reader.new
+        (λ hyps. rule_move (modes_of given.now.rules.now) hyps (rule_of rule.now)
         (goal_in reader.old form terms.now)
-        (stack (modes_of rules.now) (rules_of rules.now) reader.old) reader.old.noted) step) }
+        (stack (modes_of given.now.rules.now) (rules_of given.now.rules.now) reader.old)
+        reader.old.noted) step) }
 {
     if rule.conclusion.form != form {
         return Ok(Step::Clash);
@@ -51,15 +50,15 @@ fn try_rule(
         &reader.arena,
         &mut reader.binds,
         0,
-        roles(rules, rule.conclusion.form),
+        roles(given.rules, rule.conclusion.form),
         false,
         &rule.conclusion.places,
         terms,
     )?;
     match fit {
         None => Ok(Step::Clash),
-        Some(env) => match premises(alloc, rules, rule, number, 0, pairs, reader, env)? {
-            Step::Done(outputs) => hand_on(alloc, rules, pairs, reader, outputs),
+        Some(env) => match premises(given, rule, number, 0, reader, env)? {
+            Step::Done(outputs) => hand_on(given, reader, outputs),
             other => Ok(other),
         },
     }
@@ -67,25 +66,26 @@ fn try_rule(
 
 /// What comes of a hypothesis against a goal.
 fn try_given(
-    alloc: Global,
-    rules: &RuleSet,
+    given: &Given,
     fact: &Fact,
-    pairs: &[Pair],
     reader: &mut Reader,
     form: u32,
     terms: &[usize],
 ) -> Result<Step, NoMemory>
-    requires shallow { RulesAreShallow (rules_of rules.now) }
-    requires reader { IsReader (rules_of rules.now) reader.old }
-    requires pairs { ArePairs (length (base_trees reader.old)) pairs.now }
+    requires shallow { RulesAreShallow (rules_of given.now.rules.now) }
+    requires reader { IsReader (rules_of given.now.rules.now) reader.old }
+    requires pairs { ArePairs (length (base_trees reader.old)) given.now.pairs.now }
     requires terms { AreBelow (length (reader_trees reader.old)) terms.now }
-    requires fact { (j : Judgement) × IsFact (modes_of rules.now)
+    requires fact { (j : Judgement) × IsFact (modes_of given.now.rules.now)
         (reader_trees reader.old) j fact.now }
     ensures { IfOk result (λ step. (j : Judgement) →
-        IsFact (modes_of rules.now) (reader_trees reader.old) j fact.now →
-        IsMoved (modes_of rules.now) (rules_of rules.now) pairs.now reader.old reader.new
-        (λ hyps. given_move (modes_of rules.now) hyps j (goal_in reader.old form terms.now)
-        (stack (modes_of rules.now) (rules_of rules.now) reader.old) reader.old.noted) step) }
+        IsFact (modes_of given.now.rules.now) (reader_trees reader.old) j fact.now →
+        IsMoved (modes_of given.now.rules.now) (rules_of given.now.rules.now) given.now.pairs.now
+        reader.old reader.new
+        (λ hyps. given_move (modes_of given.now.rules.now) hyps j (goal_in reader.old form
+        terms.now)
+        (stack (modes_of given.now.rules.now) (rules_of given.now.rules.now) reader.old)
+        reader.old.noted) step) }
 {
     if fact.form != form {
         return Ok(Step::Clash);
@@ -93,45 +93,45 @@ fn try_given(
     if !same_numbers(&fact.inputs, terms) {
         return Ok(Step::Clash);
     }
-    let outputs = copied(alloc, &fact.outputs)?;
-    hand_on(alloc, rules, pairs, reader, outputs)
+    let outputs = copied(given.alloc, &fact.outputs)?;
+    hand_on(given, reader, outputs)
 }
 
 /// What comes of an entry at a goal.
-pub fn try_entry(
-    alloc: Global,
-    rules: &RuleSet,
-    facts: &[Fact],
-    pairs: &[Pair],
+pub(crate) fn try_entry(
+    given: &Given,
     reader: &mut Reader,
     entry: Entry,
     form: u32,
     terms: &[usize],
 ) -> Result<Step, NoMemory>
-    requires shallow { RulesAreShallow (rules_of rules.now) }
-    requires reader { IsReader (rules_of rules.now) reader.old }
-    requires pairs { ArePairs (length (base_trees reader.old)) pairs.now }
+    requires shallow { RulesAreShallow (rules_of given.now.rules.now) }
+    requires reader { IsReader (rules_of given.now.rules.now) reader.old }
+    requires pairs { ArePairs (length (base_trees reader.old)) given.now.pairs.now }
     requires terms { AreBelow (length (reader_trees reader.old)) terms.now }
     requires facts { (js : List Judgement) ×
-        AreFacts (modes_of rules.now) (base_trees reader.old) js facts.now }
+        AreFacts (modes_of given.now.rules.now) (base_trees reader.old) js given.now.facts.now }
     ensures { IfOk result (λ step. (js : List Judgement) →
-        AreFacts (modes_of rules.now) (base_trees reader.old) js facts.now →
-        GoesOn (rules_of rules.now) reader.old reader.new
-        × IsStep (modes_of rules.now) (rules_of rules.now) [] reader.new ends step
-        (entry_move (modes_of rules.now) (hyps_in pairs.now reader.old js) (rules_of rules.now)
+        AreFacts (modes_of given.now.rules.now) (base_trees reader.old) js given.now.facts.now →
+        GoesOn (rules_of given.now.rules.now) reader.old reader.new
+        × IsStep (modes_of given.now.rules.now) (rules_of given.now.rules.now) [] reader.new ends
+        step
+        (entry_move (modes_of given.now.rules.now) (hyps_in given.now.pairs.now reader.old js)
+        (rules_of given.now.rules.now)
         (entry_of entry) (goal_in reader.old form terms.now)
-        (stack (modes_of rules.now) (rules_of rules.now) reader.old) reader.old.noted)) }
+        (stack (modes_of given.now.rules.now) (rules_of given.now.rules.now) reader.old)
+        reader.old.noted)) }
 {
     match entry {
         Entry::Given(number) => {
             let index = number as usize;
-            if index >= facts.len() {
+            if index >= given.facts.len() {
                 return Ok(Step::Clash);
             }
-            try_given(alloc, rules, &facts[index], pairs, reader, form, terms)
+            try_given(given, &given.facts[index], reader, form, terms)
         }
-        Entry::Rule(number) => match rules.rule(number) {
-            Some(rule) => try_rule(alloc, rules, rule, number, pairs, reader, form, terms),
+        Entry::Rule(number) => match given.rules.rule(number) {
+            Some(rule) => try_rule(given, rule, number, reader, form, terms),
             None => Ok(Step::Clash),
         },
     }

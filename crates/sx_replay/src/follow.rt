@@ -14,13 +14,12 @@ ghost use Rattle.sx_replay.specs.Following.{IsChecked, IsFollowed};
 ghost use Rattle.sx_replay.specs.Reader.{IsReader, reader_trees, base_trees, goal_in, hyps_in};
 
 use crate::entry::try_entry;
+use crate::given::Given;
 use crate::noted::Noted;
 use crate::reader::Reader;
 use crate::replay_error::ReplayError;
 use crate::step::Step;
-use std::alloc::Global;
-use sx_arena::{Fact, Pair};
-use sx_rules::{Entry, RuleSet};
+use sx_rules::Entry;
 
 /// The entry at an index.
 #[tactic(auto, using(crate::proofs::Followed::get_any))]
@@ -52,30 +51,28 @@ fn checked(level: usize, noted: Noted, number: u32) -> Result<(), ReplayError>
 }
 
 /// The outputs of the derivation of the goal that has this list.
-pub fn follow(
-    alloc: Global,
-    rules: &RuleSet,
-    facts: &[Fact],
-    pairs: &[Pair],
+pub(crate) fn follow(
+    given: &Given,
     reader: &mut Reader,
     form: u32,
     terms: Vec<usize>,
     list: &[Entry],
 ) -> Result<Vec<usize>, ReplayError>
-    requires shallow { RulesAreShallow (rules_of rules.now) }
-    requires short { length list.now < 2 ^ 32 - 1 }
-    requires reader { IsReader (rules_of rules.now) reader.old }
+    requires shallow { RulesAreShallow (rules_of given.now.rules.now) }
+    requires short { length list.now < 2 ^ 32 }
+    requires reader { IsReader (rules_of given.now.rules.now) reader.old }
     requires none { reader.old.waiting.items ≡ [] }
     requires noted { reader.old.noted ≡ nothing_noted }
-    requires pairs { ArePairs (length (base_trees reader.old)) pairs.now }
+    requires pairs { ArePairs (length (base_trees reader.old)) given.now.pairs.now }
     requires terms { AreBelow (length (reader_trees reader.old)) terms.items }
     requires facts { (js : List Judgement) ×
-        AreFacts (modes_of rules.now) (base_trees reader.old) js facts.now }
+        AreFacts (modes_of given.now.rules.now) (base_trees reader.old) js given.now.facts.now }
     ensures arena { IfOk result (λ outs. IsArena reader.new.arena) }
     ensures within { IfOk result (λ outs. AreBelow (length (reader_trees reader.new)) outs.items) }
     ensures followed { (js : List Judgement) →
-        AreFacts (modes_of rules.now) (base_trees reader.old) js facts.now →
-        IsFollowed (modes_of rules.now) (rules_of rules.now) (hyps_in pairs.now reader.old js)
+        AreFacts (modes_of given.now.rules.now) (base_trees reader.old) js given.now.facts.now →
+        IsFollowed (modes_of given.now.rules.now) (rules_of given.now.rules.now) (hyps_in
+        given.now.pairs.now reader.old js)
         (goal_in reader.old form terms.items) (entries list.now) reader.new result }
 {
     let mut form = form;
@@ -84,7 +81,7 @@ pub fn follow(
         let entry = entry_at(list, i);
         let number = i as u32 + 1;
         let level = reader.waiting.len();
-        match try_entry(alloc, rules, facts, pairs, reader, entry, form, &terms)? {
+        match try_entry(given, reader, entry, form, &terms)? {
             Step::Clash => return Err(ReplayError::WrongAt(number)),
             Step::Done(outputs) => {
                 if let Err(error) = checked(level, reader.noted, number) {

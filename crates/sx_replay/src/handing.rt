@@ -9,32 +9,32 @@ ghost use Rattle.sx_replay.specs.Machine.{hand_on as handed};
 ghost use Rattle.sx_replay.specs.Reader.{IsReader, WaitsAt, IsResumed, IsMoved, reader_trees};
 ghost use Rattle.sx_replay.specs.Reader.{base_trees, stack};
 
+use crate::given::Given;
 use crate::premise_loop::premises;
 use crate::reader::{Reader, Waiting};
 use crate::step::Step;
-use std::alloc::Global;
-use sx_arena::{Pair, fit_places, keep, roles, rule_at};
-use sx_rules::{Premise, RuleSet};
+use sx_arena::{fit_places, keep, roles, rule_at};
+use sx_rules::Premise;
 use sx_term::NoMemory;
 
 /// What comes of outputs at the rule that waits for them.
 fn resume(
-    alloc: Global,
-    rules: &RuleSet,
-    pairs: &[Pair],
+    given: &Given,
     reader: &mut Reader,
     waiting: Waiting,
     outputs: &[usize],
 ) -> Result<Step, NoMemory>
-    requires shallow { RulesAreShallow (rules_of rules.now) }
-    requires reader { IsReader (rules_of rules.now) reader.old }
-    requires pairs { ArePairs (length (reader_trees reader.old)) pairs.now }
-    requires waits { WaitsAt (rules_of rules.now) (length reader.old.binds.cells.items) waiting }
+    requires shallow { RulesAreShallow (rules_of given.now.rules.now) }
+    requires reader { IsReader (rules_of given.now.rules.now) reader.old }
+    requires pairs { ArePairs (length (reader_trees reader.old)) given.now.pairs.now }
+    requires waits { WaitsAt (rules_of given.now.rules.now) (length reader.old.binds.cells.items)
+        waiting }
     requires outputs { AreBelow (length (reader_trees reader.old)) outputs.now }
-    ensures { IfOk result (λ step. IsResumed (modes_of rules.now)
-        (rules_of rules.now) pairs.now reader.old reader.new waiting outputs.now step) }
+    ensures { IfOk result (λ step. IsResumed (modes_of given.now.rules.now)
+        (rules_of given.now.rules.now) given.now.pairs.now reader.old reader.new waiting outputs.now
+        step) }
 {
-    let rule = rule_at(rules, waiting.rule);
+    let rule = rule_at(given.rules, waiting.rule);
     match &rule.premises[waiting.premise] {
         Premise::Apart(_, _) => unreachable!(),
         Premise::Holds(judgement) => {
@@ -42,23 +42,14 @@ fn resume(
                 &reader.arena,
                 &mut reader.binds,
                 waiting.env,
-                roles(rules, judgement.form),
+                roles(given.rules, judgement.form),
                 true,
                 &judgement.places,
                 outputs,
             )?;
             match fit {
                 None => Ok(Step::Clash),
-                Some(env) => premises(
-                    alloc,
-                    rules,
-                    rule,
-                    waiting.rule,
-                    waiting.premise + 1,
-                    pairs,
-                    reader,
-                    env,
-                ),
+                Some(env) => premises(given, rule, waiting.rule, waiting.premise + 1, reader, env),
             }
         }
     }
@@ -66,28 +57,26 @@ fn resume(
 
 /// What comes of outputs that are handed to the rules that wait, from the last one on. What was
 /// made since a rule began to wait is dropped when it goes on, but for the outputs.
-pub fn hand_on(
-    alloc: Global,
-    rules: &RuleSet,
-    pairs: &[Pair],
+pub(crate) fn hand_on(
+    given: &Given,
     reader: &mut Reader,
     outputs: Vec<usize>,
 ) -> Result<Step, NoMemory>
-    requires shallow { RulesAreShallow (rules_of rules.now) }
-    requires reader { IsReader (rules_of rules.now) reader.old }
-    requires pairs { ArePairs (length (base_trees reader.old)) pairs.now }
+    requires shallow { RulesAreShallow (rules_of given.now.rules.now) }
+    requires reader { IsReader (rules_of given.now.rules.now) reader.old }
+    requires pairs { ArePairs (length (base_trees reader.old)) given.now.pairs.now }
     requires outputs { AreBelow (length (reader_trees reader.old)) outputs.items }
-    ensures { IfOk result (λ step. IsMoved (modes_of rules.now)
-        (rules_of rules.now) pairs.now reader.old reader.new
-        (λ hyps. handed (modes_of rules.now) hyps
-        (stack (modes_of rules.now) (rules_of rules.now) reader.old)
+    ensures { IfOk result (λ step. IsMoved (modes_of given.now.rules.now)
+        (rules_of given.now.rules.now) given.now.pairs.now reader.old reader.new
+        (λ hyps. handed (modes_of given.now.rules.now) hyps
+        (stack (modes_of given.now.rules.now) (rules_of given.now.rules.now) reader.old)
         (map (tree_at (reader_trees reader.old)) outputs.items) reader.old.noted) step) }
 {
     let mut outputs = outputs;
     while let Some(waiting) = reader.waiting.pop() {
         reader.binds.cut(waiting.mark);
-        outputs = keep(alloc, &mut reader.arena, waiting.terms, outputs)?;
-        match resume(alloc, rules, pairs, reader, waiting, &outputs)? {
+        outputs = keep(given.alloc, &mut reader.arena, waiting.terms, outputs)?;
+        match resume(given, reader, waiting, &outputs)? {
             Step::Done(made) => outputs = made,
             other => return Ok(other),
         }

@@ -3,6 +3,7 @@
 
 mod entry;
 mod follow;
+mod given;
 mod handing;
 mod laws;
 mod noted;

@@ -6,42 +6,41 @@ ghost use Rattle.sx_arena.specs.Pairs.{ArePairs};
 ghost use Rattle.sx_arena.specs.Views.{rule_of, rules_of, modes_of, premise_of};
 ghost use Rattle.sx_replay.specs.Reader.{IsReader, IsPremises, reader_trees};
 
+use crate::given::Given;
 use crate::reader::{Reader, Waiting, make};
 use crate::step::Step;
-use std::alloc::Global;
-use sx_arena::{Pair, instances_apart};
-use sx_rules::{Premise, Rule, RuleSet};
+use sx_arena::instances_apart;
+use sx_rules::{Premise, Rule};
 use sx_term::NoMemory;
 
 /// What comes of the premises from a number on.
-pub fn premises(
-    alloc: Global,
-    rules: &RuleSet,
+pub(crate) fn premises(
+    given: &Given,
     rule: &Rule,
     number: u32,
     from: usize,
-    pairs: &[Pair],
     reader: &mut Reader,
     env: usize,
 ) -> Result<Step, NoMemory>
-    requires found { slice_get (rules_of rules.now) number ≡ Some (rule_of rule.now) }
+    requires found { slice_get (rules_of given.now.rules.now) number ≡ Some (rule_of rule.now) }
     requires shallow { RuleIsShallow (rule_of rule.now) }
-    requires reader { IsReader (rules_of rules.now) reader.old }
-    requires pairs { ArePairs (length (reader_trees reader.old)) pairs.now }
+    requires reader { IsReader (rules_of given.now.rules.now) reader.old }
+    requires pairs { ArePairs (length (reader_trees reader.old)) given.now.pairs.now }
     requires env { env ≤ length reader.old.binds.cells.items }
-    ensures { IfOk result (λ step. IsPremises (modes_of rules.now)
-        (rules_of rules.now) pairs.now reader.old reader.new (rule_of rule.now) env
+    ensures { IfOk result (λ step. IsPremises (modes_of given.now.rules.now)
+        (rules_of given.now.rules.now) given.now.pairs.now reader.old reader.new (rule_of rule.now)
+        env
         (drop from (map premise_of rule.now.premises.items)) step) }
 {
     for k in from..rule.premises.len() {
         match &rule.premises[k] {
             Premise::Apart(first, second) => {
                 if !instances_apart(
-                    alloc,
+                    given.alloc,
                     &mut reader.arena,
                     &reader.binds,
                     env,
-                    pairs,
+                    given.pairs,
                     first,
                     second,
                 )? {
@@ -49,7 +48,7 @@ pub fn premises(
                 }
             }
             Premise::Holds(judgement) => {
-                let terms = make(alloc, rules, judgement, false, reader, env)?;
+                let terms = make(given.alloc, given.rules, judgement, false, reader, env)?;
                 let mark = reader.mark();
                 let held = reader.arena.len();
                 reader.waiting.push(Waiting {
@@ -66,5 +65,12 @@ pub fn premises(
             }
         }
     }
-    Ok(Step::Done(make(alloc, rules, &rule.conclusion, true, reader, env)?))
+    Ok(Step::Done(make(
+        given.alloc,
+        given.rules,
+        &rule.conclusion,
+        true,
+        reader,
+        env,
+    )?))
 }

@@ -11,6 +11,7 @@ ghost use Rattle.sx_replay.specs.Problem.{IsProblem};
 ghost use Rattle.sx_replay.specs.Replay.{IsReplayed};
 
 use crate::follow::follow;
+use crate::given::Given;
 use crate::reader::Reader;
 use crate::replay_error::ReplayError;
 use std::alloc::Global;
@@ -76,7 +77,7 @@ fn enter_problem(
 
 /// The outputs of the derivation of the goal from the hypotheses whose entries in preorder are the
 /// list. The terms of the goal and of the hypotheses are at most 1,000 deep, and the list has fewer
-/// than 2^32 - 1 entries.
+/// than 2^32 entries.
 ///
 /// Entries are numbered from 1, and the first at which something is wrong is answered:
 /// - `WrongAt`: it fits no derivation that begins with the entries before it.
@@ -92,7 +93,7 @@ pub fn replay(
     goal: &Goal,
     list: &[Entry],
 ) -> Result<Vec<Term>, ReplayError>
-    requires short { length list.now < 2 ^ 32 - 1 }
+    requires short { length list.now < 2 ^ 32 }
     requires holds { ShallowJudgements (hypotheses given.now).judgements }
     requires apart { ArePairsShallow (hypotheses given.now).pairs }
     requires goal { AreShallow (goal_of goal.now).terms }
@@ -111,16 +112,13 @@ pub fn replay(
         terms,
     } = problem;
     let mut reader = reader;
-    match follow(
+    let known = Given {
         alloc,
         rules,
-        &facts,
-        &pairs,
-        &mut reader,
-        goal.form,
-        terms,
-        list,
-    ) {
+        facts: &facts,
+        pairs: &pairs,
+    };
+    match follow(&known, &mut reader, goal.form, terms, list) {
         Ok(outputs) => {
             let exported = export_all(alloc, &reader.arena, &outputs);
             drop(outputs);

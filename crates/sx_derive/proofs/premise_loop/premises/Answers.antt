@@ -20,7 +20,7 @@ instances_apart-requires-clause-second c =
 
 pub instances_apart-requires-clause-env : goal.instances_apart-requires-clause-env
 instances_apart-requires-clause-env c =
-    let v = stays (modes_of c.args.rules.now) (rules_of c.args.rules.now) c.args.store.now c.loop-k.store c.args.env c.args.kids c.args.frames c.loop-k.invariant.grows c.requires.env c.requires.kids c.requires.frames in
+    let v = stays (modes_of c.args.given.now.rules.now) (rules_of c.args.given.now.rules.now) c.args.store.now c.loop-k.store c.args.from.env c.args.from.kids c.args.from.before c.loop-k.invariant.grows c.requires.env c.requires.kids c.requires.frames in
     v.env_within
 
 pub instances_apart-requires-clause-pairs : goal.instances_apart-requires-clause-pairs
@@ -30,12 +30,12 @@ instances_apart-requires-clause-pairs c =
 pub returns-then-not-branch : goal.returns-then-not-branch
 returns-then-not-branch c =
     let l : c.loop-k.k < length c.args.rule.now.premises.items = (let a = c.loop-k-test.true in let b = c.len-k-end.ensures in let d = c.args.rule.now.premises.ok in omega arith) in
-    apart_fails _ _ _ c.args.store.now c.loop-k.store (record { arena = c.instances_apart.new.arena; binds = c.loop-k.store.binds; kids = c.loop-k.store.kids; frames = c.loop-k.store.frames }) c.args.number _ c.args.levels c.args.env c.args.kids c.args.frames _ c.requires.store c.requires.pairs c.requires.env c.requires.kids c.requires.frames c.in_ok-instances_apart-in-Apart.field-0 _ _ _ (passed_as _ _ _ _ c.loop-k.store _ _ _ _ _ _ _ _ _ (drop_premise _ c.loop-k.k _ _ l c.index.ensures c.in-Apart.is) c.loop-k.invariant) c.in_ok-instances_apart-in-Apart.ensures c.if-not-branch.true refl refl refl
+    apart_fails _ _ _ c.args.store.now c.loop-k.store (record { arena = c.instances_apart.new.arena; binds = c.loop-k.store.binds; kids = c.loop-k.store.kids; frames = c.loop-k.store.frames }) c.args.from.rule _ c.args.from.levels c.args.from.env c.args.from.kids c.args.from.before _ c.requires.store c.requires.pairs c.requires.env c.requires.kids c.requires.frames c.in_ok-instances_apart-in-Apart.field-0 _ _ _ (passed_as _ _ _ _ c.loop-k.store _ _ _ _ _ _ _ _ _ (drop_premise _ c.loop-k.k _ _ l c.index.ensures c.in-Apart.is) c.loop-k.invariant) c.in_ok-instances_apart-in-Apart.ensures c.if-not-branch.true refl refl refl
 
 pub loop-k-preserved : goal.loop-k-preserved
 loop-k-preserved c =
     let l : c.loop-k.k < length c.args.rule.now.premises.items = (let a = c.loop-k-test.true in let b = c.len-k-end.ensures in let d = c.args.rule.now.premises.ok in omega arith) in
-    apart_holds _ _ _ c.args.store.now c.loop-k.store (record { arena = c.instances_apart.new.arena; binds = c.loop-k.store.binds; kids = c.loop-k.store.kids; frames = c.loop-k.store.frames }) c.args.number _ c.args.levels c.args.env c.args.kids c.args.frames _ c.requires.store c.requires.pairs c.requires.env c.requires.kids c.requires.frames c.in_ok-instances_apart-in-Apart.field-0 _ _ _ (passed_as _ _ _ _ c.loop-k.store _ _ _ _ _ _ _ _ _ (drop_premise _ c.loop-k.k _ _ l c.index.ensures c.in-Apart.is) c.loop-k.invariant) c.in_ok-instances_apart-in-Apart.ensures c.if-not-branch.false refl refl refl
+    apart_holds _ _ _ c.args.store.now c.loop-k.store (record { arena = c.instances_apart.new.arena; binds = c.loop-k.store.binds; kids = c.loop-k.store.kids; frames = c.loop-k.store.frames }) c.args.from.rule _ c.args.from.levels c.args.from.env c.args.from.kids c.args.from.before _ c.requires.store c.requires.pairs c.requires.env c.requires.kids c.requires.frames c.in_ok-instances_apart-in-Apart.field-0 _ _ _ (passed_as _ _ _ _ c.loop-k.store _ _ _ _ _ _ _ _ _ (drop_premise _ c.loop-k.k _ _ l c.index.ensures c.in-Apart.is) c.loop-k.invariant) c.in_ok-instances_apart-in-Apart.ensures c.if-not-branch.false refl refl refl
 
 pub asked-requires-clause-shallow : goal.asked-requires-clause-shallow
 asked-requires-clause-shallow c =
@@ -50,34 +50,34 @@ asked-requires-clause-waits c =
 
 pub asked-requires-clause-env : goal.asked-requires-clause-env
 asked-requires-clause-env c =
-    let v = stays (modes_of c.args.rules.now) (rules_of c.args.rules.now) c.args.store.now c.loop-k.store c.args.env c.args.kids c.args.frames c.loop-k.invariant.grows c.requires.env c.requires.kids c.requires.frames in
+    let v = stays (modes_of c.args.given.now.rules.now) (rules_of c.args.given.now.rules.now) c.args.store.now c.loop-k.store c.args.from.env c.args.from.kids c.args.from.before c.loop-k.invariant.grows c.requires.env c.requires.kids c.requires.frames in
     v.env_within
 
 pub asked-requires-clause-kids : goal.asked-requires-clause-kids
 asked-requires-clause-kids c =
-    let v = stays (modes_of c.args.rules.now) (rules_of c.args.rules.now) c.args.store.now c.loop-k.store c.args.env c.args.kids c.args.frames c.loop-k.invariant.grows c.requires.env c.requires.kids c.requires.frames in
+    let v = stays (modes_of c.args.given.now.rules.now) (rules_of c.args.given.now.rules.now) c.args.store.now c.loop-k.store c.args.from.env c.args.from.kids c.args.from.before c.loop-k.invariant.grows c.requires.env c.requires.kids c.requires.frames in
     v.kids_within
 
 pub asked-requires-clause-before : goal.asked-requires-clause-before
 asked-requires-clause-before c =
-    let v = stays (modes_of c.args.rules.now) (rules_of c.args.rules.now) c.args.store.now c.loop-k.store c.args.env c.args.kids c.args.frames c.loop-k.invariant.grows c.requires.env c.requires.kids c.requires.frames in
+    let v = stays (modes_of c.args.given.now.rules.now) (rules_of c.args.given.now.rules.now) c.args.store.now c.loop-k.store c.args.from.env c.args.from.kids c.args.from.before c.loop-k.invariant.grows c.requires.env c.requires.kids c.requires.frames in
     v.frames_within
 
 pub returns-in-Holds : goal.returns-in-Holds
 returns-in-Holds c =
     let l : c.loop-k.k < length c.args.rule.now.premises.items = (let a = c.loop-k-test.true in let b = c.len-k-end.ensures in let d = c.args.rule.now.premises.ok in omega arith) in
-    ok_weaker _ _ (λ step h. asked_is _ _ _ c.args.store.now c.loop-k.store c.asked.new.store c.args.number _ c.args.levels c.args.env c.args.kids c.args.frames _ c.requires.store c.requires.pairs c.requires.env c.requires.kids c.requires.frames step _ c.loop-k.k (passed_as _ _ _ _ c.loop-k.store _ _ _ _ _ _ _ _ _ (drop_premise _ c.loop-k.k _ _ l c.index.ensures c.in-Holds.is) c.loop-k.invariant) c.requires.found h) c.asked.result c.asked.ensures
+    ok_weaker _ _ (λ step h. asked_is _ _ _ c.args.store.now c.loop-k.store c.asked.new.store c.args.from.rule _ c.args.from.levels c.args.from.env c.args.from.kids c.args.from.before _ c.requires.store c.requires.pairs c.requires.env c.requires.kids c.requires.frames step _ c.loop-k.k (passed_as _ _ _ _ c.loop-k.store _ _ _ _ _ _ _ _ _ (drop_premise _ c.loop-k.k _ _ l c.index.ensures c.in-Holds.is) c.loop-k.invariant) c.requires.found h) c.asked.result c.asked.ensures
 
 pub concluded-requires-clause-env : goal.concluded-requires-clause-env
 concluded-requires-clause-env c =
-    let v = stays (modes_of c.args.rules.now) (rules_of c.args.rules.now) c.args.store.now c.loop-k.store c.args.env c.args.kids c.args.frames c.loop-k.invariant.grows c.requires.env c.requires.kids c.requires.frames in
+    let v = stays (modes_of c.args.given.now.rules.now) (rules_of c.args.given.now.rules.now) c.args.store.now c.loop-k.store c.args.from.env c.args.from.kids c.args.from.before c.loop-k.invariant.grows c.requires.env c.requires.kids c.requires.frames in
     v.env_within
 
 pub concluded-requires-clause-kids : goal.concluded-requires-clause-kids
 concluded-requires-clause-kids c =
-    let v = stays (modes_of c.args.rules.now) (rules_of c.args.rules.now) c.args.store.now c.loop-k.store c.args.env c.args.kids c.args.frames c.loop-k.invariant.grows c.requires.env c.requires.kids c.requires.frames in
+    let v = stays (modes_of c.args.given.now.rules.now) (rules_of c.args.given.now.rules.now) c.args.store.now c.loop-k.store c.args.from.env c.args.from.kids c.args.from.before c.loop-k.invariant.grows c.requires.env c.requires.kids c.requires.frames in
     v.kids_within
 
 pub returns : goal.returns
 returns c =
-    ok_weaker _ _ (λ step h. concluded_is _ _ _ c.args.store.now c.loop-k.store c.concluded.new.store c.args.number _ c.args.levels c.args.env c.args.kids c.args.frames _ c.requires.store c.requires.pairs c.requires.env c.requires.kids c.requires.frames step (passed_as _ _ _ _ c.loop-k.store _ _ _ _ _ _ _ _ _ (drop_premises_end c.args.rule.now.premises.items c.loop-k.k (let a = c.loop-k-test.false in let b = c.len-k-end.ensures in let d = c.args.rule.now.premises.ok in omega arith)) c.loop-k.invariant) h) c.concluded.result c.concluded.ensures
+    ok_weaker _ _ (λ step h. concluded_is _ _ _ c.args.store.now c.loop-k.store c.concluded.new.store c.args.from.rule _ c.args.from.levels c.args.from.env c.args.from.kids c.args.from.before _ c.requires.store c.requires.pairs c.requires.env c.requires.kids c.requires.frames step (passed_as _ _ _ _ c.loop-k.store _ _ _ _ _ _ _ _ _ (drop_premises_end c.args.rule.now.premises.items c.loop-k.k (let a = c.loop-k-test.false in let b = c.len-k-end.ensures in let d = c.args.rule.now.premises.ok in omega arith)) c.loop-k.invariant) h) c.concluded.result c.concluded.ensures

@@ -8,60 +8,60 @@ use Rattle.sx_derive.proofs.reach.reach.Goals as goal
 pub returns-then-tries-budget : goal.returns-then-tries-budget
 returns-then-tries-budget g c = λ js a.
     let b = c.requires.facts in
-    let w = reaching_settled (modes_of c.args.rules.now) (rules_of c.args.rules.now) c.args.pairs.now c.args.facts.now c.args.store.now c.args.budget c.args.tasks.now.items c.args.steps.now c.loop-alloc.store c.loop-alloc.tries c.loop-alloc.steps c.loop-alloc.tasks.items c.loop-alloc.invariant b.0 b.1 c.settle.new.tasks.items (λ js s e. c.loop-alloc-test.ensures.settled c.args.pairs.now js s e) in
-    let k = c.loop-alloc-test.ensures.last in
-    reaching_spent (modes_of c.args.rules.now) (rules_of c.args.rules.now) c.args.pairs.now c.args.facts.now c.args.store.now c.args.budget c.args.tasks.now.items c.args.steps.now c.loop-alloc.store c.loop-alloc.tries c.loop-alloc.steps c.settle.new.tasks.items w k.0 k.1 k.2 k.3 c.if-tries-budget.true js a
+    let w = reaching_settled (modes_of c.args.given.now.rules.now) (rules_of c.args.given.now.rules.now) c.args.given.now.pairs.now c.args.given.now.facts.now c.args.store.now c.args.budget c.args.tasks.now.items c.args.steps.now c.loop-budget.store c.loop-budget.tries c.loop-budget.steps c.loop-budget.tasks.items c.loop-budget.invariant b.0 b.1 c.settle.new.tasks.items (λ js s e. c.loop-budget-test.ensures.settled c.args.given.now.pairs.now js s e) in
+    let k = c.loop-budget-test.ensures.last in
+    reaching_spent (modes_of c.args.given.now.rules.now) (rules_of c.args.given.now.rules.now) c.args.given.now.pairs.now c.args.given.now.facts.now c.args.store.now c.args.budget c.args.tasks.now.items c.args.steps.now c.loop-budget.store c.loop-budget.tries c.loop-budget.steps c.settle.new.tasks.items w k.0 k.1 k.2 k.3 c.if-tries-budget.true js a
 
 pub turn-requires-clause-facts : goal.turn-requires-clause-facts
 turn-requires-clause-facts g c =
     let b = c.requires.facts in
-    (b.0, facts_then (modes_of c.args.rules.now) (rules_of c.args.rules.now) c.args.pairs.now c.args.facts.now c.args.store.now c.args.budget c.args.tasks.now.items c.args.steps.now c.loop-alloc.store c.loop-alloc.tries c.loop-alloc.steps c.loop-alloc.tasks.items c.loop-alloc.invariant b.0 b.1)
+    (b.0, facts_then (modes_of c.args.given.now.rules.now) (rules_of c.args.given.now.rules.now) c.args.given.now.pairs.now c.args.given.now.facts.now c.args.store.now c.args.budget c.args.tasks.now.items c.args.steps.now c.loop-budget.store c.loop-budget.tries c.loop-budget.steps c.loop-budget.tasks.items c.loop-budget.invariant b.0 b.1)
 
 pub turn-requires-clause-pairs : goal.turn-requires-clause-pairs
-turn-requires-clause-pairs g c = pairs_more_terms _ _ (extends-length _ _ c.loop-alloc.invariant.grows.trees) _ c.requires.pairs
+turn-requires-clause-pairs g c = pairs_more_terms _ _ (extends-length _ _ c.loop-budget.invariant.grows.trees) _ c.requires.pairs
 
 pub turn-requires-clause-task : goal.turn-requires-clause-task
 turn-requires-clause-task g c =
     let b = c.requires.facts in
-    let w = reaching_settled (modes_of c.args.rules.now) (rules_of c.args.rules.now) c.args.pairs.now c.args.facts.now c.args.store.now c.args.budget c.args.tasks.now.items c.args.steps.now c.loop-alloc.store c.loop-alloc.tries c.loop-alloc.steps c.loop-alloc.tasks.items c.loop-alloc.invariant b.0 b.1 c.settle.new.tasks.items (λ js s e. c.loop-alloc-test.ensures.settled c.args.pairs.now js s e) in
+    let w = reaching_settled (modes_of c.args.given.now.rules.now) (rules_of c.args.given.now.rules.now) c.args.given.now.pairs.now c.args.given.now.facts.now c.args.store.now c.args.budget c.args.tasks.now.items c.args.steps.now c.loop-budget.store c.loop-budget.tries c.loop-budget.steps c.loop-budget.tasks.items c.loop-budget.invariant b.0 b.1 c.settle.new.tasks.items (λ js s e. c.loop-budget-test.ensures.settled c.args.given.now.pairs.now js s e) in
     let e = c.in-Some.ensures.items in
-    let l = last_less c.settle.new.tasks.items c.pop.new.self.items c.in-Some.task (length c.args.facts.now + length (rules_of c.args.rules.now)) e c.loop-alloc-test.ensures.last in
-    task_fits (modes_of c.args.rules.now) (rules_of c.args.rules.now) c.args.pairs.now c.args.facts.now c.args.store.now c.args.budget c.args.tasks.now.items c.args.steps.now c.loop-alloc.store c.loop-alloc.tries c.loop-alloc.steps c.settle.new.tasks.items w c.pop.new.self.items c.in-Some.task e l
+    let l = last_less c.settle.new.tasks.items c.pop.new.self.items c.in-Some.task (length c.args.given.now.facts.now + length (rules_of c.args.given.now.rules.now)) e c.loop-budget-test.ensures.last in
+    task_fits (modes_of c.args.given.now.rules.now) (rules_of c.args.given.now.rules.now) c.args.given.now.pairs.now c.args.given.now.facts.now c.args.store.now c.args.budget c.args.tasks.now.items c.args.steps.now c.loop-budget.store c.loop-budget.tries c.loop-budget.steps c.settle.new.tasks.items w c.pop.new.self.items c.in-Some.task e l
 
 pub turn-requires-clause-tasks : goal.turn-requires-clause-tasks
 turn-requires-clause-tasks g c =
     let b = c.requires.facts in
-    let w = reaching_settled (modes_of c.args.rules.now) (rules_of c.args.rules.now) c.args.pairs.now c.args.facts.now c.args.store.now c.args.budget c.args.tasks.now.items c.args.steps.now c.loop-alloc.store c.loop-alloc.tries c.loop-alloc.steps c.loop-alloc.tasks.items c.loop-alloc.invariant b.0 b.1 c.settle.new.tasks.items (λ js s e. c.loop-alloc-test.ensures.settled c.args.pairs.now js s e) in
+    let w = reaching_settled (modes_of c.args.given.now.rules.now) (rules_of c.args.given.now.rules.now) c.args.given.now.pairs.now c.args.given.now.facts.now c.args.store.now c.args.budget c.args.tasks.now.items c.args.steps.now c.loop-budget.store c.loop-budget.tries c.loop-budget.steps c.loop-budget.tasks.items c.loop-budget.invariant b.0 b.1 c.settle.new.tasks.items (λ js s e. c.loop-budget-test.ensures.settled c.args.given.now.pairs.now js s e) in
     let e = c.in-Some.ensures.items in
-    let l = last_less c.settle.new.tasks.items c.pop.new.self.items c.in-Some.task (length c.args.facts.now + length (rules_of c.args.rules.now)) e c.loop-alloc-test.ensures.last in
-    rest_fits (modes_of c.args.rules.now) (rules_of c.args.rules.now) c.args.pairs.now c.args.facts.now c.args.store.now c.args.budget c.args.tasks.now.items c.args.steps.now c.loop-alloc.store c.loop-alloc.tries c.loop-alloc.steps c.settle.new.tasks.items w c.pop.new.self.items c.in-Some.task e l
+    let l = last_less c.settle.new.tasks.items c.pop.new.self.items c.in-Some.task (length c.args.given.now.facts.now + length (rules_of c.args.given.now.rules.now)) e c.loop-budget-test.ensures.last in
+    rest_fits (modes_of c.args.given.now.rules.now) (rules_of c.args.given.now.rules.now) c.args.given.now.pairs.now c.args.given.now.facts.now c.args.store.now c.args.budget c.args.tasks.now.items c.args.steps.now c.loop-budget.store c.loop-budget.tries c.loop-budget.steps c.settle.new.tasks.items w c.pop.new.self.items c.in-Some.task e l
 
 pub returns-in-Err : goal.returns-in-Err
 returns-in-Err g c = λ js a.
     let b = c.requires.facts in
-    let w = reaching_settled (modes_of c.args.rules.now) (rules_of c.args.rules.now) c.args.pairs.now c.args.facts.now c.args.store.now c.args.budget c.args.tasks.now.items c.args.steps.now c.loop-alloc.store c.loop-alloc.tries c.loop-alloc.steps c.loop-alloc.tasks.items c.loop-alloc.invariant b.0 b.1 c.settle.new.tasks.items (λ js s e. c.loop-alloc-test.ensures.settled c.args.pairs.now js s e) in
+    let w = reaching_settled (modes_of c.args.given.now.rules.now) (rules_of c.args.given.now.rules.now) c.args.given.now.pairs.now c.args.given.now.facts.now c.args.store.now c.args.budget c.args.tasks.now.items c.args.steps.now c.loop-budget.store c.loop-budget.tries c.loop-budget.steps c.loop-budget.tasks.items c.loop-budget.invariant b.0 b.1 c.settle.new.tasks.items (λ js s e. c.loop-budget-test.ensures.settled c.args.given.now.pairs.now js s e) in
     let e = c.in-Some.ensures.items in
-    let l = last_less c.settle.new.tasks.items c.pop.new.self.items c.in-Some.task (length c.args.facts.now + length (rules_of c.args.rules.now)) e c.loop-alloc-test.ensures.last in
-    reaching_failed (modes_of c.args.rules.now) (rules_of c.args.rules.now) c.args.pairs.now c.args.facts.now c.args.store.now c.args.budget c.args.tasks.now.items c.args.steps.now c.loop-alloc.store c.loop-alloc.tries c.loop-alloc.steps c.settle.new.tasks.items w c.pop.new.self.items c.in-Some.task e l c.if-tries-budget.false c.tick.new.self c.tick.ensures c.in-Err.e c.turn.new.store c.turn.new.tasks.items js a
+    let l = last_less c.settle.new.tasks.items c.pop.new.self.items c.in-Some.task (length c.args.given.now.facts.now + length (rules_of c.args.given.now.rules.now)) e c.loop-budget-test.ensures.last in
+    reaching_failed (modes_of c.args.given.now.rules.now) (rules_of c.args.given.now.rules.now) c.args.given.now.pairs.now c.args.given.now.facts.now c.args.store.now c.args.budget c.args.tasks.now.items c.args.steps.now c.loop-budget.store c.loop-budget.tries c.loop-budget.steps c.settle.new.tasks.items w c.pop.new.self.items c.in-Some.task e l c.if-tries-budget.false c.tick.new.self c.tick.ensures c.in-Err.e c.turn.new.store c.turn.new.tasks.items js a
 
-pub loop-alloc-preserved : goal.loop-alloc-preserved
-loop-alloc-preserved g c =
+pub loop-budget-preserved : goal.loop-budget-preserved
+loop-budget-preserved g c =
     let b = c.requires.facts in
-    let w = reaching_settled (modes_of c.args.rules.now) (rules_of c.args.rules.now) c.args.pairs.now c.args.facts.now c.args.store.now c.args.budget c.args.tasks.now.items c.args.steps.now c.loop-alloc.store c.loop-alloc.tries c.loop-alloc.steps c.loop-alloc.tasks.items c.loop-alloc.invariant b.0 b.1 c.settle.new.tasks.items (λ js s e. c.loop-alloc-test.ensures.settled c.args.pairs.now js s e) in
+    let w = reaching_settled (modes_of c.args.given.now.rules.now) (rules_of c.args.given.now.rules.now) c.args.given.now.pairs.now c.args.given.now.facts.now c.args.store.now c.args.budget c.args.tasks.now.items c.args.steps.now c.loop-budget.store c.loop-budget.tries c.loop-budget.steps c.loop-budget.tasks.items c.loop-budget.invariant b.0 b.1 c.settle.new.tasks.items (λ js s e. c.loop-budget-test.ensures.settled c.args.given.now.pairs.now js s e) in
     let e = c.in-Some.ensures.items in
-    let l = last_less c.settle.new.tasks.items c.pop.new.self.items c.in-Some.task (length c.args.facts.now + length (rules_of c.args.rules.now)) e c.loop-alloc-test.ensures.last in
-    reaching_more (modes_of c.args.rules.now) (rules_of c.args.rules.now) c.args.pairs.now c.args.facts.now c.args.store.now c.args.budget c.args.tasks.now.items c.args.steps.now c.loop-alloc.store c.loop-alloc.tries c.loop-alloc.steps c.settle.new.tasks.items w c.pop.new.self.items c.in-Some.task e l c.if-tries-budget.false c.tick.new.self c.tick.ensures c.turn.new.store c.turn.new.tasks.items b.0 b.1 (λ js a. rw c.in-Ok-None.field-0-is at (c.in-Ok-None.ensures js a))
+    let l = last_less c.settle.new.tasks.items c.pop.new.self.items c.in-Some.task (length c.args.given.now.facts.now + length (rules_of c.args.given.now.rules.now)) e c.loop-budget-test.ensures.last in
+    reaching_more (modes_of c.args.given.now.rules.now) (rules_of c.args.given.now.rules.now) c.args.given.now.pairs.now c.args.given.now.facts.now c.args.store.now c.args.budget c.args.tasks.now.items c.args.steps.now c.loop-budget.store c.loop-budget.tries c.loop-budget.steps c.settle.new.tasks.items w c.pop.new.self.items c.in-Some.task e l c.if-tries-budget.false c.tick.new.self c.tick.ensures c.turn.new.store c.turn.new.tasks.items b.0 b.1 (λ js a. rw c.in-Ok-None.field-0-is at (c.in-Ok-None.ensures js a))
 
 pub returns-in-Ok-Some : goal.returns-in-Ok-Some
 returns-in-Ok-Some g c = λ js a.
     let b = c.requires.facts in
-    let w = reaching_settled (modes_of c.args.rules.now) (rules_of c.args.rules.now) c.args.pairs.now c.args.facts.now c.args.store.now c.args.budget c.args.tasks.now.items c.args.steps.now c.loop-alloc.store c.loop-alloc.tries c.loop-alloc.steps c.loop-alloc.tasks.items c.loop-alloc.invariant b.0 b.1 c.settle.new.tasks.items (λ js s e. c.loop-alloc-test.ensures.settled c.args.pairs.now js s e) in
+    let w = reaching_settled (modes_of c.args.given.now.rules.now) (rules_of c.args.given.now.rules.now) c.args.given.now.pairs.now c.args.given.now.facts.now c.args.store.now c.args.budget c.args.tasks.now.items c.args.steps.now c.loop-budget.store c.loop-budget.tries c.loop-budget.steps c.loop-budget.tasks.items c.loop-budget.invariant b.0 b.1 c.settle.new.tasks.items (λ js s e. c.loop-budget-test.ensures.settled c.args.given.now.pairs.now js s e) in
     let e = c.in-Some.ensures.items in
-    let l = last_less c.settle.new.tasks.items c.pop.new.self.items c.in-Some.task (length c.args.facts.now + length (rules_of c.args.rules.now)) e c.loop-alloc-test.ensures.last in
-    reaching_ends (modes_of c.args.rules.now) (rules_of c.args.rules.now) c.args.pairs.now c.args.facts.now c.args.store.now c.args.budget c.args.tasks.now.items c.args.steps.now c.loop-alloc.store c.loop-alloc.tries c.loop-alloc.steps c.settle.new.tasks.items w c.pop.new.self.items c.in-Some.task e l c.if-tries-budget.false c.tick.new.self c.tick.ensures c.turn.new.store c.turn.new.tasks.items c.in-Ok-Some.ending (λ ks d. rw c.in-Ok-Some.field-0-is at (c.in-Ok-Some.ensures ks d)) js a
+    let l = last_less c.settle.new.tasks.items c.pop.new.self.items c.in-Some.task (length c.args.given.now.facts.now + length (rules_of c.args.given.now.rules.now)) e c.loop-budget-test.ensures.last in
+    reaching_ends (modes_of c.args.given.now.rules.now) (rules_of c.args.given.now.rules.now) c.args.given.now.pairs.now c.args.given.now.facts.now c.args.store.now c.args.budget c.args.tasks.now.items c.args.steps.now c.loop-budget.store c.loop-budget.tries c.loop-budget.steps c.settle.new.tasks.items w c.pop.new.self.items c.in-Some.task e l c.if-tries-budget.false c.tick.new.self c.tick.ensures c.turn.new.store c.turn.new.tasks.items c.in-Ok-Some.ending (λ ks d. rw c.in-Ok-Some.field-0-is at (c.in-Ok-Some.ensures ks d)) js a
 
 pub returns : goal.returns
 returns g c = λ js a.
     let b = c.requires.facts in
-    let w = reaching_settled (modes_of c.args.rules.now) (rules_of c.args.rules.now) c.args.pairs.now c.args.facts.now c.args.store.now c.args.budget c.args.tasks.now.items c.args.steps.now c.loop-alloc.store c.loop-alloc.tries c.loop-alloc.steps c.loop-alloc.tasks.items c.loop-alloc.invariant b.0 b.1 c.settle.new.tasks.items (λ js s e. c.loop-alloc-test.ensures.settled c.args.pairs.now js s e) in
-    reaching_end (modes_of c.args.rules.now) (rules_of c.args.rules.now) c.args.pairs.now c.args.facts.now c.args.store.now c.args.budget c.args.tasks.now.items c.args.steps.now c.loop-alloc.store c.loop-alloc.tries c.loop-alloc.steps c.settle.new.tasks.items w c.loop-alloc-test.ensures.last js a
+    let w = reaching_settled (modes_of c.args.given.now.rules.now) (rules_of c.args.given.now.rules.now) c.args.given.now.pairs.now c.args.given.now.facts.now c.args.store.now c.args.budget c.args.tasks.now.items c.args.steps.now c.loop-budget.store c.loop-budget.tries c.loop-budget.steps c.loop-budget.tasks.items c.loop-budget.invariant b.0 b.1 c.settle.new.tasks.items (λ js s e. c.loop-budget-test.ensures.settled c.args.given.now.pairs.now js s e) in
+    reaching_end (modes_of c.args.given.now.rules.now) (rules_of c.args.given.now.rules.now) c.args.given.now.pairs.now c.args.given.now.facts.now c.args.store.now c.args.budget c.args.tasks.now.items c.args.steps.now c.loop-budget.store c.loop-budget.tries c.loop-budget.steps c.settle.new.tasks.items w c.loop-budget-test.ensures.last js a

@@ -13,11 +13,11 @@ returns-then-is_candidate-clause-last c =
 
 pub loop-tasks-preserved-else-is_candidate : goal.loop-tasks-preserved-else-is_candidate
 loop-tasks-preserved-else-is_candidate c = λ pairs js s e.
-    let m = modes_of c.args.rules.now in
-    let rs = rules_of c.args.rules.now in
+    let m = modes_of c.args.given.now.rules.now in
+    let rs = rules_of c.args.given.now.rules.now in
     let i = c.len-in-loop-tasks.result - 1 in
     let l : length c.loop-tasks.tasks.items ≡ suc i = omega arith in
     let z : vec_len c.loop-tasks.tasks - 1 ≡ i = omega arith in
     let k = not_less _ _ c.if-is_candidate.ensures.1 in
-    let n : length js + length rs ≡ length c.args.facts.now + length rs = omega arith in
+    let n : length js + length rs ≡ length c.args.given.now.facts.now + length rs = omega arith in
     last_dropped m rs pairs js s _ i _ c.loop-tasks.tasks.items c.pop.new.self.items c.index.result.now l c.index.ensures (c.pop.ensures.rest ∙ ap (λ (q : ℕ). take q c.loop-tasks.tasks.items) z) k n (c.loop-tasks.invariant pairs js s e)

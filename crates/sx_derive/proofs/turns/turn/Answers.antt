@@ -13,80 +13,80 @@ use Rattle.sx_derive.proofs.turns.turn.Goals as goal
 
 pub returns-in-Nothing : goal.returns-in-Nothing
 returns-in-Nothing c = λ js a.
-    let m = modes_of c.args.rules.now in
-    let rs = rules_of c.args.rules.now in
-    let n = length c.args.facts.now + length rs in
+    let m = modes_of c.args.given.now.rules.now in
+    let rs = rules_of c.args.given.now.rules.now in
+    let n = length c.args.given.now.facts.now + length rs in
     let s = c.args.store.now in
     let w = c.try_task.new.store in
     let t = c.args.task in
     let after : Task = record { next = t.next + 1; form = t.form; terms = t.terms; levels = t.levels; frames = t.frames; mark = t.mark } in
     let x = c.in_ok-step.ensures js a in
-    subst (λ (ts : List Task). IsTurn m rs c.args.pairs.now js c.args.wanted.now n s w t c.args.tasks.now.items ts None) (sym c.in_ok-push.ensures.items)
-    (turn_nothing m rs c.args.pairs.now js c.args.wanted.now n s w t after c.args.tasks.now.items c.in_ok-step.step c.requires.store c.requires.pairs c.requires.wanted c.requires.task c.requires.tasks c.requires.next x refl refl refl refl refl refl c.in-Nothing.is)
+    subst (λ (ts : List Task). IsTurn m rs c.args.given.now.pairs.now js c.args.wanted.now n s w t c.args.tasks.now.items ts None) (sym c.in_ok-push.ensures.items)
+    (turn_nothing m rs c.args.given.now.pairs.now js c.args.wanted.now n s w t after c.args.tasks.now.items c.in_ok-step.step c.requires.store c.requires.pairs c.requires.wanted c.requires.task c.requires.tasks c.requires.next x refl refl refl refl refl refl c.in-Nothing.is)
 
 pub returns-in-Passed : goal.returns-in-Passed
 returns-in-Passed c = λ js a.
-    let m = modes_of c.args.rules.now in
-    let rs = rules_of c.args.rules.now in
-    let n = length c.args.facts.now + length rs in
+    let m = modes_of c.args.given.now.rules.now in
+    let rs = rules_of c.args.given.now.rules.now in
+    let n = length c.args.given.now.facts.now + length rs in
     let s = c.args.store.now in
     let w = c.try_task.new.store in
     let t = c.args.task in
     let after : Task = record { next = t.next + 1; form = t.form; terms = t.terms; levels = t.levels; frames = t.frames; mark = t.mark } in
     let x = c.in_ok-step.ensures js a in
-    subst (λ (ts : List Task). IsTurn m rs c.args.pairs.now js c.args.wanted.now n s w t c.args.tasks.now.items ts (Some (Passed c.in-Passed.limit))) (sym c.in_ok-push.ensures.items)
-    (turn_passed m rs c.args.pairs.now js c.args.wanted.now n s w t after c.args.tasks.now.items c.in_ok-step.step c.requires.store c.requires.pairs c.requires.wanted c.requires.task c.requires.tasks c.requires.next x refl refl refl refl refl refl c.in-Passed.limit c.in-Passed.is)
+    subst (λ (ts : List Task). IsTurn m rs c.args.given.now.pairs.now js c.args.wanted.now n s w t c.args.tasks.now.items ts (Some (Passed c.in-Passed.limit))) (sym c.in_ok-push.ensures.items)
+    (turn_passed m rs c.args.given.now.pairs.now js c.args.wanted.now n s w t after c.args.tasks.now.items c.in_ok-step.step c.requires.store c.requires.pairs c.requires.wanted c.requires.task c.requires.tasks c.requires.next x refl refl refl refl refl refl c.in-Passed.limit c.in-Passed.is)
 
 pub returns-in-DepthSpent : goal.returns-in-DepthSpent
 returns-in-DepthSpent c = λ js a.
-    let m = modes_of c.args.rules.now in
-    let rs = rules_of c.args.rules.now in
-    let n = length c.args.facts.now + length rs in
+    let m = modes_of c.args.given.now.rules.now in
+    let rs = rules_of c.args.given.now.rules.now in
+    let n = length c.args.given.now.facts.now + length rs in
     let s = c.args.store.now in
     let w = c.try_task.new.store in
     let t = c.args.task in
     let after : Task = record { next = t.next + 1; form = t.form; terms = t.terms; levels = t.levels; frames = t.frames; mark = t.mark } in
     let x = c.in_ok-step.ensures js a in
-    subst (λ (ts : List Task). IsTurn m rs c.args.pairs.now js c.args.wanted.now n s w t c.args.tasks.now.items ts (Some DepthSpent)) (sym c.in_ok-push.ensures.items)
-    (turn_spent m rs c.args.pairs.now js c.args.wanted.now n s w t after c.args.tasks.now.items c.in_ok-step.step c.requires.store c.requires.pairs c.requires.wanted c.requires.task c.requires.tasks c.requires.next x refl refl refl refl refl refl c.in-DepthSpent.is)
+    subst (λ (ts : List Task). IsTurn m rs c.args.given.now.pairs.now js c.args.wanted.now n s w t c.args.tasks.now.items ts (Some DepthSpent)) (sym c.in_ok-push.ensures.items)
+    (turn_spent m rs c.args.given.now.pairs.now js c.args.wanted.now n s w t after c.args.tasks.now.items c.in_ok-step.step c.requires.store c.requires.pairs c.requires.wanted c.requires.task c.requires.tasks c.requires.next x refl refl refl refl refl refl c.in-DepthSpent.is)
 
 pub returns-in_ok-push-in-Goes : goal.returns-in_ok-push-in-Goes
 returns-in_ok-push-in-Goes c = λ js a.
-    let m = modes_of c.args.rules.now in
-    let rs = rules_of c.args.rules.now in
-    let n = length c.args.facts.now + length rs in
+    let m = modes_of c.args.given.now.rules.now in
+    let rs = rules_of c.args.given.now.rules.now in
+    let n = length c.args.given.now.facts.now + length rs in
     let s = c.args.store.now in
     let w = c.try_task.new.store in
     let t = c.args.task in
     let after : Task = record { next = t.next + 1; form = t.form; terms = t.terms; levels = t.levels; frames = t.frames; mark = t.mark } in
     let x = c.in_ok-step.ensures js a in
     let more : Task = record { next = 0; form = c.in-Goes.form; terms = c.in-Goes.terms; levels = c.in-Goes.levels; frames = c.in-Goes.frames; mark = c.mark-mark.result } in
-    subst (λ (ts : List Task). IsTurn m rs c.args.pairs.now js c.args.wanted.now n s w t c.args.tasks.now.items ts None) (sym (c.in_ok-push-in-Goes.ensures.items ∙ ap (λ (ts : List Task). ts ++ more ∷ []) c.in_ok-push.ensures.items))
-    (turn_goes m rs c.args.pairs.now js c.args.wanted.now n s w t after c.args.tasks.now.items c.in_ok-step.step c.requires.store c.requires.pairs c.requires.wanted c.requires.task c.requires.tasks c.requires.next x refl refl refl refl refl refl c.in-Goes.form c.in-Goes.terms c.in-Goes.levels c.in-Goes.frames c.mark-mark.result more c.mark-mark.ensures c.in-Goes.is refl)
+    subst (λ (ts : List Task). IsTurn m rs c.args.given.now.pairs.now js c.args.wanted.now n s w t c.args.tasks.now.items ts None) (sym (c.in_ok-push-in-Goes.ensures.items ∙ ap (λ (ts : List Task). ts ++ more ∷ []) c.in_ok-push.ensures.items))
+    (turn_goes m rs c.args.given.now.pairs.now js c.args.wanted.now n s w t after c.args.tasks.now.items c.in_ok-step.step c.requires.store c.requires.pairs c.requires.wanted c.requires.task c.requires.tasks c.requires.next x refl refl refl refl refl refl c.in-Goes.form c.in-Goes.terms c.in-Goes.levels c.in-Goes.frames c.mark-mark.result more c.mark-mark.ensures c.in-Goes.is refl)
 
 pub returns-then-is_wanted : goal.returns-then-is_wanted
 returns-then-is_wanted c = λ js a.
-    let m = modes_of c.args.rules.now in
-    let rs = rules_of c.args.rules.now in
-    let n = length c.args.facts.now + length rs in
+    let m = modes_of c.args.given.now.rules.now in
+    let rs = rules_of c.args.given.now.rules.now in
+    let n = length c.args.given.now.facts.now + length rs in
     let s = c.args.store.now in
     let w = c.try_task.new.store in
     let t = c.args.task in
     let after : Task = record { next = t.next + 1; form = t.form; terms = t.terms; levels = t.levels; frames = t.frames; mark = t.mark } in
     let x = c.in_ok-step.ensures js a in
-    subst (λ (ts : List Task). IsTurn m rs c.args.pairs.now js c.args.wanted.now n s w t c.args.tasks.now.items ts (Some (Found c.in-Done.head c.in-Done.outputs))) (sym c.in_ok-push.ensures.items)
-    (turn_found m rs c.args.pairs.now js c.args.wanted.now n s w t after c.args.tasks.now.items c.in_ok-step.step c.requires.store c.requires.pairs c.requires.wanted c.requires.task c.requires.tasks c.requires.next x refl refl refl refl refl refl c.in-Done.head c.in-Done.outputs c.in-Done.is (ap (λ os. are_wanted (wanted_in s c.args.wanted.now) (map (tree_at (store_trees w)) os)) (sym c.deref.ensures.value) ∙ tested_true m rs s w c.args.wanted.now c.deref.result.now c.is_wanted.result x.grows c.requires.wanted c.is_wanted.ensures c.if-is_wanted.true))
+    subst (λ (ts : List Task). IsTurn m rs c.args.given.now.pairs.now js c.args.wanted.now n s w t c.args.tasks.now.items ts (Some (Found c.in-Done.head c.in-Done.outputs))) (sym c.in_ok-push.ensures.items)
+    (turn_found m rs c.args.given.now.pairs.now js c.args.wanted.now n s w t after c.args.tasks.now.items c.in_ok-step.step c.requires.store c.requires.pairs c.requires.wanted c.requires.task c.requires.tasks c.requires.next x refl refl refl refl refl refl c.in-Done.head c.in-Done.outputs c.in-Done.is (ap (λ os. are_wanted (wanted_in s c.args.wanted.now) (map (tree_at (store_trees w)) os)) (sym c.deref.ensures.value) ∙ tested_true m rs s w c.args.wanted.now c.deref.result.now c.is_wanted.result x.grows c.requires.wanted c.is_wanted.ensures c.if-is_wanted.true))
 
 pub returns-else-is_wanted : goal.returns-else-is_wanted
 returns-else-is_wanted c = λ js a.
-    let m = modes_of c.args.rules.now in
-    let rs = rules_of c.args.rules.now in
-    let n = length c.args.facts.now + length rs in
+    let m = modes_of c.args.given.now.rules.now in
+    let rs = rules_of c.args.given.now.rules.now in
+    let n = length c.args.given.now.facts.now + length rs in
     let s = c.args.store.now in
     let w = c.try_task.new.store in
     let t = c.args.task in
     let after : Task = record { next = t.next + 1; form = t.form; terms = t.terms; levels = t.levels; frames = t.frames; mark = t.mark } in
     let x = c.in_ok-step.ensures js a in
-    subst (λ (ts : List Task). IsTurn m rs c.args.pairs.now js c.args.wanted.now n s w t c.args.tasks.now.items ts None) (sym c.in_ok-push.ensures.items)
-    (turn_other m rs c.args.pairs.now js c.args.wanted.now n s w t after c.args.tasks.now.items c.in_ok-step.step c.requires.store c.requires.pairs c.requires.wanted c.requires.task c.requires.tasks c.requires.next x refl refl refl refl refl refl c.in-Done.head c.in-Done.outputs c.in-Done.is (ap (λ os. are_wanted (wanted_in s c.args.wanted.now) (map (tree_at (store_trees w)) os)) (sym c.deref.ensures.value) ∙ tested_false m rs s w c.args.wanted.now c.deref.result.now c.is_wanted.result x.grows c.requires.wanted
-    (subst (λ os. AreBelow (length (store_trees w)) os) (sym c.deref.ensures.value) (done_below m rs c.args.pairs.now js c.args.wanted.now n s w t after c.args.tasks.now.items c.in_ok-step.step c.requires.store c.requires.pairs c.requires.wanted c.requires.task c.requires.tasks c.requires.next x refl refl refl refl refl refl c.in-Done.head c.in-Done.outputs c.in-Done.is)) c.is_wanted.ensures c.if-is_wanted.false))
+    subst (λ (ts : List Task). IsTurn m rs c.args.given.now.pairs.now js c.args.wanted.now n s w t c.args.tasks.now.items ts None) (sym c.in_ok-push.ensures.items)
+    (turn_other m rs c.args.given.now.pairs.now js c.args.wanted.now n s w t after c.args.tasks.now.items c.in_ok-step.step c.requires.store c.requires.pairs c.requires.wanted c.requires.task c.requires.tasks c.requires.next x refl refl refl refl refl refl c.in-Done.head c.in-Done.outputs c.in-Done.is (ap (λ os. are_wanted (wanted_in s c.args.wanted.now) (map (tree_at (store_trees w)) os)) (sym c.deref.ensures.value) ∙ tested_false m rs s w c.args.wanted.now c.deref.result.now c.is_wanted.result x.grows c.requires.wanted
+    (subst (λ os. AreBelow (length (store_trees w)) os) (sym c.deref.ensures.value) (done_below m rs c.args.given.now.pairs.now js c.args.wanted.now n s w t after c.args.tasks.now.items c.in_ok-step.step c.requires.store c.requires.pairs c.requires.wanted c.requires.task c.requires.tasks c.requires.next x refl refl refl refl refl refl c.in-Done.head c.in-Done.outputs c.in-Done.is)) c.is_wanted.ensures c.if-is_wanted.false))

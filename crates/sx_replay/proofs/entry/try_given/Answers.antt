@@ -15,5 +15,5 @@ returns-then-not-same_numbers c = λ j f.
 pub returns : goal.returns
 returns c =
     let n = c.if-not-same_numbers.ensures in
-    ok_weaker _ _ (λ step h j f. given_handed _ _ c.args.pairs.now c.args.reader.now j c.args.fact.now _ _ c.requires.reader f c.requires.terms c.if-fact-form.false (sym c.deref.ensures.value ∙ n.0 refl)
+    ok_weaker _ _ (λ step h j f. given_handed _ _ c.args.given.now.pairs.now c.args.reader.now j c.args.fact.now _ _ c.requires.reader f c.requires.terms c.if-fact-form.false (sym c.deref.ensures.value ∙ n.0 refl)
     c.in_ok-outputs.outputs.items (c.in_ok-outputs.ensures ∙ c.deref-2.ensures.value) c.hand_on.new.reader step h) c.hand_on.result c.hand_on.ensures

@@ -11,19 +11,19 @@ keep-requires-clause-numbers c = c.loop-waiting.invariant.below
 
 pub resume-requires-clause-reader : goal.resume-requires-clause-reader
 resume-requires-clause-reader c =
-    (popped_reader (rules_of c.args.rules.now) c.loop-waiting.reader c.pop.new.self c.in-Some.waiting c.cut.new.self c.keep.new.arena c.loop-waiting.outputs.items c.in_ok-outputs.outputs.items
+    (popped_reader (rules_of c.args.given.now.rules.now) c.loop-waiting.reader c.pop.new.self c.in-Some.waiting c.cut.new.self c.keep.new.arena c.loop-waiting.outputs.items c.in_ok-outputs.outputs.items
     c.loop-waiting.invariant.grows.reader c.in-Some.ensures.items (record { items = c.cut.ensures.items; binds = c.cut.ensures.binds }) c.in_ok-outputs.ensures).0
 
 pub resume-requires-clause-waits : goal.resume-requires-clause-waits
 resume-requires-clause-waits c =
-    (popped_reader (rules_of c.args.rules.now) c.loop-waiting.reader c.pop.new.self c.in-Some.waiting c.cut.new.self c.keep.new.arena c.loop-waiting.outputs.items c.in_ok-outputs.outputs.items
+    (popped_reader (rules_of c.args.given.now.rules.now) c.loop-waiting.reader c.pop.new.self c.in-Some.waiting c.cut.new.self c.keep.new.arena c.loop-waiting.outputs.items c.in_ok-outputs.outputs.items
     c.loop-waiting.invariant.grows.reader c.in-Some.ensures.items (record { items = c.cut.ensures.items; binds = c.cut.ensures.binds }) c.in_ok-outputs.ensures).1
 
 pub resume-requires-clause-pairs : goal.resume-requires-clause-pairs
 resume-requires-clause-pairs c =
-    let m = modes_of c.args.rules.now in
-    let rs = rules_of c.args.rules.now in
-    pairs_here m rs c.args.pairs.now c.args.reader.now c.loop-waiting.reader c.loop-waiting.reader c.args.outputs.items c.loop-waiting.outputs.items c.in_ok-outputs.outputs.items c.pop.new.self c.in-Some.waiting c.cut.new.self c.keep.new.arena (record { items = c.cut.ensures.items; binds = c.cut.ensures.binds })
+    let m = modes_of c.args.given.now.rules.now in
+    let rs = rules_of c.args.given.now.rules.now in
+    pairs_here m rs c.args.given.now.pairs.now c.args.reader.now c.loop-waiting.reader c.loop-waiting.reader c.args.outputs.items c.loop-waiting.outputs.items c.in_ok-outputs.outputs.items c.pop.new.self c.in-Some.waiting c.cut.new.self c.keep.new.arena (record { items = c.cut.ensures.items; binds = c.cut.ensures.binds })
     c.requires.pairs c.loop-waiting.invariant c.in-Some.ensures.items c.in_ok-outputs.ensures
 
 pub resume-requires-clause-outputs : goal.resume-requires-clause-outputs
@@ -31,29 +31,29 @@ resume-requires-clause-outputs c = subst (λ (os : List ℕ). AreBelow (length (
 
 pub loop-waiting-smaller : goal.loop-waiting-smaller
 loop-waiting-smaller c =
-    let m = modes_of c.args.rules.now in
-    let rs = rules_of c.args.rules.now in
+    let m = modes_of c.args.given.now.rules.now in
+    let rs = rules_of c.args.given.now.rules.now in
     let p = popped c.loop-waiting.reader c.pop.new.self c.cut.new.self c.keep.new.arena in
-    let r = subst (λ (os : List ℕ). IsResumed m rs c.args.pairs.now p c.resume.new.reader c.in-Some.waiting os (Done c.in-Done.made)) c.deref.ensures.value
-    (subst (IsResumed m rs c.args.pairs.now p c.resume.new.reader c.in-Some.waiting c.deref.result.now) c.in-Done.is c.in_ok-other.ensures) in
-    fewer_wait m rs c.args.pairs.now c.args.reader.now c.loop-waiting.reader c.resume.new.reader c.args.outputs.items c.loop-waiting.outputs.items c.in_ok-outputs.outputs.items c.pop.new.self c.in-Some.waiting c.cut.new.self c.keep.new.arena (record { items = c.cut.ensures.items; binds = c.cut.ensures.binds })
+    let r = subst (λ (os : List ℕ). IsResumed m rs c.args.given.now.pairs.now p c.resume.new.reader c.in-Some.waiting os (Done c.in-Done.made)) c.deref.ensures.value
+    (subst (IsResumed m rs c.args.given.now.pairs.now p c.resume.new.reader c.in-Some.waiting c.deref.result.now) c.in-Done.is c.in_ok-other.ensures) in
+    fewer_wait m rs c.args.given.now.pairs.now c.args.reader.now c.loop-waiting.reader c.resume.new.reader c.args.outputs.items c.loop-waiting.outputs.items c.in_ok-outputs.outputs.items c.pop.new.self c.in-Some.waiting c.cut.new.self c.keep.new.arena (record { items = c.cut.ensures.items; binds = c.cut.ensures.binds })
     c.requires.pairs c.loop-waiting.invariant c.in-Some.ensures.items c.in_ok-outputs.ensures c.in-Done.made r
 
 pub loop-waiting-preserved : goal.loop-waiting-preserved
 loop-waiting-preserved c =
-    let m = modes_of c.args.rules.now in
-    let rs = rules_of c.args.rules.now in
+    let m = modes_of c.args.given.now.rules.now in
+    let rs = rules_of c.args.given.now.rules.now in
     let p = popped c.loop-waiting.reader c.pop.new.self c.cut.new.self c.keep.new.arena in
-    let r = subst (λ (os : List ℕ). IsResumed m rs c.args.pairs.now p c.resume.new.reader c.in-Some.waiting os (Done c.in-Done.made)) c.deref.ensures.value
-    (subst (IsResumed m rs c.args.pairs.now p c.resume.new.reader c.in-Some.waiting c.deref.result.now) c.in-Done.is c.in_ok-other.ensures) in
-    handing_more m rs c.args.pairs.now c.args.reader.now c.loop-waiting.reader c.resume.new.reader c.args.outputs.items c.loop-waiting.outputs.items c.in_ok-outputs.outputs.items c.pop.new.self c.in-Some.waiting c.cut.new.self c.keep.new.arena (record { items = c.cut.ensures.items; binds = c.cut.ensures.binds })
+    let r = subst (λ (os : List ℕ). IsResumed m rs c.args.given.now.pairs.now p c.resume.new.reader c.in-Some.waiting os (Done c.in-Done.made)) c.deref.ensures.value
+    (subst (IsResumed m rs c.args.given.now.pairs.now p c.resume.new.reader c.in-Some.waiting c.deref.result.now) c.in-Done.is c.in_ok-other.ensures) in
+    handing_more m rs c.args.given.now.pairs.now c.args.reader.now c.loop-waiting.reader c.resume.new.reader c.args.outputs.items c.loop-waiting.outputs.items c.in_ok-outputs.outputs.items c.pop.new.self c.in-Some.waiting c.cut.new.self c.keep.new.arena (record { items = c.cut.ensures.items; binds = c.cut.ensures.binds })
     c.requires.pairs c.loop-waiting.invariant c.in-Some.ensures.items c.in_ok-outputs.ensures c.in-Done.made r
 
 pub returns-in_default-2 : goal.returns-in_default-2
 returns-in_default-2 c =
-    let m = modes_of c.args.rules.now in
-    let rs = rules_of c.args.rules.now in
+    let m = modes_of c.args.given.now.rules.now in
+    let rs = rules_of c.args.given.now.rules.now in
     let p = popped c.loop-waiting.reader c.pop.new.self c.cut.new.self c.keep.new.arena in
-    handed_stop m rs c.args.pairs.now c.args.reader.now c.loop-waiting.reader c.resume.new.reader c.args.outputs.items c.loop-waiting.outputs.items c.in_ok-outputs.outputs.items c.pop.new.self c.in-Some.waiting c.cut.new.self c.keep.new.arena (record { items = c.cut.ensures.items; binds = c.cut.ensures.binds })
+    handed_stop m rs c.args.given.now.pairs.now c.args.reader.now c.loop-waiting.reader c.resume.new.reader c.args.outputs.items c.loop-waiting.outputs.items c.in_ok-outputs.outputs.items c.pop.new.self c.in-Some.waiting c.cut.new.self c.keep.new.arena (record { items = c.cut.ensures.items; binds = c.cut.ensures.binds })
     c.requires.pairs c.loop-waiting.invariant c.in-Some.ensures.items c.in_ok-outputs.ensures
-    c.in_ok-other.other (λ o e. c.in_default-2.not-Done o e) (subst (λ (os : List ℕ). IsResumed m rs c.args.pairs.now p c.resume.new.reader c.in-Some.waiting os c.in_ok-other.other) c.deref.ensures.value c.in_ok-other.ensures)
+    c.in_ok-other.other (λ o e. c.in_default-2.not-Done o e) (subst (λ (os : List ℕ). IsResumed m rs c.args.given.now.pairs.now p c.resume.new.reader c.in-Some.waiting os c.in_ok-other.other) c.deref.ensures.value c.in_ok-other.ensures)

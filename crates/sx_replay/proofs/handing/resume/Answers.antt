@@ -38,7 +38,7 @@ pub premises-requires-clause-reader : goal.premises-requires-clause-reader
 premises-requires-clause-reader c =
     let x = waits_at _ _ _ c.requires.waits _ c.rule_at-rule.ensures in
     let l = holds_at c.rule_at-rule.result.now.premises.items c.args.waiting.premise _ _ _ x.1 c.index.ensures c.in-Holds.is in
-    (bound_grows (modes_of c.args.rules.now) (rules_of c.args.rules.now) c.args.pairs.now c.args.reader.now c.args.waiting (rule_of c.rule_at-rule.result.now) (judgement_of c.in-Holds.judgement) c.args.outputs.now
+    (bound_grows (modes_of c.args.given.now.rules.now) (rules_of c.args.given.now.rules.now) c.args.given.now.pairs.now c.args.reader.now c.args.waiting (rule_of c.rule_at-rule.result.now) (judgement_of c.in-Holds.judgement) c.args.outputs.now
     c.requires.reader c.rule_at-rule.ensures l.1 c.fit_places.new.binds c.in_ok-fit-in-Holds.ensures.grows).reader
 
 pub returns-in-None : goal.returns-in-None
@@ -46,7 +46,7 @@ returns-in-None c =
     let x = waits_at _ _ _ c.requires.waits _ c.rule_at-rule.ensures in
     let l = holds_at c.rule_at-rule.result.now.premises.items c.args.waiting.premise _ _ _ x.1 c.index.ensures c.in-Holds.is in
     let s = c.args.reader.now in
-    resumed_none (modes_of c.args.rules.now) (rules_of c.args.rules.now) c.args.pairs.now s c.args.waiting (rule_of c.rule_at-rule.result.now) (judgement_of c.in-Holds.judgement) c.args.outputs.now
+    resumed_none (modes_of c.args.given.now.rules.now) (rules_of c.args.given.now.rules.now) c.args.given.now.pairs.now s c.args.waiting (rule_of c.rule_at-rule.result.now) (judgement_of c.in-Holds.judgement) c.args.outputs.now
     c.requires.reader c.rule_at-rule.ensures l.1 c.fit_places.new.binds c.in_ok-fit-in-Holds.ensures.grows
     ((λ i. match_all (outputs (sym c.roles.ensures i) (map tree (sym c.deref.ensures.value i))) (map (tree_at (reader_trees s)) c.args.outputs.now) (env_at (reader_envs s) c.args.waiting.env))
     ∙ (rw c.in-None.is at c.in_ok-fit-in-Holds.ensures.fit))
@@ -57,13 +57,13 @@ returns-in-Some c =
     let l = holds_at c.rule_at-rule.result.now.premises.items c.args.waiting.premise _ _ _ x.1 c.index.ensures c.in-Holds.is in
     let s = c.args.reader.now in
     let f = rw c.in-Some.is at c.in_ok-fit-in-Holds.ensures.fit in
-    ok_weaker _ _ (λ step p. resumed_more (modes_of c.args.rules.now) (rules_of c.args.rules.now) c.args.pairs.now s c.args.waiting (rule_of c.rule_at-rule.result.now) (judgement_of c.in-Holds.judgement) c.args.outputs.now
+    ok_weaker _ _ (λ step p. resumed_more (modes_of c.args.given.now.rules.now) (rules_of c.args.given.now.rules.now) c.args.given.now.pairs.now s c.args.waiting (rule_of c.rule_at-rule.result.now) (judgement_of c.in-Holds.judgement) c.args.outputs.now
     c.requires.reader c.rule_at-rule.ensures l.1 c.fit_places.new.binds c.in_ok-fit-in-Holds.ensures.grows c.premises.new.reader c.in-Some.env step
     ((λ i. match_all (outputs (sym c.roles.ensures i) (map tree (sym c.deref.ensures.value i))) (map (tree_at (reader_trees s)) c.args.outputs.now) (env_at (reader_envs s) c.args.waiting.env)) ∙ f.1) p)
     c.premises.result c.premises.ensures
 
 pub rule_at-rule-requires : goal.rule_at-rule-requires
-rule_at-rule-requires c = slice_get_within (rules_of c.args.rules.now) c.args.waiting.rule _ c.requires.waits.found
+rule_at-rule-requires c = slice_get_within (rules_of c.args.given.now.rules.now) c.args.waiting.rule _ c.requires.waits.found
 
 pub index-requires : goal.index-requires
 index-requires c =

@@ -4,4 +4,4 @@ use Rattle.sx_replay.proofs.Premised.{Reached}
 use Rattle.sx_replay.proofs.premise_loop.premises.Given as goal
 
 abbrev pub invariant-loop-k : goal.invariant-loop-k
-invariant-loop-k l = Reached (modes_of l.rules) (rules_of l.rules) l.pairs l.initial.reader (rule_of l.rule) l.env l.reader (drop l.from (map premise_of l.rule.premises.items)) (drop l.k (map premise_of l.rule.premises.items))
+invariant-loop-k l = Reached (modes_of l.given.rules.now) (rules_of l.given.rules.now) l.given.pairs.now l.initial.reader (rule_of l.rule) l.env l.reader (drop l.from (map premise_of l.rule.premises.items)) (drop l.k (map premise_of l.rule.premises.items))
