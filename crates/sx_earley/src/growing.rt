@@ -1,7 +1,7 @@
 //! What follows from one item.
 
 ghost use Rattle.std.specs.Prelude.{◌≡◌, ◌+◌, ◌≤◌, ◌<◌, ℕ, OnOk, Contains, [], ◌∷◌, Some, Err};
-ghost use Rattle.std.specs.Prelude.{length};
+ghost use Rattle.std.specs.Prelude.{length, IsTrue};
 ghost use Rattle.sx_grammar.specs.Grammar.{production_of};
 ghost use Rattle.sx_earley.specs.Growth.{Extends, Only};
 ghost use Rattle.sx_earley.specs.Shown.{plain, texts, tokens_of, AreBelow};
@@ -43,8 +43,24 @@ fn add(found: &mut IndexSet<Item>, item: Item) -> Result<(), ChartError>
     }
 }
 
-/// Adds the item, if it is not there, where hints may say that it is.
-fn add_hinted(found: &mut IndexSet<Item>, hints: &mut Hints, item: Item) -> Result<(), ChartError>
+/// Whether hints tell that the dot of the first item was moved over the second.
+fn is_known(found: &IndexSet<Item>, hints: &Hints, before: Item, filling: Item) -> bool
+    ensures { IsTrue result → Contains found.now.keys (moved before filling.end) }
+{
+    before.dot < usize::MAX
+        && hints.is_right(
+            found,
+            Item {
+                head: before.head,
+                dot: before.dot + 1,
+                origin: before.origin,
+                end: filling.end,
+            },
+        )
+}
+
+/// Adds the item, if it is not there, and notes its place.
+fn add_noted(found: &mut IndexSet<Item>, hints: &mut Hints, item: Item) -> Result<(), ChartError>
     requires { length found.old.keys ≤ 2000000 }
     ensures added { OnOk result (Contains found.new.keys item) }
     ensures extends { Extends found.old.keys found.new.keys }
@@ -52,9 +68,6 @@ fn add_hinted(found: &mut IndexSet<Item>, hints: &mut Hints, item: Item) -> Resu
     ensures few { OnOk result (length found.new.keys ≤ 2000000) }
     ensures hard { result ≡ Err ChartError.TooHard → 2000000 < length found.new.keys }
 {
-    if hints.is_right(found, item) {
-        return Ok(());
-    }
     let place = found.len();
     add(found, item)?;
     if place < found.len() {
@@ -206,6 +219,9 @@ fn join(
     ensures few { OnOk result (length found.new.keys ≤ 2000000) }
     ensures hard { result ≡ Err ChartError.TooHard → 2000000 < length found.new.keys }
 {
+    if is_known(found, hints, before, filling) {
+        return Ok(());
+    }
     match next_part(grammar, before.head, before.dot) {
         None => Ok(()),
         Some((sort, least)) => {
@@ -213,7 +229,7 @@ fn join(
                 && ends_at(grammar, filling.head, filling.dot)
                 && makes(grammar, filling.head, sort, least)
             {
-                add_hinted(
+                add_noted(
                     found,
                     hints,
                     Item {

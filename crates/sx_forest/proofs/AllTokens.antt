@@ -17,6 +17,7 @@ use Rattle.sx_forest.specs.Rows.{list_at}
 use Rattle.sx_forest.specs.Table.{IsFull}
 use Rattle.sx_forest.specs.Forests.{depth_in, IsMore, IsBy, IsShallow, IsUsable, IsFirstUsable, IsForkOf, IsParting, one_of, other_of}
 use Rattle.sx_forest.proofs.Counting.{KidOf, kid_reads, kid_fits, kid_tally}
+use Rattle.sx_forest.proofs.Using.{useful_at_end}
 use Rattle.sx_forest.proofs.Rows.{past_row}
 use Rattle.sx_forest.proofs.Whole.{covered}
 use Rattle.sx_forest.proofs.Usable.{none_or, deepest_of, times_none, only_usable}
@@ -65,7 +66,7 @@ module _ (g : Grammar) (tokens : List Token) (start : ℕ) (levels : HasLevels g
   -- each reading of all tokens is by a usable entry
   pub of_used : (r : Reading) → ReadsWhole g tokens start r → (i : ℕ) × (e : Entry) × (slice_get (list_at lists 0) i ≡ Some e) × Used e × Kid e r
   of_used r reads =
-      let c = covered g tokens start levels lists full (length tokens) r reads in
+      let c = covered g tokens start levels lists full (length tokens) r refl reads in
       let e = c.1 in
       let kid : Kid e r = subst (λ t. KidOf g tokens e.maker start 0 0 t r) (sym c.4) c.3 in
       let fits = kid_fits g tokens e.maker start 0 0 e.to r kid in
@@ -86,7 +87,11 @@ module _ (g : Grammar) (tokens : List Token) (start : ℕ) (levels : HasLevels g
 
   -- where no reading is too deep, none by a usable entry is
   pub used_shallow : ((r : Reading) → ReadsWhole g tokens start r → reading_depth r ≤ 1000) → (i : ℕ) (e : Entry) → slice_get (list_at lists 0) i ≡ Some e → Used e → IsShallow g tokens start 0 e
-  used_shallow bound i e at used = record { sound = full.table.sound 0 i e at; low = by_some (none_or (tally_of e.ways)) }
+  used_shallow bound i e at used = record {
+    sound = full.table.sound 0 i e at;
+    low = by_some (none_or (tally_of e.ways));
+    useful = useful_at_end g tokens e.maker e.to (ends_last e used);
+  }
     where
       by_some : (tally_of e.ways ≡ no_way) ⊎ (tally_of e.ways ≡ no_way → ⊥) → depth_in (tally_of e.ways) ≤ 1000
       by_some (inl none) = rw none (omega arith)

@@ -25,7 +25,7 @@ left_before {dot = zero} x e (later {x = y} {xs = xs} from_start) = subst (λ z.
 left_before {dot = suc dot} x e (later l) = later (left_before x e l)
 
 module _ (g : Grammar) (tokens : List Token) (start : ℕ) (levels : HasLevels g) (rank : ℕ → ℕ) (ranking : IsRanking g rank) (lists : List (Vec Entry)) (table : IsTable g tokens start lists)
-    (head : Head) (p : Production) (is : production_of g head ≡ Some p) (from to : ℕ) (has : HasBefore g tokens start rank lists from to (rank p.sort))
+    (head : Head) (p : Production) (is : production_of g head ≡ Some p) (from to : ℕ) (has : HasBefore g tokens start rank lists head from to (rank p.sort))
     (stretches : List Stretch) (spread : AreStretches g tokens lists head (length p.symbols) from to stretches) where
   -- a complete span has a reading
   span_reading : {other : Head} {full middle end sort least : ℕ} → Item g tokens start other full middle end → Makes g other sort least → AtEnd g other full →

@@ -7,6 +7,8 @@ pub mod Fits
 pub mod Pushing
 pub mod Summing
 pub mod Counting
+pub mod Using
+pub mod Sifting
 pub mod Rows
 pub mod Skipping
 pub mod Covering

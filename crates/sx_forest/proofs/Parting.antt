@@ -18,6 +18,7 @@ use Rattle.sx_forest.specs.Tallies.{tally_of, ways_at, IsLastRow}
 use Rattle.sx_forest.specs.Rows.{list_at}
 use Rattle.sx_forest.specs.Table.{IsTable, IsFull, IsSoundBy}
 use Rattle.sx_forest.specs.Forests.{IsMore, IsBy, IsShallow, IsUsable, IsFirstUsable, IsForkOf, IsApart, IsParting, one_of, other_of}
+use Rattle.sx_forest.proofs.Using.{useful_at_end}
 use Rattle.sx_forest.proofs.Counting.{KidOf, kid_reads, kid_fits, kid_tally, one_kid}
 use Rattle.sx_forest.proofs.Rows.{past_row}
 use Rattle.sx_forest.proofs.Whole.{covered}
@@ -87,7 +88,7 @@ module _ (g : Grammar) (tokens : List Token) (start : ℕ) (levels : HasLevels g
   pub whole_used : (r : Reading) → ReadsWhole g tokens start r →
       (i : ℕ) × (e : Entry) × (slice_get (list_at lists 0) i ≡ Some e) × KidOf g tokens e.maker start 0 0 e.to r × IsUsable g start 0 row 0 e
   whole_used r reads =
-      let h = covered g tokens start levels lists full (length tokens) r reads in
+      let h = covered g tokens start levels lists full (length tokens) r refl reads in
       let e = h.1 in
       let kid : KidOf g tokens e.maker start 0 0 e.to r = subst (λ q. KidOf g tokens e.maker start 0 0 q r) (sym h.4) h.3 in
       let fits = kid_fits g tokens e.maker start 0 0 e.to r kid in
@@ -135,7 +136,7 @@ module _ (g : Grammar) (tokens : List Token) (start : ℕ) (levels : HasLevels g
         (λ none. used.1 (ap (λ t. times t (ways_at row (e.to - 0))) none)) in
         let reads : ReadsWhole g tokens start kid.0 = subst (λ q. Reads g tokens start 0 0 q kid.0) (reads_to_end e used) (kid_reads g tokens e.maker start 0 0 e.to kid.0 kid.1) in
         let bound = low kid.0 reads in let deep = kid.2 in
-        record { sound = sound; low = omega arith }
+        record { sound = sound; low = omega arith; useful = useful_at_end g tokens e.maker e.to (reads_to_end e used) }
 
     pub whole_parting : (i : ℕ) (e : Entry) (fork : Fork) → slice_get (list_at lists 0) i ≡ Some e → IsUsable g start 0 row 0 e → IsForkOf g start 0 row 0 (list_at lists 0) i e (Some fork) → IsParting g tokens start 0 fork
     whole_parting i e fork at used h =

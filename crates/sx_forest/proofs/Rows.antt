@@ -24,7 +24,8 @@ use Rattle.sx_forest.specs.declared.entry.Entry.{Entry}
 use Rattle.sx_forest.specs.Tallies.{tally_of, tally_in, ways_at, IsLastRow}
 use Rattle.sx_forest.specs.Rows.{FitsPart, IsPlace, IsNext, IsIn, IsRow, list_at}
 use Rattle.sx_forest.specs.Table.{IsSoundBy, IsTable, HasBefore, IsRight}
-use Rattle.sx_forest.proofs.Counting.{makes_is, KidOf, part_counted}
+use Rattle.sx_forest.proofs.Counting.{makes_is, of_sort_is, KidOf, part_counted}
+use Rattle.sx_forest.proofs.Using.{kid_end}
 
 none_past : {X : Type 0} (xs : List X) (k : ℕ) → length xs ≤ k → slice_get xs k ≡ None
 none_past [] k long = refl
@@ -121,7 +122,7 @@ module _ (g : Grammar) (tokens : List Token) (start : ℕ) where
       rw k.1.0.1 (subst (λ x. HasSpan g sort (bracket k.1.0.0 place middle) (Bracketed x) place middle) (sym same) at_bracket)
 
   module _ (levels : HasLevels g) (rank : ℕ → ℕ) (ranking : IsRanking g rank) (lists : List (Vec Entry)) (table : IsTable g tokens start lists)
-      (head : Head) (p : Production) (is : production_of g head ≡ Some p) (from to : ℕ) (has : HasBefore g tokens start rank lists from to (rank p.sort)) where
+      (head : Head) (p : Production) (is : production_of g head ≡ Some p) (from to : ℕ) (has : HasBefore g tokens start rank lists head from to (rank p.sort)) where
     -- the symbols before a place
     before_left : {xs : List Symbol} {dot : ℕ} {rest : List Symbol} → Left xs dot rest → xs ≡ take dot xs ++ rest
     before_left from_start = refl
@@ -170,7 +171,8 @@ module _ (g : Grammar) (tokens : List Token) (start : ℕ) where
             let span = found g tokens start levels reads h.0 place middle low (λ other m. predicted item next m) (kid_span sort least place middle h.0 kid h.1) in
             let makes = h.1.0 in
             let before = kid_before head refl dot place middle sort least rest kid ks left item reads more in
-            let entry = has h.0 makes.production place middle makes.is span (item_forward item) (forward_all g tokens more) (subst (λ x. ComesBefore (middle - place) (rank x) (to - from) (rank p.sort)) (sym makes.same_sort) before) in
+            let entry = has h.0 makes.production place middle makes.is span (item_forward item) (forward_all g tokens more) (subst (λ x. ComesBefore (middle - place) (rank x) (to - from) (rank p.sort)) (sym makes.same_sort) before)
+            (kid_end g tokens head p is dot sort least rest left to middle ks more h.0 (of_sort_is g h.0 sort least makes)) in
             (entry.0, entry.1, entry.2, subst (λ m. KidOf g tokens m sort least place middle kid) (sym entry.3) h.1, entry.4)
 
     -- the ways at a place are those of the symbol's readings

@@ -129,7 +129,7 @@ depth_fits g tokens rank ranking many short sort from to r along within reads =
     omega arith
 
 module _ (g : Grammar) (tokens : List Token) (start : ℕ) (levels : HasLevels g) (rank : ℕ → ℕ) (ranking : IsRanking g rank) (lists : List (Vec Entry)) (table : IsTable g tokens start lists)
-    (head : Head) (p : Production) (is : production_of g head ≡ Some p) (from to : ℕ) (along : from ≤ to) (has : HasBefore g tokens start rank lists from to (rank p.sort)) where
+    (head : Head) (p : Production) (is : production_of g head ≡ Some p) (from to : ℕ) (along : from ≤ to) (has : HasBefore g tokens start rank lists head from to (rank p.sort)) where
   -- each row of a span is right
   pub rows_right : (stretches : List Stretch) (rows : List Row) → AreStretches g tokens lists head (length p.symbols) from to stretches →
       AreRows g tokens lists head (length p.symbols) (length p.symbols) from to stretches rows → (k dot : ℕ) → dot + k ≡ length p.symbols →

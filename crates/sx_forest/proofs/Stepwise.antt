@@ -25,9 +25,11 @@ use Rattle.sx_forest.specs.declared.step.Step.{Step}
 use Rattle.sx_forest.specs.declared.step.Step.TheVariants as steps
 use Rattle.sx_forest.specs.Tallies.{tally_of, ways_at}
 use Rattle.sx_forest.specs.Rows.{FitsPart, IsPlace, stretch_at, AreStretches, IsRow, AreRows, count_of, row_at, list_at}
+use Rattle.sx_forest.specs.Useful.{IsUsefulBy, useful_kid}
 use Rattle.sx_forest.specs.Table.{IsSoundBy, IsFull, IsRight}
 use Rattle.sx_forest.specs.Forests.{symbols_in, symbols_of, depth_in, IsMore, IsBy, IsShallow, IsOpened, row_from, IsAt, IsReadTo, IsUsable, IsFirstUsable, IsOver, IsStep, followed}
 use Rattle.sx_forest.proofs.Counting.{makes_is, KidOf, kid_reads, kid_tally, makes_low}
+use Rattle.sx_forest.proofs.Using.{kid_end}
 use Rattle.sx_forest.proofs.Rows.{past_row, row_there, item_forward, span_forward}
 use Rattle.sx_forest.proofs.Spans.{rows_right}
 use Rattle.sx_forest.proofs.Tabling.{all_later}
@@ -120,7 +122,7 @@ module _ (g : Grammar) (tokens : List Token) (start : ℕ) (levels : HasLevels g
   pub right : (dot : ℕ) (rest : List Symbol) → dot ≤ n → Left (symbols_of g o.head) dot rest → IsRight g tokens start o.head dot o.from o.to rest (row_from g o dot)
   right dot rest low left =
       let long : n ≡ length p.symbols = ap length symbols in
-      rows_right g tokens start levels rank ranking lists full.table o.head p is o.from o.to along (λ head q place end e span after within before. full.has head place end span)
+      rows_right g tokens start levels rank ranking lists full.table o.head p is o.from o.to along (λ other q place end e span after within before part_of. full.has other place end span (useful_kid opened.useful part_of))
       stretches o.rows.items spread are (n - dot) dot (omega arith) rest (subst (λ xs. Left xs dot rest) symbols left)
 
   -- the ways from a place by the symbol after the dot
@@ -238,7 +240,18 @@ module _ (g : Grammar) (tokens : List Token) (start : ℕ) (levels : HasLevels g
       slice_get (list_at lists place) index ≡ Some e → IsUsable g sort least (row_from g o (suc dot)) o.from e → IsShallow g tokens start place e
   kid_shallow dot place sort least index e kids symbol so there used =
       let less = kid_depth dot place sort least index e kids symbol so there used in let low = opened.low in
-      record { sound = full.table.sound place index e there; low = omega arith }
+      record { sound = full.table.sound place index e there; low = omega arith; useful = by_maker e.maker used.0 }
+    where
+      by_maker : (m : Maker) → FitsPart g m sort least → IsUsefulBy g tokens m e.to
+      by_maker (Variable other) fits = tt
+      by_maker (By head) fits =
+          let low : dot < n = slice_get_within (symbols_of g o.head) dot (part sort least) symbol in
+          let left = left_at (symbols_of g o.head) dot (part sort least) symbol in
+          let after = after_part dot place sort least index e symbol so.at there used in
+          let more = deepest_of (ReadsAll g tokens left.0 e.to o.to) readings_depth (ways_at (row_from g o (suc dot)) (e.to - o.from))
+          (right (suc dot) left.0 (omega arith) (past (part sort least) left.0 left.1) e.to after.item) after.some in
+          let own : Left p.symbols dot (part sort least ∷ left.0) = subst (λ xs. Left xs dot (part sort least ∷ left.0)) symbols left.1 in
+          useful_kid opened.useful (kid_end g tokens o.head p is dot sort least left.0 own o.to e.to more.0 more.1 head fits)
 
   -- one symbol more is read
   read_symbol : (dot place to : ℕ) (x : Symbol) (kids more : Readings) → slice_get (symbols_of g o.head) dot ≡ Some x → IsReadTo g tokens start o dot place kids → IsAt g tokens start o (suc dot) to →

@@ -8,7 +8,7 @@ use Rattle.sx_grammar.specs.Items.{Span}
 use Rattle.sx_grammar.specs.Order.{IsRanking, ComesBefore}
 use Rattle.sx_grammar.specs.Tally.{Tally}
 use Rattle.sx_earley.specs.declared.span.Span as plain
-use Rattle.sx_earley.specs.Completed.{IsChart, head_of, of_head}
+use Rattle.sx_earley.specs.Completed.{head_of, of_head}
 use Rattle.sx_earley.specs.declared.span.SpanOf.{SpanOf}
 use Rattle.sx_earley.specs.declared.span.SpanOf.TheVariants.{Node, Bracket}
 use Rattle.sx_grammar.specs.declared.head.Head.{Head}
@@ -20,8 +20,10 @@ use Rattle.sx_forest.specs.declared.entry.Maker.TheVariants.{Variable, By}
 use Rattle.sx_forest.specs.declared.entry.Entry.{Entry}
 use Rattle.sx_forest.specs.Tallies.{tally_of}
 use Rattle.sx_forest.specs.Rows.{list_at, AllLater}
+use Rattle.sx_forest.specs.Useful.{AreUseful, Keeps}
 use Rattle.sx_forest.specs.Table.{IsSoundBy, IsTable, HasEntry, HasBefore, IsPut, IsAdded, IsFirstTable, IsFull}
 use Rattle.sx_forest.specs.Ordering.{IsSoFar, AreOrdered, sort_in}
+use Rattle.sx_forest.proofs.Using.{kid_kept, useful_kept}
 use Rattle.sx_forest.proofs.Putting.{still_has, now_has, got_either}
 use Rattle.sx_forest.proofs.Rows.{span_forward}
 use Rattle.sx_forest.proofs.Spans.{span_sound}
@@ -110,9 +112,9 @@ index_of xs x there = (there.0, there.1, slice_get-get_or xs there.0 x there.1 �
 abbrev pub no_ordered : Ordered
 no_ordered = record { width = 0; rank = 0; span = record { of = Node 0; from = 0; to = 0 } }
 
--- what a chart has goes forward
-pub chart_forward : (g : Grammar) (tokens : List Token) (start : ℕ) (spans : List plain.Span) → IsChart g tokens start spans → (s : plain.Span) → Contains spans s → s.from ≤ s.to
-chart_forward g tokens start spans chart s there = span_forward g tokens start (head_of s.of) s.from s.to ((chart s).0 there)
+-- what is of use goes forward
+pub useful_forward : (g : Grammar) (tokens : List Token) (start : ℕ) (spans : List plain.Span) → AreUseful g tokens start spans → (s : plain.Span) → Contains spans s → s.from ≤ s.to
+useful_forward g tokens start spans useful s there = span_forward g tokens start (head_of s.of) s.from s.to ((useful.are s).0 there).0
 
 -- a head is the head of its span
 pub head_back : (head : Head) → head_of (of_head head) ≡ head
@@ -129,18 +131,21 @@ same_span a b heads froms tos =
     let of : a.of ≡ b.of = sym (of_back a.of) ∙ (ap of_head heads ∙ of_back b.of) in
     λ t. record { of = of t; from = froms t; to = tos t }
 
-module _ (g : Grammar) (tokens : List Token) (start : ℕ) (rank : ℕ → ℕ) (spans : List plain.Span) (chart : IsChart g tokens start spans)
+module _ (g : Grammar) (tokens : List Token) (start : ℕ) (rank : ℕ → ℕ) (spans : List plain.Span) (useful : AreUseful g tokens start spans)
     (list : List Ordered) (ordered : AreOrdered g rank spans list) where
   -- each of the list is a complete span
   pub span_at : (n : ℕ) (o : Ordered) → slice_get list n ≡ Some o → Span g tokens start (head_of o.span.of) o.span.from o.span.to
-  span_at n o at = (chart o.span).0 (ordered.only o (there_at list n o at)).0
+  span_at n o at = ((useful.are o.span).0 (ordered.only o (there_at list n o at)).0).0
 
-  -- a span is listed
-  listed : (head : Head) (from to : ℕ) → Span g tokens start head from to →
+  kept_at : (n : ℕ) (o : Ordered) → slice_get list n ≡ Some o → Keeps g useful.levels (head_of o.span.of) o.span.to
+  kept_at n o at = ((useful.are o.span).0 (ordered.only o (there_at list n o at)).0).1
+
+  -- a span that is kept is listed
+  listed : (head : Head) (from to : ℕ) → Span g tokens start head from to → Keeps g useful.levels head to →
       (i : ℕ) × (o : Ordered) × (slice_get list i ≡ Some o) × (head_of o.span.of ≡ head) × (o.span.from ≡ from) × (o.span.to ≡ to)
-  listed head from to span =
+  listed head from to span kept =
       let s : plain.Span = record { of = of_head head; from = from; to = to } in
-      let e = ordered.every s ((chart s).1 (subst (λ h. Span g tokens start h from to) (sym (head_back head)) span)) in
+      let e = ordered.every s ((useful.are s).1 (subst (λ h. Span g tokens start h from to × Keeps g useful.levels h to) (sym (head_back head)) (span, kept))) in
       let i = index_of list e.0 e.1 in
       (i.0, e.0, i.2, ap (λ x. head_of x.of) e.2 ∙ head_back head, ap (λ x. x.from) e.2, ap (λ x. x.to) e.2)
 
@@ -158,9 +163,9 @@ module _ (g : Grammar) (tokens : List Token) (start : ℕ) (rank : ℕ → ℕ) 
 
   -- the spans before a place are those that come before its span
   before_has : (lists : List (Vec Entry)) (n : ℕ) (o : Ordered) (p : Production) → slice_get list n ≡ Some o → production_of g (head_of o.span.of) ≡ Some p →
-      IsSoFar g tokens start list n lists → HasBefore g tokens start rank lists o.span.from o.span.to (rank p.sort)
-  before_has lists n o p at is so = λ head q place to is' span after within before.
-      let l = listed head place to span in
+      IsSoFar g tokens start list n lists → HasBefore g tokens start rank lists (head_of o.span.of) o.span.from o.span.to (rank p.sort)
+  before_has lists n o p at is so = λ head q place to is' span after within before part_of.
+      let l = listed head place to span (kid_kept g tokens useful.levels useful.met (head_of o.span.of) head o.span.to to (kept_at n o at) part_of) in
       let is'' : production_of g (head_of l.1.span.of) ≡ Some q = ap (production_of g) l.3 ∙ is' in
       let before' : ComesBefore (l.1.span.to - l.1.span.from) (rank q.sort) (o.span.to - o.span.from) (rank p.sort) = rw (l.4, l.5) before in
       let end : l.1.span.to ≤ o.span.to = omega (arith, l.5) in
@@ -236,8 +241,8 @@ module _ (g : Grammar) (tokens : List Token) (start : ℕ) (rank : ℕ → ℕ) 
   pub full_is : (lists : List (Vec Entry)) (n : ℕ) → n ≡ length list → IsSoFar g tokens start list n lists → IsFull g tokens start lists
   full_is lists n end so = record {
     table = so.table;
-    has = λ head from to span.
-        let l = listed head from to span in
+    has = λ head from to span of_use.
+        let l = listed head from to span (useful_kept g tokens useful.levels useful.met useful.short head to of_use span.1.0 span.1.1) in
         let within = slice_get_within list l.0 l.1 l.2 in
         let h = so.has l.0 l.1 (omega arith) l.2 in
         subst (λ x. HasEntry lists from (By x) to) l.3 (subst (λ x. HasEntry lists from (By (head_of l.1.span.of)) x) l.5

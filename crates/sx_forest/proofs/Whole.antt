@@ -11,6 +11,7 @@ use Rattle.sx_grammar.proofs.Deciding.{by_kind, part_read, nothing_read}
 use Rattle.sx_grammar.proofs.Completeness.{found}
 use Rattle.sx_forest.specs.declared.entry.Entry.{Entry}
 use Rattle.sx_forest.specs.Rows.{list_at, IsWholeWays}
+use Rattle.sx_forest.specs.Useful.{IsUseful, useful_whole}
 use Rattle.sx_forest.specs.Table.{IsFull}
 use Rattle.sx_forest.proofs.Counting.{KidOf, part_counted}
 use Rattle.sx_forest.proofs.Rows.{last_at, kid_span}
@@ -18,9 +19,9 @@ use Rattle.sx_forest.proofs.Spans.{single_tally}
 
 module _ (g : Grammar) (tokens : List Token) (start : ℕ) (levels : HasLevels g) (lists : List (Vec Entry)) (full : IsFull g tokens start lists) where
   -- each reading of all tokens is by an entry
-  pub covered : (middle : ℕ) (kid : Reading) → Reads g tokens start 0 0 middle kid →
+  pub covered : (middle : ℕ) (kid : Reading) → middle ≡ length tokens → Reads g tokens start 0 0 middle kid →
       (i : ℕ) × (e : Entry) × (slice_get (list_at lists 0) i ≡ Some e) × KidOf g tokens e.maker start 0 0 middle kid × (e.to ≡ middle)
-  covered middle kid reads = by_case (by_kind g tokens reads (omega arith))
+  covered middle kid end reads = by_case (by_kind g tokens reads (omega arith))
     where
       by_case : (Marked tokens 0 (is_variable (of_sort start)) × (middle ≡ suc 0) × (kid ≡ variable 0)) ⊎ ((h : Head) × ReadsAt g tokens start 0 0 middle h kid) →
           (i : ℕ) × (e : Entry) × (slice_get (list_at lists 0) i ≡ Some e) × KidOf g tokens e.maker start 0 0 middle kid × (e.to ≡ middle)
@@ -29,7 +30,7 @@ module _ (g : Grammar) (tokens : List Token) (start : ℕ) (levels : HasLevels g
           (entry.0, entry.1, entry.2, subst (λ m. KidOf g tokens m start 0 0 middle kid) (sym entry.3) (refl, v), entry.4 ∙ sym v.1)
       by_case (inr h) =
           let span = found g tokens start levels reads h.0 0 middle (omega arith) (λ other m. started m) (kid_span g tokens start start 0 0 middle h.0 kid h.1) in
-          let entry = full.has h.0 0 middle span in
+          let entry = full.has h.0 0 middle span (subst (λ t. IsUseful g tokens h.0 t) (sym end) useful_whole) in
           (entry.0, entry.1, entry.2, subst (λ m. KidOf g tokens m start 0 0 middle kid) (sym entry.3) h.1, entry.4)
 
   -- the tally of the readings of all tokens
@@ -39,7 +40,7 @@ module _ (g : Grammar) (tokens : List Token) (start : ℕ) (levels : HasLevels g
       let Q = ReadsAll g tokens (part start 0 ∷ []) 0 n in
       let all : IsTally Q readings_depth t =
       part_counted g tokens start start 0 0 0 n [] w.row (list_at lists 0) (full.table.sound 0) (full.table.once 0)
-      (λ i e at fits. last_at g tokens start 0 n e.to w.row (omega arith) w.last (omega arith)) t w.sum (λ middle kid ks reads more. covered middle kid reads) in
+      (λ i e at fits. last_at g tokens start 0 n e.to w.row (omega arith) w.last (omega arith)) t w.sum (λ middle kid ks reads more. covered middle kid (sym (nothing_read g tokens more).0) reads) in
       tally_same (λ r. Q (r ▸ done)) (ReadsWhole g tokens start) reading_depth t (λ r q. alone r q) (λ r reads. by_part reads all_read)
       (single_tally Q (λ ks q. one_kid ks q) t all)
     where

@@ -24,6 +24,7 @@ use Rattle.sx_forest.specs.declared.forest.Forest.{Forest}
 use Rattle.sx_forest.specs.declared.opened.Opened.{Opened}
 use Rattle.sx_forest.specs.Tallies.{tally_of, ways_at}
 use Rattle.sx_forest.specs.Rows.{FitsPart, AreSpanRows, row_at, list_at}
+use Rattle.sx_forest.specs.Useful.{IsUseful, IsUsefulBy}
 use Rattle.sx_forest.specs.Table.{IsFull, IsSoundBy}
 
 -- the symbols of a production, or none
@@ -63,7 +64,7 @@ tokens_in f = tokens_of f.grammar.now f.shown.now
 abbrev pub lists_in : Forest → List (Vec Entry)
 lists_in f = f.table.now.lists.items
 
--- the table is that of all complete spans, by a grammar whose sorts have ranks
+-- the table is that of the complete spans that are of use, by a grammar whose sorts have ranks
 pub record IsForest (f : Forest) : Type 0 where
   pub short : length f.shown.now ≤ 10000
   pub below : AreBelow (length (texts f.grammar.now)) f.shown.now
@@ -71,16 +72,18 @@ pub record IsForest (f : Forest) : Type 0 where
   pub ranked : (rank : ℕ → ℕ) × IsRanking (grammar_in f) rank
   pub full : IsFull (grammar_in f) (tokens_in f) f.start (lists_in f)
 
--- the entry's readings are counted, and none is deeper than 1,000
+-- the entry's readings are counted, none is deeper than 1,000, and it is of use
 pub record IsShallow (g : Grammar) (tokens : List Token) (start from : ℕ) (e : Entry) : Type 0 where
   pub sound : IsSoundBy g tokens start e.maker from e.to (tally_of e.ways)
   pub low : depth_in (tally_of e.ways) ≤ 1000
+  pub useful : IsUsefulBy g tokens e.maker e.to
 
 -- so it is of the span, and the rows are those of its symbols
 pub record IsOpened (g : Grammar) (tokens : List Token) (start : ℕ) (lists : List (Vec Entry))
     (o : Opened) : Type 0 where
   pub sound : IsSoundBy g tokens start (By o.head) o.from o.to (tally_of o.ways)
   pub low : depth_in (tally_of o.ways) ≤ 1000
+  pub useful : IsUseful g tokens o.head o.to
   pub rows : AreSpanRows g tokens lists o.head o.from o.to o.rows.items
 
 -- the row of the symbols from the dot on

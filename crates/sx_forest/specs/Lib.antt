@@ -6,6 +6,7 @@ pub mod Places
 pub mod Fitting
 pub mod Rows
 pub mod Reached
+pub mod Useful
 pub mod Table
 pub mod Ordering
 pub mod Verdict

@@ -1,4 +1,4 @@
--- The table of the tallies of all complete spans.
+-- The table of the tallies of the complete spans that are of use.
 use Rattle.std.specs.Prelude.{suc, ◌≡◌, ◌<◌, ◌≤◌, ℕ, ◌+◌, ◌-◌, ◌++◌, List, [], ◌∷◌, Some, length}
 use Rattle.std.specs.Prelude.{slice_get}
 use Rattle.std.specs.Global.{Vec}
@@ -18,6 +18,7 @@ use Rattle.sx_forest.specs.declared.entry.Maker.TheVariants.{Variable, By}
 use Rattle.sx_forest.specs.declared.entry.Entry.{Entry}
 use Rattle.sx_forest.specs.Tallies.{tally_of, ways_at}
 use Rattle.sx_forest.specs.Rows.{list_at, AllSorted, IsSpanWays}
+use Rattle.sx_forest.specs.Useful.{IsKidEnd, IsUseful}
 
 -- the readings by the maker between these places are counted
 abbrev pub IsSoundBy : Grammar → List Token → (start : ℕ) → Maker → (place to : ℕ) → Tally → Type 0
@@ -51,21 +52,22 @@ pub record IsTable (g : Grammar) (tokens : List Token) (start : ℕ)
       (head : Head) × (e.maker ≡ By head)
   pub sorted : AllSorted lists
 
--- the table has an entry for each complete span
+-- the table has an entry for each complete span that is of use
 pub record IsFull (g : Grammar) (tokens : List Token) (start : ℕ)
     (lists : List (Vec Entry)) : Type 0 where
   pub table : IsTable g tokens start lists
   pub has : (head : Head) (from to : ℕ) → Span g tokens start head from to →
-      HasEntry lists from (By head) to
+      IsUseful g tokens head to → HasEntry lists from (By head) to
 
--- each complete span inside these places that comes before has an entry
+-- each complete span inside these places that comes before, and that what the head reads up to the
+-- last may have as a part, has an entry
 abbrev pub HasBefore : Grammar → List Token → (start : ℕ) → (rank : ℕ → ℕ) → List (Vec Entry) →
-    (from to sort_rank : ℕ) → Type 0
-HasBefore g tokens start rank lists from to sort_rank =
-    (head : Head) (q : Production) (place end : ℕ) → production_of g head ≡ Some q →
-    Span g tokens start head place end → from ≤ place → end ≤ to →
+    Head → (from to sort_rank : ℕ) → Type 0
+HasBefore g tokens start rank lists head from to sort_rank =
+    (other : Head) (q : Production) (place end : ℕ) → production_of g other ≡ Some q →
+    Span g tokens start other place end → from ≤ place → end ≤ to →
     ComesBefore (end - place) (rank q.sort) (to - from) sort_rank →
-    HasEntry lists place (By head) end
+    IsKidEnd g tokens head to other end → HasEntry lists place (By other) end
 
 -- the row has the tally of the readings of the symbols from each place that the items reach
 abbrev pub IsRight : Grammar → List Token → (start : ℕ) → Head → (dot from to : ℕ) → List Symbol →

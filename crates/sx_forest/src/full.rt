@@ -1,4 +1,4 @@
-//! The table of all complete spans.
+//! The table of the complete spans that can be of use.
 
 ghost use Rattle.std.specs.Prelude.{◌≤◌, ◌<◌, OnOk, IfOk, length};
 ghost use Rattle.sx_grammar.specs.Order.{IsRanking, rank_at};
@@ -13,6 +13,7 @@ use crate::entry::{Entry, Maker};
 use crate::first_entries::first_entries;
 use crate::in_order::{head_of, in_order};
 use crate::span_rows::span_ways;
+use crate::useful::useful_spans;
 use std::alloc::Global;
 use sx_earley::{Shown, Span};
 use sx_grammar::Grammar;
@@ -47,7 +48,8 @@ fn add_span(
     )
 }
 
-/// The table of all complete spans: the entries of the spans, and those of metavariables.
+/// The table of the complete spans that can be of use: the entries of the spans, and those of
+/// metavariables.
 pub(crate) fn fill(
     alloc: Global,
     grammar: &Grammar,
@@ -66,7 +68,9 @@ pub(crate) fn fill(
         (tokens_of grammar.now shown.now) _start t.lists.items) }
 {
     grammar.facts();
-    let ordered = in_order(alloc, grammar, ranks, spans)?;
+    let useful = useful_spans(alloc, grammar, _start, shown, spans)?;
+    let ordered = in_order(alloc, grammar, ranks, &useful)?;
+    drop(useful);
     let mut table = first_entries(alloc, shown)?;
     for item in &ordered {
         add_span(alloc, grammar, shown, &mut table, item.span)?;

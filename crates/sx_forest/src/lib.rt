@@ -29,6 +29,7 @@ mod in_order;
 mod judge;
 mod judged;
 mod laws;
+mod levels;
 mod narrowing;
 mod opened;
 mod ordered;
@@ -49,6 +50,8 @@ mod stretch;
 mod stripping;
 mod symbol_ways;
 mod text_order;
+mod useful;
+mod wanted;
 mod ways;
 mod writing;
 

@@ -5,22 +5,23 @@ use Rattle.sx_grammar.specs.Items.{Span}
 use Rattle.sx_grammar.specs.Parts.{numbered_line, names}
 use Rattle.sx_earley.specs.Completed.{head_of}
 use Rattle.sx_earley.specs.Shown.{plain, texts, token_of, tokens_of}
+use Rattle.sx_forest.specs.Useful.{AreUseful}
 use Rattle.sx_forest.specs.Table.{IsFirstTable}
 use Rattle.sx_forest.specs.Ordering.{AreOrdered}
 use Rattle.sx_grammar.specs.Order.{rank_at}
 use Rattle.sx_forest.proofs.Rows.{span_forward, span_within}
-use Rattle.sx_forest.proofs.Tabling.{no_ordered, chart_forward, span_at, so_far_on, so_far_first, full_is, all_later}
+use Rattle.sx_forest.proofs.Tabling.{no_ordered, useful_forward, span_at, so_far_on, so_far_first, full_is, all_later}
 use Rattle.sx_forest.proofs.full.fill.Goals as goal
 
 pub in_order-requires-clause-along : goal.in_order-requires-clause-along
-in_order-requires-clause-along c = chart_forward (plain c.args.grammar.now) (tokens_of c.args.grammar.now c.args.shown.now) c.args._start c.args.spans.now c.requires.chart
+in_order-requires-clause-along c = useful_forward (plain c.args.grammar.now) (tokens_of c.args.grammar.now c.args.shown.now) c.args._start c.deref.result.now (subst (AreUseful (plain c.args.grammar.now) (tokens_of c.args.grammar.now c.args.shown.now) c.args._start) (sym c.deref.ensures.value) c.in_ok-useful.ensures.are)
 
 pub loop-item-init : goal.loop-item-init
 loop-item-init c =
     let gr = plain c.args.grammar.now in let ts = tokens_of c.args.grammar.now c.args.shown.now in
     let long : length ts ≡ length c.args.shown.now = length-map c.args.shown.now (token_of (texts c.args.grammar.now)) in
-    so_far_first gr ts c.args._start (rank_at c.args.ranks.now) c.args.spans.now c.requires.chart c.deref-item-items.result.now
-    (subst (λ l. AreOrdered gr (rank_at c.args.ranks.now) c.args.spans.now l) (sym c.deref-item-items.ensures.value) c.in_ok-ordered.ensures)
+    so_far_first gr ts c.args._start (rank_at c.args.ranks.now) c.deref.result.now (subst (AreUseful (plain c.args.grammar.now) (tokens_of c.args.grammar.now c.args.shown.now) c.args._start) (sym c.deref.ensures.value) c.in_ok-useful.ensures.are) c.deref-item-items.result.now
+    (subst (λ l. AreOrdered gr (rank_at c.args.ranks.now) c.deref.result.now l) (sym c.deref-item-items.ensures.value) c.in_ok-ordered.ensures)
     c.in_ok-table.table.lists.items
     (subst (λ n. IsFirstTable ts (n + 1) c.in_ok-table.table.lists.items) (sym long) (c.in_ok-table.ensures c.args.grammar.now))
 
@@ -29,8 +30,8 @@ span_here : (c : goal.After-add_span-arg-1) → let o = get_or c.deref-item-item
     Span (plain c.args.grammar.now) (tokens_of c.args.grammar.now c.args.shown.now) c.args._start (head_of o.span.of) o.span.from o.span.to
 span_here c =
     let gr = plain c.args.grammar.now in let ts = tokens_of c.args.grammar.now c.args.shown.now in
-    span_at gr ts c.args._start (rank_at c.args.ranks.now) c.args.spans.now c.requires.chart c.deref-item-items.result.now
-    (subst (λ l. AreOrdered gr (rank_at c.args.ranks.now) c.args.spans.now l) (sym c.deref-item-items.ensures.value) c.in_ok-ordered.ensures)
+    span_at gr ts c.args._start (rank_at c.args.ranks.now) c.deref.result.now (subst (AreUseful (plain c.args.grammar.now) (tokens_of c.args.grammar.now c.args.shown.now) c.args._start) (sym c.deref.ensures.value) c.in_ok-useful.ensures.are) c.deref-item-items.result.now
+    (subst (λ l. AreOrdered gr (rank_at c.args.ranks.now) c.deref.result.now l) (sym c.deref-item-items.ensures.value) c.in_ok-ordered.ensures)
     c.loop-item.item-index (get_or c.deref-item-items.result.now c.loop-item.item-index no_ordered)
     (slice_get-get_or c.deref-item-items.result.now c.loop-item.item-index no_ordered c.loop-item-test.true)
 
@@ -72,8 +73,8 @@ loop-item-preserved c =
     let long : length ts ≡ length c.args.shown.now = length-map c.args.shown.now (token_of (texts c.args.grammar.now)) in
     let many : length gr.productions ≡ length c.args.grammar.now.parts.productions = length-map c.args.grammar.now.parts.productions (numbered_line (names c.args.grammar.now.parts)) in
     let n = c.loop-item.item-index in let s = c.requires.short in
-    so_far_on gr ts c.args._start (rank_at c.args.ranks.now) c.args.spans.now c.requires.chart c.deref-item-items.result.now
-    (subst (λ l. AreOrdered gr (rank_at c.args.ranks.now) c.args.spans.now l) (sym c.deref-item-items.ensures.value) c.in_ok-ordered.ensures)
+    so_far_on gr ts c.args._start (rank_at c.args.ranks.now) c.deref.result.now (subst (AreUseful (plain c.args.grammar.now) (tokens_of c.args.grammar.now c.args.shown.now) c.args._start) (sym c.deref.ensures.value) c.in_ok-useful.ensures.are) c.deref-item-items.result.now
+    (subst (λ l. AreOrdered gr (rank_at c.args.ranks.now) c.deref.result.now l) (sym c.deref-item-items.ensures.value) c.in_ok-ordered.ensures)
     c.loop-item.table.lists.items c.add_span.new.table.lists.items n (get_or c.deref-item-items.result.now n no_ordered) c.facts.ensures.levels c.requires.ranking
     (omega (arith, many, c.facts.ensures.limits.productions))
     (omega arith) (slice_get-get_or c.deref-item-items.result.now n no_ordered c.loop-item-test.true) c.loop-item.invariant c.in_ok-add_span.ensures
@@ -81,6 +82,6 @@ loop-item-preserved c =
 pub returns : goal.returns
 returns c =
     let gr = plain c.args.grammar.now in let ts = tokens_of c.args.grammar.now c.args.shown.now in
-    full_is gr ts c.args._start (rank_at c.args.ranks.now) c.args.spans.now c.requires.chart c.deref-item-items.result.now
-    (subst (λ l. AreOrdered gr (rank_at c.args.ranks.now) c.args.spans.now l) (sym c.deref-item-items.ensures.value) c.in_ok-ordered.ensures)
+    full_is gr ts c.args._start (rank_at c.args.ranks.now) c.deref.result.now (subst (AreUseful (plain c.args.grammar.now) (tokens_of c.args.grammar.now c.args.shown.now) c.args._start) (sym c.deref.ensures.value) c.in_ok-useful.ensures.are) c.deref-item-items.result.now
+    (subst (λ l. AreOrdered gr (rank_at c.args.ranks.now) c.deref.result.now l) (sym c.deref-item-items.ensures.value) c.in_ok-ordered.ensures)
     c.loop-item.table.lists.items c.loop-item.item-index (omega arith) c.loop-item.invariant
