@@ -29,3 +29,5 @@ pub mod RootTerms
 pub mod RootLowered
 pub mod Expansion
 pub mod RewrittenAlike
+pub mod BoxNodes
+pub mod BoxedKids

@@ -92,7 +92,7 @@ given-stands list i x n (given s) l same is (rest, d) =
     let g : s ≡ n = cc in ap given g
 
 -- the one row and then the other
-abbrev joined : Proofs → Proofs → Proofs
+abbrev pub joined : Proofs → Proofs → Proofs
 joined no_more qs = qs
 joined (p ⊳ ps) qs = p ⊳ joined ps qs
 

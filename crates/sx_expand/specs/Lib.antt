@@ -17,3 +17,4 @@ pub mod ReadDerivations
 pub mod ReadNodes
 pub mod Roots
 pub mod Expansions
+pub mod Boxes

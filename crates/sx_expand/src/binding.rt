@@ -3,16 +3,18 @@
 ghost use Rattle.std.specs.Prelude.{◌≡◌, ℕ, ◌<◌, List, IfOk, OnOk, Some, length, map};
 ghost use Rattle.sx_term.specs.Tree.{Tree};
 ghost use Rattle.sx_rules.specs.Deep.{AreShallow};
+ghost use Rattle.sx_rules.specs.Instances.{instance};
 ghost use Rattle.sx_rules.specs.Modes.{inputs_of, outputs_of};
 ghost use Rattle.sx_arena.specs.Arena.{trees, tree_at, IsArena, AreBelow};
 ghost use Rattle.sx_arena.specs.Limits.{first_values};
 ghost use Rattle.sx_arena.specs.Matching.{Assignment, unbound, match_all, filled, IsBound};
+ghost use Rattle.sx_arena.specs.Places.{selected, AreHeld};
 ghost use Rattle.sx_arena.specs.Views.{judgement_of, rule_of, modes_of};
 ghost use Rattle.sx_expand.specs.Followed.{IsWork, bindings_of};
 
 use crate::work::Work;
 use std::alloc::Global;
-use sx_arena::{Arena, Binds, fit_places, roles};
+use sx_arena::{Arena, Binds, fit_places, make_places, roles};
 use sx_rules::{Judgement, Rule, RuleSet};
 use sx_term::NoMemory;
 
@@ -89,6 +91,35 @@ pub(crate) fn take_outputs(
         }
         None => unreachable!(),
     }
+}
+
+/// The numbers of the outputs of the judgement, or else of its inputs, where its variables are
+/// bound as at the node in work.
+pub(crate) fn places_under(
+    alloc: Global,
+    rules: &RuleSet,
+    arena: &mut Arena,
+    work: &Work,
+    it: &Judgement,
+    outputs: bool,
+) -> Result<Vec<usize>, NoMemory>
+    requires arena { IsArena arena.old }
+    requires work { IsWork (trees arena.old) work.now }
+    requires shallow { AreShallow (judgement_of it.now).places }
+    ensures { IfOk result (λ x. AreHeld arena.old arena.new x.items
+        (selected outputs (modes_of rules.now it.now.form)
+        (map (instance (filled (bindings_of (trees arena.old) work.now)))
+        (judgement_of it.now).places))) }
+{
+    make_places(
+        alloc,
+        arena,
+        &work.binds,
+        work.env,
+        roles(rules, it.form),
+        outputs,
+        &it.places,
+    )
 }
 
 /// The numbers of the terms to which the first so many variables are bound.

@@ -69,7 +69,7 @@ pub fn expand(
 
 /// The same of a derivation by the plain rules of the set, from base hypotheses that each have a
 /// term for each place of their form, and no term that passes a limit.
-/// Nothing calls it yet: the check of an extension's rules is to, for their certificates.
+/// The check of an extension's rules calls it, for their certificates.
 pub fn expand_open(
     alloc: Global,
     set: &Accepted,

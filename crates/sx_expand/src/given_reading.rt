@@ -64,7 +64,7 @@ pub(crate) fn read_given(
 }
 
 /// The hypothesis with the number.
-fn given_at(given: &Hyps, number: u32) -> &Judgement
+pub(crate) fn given_at(given: &Hyps, number: u32) -> &Judgement
     requires { (j : known.Judgement)
         × (slice_get (map judgement given.now.holds.items) number ≡ Some j) }
     ensures { slice_get (map judgement given.now.holds.items) number

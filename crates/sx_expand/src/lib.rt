@@ -10,6 +10,8 @@
 //! - A node is lowered by the numbers of its terms and of its kids' subjects (`lower_node`): its
 //!   variables get plain images and subjects by number, its limits are told by measures, and of
 //!   its terms the subject alone is made.
+//! - `derivation_of` makes the derivation of a judgement in boxes from its list, once. It is read
+//!   as below, and the terms that are bound at each node are taken out by their numbers.
 //! - A derivation is read from its list by the numbers of its inputs (`read_node`): what these
 //!   bind, its kids one after another, and then the node. What is not needed is not lowered. A
 //!   hypothesis is read by its own terms, which are base (`read_given`).
@@ -19,6 +21,9 @@
 #![tactic(auto)]
 
 mod binding;
+mod box_binding;
+mod boxing;
+mod cursor;
 mod emission;
 mod ends;
 mod expanded;
@@ -34,10 +39,14 @@ mod list_lowering;
 mod listing;
 mod lower_node;
 mod lowered_list;
+mod made;
 mod node;
 mod node_binding;
+mod node_boxing;
+mod node_ends;
 mod node_limits;
 mod node_reading;
+mod origin;
 mod put_node;
 mod put_number;
 mod put_numbers;
@@ -49,6 +58,7 @@ mod subject_number;
 mod tallying;
 mod work;
 
+pub use boxing::derivation_of;
 pub use expanded::Expanded;
 pub use expanding::{expand, expand_open};
 pub use laws::{

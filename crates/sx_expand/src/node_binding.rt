@@ -14,14 +14,14 @@ ghost use Rattle.sx_expand.specs.ReadNodes.{NodeData, IsNodeIn, AreFollowed, Kid
 ghost use Rattle.sx_expand.specs.Readers.{terms_in, IsReader, GoesOn};
 ghost use Rattle.sx_expand.specs.Readings.{IsReading, set_by, signature_by};
 
-use crate::binding::{input_work, take_outputs};
+use crate::binding::{input_work, places_under, take_outputs};
 use crate::kid::Kid;
 use crate::node::Node;
 use crate::reader::Reader;
 use crate::reading::Reading;
 use crate::work::Work;
 use std::alloc::Global;
-use sx_arena::{make_places, roles, rule_at};
+use sx_arena::rule_at;
 use sx_term::NoMemory;
 
 /// What the inputs of a node bind, which are the terms with these numbers.
@@ -68,15 +68,13 @@ pub(crate) fn kid_inputs(
         AreInputs reading.now (terms_in reader.new) x.items
         (judgement_instance (bound_by d.binds) (judgement kid.now.premise.now))) }
 {
-    let rules = reading.rules;
-    make_places(
+    places_under(
         alloc,
+        reading.rules,
         &mut reader.arena,
-        &work.binds,
-        work.env,
-        roles(rules, kid.premise.form),
+        work,
+        kid.premise,
         false,
-        &kid.premise.places,
     )
 }
 
@@ -132,13 +130,12 @@ pub(crate) fn node_outputs(
     let rules = reading.rules;
     rules.facts();
     let rule = rule_at(rules, node.number);
-    make_places(
+    places_under(
         alloc,
+        rules,
         &mut reader.arena,
-        &work.binds,
-        work.env,
-        roles(rules, rule.conclusion.form),
+        work,
+        &rule.conclusion,
         true,
-        &rule.conclusion.places,
     )
 }

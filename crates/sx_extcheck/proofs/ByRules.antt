@@ -6,14 +6,14 @@ use Rattle.sx_term.specs.Sorts.{Shape, HaveSorts}
 use Rattle.sx_term.specs.Tree.{Tree}
 use Rattle.sx_rules.specs.Deep.{AreShallow}
 use Rattle.sx_rules.specs.declared.rule.Hyps.{Hyps}
-use Rattle.sx_rules.specs.ProofView.{proof}
 use Rattle.sx_rules.specs.Derivations.{Proof, Derives, height_of, HasShallowBinds}
 use Rattle.sx_rules.specs.Discipline.{subjects_of}
-use Rattle.sx_rules.specs.First.{IsFirst}
-use Rattle.sx_rules.specs.Modes.{outputs}
+use Rattle.sx_rules.specs.First.{DerivesGoal, IsFirst}
+use Rattle.sx_rules.specs.Modes.{Goal, outputs}
+use Rattle.sx_rules.specs.Orders.{Entry, order_of}
 use Rattle.sx_rules.specs.Rules.{Rule, Judgement, Hypotheses}
 use Rattle.sx_rules.specs.Sets.{forms_in, shapes_in, bare_rules_in}
-use Rattle.sx_rules.specs.Views.{modes_of, subjects_in, hypotheses, judgement}
+use Rattle.sx_rules.specs.Views.{modes_of, subjects_in, hypotheses, goal as goal_view}
 use Rattle.sx_rules.proofs.Moded.{judgement_known}
 use Rattle.sx_rules.proofs.Sorted.{inputs-sorted, outputs-sorted}
 use Rattle.sx_plain.specs.Plain.{Table}
@@ -29,7 +29,8 @@ use Rattle.sx_rewrite.specs.Extensions.{with_table, BodyFits}
 use Rattle.sx_rewrite.specs.ExtensionView.{ext_rule}
 use Rattle.sx_rewrite.specs.PlainRules.{plain_of}
 use Rattle.sx_rewrite.specs.Rewrites.{CanRewrite, AreGood}
-use Rattle.sx_rewrite.specs.RewrittenView.{rewritten, IsRewriting}
+use Rattle.sx_rewrite.specs.Rewriting.{Rewritten, IsRewritten}
+use Rattle.sx_rewrite.specs.RewrittenView.{IsRewriting}
 use Rattle.sx_rewrite.specs.RewritingLaws.{IsGoodRewriting}
 use Rattle.sx_rewrite.specs.Sound.{flat_given, flat_goal}
 use Rattle.sx_rewrite.proofs.FlatSorted.{flat_forms_are_sorted}
@@ -38,6 +39,8 @@ use Rattle.sx_rewrite.proofs.Rewriting.{rewriting_is_good}
 use Rattle.sx_rewrite.proofs.Checks.{flat_premises_are_base, flat_goals_stay, found_checks_can_be_rewritten, checks_are_rewritten_alike}
 use Rattle.sx_rewrite.proofs.LongerTables.{plain_rules_stay}
 use Rattle.sx_rewrite.proofs.PlainSets.{plain_rules_are_accepted}
+use Rattle.sx_expand.specs.Boxes.{HasList}
+use Rattle.sx_expand.specs.Expansions.{IsListedFrom}
 use Rattle.sx_extcheck.specs.declared.checking.Checking.{Checking}
 use Rattle.sx_extcheck.specs.declared.flat_goal.FlatGoal.{FlatGoal}
 use Rattle.sx_extcheck.specs.Checks.{has_base_syntax, by_base, search_for}
@@ -107,6 +110,18 @@ module _ (k : Checking) (e : ExtRuleOf) (given : Hyps) (goal : FlatGoal) (flat :
           subst (λ (x : Hypotheses). CanRewrite (plain_of a) x p) (sym flat.premises)
           (found_checks_can_be_rewritten (signature k.set.now) (shapes_in k.set.now.base) (shapes_in k.set.now.rules) flat.can.all a table (ext_rule e) flat.can.after (p, outs) first h b)
 
+      -- its list
+      pub plain-listed : (list : List Entry) → list ≡ order_of p → height_of p ≤ 3000 → HasShallowBinds p → AreShallow outs →
+          IsListedFrom (signature k.set.now).modes (plain_of a) (hypotheses given) (goal_view goal.goal) list (p, outs)
+      plain-listed list e low binds near = record {
+        derives =
+            subst (λ (x : Hypotheses). DerivesGoal search.modes (rules_of (plain_of a)) x (goal_view goal.goal) (p, outs)) (sym flat.premises)
+            (subst (λ (g : Goal). DerivesGoal search.modes (rules_of (plain_of a)) search.hyps g (p, outs)) (sym flat.conclusion) first.derives);
+        list_is = e;
+        rewritable = plain-rewrites low binds;
+        near = near;
+      }
+
       pub plain-alike : (budget : ℕ) (result : Result Lowered RewriteError) →
           IsRewriting (plain_of a) (signature k.set.now).subjects (hypotheses given) p budget result →
           IsRewriting (plain_of (with_table a table)) (signature k.set.now).subjects search.hyps p budget result
@@ -155,8 +170,8 @@ module _ (k : Checking) (e : ExtRuleOf) (given : Hyps) (goal : FlatGoal) (flat :
   longer_set : IsAccepted sig base flat.can.all (with_table own plain_table)
   longer_set = longer sig base shapes flat.can.all own plain_table flat.can.after.accepted flat.can.after.goes_on
 
-  module _ (budget : ℕ) (x : Lowered) (h : IsRewriting (plain_of own) sig.subjects (hypotheses given) p budget (Ok x)) where
-    good : IsGoodRewriting sig base (plain_of own) (flat_given plain_table sig.subjects ext) ext.rule.sorts budget (flat_goal plain_table sig.subjects ext) (rewritten x)
+  module _ (budget : ℕ) (x : Rewritten) (h : IsRewritten (plain_of own) sig.subjects (hypotheses given) p budget (Ok x)) where
+    good : IsGoodRewriting sig base (plain_of own) (flat_given plain_table sig.subjects ext) ext.rule.sorts budget (flat_goal plain_table sig.subjects ext) x
     good =
         rewriting_is_good sig base shapes (plain_of own) (plain_rules_are_accepted sig base shapes own flat.can.after.accepted)
         (flat_given plain_table sig.subjects ext) ext.rule.sorts
@@ -166,23 +181,31 @@ module _ (k : Checking) (e : ExtRuleOf) (given : Hyps) (goal : FlatGoal) (flat :
         p (flat_goal plain_table sig.subjects ext) (plain-derives k e given goal flat forms_are rules_are tries p outs ends)
         (inputs-sorted shapes ext.rule.sorts (sig.modes ext.rule.conclusion.form) (flat_goal plain_table sig.subjects ext).places (sig.forms ext.rule.conclusion.form)
         (flat_goals_stay sig base shapes flat.can.all own plain_table ext flat.can.after))
-        budget (rewritten x) (subst (λ (y : Hypotheses). IsRewriting (plain_of own) sig.subjects y p budget (Ok x)) flat.premises h)
+        budget x (subst (λ (y : Hypotheses). IsRewritten (plain_of own) sig.subjects y p budget (Ok x)) flat.premises h)
 
-    pub lowered-shallow : AreShallow (judgement x.judgement).places
+    pub lowered-shallow : AreShallow x.judgement.places
     lowered-shallow = good.places
 
-    pub lowered-proof : (height_of (proof x.proof.value) ≤ 3000) × HasShallowBinds (proof x.proof.value)
-    lowered-proof = (good.height, good.binds)
+    pub lowered-limits : (height_of x.proof ≤ 3000) × HasShallowBinds x.proof
+    lowered-limits = (good.height, good.binds)
 
-    pub lowered-subject : by_base (check_of k) ext ≡ false → (t : Tree) × (subjects_of sig.subjects (judgement x.judgement) ≡ t ∷ [])
+    -- its list, by the base rules
+    pub lowered-listed : (list : List Entry) → list ≡ order_of x.proof → HasList (bare_rules_in k.set.now.base) (hypotheses given) x.judgement list x.proof
+    lowered-listed list e = record {
+      derives = subst (λ (y : Hypotheses). Derives own.base y x.judgement x.proof) (sym flat.premises) good.derives;
+      list_is = e;
+      low = good.height;
+    }
+
+    pub lowered-subject : by_base (check_of k) ext ≡ false → (t : Tree) × (subjects_of sig.subjects x.judgement ≡ t ∷ [])
     lowered-subject b = go ext.body refl flat.can.after.body
       where
-        sorted : HaveSorts base ext.rule.sorts (outputs (sig.subjects (judgement x.judgement).form) (judgement x.judgement).places) (outputs (sig.subjects ext.rule.conclusion.form) (sig.forms ext.rule.conclusion.form))
+        sorted : HaveSorts base ext.rule.sorts (outputs (sig.subjects x.judgement.form) x.judgement.places) (outputs (sig.subjects ext.rule.conclusion.form) (sig.forms ext.rule.conclusion.form))
         sorted =
-            subst (λ (n : ℕ). HaveSorts base ext.rule.sorts (outputs (sig.subjects (judgement x.judgement).form) (judgement x.judgement).places) (outputs (sig.subjects n) (sig.forms n))) good.images.same_form
-            (outputs-sorted base ext.rule.sorts (sig.subjects (judgement x.judgement).form) (judgement x.judgement).places (sig.forms (judgement x.judgement).form) good.judgement_sorted)
+            subst (λ (n : ℕ). HaveSorts base ext.rule.sorts (outputs (sig.subjects x.judgement.form) x.judgement.places) (outputs (sig.subjects n) (sig.forms n))) good.images.same_form
+            (outputs-sorted base ext.rule.sorts (sig.subjects x.judgement.form) x.judgement.places (sig.forms x.judgement.form) good.judgement_sorted)
 
-        go : (body : Option Tree) → ext.body ≡ body → BodyFits sig flat.can.all (length shapes) plain_table ext.rule body → (t : Tree) × (subjects_of sig.subjects (judgement x.judgement) ≡ t ∷ [])
+        go : (body : Option Tree) → ext.body ≡ body → BodyFits sig flat.can.all (length shapes) plain_table ext.rule body → (t : Tree) × (subjects_of sig.subjects x.judgement ≡ t ∷ [])
         go None q f =
             let r : true ≡ false = ap (has_base_syntax (length base) plain_table) (sym q) ∙ b in cc
-        go (Some t) q f = one-subject flat.can.all base ext.rule.sorts ext.rule.sorts t (subjects_of sig.subjects (judgement x.judgement)) (outputs (sig.subjects ext.rule.conclusion.form) (sig.forms ext.rule.conclusion.form)) f.0 sorted
+        go (Some t) q f = one-subject flat.can.all base ext.rule.sorts ext.rule.sorts t (subjects_of sig.subjects x.judgement) (outputs (sig.subjects ext.rule.conclusion.form) (sig.forms ext.rule.conclusion.form)) f.0 sorted

@@ -31,7 +31,7 @@ use Rattle.sx_extcheck.specs.Checks.{Check, by_base, search_for, over_for, IsSto
 use Rattle.sx_extcheck.specs.CheckView.{IsRuleChecked}
 use Rattle.sx_extcheck.specs.FlatTerms.{listed_term}
 use Rattle.sx_extcheck.specs.Limits.{defect_of}
-use Rattle.sx_extcheck.specs.Searches.{ending_of, IsSearched, AreCounted}
+use Rattle.sx_extcheck.specs.Searches.{ending_of, IsSearchedBy, AreCounted}
 
 -- the first of the subjects is shallow
 pub first-shallow : (bs : List Bool) (ts : List Tree) (t : Term) → AreShallow ts → (rest : List Tree) × (outputs bs ts ≡ tree t ∷ rest) → depth_of (tree t) ≤ 1000
@@ -75,15 +75,15 @@ subject-shallow bs ts (Some t) h s = first-shallow bs ts t h ([], s)
 
 -- a search without an answer
 module _ (c : Check) (e : ExtRuleOf) (within : over_for c (ext_rule e) ≡ None) where
-  pub ended-checked : (r : CheckError) → IsSearched (search_for c (ext_rule e)) c.tries (Err r) → IsRuleChecked c e (Err r)
-  ended-checked Memory h = tt
-  ended-checked (Defect (Rejected b)) h = ((within, h.0), h.1)
-  ended-checked (Defect (BudgetSpent n)) h = ((within, h.0), h.1)
-  ended-checked (Defect (DepthSpent n)) h = ((within, h.0), h.1)
-  ended-checked (Defect (TooDeep n)) h = inr (inl (h.0, (within, h.1), h.2))
-  ended-checked (Defect (TooBig n)) h = inr (inl (h.0, (within, h.1), h.2))
-  ended-checked (Defect (RewriteSpent n)) h = absurd h
-  ended-checked (Defect RewriteDeep) h = absurd h
+  pub ended-checked : {X : Type 0} (Finds : X → Type 0) (r : CheckError) → IsSearchedBy Finds (search_for c (ext_rule e)) c.tries (Err r) → IsRuleChecked c e (Err r)
+  ended-checked Finds Memory h = tt
+  ended-checked Finds (Defect (Rejected b)) h = ((within, h.0), h.1)
+  ended-checked Finds (Defect (BudgetSpent n)) h = ((within, h.0), h.1)
+  ended-checked Finds (Defect (DepthSpent n)) h = ((within, h.0), h.1)
+  ended-checked Finds (Defect (TooDeep n)) h = inr (inl (h.0, (within, h.1), h.2))
+  ended-checked Finds (Defect (TooBig n)) h = inr (inl (h.0, (within, h.1), h.2))
+  ended-checked Finds (Defect (RewriteSpent n)) h = absurd h
+  ended-checked Finds (Defect RewriteDeep) h = absurd h
 
   -- a derivation that is found by the base rules
   pub base-checked : by_base c (ext_rule e) ≡ true → (p : Proof) → ((outs : List Tree) × (ending_of (search_for c (ext_rule e)) c.tries ≡ found (p, outs))) →

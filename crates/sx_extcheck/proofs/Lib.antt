@@ -6,6 +6,8 @@ pub mod Found
 pub mod Checked
 pub mod Ready
 pub mod ByRules
+pub mod GivenFits
+pub mod FoundRules
 pub mod StoredRules
 pub mod Fronts
 pub mod Fitting

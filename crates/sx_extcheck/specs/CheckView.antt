@@ -1,8 +1,11 @@
 -- What the check of one rule answers.
-use Rattle.std.specs.Prelude.{◌≡◌, ◌^◌, ◌<◌, List, length, map, option_map, None, Result, Ok, Err}
+use Rattle.std.specs.Prelude.{◌≡◌, ◌^◌, ◌<◌, false, List, length, map, option_map, None, Result}
+use Rattle.std.specs.Prelude.{Ok, Err}
 use Rattle.sx_term.specs.Sorts.{Shape}
 use Rattle.sx_term.specs.Term.{tree}
 use Rattle.sx_rules.specs.Deep.{AreShallow, RuleIsShallow}
+use Rattle.sx_rules.specs.First.{Answer}
+use Rattle.sx_rules.specs.Orders.{Entry}
 use Rattle.sx_rules.specs.Sets.{shapes_in}
 use Rattle.sx_rules.specs.declared.rule.Hyps.{Hyps}
 use Rattle.sx_rules.specs.Views.{rule, goal as goal_view, hypotheses}
@@ -21,8 +24,10 @@ use Rattle.sx_extcheck.specs.declared.check_error.CheckError.{CheckError}
 use Rattle.sx_extcheck.specs.declared.check_error.CheckError.TheVariants.{Memory, Defect}
 use Rattle.sx_extcheck.specs.declared.checking.Checking.{Checking}
 use Rattle.sx_extcheck.specs.declared.flat_goal.FlatGoal.{FlatGoal}
-use Rattle.sx_extcheck.specs.Checks.{Check, search_for, over_for, IsStoredFor, IsRefusedFor}
+use Rattle.sx_extcheck.specs.Checks.{Check, by_base, search_for, over_for, IsStoredFor}
+use Rattle.sx_extcheck.specs.Checks.{IsRefusedFor}
 use Rattle.sx_extcheck.specs.FlatTerms.{listed_term}
+use Rattle.sx_extcheck.specs.Searches.{search_of, FindsList}
 
 -- what a rule is checked against, as plain data
 abbrev pub check_with : AcceptedOf → PlainTable → Budgets → Check
@@ -63,3 +68,12 @@ pub record IsFlatRule (k : Checking) (e : ExtRuleOf) (given : Hyps) (goal : Flat
   pub premises : hypotheses given ≡ (search_for (check_of k) (ext_rule e)).hyps
   pub conclusion : goal_view goal.goal ≡ (search_for (check_of k) (ext_rule e)).goal
   pub wanted : map tree goal.wanted.items ≡ (search_for (check_of k) (ext_rule e)).wanted
+
+-- So it is, the typed syntax of its body is not base, and the list is that of the first derivation
+-- of its flat conclusion by base and plain rules.
+pub record IsFoundRule (k : Checking) (e : ExtRuleOf) (given : Hyps) (goal : FlatGoal)
+    (list : List Entry) : Type 0 where
+  pub flat : IsFlatRule k e given goal
+  pub plain : by_base (check_of k) (ext_rule e) ≡ false
+  pub answer : Answer
+  pub finds : FindsList (search_of k.set.now.plain_rules given goal) k.budgets.tries list answer

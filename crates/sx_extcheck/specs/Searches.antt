@@ -1,14 +1,18 @@
 -- Searches for derivations, and what they answer.
 use Rattle.std.specs.Prelude.{◌≡◌, ℕ, ◌+◌, ◌-◌, ◌^◌, ◌≤◌, min, List, [], Some, map, Result, Ok, Err}
-use Rattle.std.specs.Global.{Box}
+use Rattle.std.specs.Global.{Box, Vec}
 use Rattle.sx_term.specs.Tree.{Tree}
 use Rattle.sx_term.specs.Term.{tree}
 use Rattle.sx_rules.specs.Deep.{AreShallow}
+use Rattle.sx_rules.specs.declared.entry.Entry.{Entry as EntryOf}
 use Rattle.sx_rules.specs.declared.proof.Proof.{Proof as ProofOf}
 use Rattle.sx_rules.specs.declared.rule.Hyps.{Hyps}
 use Rattle.sx_rules.specs.declared.rule_set.RuleSet.{RuleSet}
 use Rattle.sx_rules.specs.Derivations.{height_of, HasShallowBinds, ShallowJudgements}
+use Rattle.sx_rules.specs.EntryView.{entries}
+use Rattle.sx_rules.specs.First.{Answer}
 use Rattle.sx_rules.specs.Modes.{Modes, Goal}
+use Rattle.sx_rules.specs.Orders.{Entry, order_of}
 use Rattle.sx_rules.specs.ProofView.{proof}
 use Rattle.sx_rules.specs.Rules.{Rule, Hypotheses}
 use Rattle.sx_rules.specs.Sets.{forms_in, bare_rules_in}
@@ -79,24 +83,48 @@ pub record IsShallowSearch (s : Search) : Type 0 where
   pub goal : AreShallow s.goal.terms
   pub wanted : AreShallow s.wanted
 
--- the derivation that the walk finds, which is within the limits of derivations, or how the walk
--- ends without one
-abbrev pub IsSearched : Search → ℕ → Result (Box ProofOf) CheckError → Type 0
-IsSearched s tries (Ok p) =
+-- what is answered says what the walk finds, or how the walk ends without a derivation
+abbrev pub IsSearchedBy : {X : Type 0} → (X → Type 0) → Search → ℕ → Result X CheckError → Type 0
+IsSearchedBy Says s tries (Ok x) = Says x
+IsSearchedBy Says s tries (Err Memory) = Unit {0}
+IsSearchedBy Says s tries (Err (Defect (Rejected b))) =
+    (ending_of s tries ≡ exhausted) × StuckIn s (blame_of b)
+IsSearchedBy Says s tries (Err (Defect (BudgetSpent n))) =
+    (ending_of s tries ≡ spent) × (n ≡ tries)
+IsSearchedBy Says s tries (Err (Defect (DepthSpent n))) =
+    (ending_of s tries ≡ stopped depth_spent) × (n ≡ 3000)
+IsSearchedBy Says s tries (Err (Defect (TooDeep n))) =
+    (depth : ℕ) × (ending_of s tries ≡ stopped (too_deep depth)) × (n ≡ min depth (2 ^ 64 - 1))
+IsSearchedBy Says s tries (Err (Defect (TooBig n))) =
+    (size : ℕ) × (ending_of s tries ≡ stopped (too_big size)) × (n ≡ min size (2 ^ 64 - 1))
+IsSearchedBy Says s tries (Err (Defect (RewriteSpent n))) = ⊥
+IsSearchedBy Says s tries (Err (Defect RewriteDeep)) = ⊥
+
+-- the derivation is the one that the walk finds, and it is within the limits of derivations
+abbrev pub FindsProof : Search → ℕ → Box ProofOf → Type 0
+FindsProof s tries p =
     ((outs : List Tree) × (ending_of s tries ≡ found (proof p.value, outs)))
     × (height_of (proof p.value) ≤ 3000) × HasShallowBinds (proof p.value)
-IsSearched s tries (Err Memory) = Unit {0}
-IsSearched s tries (Err (Defect (Rejected b))) =
-    (ending_of s tries ≡ exhausted) × StuckIn s (blame_of b)
-IsSearched s tries (Err (Defect (BudgetSpent n))) = (ending_of s tries ≡ spent) × (n ≡ tries)
-IsSearched s tries (Err (Defect (DepthSpent n))) =
-    (ending_of s tries ≡ stopped depth_spent) × (n ≡ 3000)
-IsSearched s tries (Err (Defect (TooDeep n))) =
-    (depth : ℕ) × (ending_of s tries ≡ stopped (too_deep depth)) × (n ≡ min depth (2 ^ 64 - 1))
-IsSearched s tries (Err (Defect (TooBig n))) =
-    (size : ℕ) × (ending_of s tries ≡ stopped (too_big size)) × (n ≡ min size (2 ^ 64 - 1))
-IsSearched s tries (Err (Defect (RewriteSpent n))) = ⊥
-IsSearched s tries (Err (Defect RewriteDeep)) = ⊥
+
+-- so where the derivation is answered
+abbrev pub IsSearched : Search → ℕ → Result (Box ProofOf) CheckError → Type 0
+IsSearched s tries result = IsSearchedBy (FindsProof s tries) s tries result
+
+-- the list is that of the answer that the walk finds, which is within the limits of derivations
+pub record FindsList (s : Search) (tries : ℕ) (list : List Entry) (answer : Answer) : Type 0 where
+  pub ends : ending_of s tries ≡ found answer
+  pub list_is : list ≡ order_of answer.0
+  pub low : height_of answer.0 ≤ 3000
+  pub binds : HasShallowBinds answer.0
+  pub near : AreShallow answer.1
+
+-- so it is of some answer
+abbrev pub FindsSome : Search → ℕ → Vec EntryOf → Type 0
+FindsSome s tries list = (a : Answer) × FindsList s tries (entries list.items) a
+
+-- so where a list is answered
+abbrev pub IsListSearched : Search → ℕ → Result (Vec EntryOf) CheckError → Type 0
+IsListSearched s tries result = IsSearchedBy (FindsSome s tries) s tries result
 
 -- the counter rose by these tries; without memory some of them were made
 abbrev pub AreCounted : {X : Type 0} → ℕ → ℕ → ℕ → Result X CheckError → Type 0

@@ -6,6 +6,7 @@ ghost use Rattle.sx_extcheck.specs.Searches.{
   tries_in,
   IsShallowSearch,
   IsSearched,
+  IsListSearched,
   AreCounted,
   defect_of,
 };
@@ -15,8 +16,8 @@ use crate::flat_goal::FlatGoal;
 use crate::rule_defect::RuleDefect;
 use std::alloc::Global;
 use std::sync::ledger::Ledger;
-use sx_derive::{DeriveError, Derived, derive};
-use sx_rules::{Hyps, Proof, RuleSet};
+use sx_derive::{DeriveError, Derived, Listed, derive, derive_list};
+use sx_rules::{Entry, Hyps, Proof, RuleSet};
 use sx_term::Steps;
 
 /// The first derivation of the goal with the wanted outputs, from the hypotheses. Each try is
@@ -47,6 +48,31 @@ pub(crate) fn find<L: Ledger>(
         Ok(Derived { proof, outputs }) => {
             drop(outputs);
             Ok(proof)
+        }
+        Err(e) => Err(walk_defect(e)),
+    }
+}
+
+/// The list of that derivation, which is not made as a value of its own.
+pub(crate) fn find_list<L: Ledger>(
+    alloc: Global,
+    rules: &RuleSet,
+    given: &Hyps,
+    goal: &FlatGoal,
+    tries: u64,
+    steps: &mut Steps<L>,
+) -> Result<Vec<Entry>, CheckError>
+    requires few { length given.now.holds.items < 2 ^ 32 }
+    requires shallow { IsShallowSearch (search_of rules.now given.now goal.now) }
+    ensures answer { IsListSearched (search_of rules.now given.now goal.now) tries result }
+    ensures steps { AreCounted (tries_in (search_of rules.now given.now goal.now) tries)
+        steps.old steps.new result }
+{
+    let wanted = Some(&goal.wanted);
+    match derive_list(alloc, rules, given, &goal.goal, wanted, tries, steps) {
+        Ok(Listed { entries, outputs }) => {
+            drop(outputs);
+            Ok(entries)
         }
         Err(e) => Err(walk_defect(e)),
     }

@@ -2,21 +2,24 @@
 
 ghost use Rattle.std.specs.Prelude.{◌≡◌, true, false, OnOk, option_map, map, MatchResult, IfOk};
 ghost use Rattle.sx_term.specs.Term.{tree};
+ghost use Rattle.sx_rules.specs.EntryView.{entries};
+ghost use Rattle.sx_rewrite.specs.declared.ext_rule.ExtRule.{ExtRule as ExtRuleOf};
 ghost use Rattle.sx_rewrite.specs.ExtensionView.{ext_rule};
 ghost use Rattle.sx_extcheck.specs.Checks.{by_base, search_for};
-ghost use Rattle.sx_extcheck.specs.CheckView.{check_of, IsFlatRule, IsRuleChecked};
+ghost use Rattle.sx_extcheck.specs.CheckView.{check_of, IsFlatRule, IsFoundRule, IsRuleChecked};
 ghost use Rattle.sx_extcheck.specs.Searches.{tries_in, AreCounted};
 
 use crate::base_syntax::has_base_syntax;
 use crate::check_error::CheckError;
 use crate::checking::Checking;
-use crate::finding::find;
+use crate::finding::{find, find_list};
 use crate::flat_goal::FlatGoal;
 use crate::rewrite_defect::rewrite_defect;
-use crate::storing::{with_image, with_subject};
+use crate::storing::{with_certificate, with_image};
 use std::sync::ledger::Ledger;
-use sx_rewrite::{ExtRule, Flat, rewrite_open};
-use sx_rules::Hyps;
+use sx_expand::{Expanded, expand_open};
+use sx_rewrite::{ExtRule, Flat};
+use sx_rules::{Entry, Hyps};
 use sx_term::Steps;
 
 /// What is stored of the rule with these flat premises and this flat conclusion.
@@ -90,7 +93,7 @@ fn check_by_plain<L: Ledger>(
 {
     checking.set.facts();
     let rules = checking.set.plain_rules();
-    match find(
+    match find_list(
         checking.alloc,
         rules,
         given,
@@ -98,24 +101,45 @@ fn check_by_plain<L: Ledger>(
         checking.budgets.tries,
         steps,
     ) {
-        Ok(proof) => {
-            let lowered = rewrite_open(
-                checking.alloc,
-                checking.set,
-                &proof,
-                given,
-                checking.budgets.nodes,
-            );
-            drop(proof);
-            match lowered {
-                Ok(lowered) => Ok(with_subject(
-                    checking.alloc,
-                    checking.set.base_rules(),
-                    lowered,
-                )?),
-                Err(e) => Err(rewrite_defect(e)),
-            }
+        Ok(list) => {
+            let stored = lower_found(checking, given, goal, &list);
+            drop(list);
+            stored
         }
         Err(e) => Err(e),
+    }
+}
+
+/// What is stored of the rule where the derivation that is found has this list: what that is
+/// lowered to, which is the one derivation that is made in boxes.
+fn lower_found(
+    checking: &Checking,
+    given: &Hyps,
+    goal: &FlatGoal,
+    list: &[Entry],
+) -> Result<Flat, CheckError>
+    requires { (ext : ExtRuleOf)
+        × IsFoundRule checking.now ext given.now goal.now (entries list.now) }
+    ensures { (ext : ExtRuleOf) →
+        IsFoundRule checking.now ext given.now goal.now (entries list.now) →
+        IsRuleChecked (check_of checking.now) ext result }
+{
+    checking.set.facts();
+    let base = checking.set.base_rules();
+    let nodes = checking.budgets.nodes;
+    match expand_open(checking.alloc, checking.set, &goal.goal, list, given, nodes) {
+        Ok(expanded) => {
+            let Expanded {
+                entries,
+                judgement,
+                copied: _,
+            } = expanded;
+            let lowered = entries.as_slice();
+            let stored = with_certificate(checking.alloc, base, given, &judgement, lowered);
+            drop(entries);
+            drop(judgement);
+            Ok(stored?)
+        }
+        Err(e) => Err(rewrite_defect(e)),
     }
 }

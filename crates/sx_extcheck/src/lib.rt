@@ -5,7 +5,8 @@
 //!   premises is searched for. The first rule that is refused ends it.
 //! - Where the typed syntax of a rule's body is base, the base rules alone are taken. Otherwise
 //!   the plain rules of the set are taken too, and what is found is lowered to a derivation by
-//!   the base rules, whose subject is the flat body.
+//!   the base rules, whose subject is the flat body. Both are lists of entries; of the lowered
+//!   one the certificate is made in boxes.
 #![tactic(auto)]
 
 mod accept_error;

@@ -30,7 +30,8 @@ const MOST_HEIGHT: u64 = 3000;
 
 /// What a derivation by the plain rules of the set, from base hypotheses, is lowered
 /// to. Where that has more nodes than the budget, is deeper than 3,000, or has a
-/// term over a limit, the first of these is refused, in this order.
+/// term over a limit, the first of these is refused, in this order. The program takes `expand_open`
+/// of sx_expand, which answers the same by lists; this is its plain form.
 pub fn rewrite_open(
     alloc: Global,
     set: &Accepted,
@@ -55,7 +56,8 @@ pub fn rewrite_open(
 
 /// What a derivation by the extended rules of the set, without hypotheses, is lowered
 /// to. Where that has more nodes than the budget, is deeper than 3,000, or has a
-/// term over a limit, the first of these is refused, in this order.
+/// term over a limit, the first of these is refused, in this order. The program takes `expand` of
+/// sx_expand, which answers the same by lists; this is its plain form, by which tests compare it.
 pub fn rewrite(
     alloc: Global,
     set: &Accepted,

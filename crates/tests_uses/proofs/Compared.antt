@@ -56,7 +56,7 @@ module _ (P : Answer → Type 0) (wanted : Option (List Tree)) where
   found_one true x a rest p later e = let same : x ≡ a = cc in subst P same p
   found_one false x a rest p later e = later e
 
-  found_each : (budget : ℕ) (es : List (Event Answer)) (a : Answer) → EachGiven P es → walk wanted budget es ≡ found a → P a
+  pub found_each : (budget : ℕ) (es : List (Event Answer)) (a : Answer) → EachGiven P es → walk wanted budget es ≡ found a → P a
   found_each budget [] a each e = cc
   found_each zero (try ∷ es) a each e = cc
   found_each (suc budget) (try ∷ es) a each e = found_each budget es a each e

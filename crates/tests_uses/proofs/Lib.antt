@@ -1,3 +1,4 @@
 mod Fitting
 mod Compared
 mod FirstExtension
+mod FromHeld

@@ -1,16 +1,16 @@
 //! Derivations that are expanded as lists and rewritten in boxes, by a language with an extension.
 
-ghost use Rattle.std.specs.Prelude.{◌≡◌, ◌≤◌, ◌<◌, ℕ, List, [], IfOk, length, map};
+ghost use Rattle.std.specs.Prelude.{◌≡◌, ◌≤◌, ◌<◌, ℕ, List, [], IfOk, IfSome, length, map};
 ghost use Rattle.std.specs.List.{AllByRecursion};
 ghost use Rattle.sx_term.specs.Term.{tree};
 ghost use Rattle.sx_term.specs.Tree.{Tree, depth_of};
 ghost use Rattle.sx_rules.specs.Deep.{AreShallow};
-ghost use Rattle.sx_rules.specs.Derivations.{height_of};
+ghost use Rattle.sx_rules.specs.Derivations.{height_of, ShallowJudgements};
 ghost use Rattle.sx_rules.specs.EntryView.{entries};
 ghost use Rattle.sx_rules.specs.ProofView as view;
 ghost use Rattle.sx_rules.specs.Sets.{forms_in, shapes_in};
 ghost use Rattle.sx_rules.specs.Sorts.{GoalIsSorted};
-ghost use Rattle.sx_rules.specs.Views.{goal as goal_of};
+ghost use Rattle.sx_rules.specs.Views.{goal as goal_of, hypotheses};
 ghost use Rattle.sx_notation.specs.Language.{IsLanguage};
 ghost use Rattle.sx_rewrite.specs.AcceptedView.{accepted, signature};
 ghost use Rattle.sx_expand.specs.Expansions.{HasOneSubject, IsListedAnswer};
@@ -18,7 +18,8 @@ ghost use Rattle.sx_uses.specs.ExtensionFile.{extension_of, IsStated};
 ghost use Rattle.sx_accepting.specs.ReadLanguage.{HasText};
 
 use crate::goals::{inputs_fit, one_goal, subject_count, term};
-use crate::samples::{SUMS, TWICE};
+use crate::opened::tell_open;
+use crate::samples::{SUMS, THRICE, TWICE};
 use crate::uses_read::put;
 use std::alloc::Global;
 use std::marker::Brand;
@@ -36,20 +37,22 @@ use sx_term::{Steps, Term, Text};
 use sx_uses::{ExtensionFile, read_extension_file};
 
 /// How many tries and nodes the search for each rule and for a goal may take.
-const MOST: u64 = 1000;
+pub(crate) const MOST: u64 = 1000;
 
-/// What is asked: a goal, the subject that is wanted of what its derivation is lowered to, and how
-/// many nodes that may have.
+/// What is asked: a goal, what it is derived from by the plain rules, where it is not derived by
+/// the extended ones, the subject that is wanted of what its derivation is lowered to, and how many
+/// nodes that may have.
 #[derive(Clone, Copy)]
-struct Asked<'a> {
-    goal: &'a Goal,
-    lowered: &'a Term,
-    nodes: u64,
+pub(crate) struct Asked<'a> {
+    pub(crate) goal: &'a Goal,
+    pub(crate) given: Option<&'a Hyps>,
+    pub(crate) lowered: &'a Term,
+    pub(crate) nodes: u64,
 }
 
 /// What the two answers tell.
 #[derive(Clone, Copy, PartialEq)]
-enum Told {
+pub(crate) enum Told {
     /// The same derivation and the same judgement, with the wanted subject: the numbers of the
     /// rules of its entries as the digits of a number, and how many nodes are copied.
     Alike(u64, u64),
@@ -75,7 +78,7 @@ fn digits(list: &[Entry]) -> u64 {
 }
 
 /// Whether the terms are equal.
-fn same_terms(some: &[Term], others: &[Term]) -> bool
+pub(crate) fn same_terms(some: &[Term], others: &[Term]) -> bool
     requires some { AreShallow (map tree some.now) }
     requires others { AreShallow (map tree others.now) }
 {
@@ -112,7 +115,7 @@ fn is_second(terms: &[Term], term: &Term) -> bool
 }
 
 /// What the list and the derivation in boxes tell.
-fn both(alloc: Global, one: &Expanded, other: &Lowered, lowered: &Term) -> Told
+pub(crate) fn both(alloc: Global, one: &Expanded, other: &Lowered, lowered: &Term) -> Told
     requires one { AreShallow (map tree one.now.judgement.places.items) }
     requires other { AreShallow (map tree other.now.judgement.places.items) }
     requires height { height_of (view.proof other.now.proof.value) ≤ 3000 }
@@ -199,6 +202,7 @@ fn tell<L: Ledger>(alloc: Global, set: &Accepted, asked: Asked, steps: &mut Step
 /// What the two answers tell, where the goal is well sorted.
 fn tell_sorted<L: Ledger>(alloc: Global, set: &Accepted, asked: Asked, steps: &mut Steps<L>) -> Told
     requires shallow { AreShallow (goal_of asked.goal.now).terms }
+    requires given { IfSome asked.given (λ h. ShallowJudgements (hypotheses h.now).judgements) }
     requires lowered { depth_of (tree asked.lowered.now) ≤ 1000 }
 {
     set.facts();
@@ -209,7 +213,10 @@ fn tell_sorted<L: Ledger>(alloc: Global, set: &Accepted, asked: Asked, steps: &m
     if !inputs_fit(set.rules().shapes(), places, &asked.goal.inputs) {
         return Told::Unasked;
     }
-    tell(alloc, set, asked, steps)
+    match asked.given {
+        Some(given) => tell_open(alloc, set, asked, given, steps),
+        None => tell(alloc, set, asked, steps),
+    }
 }
 
 /// What the two answers tell by the language with the extensions.
@@ -228,6 +235,7 @@ fn tell_extended<L: Ledger>(
     requires files { AllByRecursion IsStated (map extension_of files.now) }
     requires few { length files.now ≤ 256 }
     requires shallow { AreShallow (goal_of asked.goal.now).terms }
+    requires given { IfSome asked.given (λ h. ShallowJudgements (hypotheses h.now).judgements) }
     requires lowered { depth_of (tree asked.lowered.now) ≤ 1000 }
 {
     let mut steps = Steps::<L>::new(blank);
@@ -255,34 +263,43 @@ fn sums(alloc: Global, shelf: &mut MemShelf) -> Result<LanguageFile, StepError>
 }
 
 /// The extension in its file.
-fn twice(alloc: Global, shelf: &mut MemShelf) -> Result<ExtensionFile, StepError>
-    ensures { IfOk result (λ x. IsStated (extension_of x)) }
+fn extension(alloc: Global, name: &str, shelf: &mut MemShelf) -> Option<ExtensionFile>
+    ensures { IfSome result (λ x. IsStated (extension_of x)) }
 {
-    let name = Text::of_str(alloc, "Twice")?;
-    read_extension_file(alloc, &name, shelf)
-}
-
-/// What the two answers tell by the language with the extension.
-fn tell_by(alloc: Global, language: &Language, asked: Asked, shelf: &mut MemShelf) -> Option<Told>
-    requires language { IsLanguage language.now }
-    requires text { (name : List ℕ) × HasText name language.now }
-    requires shallow { AreShallow (goal_of asked.goal.now).terms }
-    requires lowered { depth_of (tree asked.lowered.now) ≤ 1000 }
-{
-    match twice(alloc, shelf) {
-        Ok(file) => {
-            let files = [file];
-            let told = tell_extended::<Brand>(alloc, language, &files, asked, Blank::new(1));
-            drop(files);
-            Some(told)
-        }
+    let name = Text::of_str(alloc, name).ok()?;
+    match read_extension_file(alloc, &name, shelf) {
+        Ok(file) => Some(file),
         Err(_) => None,
     }
 }
 
-/// What the two answers tell by the files on the shelf.
-fn tell_asked(alloc: Global, asked: Asked, shelf: &mut MemShelf) -> Option<Told>
+/// What the two answers tell by the language with the extensions in their files.
+fn tell_by(alloc: Global, language: &Language, asked: Asked, shelf: &mut MemShelf) -> Option<Told>
+    requires language { IsLanguage language.now }
+    requires text { (name : List ℕ) × HasText name language.now }
     requires shallow { AreShallow (goal_of asked.goal.now).terms }
+    requires given { IfSome asked.given (λ h. ShallowJudgements (hypotheses h.now).judgements) }
+    requires lowered { depth_of (tree asked.lowered.now) ≤ 1000 }
+{
+    let twice = extension(alloc, "Twice", shelf)?;
+    match extension(alloc, "Thrice", shelf) {
+        Some(thrice) => {
+            let files = [twice, thrice];
+            let told = tell_extended::<Brand>(alloc, language, &files, asked, Blank::new(1));
+            drop(files);
+            Some(told)
+        }
+        None => {
+            drop(twice);
+            None
+        }
+    }
+}
+
+/// What the two answers tell by the files on the shelf.
+fn tell_on(alloc: Global, asked: Asked, shelf: &mut MemShelf) -> Option<Told>
+    requires shallow { AreShallow (goal_of asked.goal.now).terms }
+    requires given { IfSome asked.given (λ h. ShallowJudgements (hypotheses h.now).judgements) }
     requires lowered { depth_of (tree asked.lowered.now) ≤ 1000 }
 {
     match sums(alloc, shelf) {
@@ -295,21 +312,32 @@ fn tell_asked(alloc: Global, asked: Asked, shelf: &mut MemShelf) -> Option<Told>
     }
 }
 
+/// What the two answers tell by the language of sums with its extensions.
+pub(crate) fn tell_asked(alloc: Global, asked: Asked) -> Option<Told>
+    requires shallow { AreShallow (goal_of asked.goal.now).terms }
+    requires given { IfSome asked.given (λ h. ShallowJudgements (hypotheses h.now).judgements) }
+    requires lowered { depth_of (tree asked.lowered.now) ≤ 1000 }
+{
+    let mut shelf = MemShelf::new(alloc);
+    let there = put(alloc, "Sums.lang", SUMS, &mut shelf)
+        && put(alloc, "Twice.ext", TWICE, &mut shelf)
+        && put(alloc, "Thrice.ext", THRICE, &mut shelf);
+    let told = tell_on(alloc, asked, &mut shelf);
+    drop(shelf);
+    if there { told } else { None }
+}
+
 /// What the two answers tell of the subject's type, where the subject is lowered to this one.
 fn told_of(alloc: Global, subject: &str, lowered: &str, nodes: u64) -> Option<Told> {
     let goal = one_goal(alloc, subject)?;
     let lowered = term(alloc, lowered)?;
-    let mut shelf = MemShelf::new(alloc);
-    let there = put(alloc, "Sums.lang", SUMS, &mut shelf)
-        && put(alloc, "Twice.ext", TWICE, &mut shelf);
     let asked = Asked {
         goal: &goal,
+        given: None,
         lowered: &lowered,
         nodes,
     };
-    let told = tell_asked(alloc, asked, &mut shelf);
-    drop(shelf);
-    if there { told } else { None }
+    tell_asked(alloc, asked)
 }
 
 #[test]

@@ -13,6 +13,8 @@ mod extensions;
 #[cfg(test)]
 mod goals;
 #[cfg(test)]
+mod opened;
+#[cfg(test)]
 mod refusals;
 #[cfg(test)]
 mod samples;

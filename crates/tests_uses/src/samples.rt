@@ -1,4 +1,4 @@
-//! A small language of sums, and an extension of it.
+//! A small language of sums, and extensions of it.
 
 /// Numbers and their sums.
 pub(crate) const SUMS: &[u8] = b"language Sums
@@ -36,5 +36,18 @@ rule T-Twice
 ---
 ~C |- twice ~e : Int
 to ~e + ~e
+end
+";
+
+/// A body that uses another extension, and its part once more.
+pub(crate) const THRICE: &[u8] = b"extension Thrice
+language Sums
+use Twice
+prod thrice Exp 60 : \"thrice\" Exp@61
+rule T-Thrice
+~C |- ~e : Int
+---
+~C |- thrice ~e : Int
+to twice ~e + ~e
 end
 ";

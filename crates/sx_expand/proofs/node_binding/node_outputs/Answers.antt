@@ -1,14 +1,8 @@
-use Rattle.std.proofs.Common.{Bool, List, map, sym, ap, ◌∙◌, subst}
+use Rattle.std.proofs.Common.{ap, ◌∙◌}
 use Rattle.std.proofs.lemmas.Result.{IfOk-weaker}
-use Rattle.sx_term.specs.declared.term.Term.{Term}
-use Rattle.sx_term.specs.Term.{tree}
-use Rattle.sx_rules.specs.Deep.{AreShallow}
-use Rattle.sx_rules.specs.Instances.{instance}
-use Rattle.sx_rules.specs.Modes.{outputs}
 use Rattle.sx_rules.specs.Sets.{bare_rules_in}
 use Rattle.sx_rules.specs.Views.{rule, modes_of as modes_by}
-use Rattle.sx_arena.specs.Matching.{filled}
-use Rattle.sx_arena.specs.Views.{mask_of, modes_of}
+use Rattle.sx_arena.specs.Views.{modes_of}
 use Rattle.sx_rewrite.specs.Accepted.{rules_of}
 use Rattle.sx_expand.specs.Followed.{bindings_of}
 use Rattle.sx_expand.specs.Readings.{set_by, signature_by, hyps_by}
@@ -21,13 +15,12 @@ pub rule_at-rule-requires : goal.rule_at-rule-requires
 rule_at-rule-requires c =
     let d = c.requires.node in number-within _ _ c.requires.reading.rules.rules_are c.args.node.now.number d.0.rule d.1.found
 
-pub make_places-requires-clause-shallow : goal.make_places-requires-clause-shallow
-make_places-requires-clause-shallow c =
-    let h = (rule-shallow (bare_rules_in c.args.reading.now.rules.now) c.args.node.now.number (rule c.rule_at-rule.result.now) c.facts.ensures.shallow c.rule_at-rule.ensures).0 in
-    subst (λ (ts : List Term). AreShallow (map tree ts)) (sym c.deref.ensures.value) h
+pub places_under-requires-clause-shallow : goal.places_under-requires-clause-shallow
+places_under-requires-clause-shallow c =
+    (rule-shallow (bare_rules_in c.args.reading.now.rules.now) c.args.node.now.number (rule c.rule_at-rule.result.now) c.facts.ensures.shallow c.rule_at-rule.ensures).0
 
 pub returns-clause-on : goal.returns-clause-on
-returns-clause-on c = made-goes (set_by c.args.reading.now).table c.args.reader.now c.make_places.new.arena c.make_places.result _ c.requires.reader c.make_places.ensures
+returns-clause-on c = made-goes (set_by c.args.reading.now).table c.args.reader.now c.places_under.new.arena c.places_under.result _ c.requires.reader c.places_under.ensures
 
 pub returns-clause-outputs : goal.returns-clause-outputs
 returns-clause-outputs c =
@@ -36,11 +29,8 @@ returns-clause-outputs c =
     let env = bindings_of (terms_in c.args.reader.now) c.args.work.now in
     let modes_are = ap modes_by c.requires.reading.rules.forms_are in
     let rules_are = c.requires.reading.rules.rules_are in
-    let ts = map (instance (filled env)) code.conclusion.places in
-    IfOk-weaker c.make_places.result _ _ (λ x h d is f.
+    IfOk-weaker c.places_under.result _ _ (λ x h d is f.
     let same = rule-same _ _ rules_are c.args.node.now.number d.rule is.found code c.rule_at-rule.ensures in
     h.are
-    ∙ ap (λ (us : List Term). outputs (mask_of c.roles.result.now) (map (instance (filled env)) (map tree us))) c.deref.ensures.value
-    ∙ ap (λ (m : List Bool). outputs m ts) c.roles.ensures
     ∙ ends-concluded (signature_by l).modes (modes_of c.args.reading.now.rules.now) modes_are (rules_of (set_by l)) (hyps_by l) c.requires.reading.rules.accepted_with.moded c.args.node.now.number d.rule code same is.found d.judgement d.binds d.kids is.can.derives env f)
-    c.make_places.ensures
+    c.places_under.ensures
