@@ -1,54 +1,52 @@
-//! Nodes that give way to a part as it is.
+//! Nodes that give way to one of their kids as it is.
 
-ghost use Rattle.std.specs.Prelude.{◌≡◌, ◌≤◌, IfOk, IfSome};
+ghost use Rattle.std.specs.Prelude.{◌≡◌, ◌≤◌, IfOk, None, false, map, option_map};
 ghost use Rattle.sx_term.specs.Tree.{depth_of};
 ghost use Rattle.sx_term.specs.Term.{tree};
 ghost use Rattle.sx_plain.specs.Plain.{image};
 ghost use Rattle.sx_plain.specs.Views.{table_of};
-ghost use Rattle.sx_plain.specs.Bare.{IsBare};
+ghost use Rattle.sx_plain.specs.Bare as spec;
 
 use crate::table::PlainTable;
 use std::alloc::Global;
 use sx_term::{NoMemory, Term};
 
-/// The part that the label's flat body is, where it is no more than that.
-fn bare_part(table: &PlainTable, label: u32) -> Option<usize>
-    ensures { IfSome result (IsBare (table_of table.now label)) }
+/// The kid to which a node gives way, where its flat body is that part alone.
+fn bare_kid<'a>(table: &PlainTable, label: u32, kids: &'a [Term]) -> Option<&'a Term>
+    ensures { option_map (λ k. tree k.now) result
+        ≡ spec.bare_kid (table_of table.now label) (map tree kids.entry.now) }
 {
     match &table.entry(label)?.flat {
-        Term::Var(part) => Some(*part as usize),
+        Term::Var(part) => kids.get(*part as usize),
         _ => None,
     }
 }
 
-/// The part to which the term comes down where each bare node on top of it gives way to its part.
+/// The part to which the term comes down where each node on top of it that gives way to a kid does.
 fn past_bare<'a>(table: &PlainTable, term: &'a Term) -> &'a Term
     requires { depth_of (tree term.now) ≤ 1000 }
+    ensures last { spec.bare_under (table_of table.now) (tree result.now) ≡ None }
     ensures same { image (table_of table.now) (tree result.now)
         ≡ image (table_of table.now) (tree term.entry.now) }
     ensures depth { depth_of (tree result.now) ≤ depth_of (tree term.entry.now) }
 {
     match term {
-        Term::Node { label, kids } => match bare_part(table, *label) {
-            Some(part) => {
-                if part < kids.len() {
-                    return past_bare(table, &kids[part]);
-                }
-                term
-            }
+        Term::Node { label, kids } => match bare_kid(table, *label, kids) {
+            Some(kid) => past_bare(table, kid),
             None => term,
         },
         _ => term,
     }
 }
 
-/// Whether a node of the term is bare, so that it has no image of its own.
+/// Whether a node of the term gives way to a kid, so that it has no image of its own.
 pub(crate) fn has_bare(table: &PlainTable, term: &Term) -> bool
     requires { depth_of (tree term.now) ≤ 1000 }
+    ensures { result ≡ spec.has_bare (table_of table.now) (tree term.now) }
 {
     match term {
         Term::Node { label, kids } => {
-            if bare_part(table, *label).is_some() {
+            if bare_kid(table, *label, kids).is_some() {
                 return true;
             }
             for kid in kids {
@@ -62,9 +60,10 @@ pub(crate) fn has_bare(table: &PlainTable, term: &Term) -> bool
     }
 }
 
-/// The term in which each bare node gave way to its part.
+/// The term in which each such node gave way to its kid.
 pub(crate) fn without_bare(alloc: Global, table: &PlainTable, term: &Term) -> Result<Term, NoMemory>
     requires { depth_of (tree term.now) ≤ 1000 }
+    ensures none { IfOk result (λ t. spec.has_bare (table_of table.now) (tree t) ≡ false) }
     ensures same { IfOk result (λ t. image (table_of table.now) (tree t)
         ≡ image (table_of table.now) (tree term.now)) }
     ensures depth { IfOk result (λ t. depth_of (tree t) ≤ depth_of (tree term.now)) }
