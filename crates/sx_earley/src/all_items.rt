@@ -12,7 +12,9 @@ ghost use Rattle.sx_earley.specs.Table.{row_at};
 use crate::ask::Ask;
 use crate::chart_error::ChartError;
 use crate::filed::{befores, file_complete, file_waiting, fillings};
+use crate::given::Given;
 use crate::growing::{predict_once, treat};
+use crate::neighbours::Neighbours;
 use crate::notes::Notes;
 use crate::shown::Shown;
 use crate::table::Table;
@@ -65,17 +67,16 @@ fn collect(
         file_complete(alloc, grammar, &mut notes.complete, item)?;
         let before = befores(grammar, &notes.waiting, item);
         let filling = fillings(grammar, &notes.complete, item);
-        if let Err(error) = treat(
+        let given = Given {
             grammar,
-            notes.openings,
+            openings: notes.openings,
             shown,
-            found,
-            &mut notes.hints,
-            &mut notes.asked,
-            before,
-            filling,
-            item,
-        ) {
+        };
+        let near = Neighbours {
+            befores: before,
+            fillings: filling,
+        };
+        if let Err(error) = treat(given, found, &mut notes.hints, &mut notes.asked, near, item) {
             let _count = found.len();
             return Err(error);
         }

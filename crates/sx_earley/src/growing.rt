@@ -12,7 +12,9 @@ ghost use Rattle.sx_earley.specs.Chart.{next_symbol, as_part, ReadsNext, IsOfSor
 
 use crate::ask::Ask;
 use crate::chart_error::ChartError;
+use crate::given::Given;
 use crate::hints::Hints;
+use crate::neighbours::Neighbours;
 use crate::shown::Shown;
 use crate::slot::Slot;
 use crate::symbols::{ends_at, makes, next_part, reads_next};
@@ -330,36 +332,35 @@ fn scan(
     }
 }
 
-/// Adds all that follows from the item, where the first items may wait for it and it may wait for
-/// the second.
+/// Adds all that follows from the item, where these are the items that it may meet.
 pub(crate) fn treat(
-    grammar: &Grammar,
-    openings: &Table,
-    shown: &[Shown],
+    given: Given,
     found: &mut IndexSet<Item>,
     hints: &mut Hints,
     asked: &mut IndexSet<Ask>,
-    befores: &[Item],
-    fillings: &[Item],
+    near: Neighbours,
     item: Item,
 ) -> Result<(), ChartError>
     requires few { length found.old.keys ≤ 2000000 }
-    requires short { length shown.now ≤ 10000 }
-    requires below { AreBelow (length (texts grammar.now)) shown.now }
-    requires openings { HasAllOpenings (plain grammar.now) openings.now }
-    requires asked { AllAsked (plain grammar.now) asked.old.keys found.old.keys }
+    requires short { length given.shown.now ≤ 10000 }
+    requires below { AreBelow (length (texts given.grammar.now)) given.shown.now }
+    requires openings { HasAllOpenings (plain given.grammar.now) given.openings.now }
+    requires asked { AllAsked (plain given.grammar.now) asked.old.keys found.old.keys }
     ensures extends { Extends found.old.keys found.new.keys }
     ensures only { Only found.old.keys found.new.keys
-        (Follows (plain grammar.now)
-        (tokens_of grammar.now shown.now) befores.now fillings.now item) }
-    ensures every { OnOk result (AllFollow (plain grammar.now)
-        (tokens_of grammar.now shown.now) befores.now fillings.now item found.new.keys) }
+        (Follows (plain given.entry.grammar.now)
+        (tokens_of given.entry.grammar.now given.entry.shown.now)
+        near.entry.befores.now near.entry.fillings.now item) }
+    ensures every { OnOk result (AllFollow (plain given.entry.grammar.now)
+        (tokens_of given.entry.grammar.now given.entry.shown.now)
+        near.entry.befores.now near.entry.fillings.now item found.new.keys) }
     ensures few { OnOk result (length found.new.keys ≤ 2000000) }
     ensures hard { result ≡ Err ChartError.TooHard → 2000000 < length found.new.keys }
-    ensures asked { OnOk result (AllAsked (plain grammar.now) asked.new.keys found.new.keys) }
+    ensures asked { OnOk result
+        (AllAsked (plain given.entry.grammar.now) asked.new.keys found.new.keys) }
 {
-    predict_next(grammar, openings, found, asked, item)?;
-    scan(grammar, shown, found, item)?;
-    join_each(grammar, found, hints, befores, item)?;
-    join_over(grammar, found, hints, item, fillings)
+    predict_next(given.grammar, given.openings, found, asked, item)?;
+    scan(given.grammar, given.shown, found, item)?;
+    join_each(given.grammar, found, hints, near.befores, item)?;
+    join_over(given.grammar, found, hints, item, near.fillings)
 }

@@ -8,32 +8,32 @@ use Rattle.sx_earley.proofs.growing.treat.Goals as goal
 
 pub returns-in_err-predict_next-clause-only : goal.returns-in_err-predict_next-clause-only
 returns-in_err-predict_next-clause-only c =
-    let g = plain c.args.grammar.now in let ts = tokens_of c.args.grammar.now c.args.shown.now in
+    let g = plain c.args.given.grammar.now in let ts = tokens_of c.args.given.grammar.now c.args.given.shown.now in
     let k0 = c.args.found.now.keys in let k1 = c.predict_next.new.found.keys in
-    after_prediction g ts c.args.befores.now c.args.fillings.now c.args.item k0 k0 k1 c.predict_next.ensures.only
+    after_prediction g ts c.args.near.befores.now c.args.near.fillings.now c.args.item k0 k0 k1 c.predict_next.ensures.only
 
 pub returns-in_err-scan-clause-only : goal.returns-in_err-scan-clause-only
 returns-in_err-scan-clause-only c =
-    let g = plain c.args.grammar.now in let ts = tokens_of c.args.grammar.now c.args.shown.now in
+    let g = plain c.args.given.grammar.now in let ts = tokens_of c.args.given.grammar.now c.args.given.shown.now in
     let k0 = c.args.found.now.keys in let k1 = c.predict_next.new.found.keys in let k2 = c.scan.new.found.keys in
-    let bs = c.args.befores.now in let fs = c.args.fillings.now in
+    let bs = c.args.near.befores.now in let fs = c.args.near.fillings.now in
     after_scan g ts bs fs c.args.item k0 k1 k2
     (after_prediction g ts bs fs c.args.item k0 k0 k1 c.predict_next.ensures.only) c.scan.ensures.only
 
 pub returns-in_err-join_each-clause-only : goal.returns-in_err-join_each-clause-only
 returns-in_err-join_each-clause-only c =
-    let g = plain c.args.grammar.now in let ts = tokens_of c.args.grammar.now c.args.shown.now in
+    let g = plain c.args.given.grammar.now in let ts = tokens_of c.args.given.grammar.now c.args.given.shown.now in
     let k0 = c.args.found.now.keys in let k1 = c.predict_next.new.found.keys in let k2 = c.scan.new.found.keys in let k3 = c.join_each.new.found.keys in
-    let bs = c.args.befores.now in let fs = c.args.fillings.now in
+    let bs = c.args.near.befores.now in let fs = c.args.near.fillings.now in
     after_each g ts bs fs c.args.item k0 k2 k3
     (after_scan g ts bs fs c.args.item k0 k1 k2
     (after_prediction g ts bs fs c.args.item k0 k0 k1 c.predict_next.ensures.only) c.scan.ensures.only) c.join_each.ensures.only
 
 pub returns-clause-only : goal.returns-clause-only
 returns-clause-only c =
-    let g = plain c.args.grammar.now in let ts = tokens_of c.args.grammar.now c.args.shown.now in
+    let g = plain c.args.given.grammar.now in let ts = tokens_of c.args.given.grammar.now c.args.given.shown.now in
     let k0 = c.args.found.now.keys in let k1 = c.predict_next.new.found.keys in let k2 = c.scan.new.found.keys in let k3 = c.join_each.new.found.keys in let k4 = c.join_over.new.found.keys in
-    let bs = c.args.befores.now in let fs = c.args.fillings.now in
+    let bs = c.args.near.befores.now in let fs = c.args.near.fillings.now in
     after_over g ts bs fs c.args.item k0 k3 k4
     (after_each g ts bs fs c.args.item k0 k2 k3
     (after_scan g ts bs fs c.args.item k0 k1 k2
@@ -42,13 +42,13 @@ returns-clause-only c =
 
 pub returns-clause-every : goal.returns-clause-every
 returns-clause-every c =
-    let g = plain c.args.grammar.now in let ts = tokens_of c.args.grammar.now c.args.shown.now in
+    let g = plain c.args.given.grammar.now in let ts = tokens_of c.args.given.grammar.now c.args.given.shown.now in
     let k1 = c.predict_next.new.found.keys in let k2 = c.scan.new.found.keys in let k3 = c.join_each.new.found.keys in let k4 = c.join_over.new.found.keys in
     let e34 = c.join_over.ensures.extends in
     let e24 = extends_on k2 k3 k4 c.join_each.ensures.extends e34 in
     let e14 = extends_on k1 k2 k4 c.scan.ensures.extends e24 in
     let item = c.args.item in
-    ok_then c.join_over.result _ (AllFollow g ts c.args.befores.now c.args.fillings.now item k4) c.join_over.ensures.every
+    ok_then c.join_over.result _ (AllFollow g ts c.args.near.befores.now c.args.near.fillings.now item k4) c.join_over.ensures.every
     (λ filling. record {
       predictions = λ sort least head waits fits. still_there k1 k4 (beginning head item.end) e14 (c.in_ok-predict_next.ensures.every sort least head waits fits);
       scanned = λ reads. still_there k2 k4 (moved item (item.end + 1)) e24 (c.in_ok-scan.ensures.every reads);
@@ -58,7 +58,7 @@ returns-clause-every c =
 
 pub returns-clause-asked : goal.returns-clause-asked
 returns-clause-asked c =
-    let g = plain c.args.grammar.now in
+    let g = plain c.args.given.grammar.now in
     let k1 = c.predict_next.new.found.keys in let k2 = c.scan.new.found.keys in let k3 = c.join_each.new.found.keys in let k4 = c.join_over.new.found.keys in
     let e14 = extends_on k1 k2 k4 c.scan.ensures.extends (extends_on k2 k3 k4 c.join_each.ensures.extends c.join_over.ensures.extends) in
     let asked = c.predict_next.new.asked.keys in
