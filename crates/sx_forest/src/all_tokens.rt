@@ -8,10 +8,12 @@ ghost use Rattle.sx_forest.specs.Tallies.{ways_of, IsLastRow};
 ghost use Rattle.sx_forest.specs.Forests.{grammar_in, tokens_in, IsForest};
 
 use crate::building::build;
+use crate::choice::Choice;
 use crate::choosing::{first_usable, fork_of};
 use crate::forest::Forest;
 use crate::forking::pair_at;
 use crate::reading::Reading;
+use crate::rest::Rest;
 use crate::row::Row;
 use std::alloc::Global;
 use sx_term::NoMemory;
@@ -29,7 +31,14 @@ pub(crate) fn first_reading(alloc: Global, forest: Forest, row: &Row) -> Result<
 {
     forest.grammar.facts();
     let entries = forest.table.from(0);
-    match first_usable(forest.grammar, entries, forest.start, 0, row, 0, 0) {
+    let choice = Choice {
+        grammar: forest.grammar,
+        entries,
+        sort: forest.start,
+        least: 0,
+        rest: Rest { row, from: 0 },
+    };
+    match first_usable(choice, 0) {
         Some((_, entry)) => build(alloc, forest, entry, 0),
         None => unreachable!(),
     }
@@ -57,22 +66,18 @@ pub(crate) fn two_readings(
 {
     forest.grammar.facts();
     let entries = forest.table.from(0);
-    match first_usable(forest.grammar, entries, forest.start, 0, row, 0, 0) {
-        Some((index, entry)) => {
-            match fork_of(
-                forest.grammar,
-                entries,
-                forest.start,
-                0,
-                row,
-                0,
-                index,
-                entry,
-            ) {
-                Some(fork) => pair_at(alloc, forest, fork, 0),
-                None => unreachable!(),
-            }
-        }
+    let choice = Choice {
+        grammar: forest.grammar,
+        entries,
+        sort: forest.start,
+        least: 0,
+        rest: Rest { row, from: 0 },
+    };
+    match first_usable(choice, 0) {
+        Some((index, entry)) => match fork_of(choice, index, entry) {
+            Some(fork) => pair_at(alloc, forest, fork, 0),
+            None => unreachable!(),
+        },
         None => unreachable!(),
     }
 }

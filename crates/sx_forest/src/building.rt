@@ -18,6 +18,7 @@ use crate::forest::Forest;
 use crate::opened::{Opened, open};
 use crate::reading::Reading;
 use crate::span_rows::symbol_count;
+use crate::standing::Standing;
 use crate::step::Step;
 use crate::stepping::step_at;
 use std::alloc::Global;
@@ -126,7 +127,12 @@ pub(crate) fn extend(
     let mut here = place;
     for next in dot..symbol_count(forest.grammar, opened.head) {
         let step = step_at(forest, opened, next, here);
-        go_over(alloc, forest, opened, next, here, step, kids)?;
+        let at = Standing {
+            opened,
+            dot: next,
+            place: here,
+        };
+        go_over(alloc, forest, at, step, kids)?;
         here = step.end(here);
     }
     Ok(())
@@ -137,33 +143,31 @@ pub(crate) fn extend(
 pub(crate) fn go_over(
     alloc: Global,
     forest: Forest,
-    opened: &Opened,
-    dot: usize,
-    place: u32,
+    here: Standing,
     step: Step,
     kids: &mut Vec<Reading>,
 ) -> Result<(), NoMemory>
     requires forest { IsForest forest }
     requires opened { IsOpened (grammar_in forest) (tokens_in forest) forest.start
-        (lists_in forest) opened.now }
-    requires read { IsReadTo (grammar_in forest)
-        (tokens_in forest) forest.start opened.now dot place (plain_readings kids.old.items) }
+        (lists_in forest) here.opened.now }
+    requires read { IsReadTo (grammar_in forest) (tokens_in forest) forest.start here.opened.now
+        here.dot here.place (plain_readings kids.old.items) }
     requires step { IsStep (grammar_in forest) (tokens_in forest) forest.start
-        (lists_in forest) opened.now dot place step }
+        (lists_in forest) here.opened.now here.dot here.place step }
     ensures read { OnOk result (IsReadTo (grammar_in forest.entry)
-        (tokens_in forest.entry) forest.entry.start opened.now (suc dot) (end_of step place)
-        (plain_readings kids.new.items)) }
+        (tokens_in forest.entry) forest.entry.start here.entry.opened.now (suc here.entry.dot)
+        (end_of step here.entry.place) (plain_readings kids.new.items)) }
     ensures behind { OnOk result ((more : Readings) ×
         (plain_readings kids.new.items ≡ followed (plain_readings kids.old.items) more)) }
 {
     match step {
         Step::Literal => Ok(()),
         Step::Token => {
-            kids.push(token_reading(forest.shown, place))?;
+            kids.push(token_reading(forest.shown, here.place))?;
             Ok(())
         }
         Step::Part(_, entry) => {
-            let kid = build(alloc, forest, entry, place)?;
+            let kid = build(alloc, forest, entry, here.place)?;
             kids.push(kid)?;
             Ok(())
         }

@@ -5,12 +5,12 @@ ghost use Rattle.sx_earley.specs.Shown.{plain};
 ghost use Rattle.sx_forest.specs.Tallies.{tally_of, ways_of};
 ghost use Rattle.sx_forest.specs.Forests.{IsMore, IsUsable, IsFirstUsable, IsForkOf};
 
+use crate::choice::Choice;
 use crate::entry::Entry;
 use crate::fork::Fork;
 use crate::part_ways::{fits, is_some};
-use crate::row::{Row, at};
+use crate::row::at;
 use crate::ways::{Ways, both};
-use sx_grammar::Grammar;
 
 /// Whether there is more than one way.
 pub(crate) fn is_more(ways: Ways) -> bool
@@ -20,31 +20,28 @@ pub(crate) fn is_more(ways: Ways) -> bool
 }
 
 /// Whether the entry reads the part, and the row the rest.
-fn is_usable(grammar: &Grammar, entry: Entry, sort: u32, least: u8, next: &Row, from: u32) -> bool
-    requires { from ≤ entry.to }
-    ensures { IsTrue result ↔ IsUsable (plain grammar.now) sort least
-        (ways_of next.now) from entry }
+fn is_usable(choice: Choice, entry: Entry) -> bool
+    requires { choice.rest.from ≤ entry.to }
+    ensures { IsTrue result ↔ IsUsable (plain choice.entry.grammar.now) choice.entry.sort
+        choice.entry.least (ways_of choice.entry.rest.row.now) choice.entry.rest.from entry }
 {
-    fits(grammar, entry.maker, sort, least) && is_some(both(entry.ways, at(next, from, entry.to)))
+    let rest = choice.rest;
+    fits(choice.grammar, entry.maker, choice.sort, choice.least)
+        && is_some(both(entry.ways, at(rest.row, rest.from, entry.to)))
 }
 
 /// The first entry from an index on that reads the part where the row reads the rest, with its
 /// index.
-pub(crate) fn first_usable(
-    grammar: &Grammar,
-    entries: &[Entry],
-    sort: u32,
-    least: u8,
-    next: &Row,
-    from: u32,
-    first: usize,
-) -> Option<(usize, Entry)>
-    requires { (i : ℕ) (e : Entry) → slice_get entries.now i ≡ Some e → from ≤ e.to }
-    ensures { IsFirstUsable (plain grammar.now) sort least
-        (ways_of next.now) from entries.now first result }
+pub(crate) fn first_usable(choice: Choice, first: usize) -> Option<(usize, Entry)>
+    requires { (i : ℕ) (e : Entry) → slice_get choice.entries.now i ≡ Some e →
+        choice.rest.from ≤ e.to }
+    ensures { IsFirstUsable (plain choice.entry.grammar.now) choice.entry.sort choice.entry.least
+        (ways_of choice.entry.rest.row.now) choice.entry.rest.from choice.entry.entries.now first
+        result }
 {
+    let entries = choice.entries;
     for index in first..entries.len() {
-        if is_usable(grammar, entries[index], sort, least, next, from) {
+        if is_usable(choice, entries[index]) {
             return Some((index, entries[index]));
         }
     }
@@ -53,22 +50,15 @@ pub(crate) fn first_usable(
 
 /// How two readings part at a part, where this entry is the first usable one and has this index, or
 /// None where they do not.
-pub(crate) fn fork_of(
-    grammar: &Grammar,
-    entries: &[Entry],
-    sort: u32,
-    least: u8,
-    next: &Row,
-    from: u32,
-    index: usize,
-    entry: Entry,
-) -> Option<Fork>
-    requires later { (i : ℕ) (e : Entry) → slice_get entries.now i ≡ Some e → from ≤ e.to }
-    requires index { slice_get entries.now index ≡ Some entry }
-    ensures { IsForkOf (plain grammar.now) sort least
-        (ways_of next.now) from entries.now index entry result }
+pub(crate) fn fork_of(choice: Choice, index: usize, entry: Entry) -> Option<Fork>
+    requires later { (i : ℕ) (e : Entry) → slice_get choice.entries.now i ≡ Some e →
+        choice.rest.from ≤ e.to }
+    requires index { slice_get choice.entries.now index ≡ Some entry }
+    ensures { IsForkOf (plain choice.entry.grammar.now) choice.entry.sort choice.entry.least
+        (ways_of choice.entry.rest.row.now) choice.entry.rest.from choice.entry.entries.now index
+        entry result }
 {
-    match first_usable(grammar, entries, sort, least, next, from, index + 1) {
+    match first_usable(choice, index + 1) {
         Some((_, other)) => Some(Fork::Apart(entry, other)),
         None => {
             if is_more(entry.ways) {

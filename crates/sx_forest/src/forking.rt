@@ -10,13 +10,16 @@ ghost use Rattle.sx_forest.specs.Forests.{IsOpened, IsAt, IsReadTo, IsStep, IsFo
 ghost use Rattle.sx_forest.specs.Forests.{IsParting, AreKidsApart};
 
 use crate::building::{build, extend, go_over, wrap};
+use crate::choice::Choice;
 use crate::choosing::fork_of;
 use crate::entry::{Entry, Maker};
 use crate::forest::Forest;
 use crate::fork::Fork;
 use crate::opened::{Opened, open};
 use crate::reading::Reading;
+use crate::rest::Rest;
 use crate::span_rows::{row_of, symbol_count};
+use crate::standing::Standing;
 use crate::step::Step;
 use crate::stepping::step_at;
 use std::alloc::Global;
@@ -45,16 +48,17 @@ fn fork_at(forest: Forest, opened: &Opened, dot: usize, place: u32, step: Step) 
                 let count = symbol_count(forest.grammar, opened.head);
                 let next = row_of(&opened.rows, count - dot - 1);
                 let entries = forest.table.from(place);
-                fork_of(
-                    forest.grammar,
+                let choice = Choice {
+                    grammar: forest.grammar,
                     entries,
                     sort,
                     least,
-                    next,
-                    opened.from,
-                    index,
-                    entry,
-                )
+                    rest: Rest {
+                        row: next,
+                        from: opened.from,
+                    },
+                };
+                fork_of(choice, index, entry)
             }
             _ => unreachable!(),
         },
@@ -114,11 +118,12 @@ fn kids_apart(
     let mut place = opened.from;
     for dot in 0..symbol_count(forest.grammar, opened.head) {
         let step = step_at(forest, opened, dot, place);
+        let here = Standing { opened, dot, place };
         if let Some(fork) = fork_at(forest, opened, dot, place, step) {
-            return part(alloc, forest, opened, dot, place, fork, one, other);
+            return part(alloc, forest, here, fork, one, other);
         }
-        go_over(alloc, forest, opened, dot, place, step, one)?;
-        go_over(alloc, forest, opened, dot, place, step, other)?;
+        go_over(alloc, forest, here, step, one)?;
+        go_over(alloc, forest, here, step, other)?;
         place = step.end(place);
     }
     unreachable!()
@@ -129,30 +134,30 @@ fn kids_apart(
 fn part(
     alloc: Global,
     forest: Forest,
-    opened: &Opened,
-    dot: usize,
-    place: u32,
+    here: Standing,
     fork: Fork,
     one: &mut Vec<Reading>,
     other: &mut Vec<Reading>,
 ) -> Result<(), NoMemory>
     requires forest { IsForest forest }
     requires opened { IsOpened (grammar_in forest) (tokens_in forest) forest.start
-        (lists_in forest) opened.now }
-    requires one { IsReadTo (grammar_in forest) (tokens_in forest) forest.start opened.now dot place
-        (plain_readings one.old.items) }
-    requires other { IsReadTo (grammar_in forest)
-        (tokens_in forest) forest.start opened.now dot place (plain_readings other.old.items) }
-    requires fork { IsForkAt (grammar_in forest) (lists_in forest) opened.now dot place fork }
+        (lists_in forest) here.opened.now }
+    requires one { IsReadTo (grammar_in forest) (tokens_in forest) forest.start here.opened.now
+        here.dot here.place (plain_readings one.old.items) }
+    requires other { IsReadTo (grammar_in forest) (tokens_in forest) forest.start here.opened.now
+        here.dot here.place (plain_readings other.old.items) }
+    requires fork { IsForkAt (grammar_in forest) (lists_in forest) here.opened.now here.dot
+        here.place fork }
     ensures { OnOk result (AreKidsApart (grammar_in forest.entry)
-        (tokens_in forest.entry) opened.now (plain_readings one.new.items)
+        (tokens_in forest.entry) here.entry.opened.now (plain_readings one.new.items)
         (plain_readings other.new.items)) }
 {
-    let (first, second) = pair_at(alloc, forest, fork, place)?;
+    let (first, second) = pair_at(alloc, forest, fork, here.place)?;
     one.push(first)?;
     other.push(second)?;
-    extend(alloc, forest, opened, dot + 1, fork.one().to, one)?;
-    extend(alloc, forest, opened, dot + 1, fork.other().to, other)
+    let next = here.dot + 1;
+    extend(alloc, forest, here.opened, next, fork.one().to, one)?;
+    extend(alloc, forest, here.opened, next, fork.other().to, other)
 }
 
 /// Different readings by the two entries of the fork, from the place.

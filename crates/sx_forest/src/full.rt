@@ -8,6 +8,7 @@ ghost use Rattle.sx_earley.specs.Completed.{IsChart};
 ghost use Rattle.sx_forest.specs.Rows.{AllLater, AllSorted};
 ghost use Rattle.sx_forest.specs.Table.{IsAdded, IsFull};
 
+use crate::basis::Basis;
 use crate::entries::Entries;
 use crate::entry::{Entry, Maker};
 use crate::first_entries::first_entries;
@@ -37,7 +38,12 @@ fn add_span(
         (tokens_of grammar.now shown.now) table.old.lists.items table.new.lists.items span) }
 {
     let head = head_of(span.of);
-    let ways = span_ways(alloc, grammar, shown, table, head, span.from, span.to)?;
+    let basis = Basis {
+        grammar,
+        shown,
+        table,
+    };
+    let ways = span_ways(alloc, basis, head, span.from, span.to)?;
     table.put(
         span.from,
         Entry {

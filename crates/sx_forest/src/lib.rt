@@ -14,7 +14,9 @@
 
 mod all_tokens;
 mod answer;
+mod basis;
 mod building;
+mod choice;
 mod choosing;
 mod completing;
 mod entries;
@@ -41,9 +43,11 @@ mod reaches;
 mod read_error;
 mod read_shown;
 mod reading;
+mod rest;
 mod row;
 mod span_rows;
 mod spreading;
+mod standing;
 mod step;
 mod stepping;
 mod stretch;

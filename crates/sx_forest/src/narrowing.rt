@@ -12,6 +12,7 @@ ghost use Rattle.sx_forest.specs.Rows.{AllLater, FitsPart, IsIn, IsNext, list_at
 use crate::entries::Entries;
 use crate::entry::Entry;
 use crate::part_ways::is_some;
+use crate::rest::Rest;
 use crate::row::Row;
 use crate::spreading::over_reaches;
 use crate::stretch::{NOWHERE, Stretch, common};
@@ -100,21 +101,22 @@ pub(crate) fn narrowed(
     grammar: &Grammar,
     table: &Entries,
     expected: Option<NumberedSymbol>,
-    next: &Row,
-    from: u32,
+    rest: Rest,
     to: u32,
     stretch: Stretch,
 ) -> Stretch
     requires short { to ≤ 10000 }
     requires later { AllLater table.now.lists.items }
     ensures kept { (place : ℕ) → IsIn result place → IsIn stretch place }
-    ensures none { (tokens : List Token) (place : ℕ) → from ≤ place → place ≤ to →
+    ensures none { (tokens : List Token) (place : ℕ) → rest.entry.from ≤ place → place ≤ to →
         IsIn stretch place → (IsIn result place → ⊥) →
         IsNext (plain grammar.now) tokens (list_at table.now.lists.items place)
-        (option_map (symbol (texts grammar.now)) expected) from place (ways_of next.now) no_way }
+        (option_map (symbol (texts grammar.now)) expected) rest.entry.from place
+        (ways_of rest.entry.row.now) no_way }
 {
-    if stretch.end as usize <= stretch.first as usize + next.ways.len() {
+    if stretch.end as usize <= stretch.first as usize + rest.row.ways.len() {
         return stretch;
     }
-    common(stretch, sources(grammar, table, expected, next, from, to))
+    let own = sources(grammar, table, expected, rest.row, rest.from, to);
+    common(stretch, own)
 }

@@ -5,6 +5,7 @@ ghost use Rattle.sx_forest.specs.declared.entry.Maker.{Maker};
 ghost use Rattle.sx_forest.specs.Forests.{grammar_in, tokens_in, lists_in, IsForest, IsShallow};
 ghost use Rattle.sx_forest.specs.Forests.{IsOpened};
 
+use crate::basis::Basis;
 use crate::entry::Entry;
 use crate::forest::Forest;
 use crate::row::Row;
@@ -40,15 +41,12 @@ pub(crate) fn open(
     ensures same { IfOk result (λ o. (o.head ≡ head) × (o.from ≡ from) × (o.to ≡ entry.to) ×
         (o.ways ≡ entry.ways)) }
 {
-    let rows = all_rows(
-        alloc,
-        forest.grammar,
-        forest.shown,
-        forest.table,
-        head,
-        from,
-        entry.to,
-    )?;
+    let basis = Basis {
+        grammar: forest.grammar,
+        shown: forest.shown,
+        table: forest.table,
+    };
+    let rows = all_rows(alloc, basis, head, from, entry.to)?;
     Ok(Opened {
         head,
         from,

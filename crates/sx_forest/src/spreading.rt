@@ -8,6 +8,7 @@ ghost use Rattle.sx_forest.specs.Rows.{FitsPart, IsIn, Spreads, AreStretches, li
 ghost use Rattle.sx_forest.specs.Rows.{stretch_at};
 ghost use Rattle.sx_forest.specs.Reached.{HasReach};
 
+use crate::basis::Basis;
 use crate::entries::Entries;
 use crate::entry::{Entry, Maker};
 use crate::part_ways::fits;
@@ -89,8 +90,7 @@ pub(crate) fn stretch_of(stretches: &[Stretch], dot: usize) -> Stretch
 /// on.
 pub(crate) fn stretches(
     alloc: Global,
-    grammar: &Grammar,
-    table: &Entries,
+    basis: Basis,
     head: Head,
     count: usize,
     from: u32,
@@ -98,8 +98,9 @@ pub(crate) fn stretches(
 ) -> Result<Vec<Stretch>, NoMemory>
     requires short { to ≤ 10000 }
     requires along { from ≤ to }
-    ensures { IfOk result (λ v. (tokens : List Token) → AreStretches (plain grammar.now) tokens
-        table.now.lists.items head count from to v.items) }
+    ensures { IfOk result (λ v. (tokens : List Token) → AreStretches
+        (plain basis.entry.grammar.now) tokens basis.entry.table.now.lists.items head count from to
+        v.items) }
 {
     let mut all = Vec::new(alloc);
     all.push(Stretch {
@@ -108,8 +109,8 @@ pub(crate) fn stretches(
     })?;
     for dot in 1..count {
         let before = stretch_of(&all, dot - 1);
-        let expected = symbol_of(grammar, head, dot - 1);
-        all.push(spread(grammar, table, expected, before, to))?;
+        let expected = symbol_of(basis.grammar, head, dot - 1);
+        all.push(spread(basis.grammar, basis.table, expected, before, to))?;
     }
     Ok(all)
 }

@@ -4,9 +4,11 @@ ghost use Rattle.std.specs.Prelude.{◌≤◌, ◌<◌, length};
 ghost use Rattle.sx_forest.specs.Forests.{grammar_in, tokens_in, lists_in, symbols_of, IsForest};
 ghost use Rattle.sx_forest.specs.Forests.{IsOpened, IsAt, IsStep};
 
+use crate::choice::Choice;
 use crate::choosing::first_usable;
 use crate::forest::Forest;
 use crate::opened::Opened;
+use crate::rest::Rest;
 use crate::span_rows::{row_of, symbol_count};
 use crate::step::Step;
 use sx_earley::symbol_of;
@@ -30,7 +32,17 @@ pub(crate) fn step_at(forest: Forest, opened: &Opened, dot: usize, place: u32) -
         Some(NumberedSymbol::Lex(_)) => Step::Token,
         Some(NumberedSymbol::Part { sort, least }) => {
             let entries = forest.table.from(place);
-            match first_usable(forest.grammar, entries, sort, least, next, opened.from, 0) {
+            let choice = Choice {
+                grammar: forest.grammar,
+                entries,
+                sort,
+                least,
+                rest: Rest {
+                    row: next,
+                    from: opened.from,
+                },
+            };
+            match first_usable(choice, 0) {
                 Some((index, entry)) => Step::Part(index, entry),
                 None => unreachable!(),
             }

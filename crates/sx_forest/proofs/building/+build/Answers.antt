@@ -66,23 +66,23 @@ extend-returns-clause-read t c =
 
 pub go_over-build-requires : goal.go_over-build-requires
 go_over-build-requires t c =
-    let F = c.args.forest in let o = c.args.opened.now in
-    let step : IsStep (grammar_in F) (tokens_in F) F.start (lists_in F) o c.args.dot c.args.place (steps.Part c.in-Part.field-0 c.in-Part.entry) =
-    subst (λ s. IsStep (grammar_in F) (tokens_in F) F.start (lists_in F) o c.args.dot c.args.place s) c.in-Part.is c.requires.step in
-    let shallow = entry_shallow F c.requires.forest o c.requires.opened c.args.dot c.args.place c.in-Part.field-0 c.in-Part.entry (plain_readings c.args.kids.now.items) c.requires.read step in
-    let less = entry_less F c.requires.forest o c.requires.opened c.args.dot c.args.place c.in-Part.field-0 c.in-Part.entry (plain_readings c.args.kids.now.items) c.requires.read step in
+    let F = c.args.forest in let o = c.args.here.opened.now in
+    let step : IsStep (grammar_in F) (tokens_in F) F.start (lists_in F) o c.args.here.dot c.args.here.place (steps.Part c.in-Part.field-0 c.in-Part.entry) =
+    subst (λ s. IsStep (grammar_in F) (tokens_in F) F.start (lists_in F) o c.args.here.dot c.args.here.place s) c.in-Part.is c.requires.step in
+    let shallow = entry_shallow F c.requires.forest o c.requires.opened c.args.here.dot c.args.here.place c.in-Part.field-0 c.in-Part.entry (plain_readings c.args.kids.now.items) c.requires.read step in
+    let less = entry_less F c.requires.forest o c.requires.opened c.args.here.dot c.args.here.place c.in-Part.field-0 c.in-Part.entry (plain_readings c.args.kids.now.items) c.requires.read step in
     (search rules, (c.requires.forest, shallow))
 
 pub go_over-returns-in-Literal-clause-read : goal.go_over-returns-in-Literal-clause-read
 go_over-returns-in-Literal-clause-read t c =
-    over_literal c.args.forest c.requires.forest c.args.opened.now c.requires.opened c.args.dot c.args.place c.args.step (plain_readings c.args.kids.now.items) c.in-Literal.is c.requires.read c.requires.step
+    over_literal c.args.forest c.requires.forest c.args.here.opened.now c.requires.opened c.args.here.dot c.args.here.place c.args.step (plain_readings c.args.kids.now.items) c.in-Literal.is c.requires.read c.requires.step
 
 pub go_over-returns-in-Literal-clause-behind : goal.go_over-returns-in-Literal-clause-behind
 go_over-returns-in-Literal-clause-behind t c = none_behind c.args.kids.now.items
 
 pub go_over-returns-in_ok-push-in-Token-clause-read : goal.go_over-returns-in_ok-push-in-Token-clause-read
 go_over-returns-in_ok-push-in-Token-clause-read t c =
-    over_token c.args.forest c.requires.forest c.args.opened.now c.requires.opened c.args.dot c.args.place c.args.step c.args.kids.now.items c.push.new.self.items c.token_reading.result
+    over_token c.args.forest c.requires.forest c.args.here.opened.now c.requires.opened c.args.here.dot c.args.here.place c.args.step c.args.kids.now.items c.push.new.self.items c.token_reading.result
     c.in-Token.is c.requires.read c.requires.step (c.token_reading.ensures c.args.forest.grammar.now) c.in_ok-push-in-Token.ensures.items
 
 pub go_over-returns-in_ok-push-in-Token-clause-behind : goal.go_over-returns-in_ok-push-in-Token-clause-behind
@@ -90,7 +90,7 @@ go_over-returns-in_ok-push-in-Token-clause-behind t c = one_behind c.args.kids.n
 
 pub go_over-returns-in_ok-push-in-Part-clause-read : goal.go_over-returns-in_ok-push-in-Part-clause-read
 go_over-returns-in_ok-push-in-Part-clause-read t c =
-    over_part c.args.forest c.requires.forest c.args.opened.now c.requires.opened c.args.dot c.args.place c.in-Part.field-0 c.in-Part.entry c.args.step c.args.kids.now.items c.push-in-Part.new.self.items c.in_ok-kid-in-Part.kid
+    over_part c.args.forest c.requires.forest c.args.here.opened.now c.requires.opened c.args.here.dot c.args.here.place c.in-Part.field-0 c.in-Part.entry c.args.step c.args.kids.now.items c.push-in-Part.new.self.items c.in_ok-kid-in-Part.kid
     c.in-Part.is c.requires.read c.requires.step c.in_ok-kid-in-Part.ensures c.in_ok-push-in-Part.ensures.items
 
 pub go_over-returns-in_ok-push-in-Part-clause-behind : goal.go_over-returns-in_ok-push-in-Part-clause-behind

@@ -12,7 +12,7 @@ abbrev pub decreases-extend : goal.decreases-extend
 decreases-extend l = 3 * depth_in (tally_of l.opened.now.ways) + 1
 
 abbrev pub decreases-go_over : goal.decreases-go_over
-decreases-go_over l = 3 * depth_in (tally_of l.opened.now.ways)
+decreases-go_over l = 3 * depth_in (tally_of l.here.opened.now.ways)
 
 abbrev pub invariant-extend-loop-next : goal.invariant-extend-loop-next
 invariant-extend-loop-next l = record {

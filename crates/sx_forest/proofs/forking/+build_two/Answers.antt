@@ -96,45 +96,45 @@ kids_apart-part-requires t c =
 
 pub part-pair_at-requires : goal.part-pair_at-requires
 part-pair_at-requires t c =
-    let F = c.args.forest in let o = c.args.opened.now in let k = c.requires.fork in
-    let parting = fork_parting F c.requires.forest o c.requires.opened c.args.dot c.args.place c.args.fork (plain_readings c.args.one.now.items) c.requires.one k in
-    let less = there_less F c.requires.forest o c.requires.opened c.args.dot c.args.place k.sort k.least (one_of c.args.fork) (plain_readings c.args.one.now.items) k.symbol k.one c.requires.one in
+    let F = c.args.forest in let o = c.args.here.opened.now in let k = c.requires.fork in
+    let parting = fork_parting F c.requires.forest o c.requires.opened c.args.here.dot c.args.here.place c.args.fork (plain_readings c.args.one.now.items) c.requires.one k in
+    let less = there_less F c.requires.forest o c.requires.opened c.args.here.dot c.args.here.place k.sort k.least (one_of c.args.fork) (plain_readings c.args.one.now.items) k.symbol k.one c.requires.one in
     (search rules, (c.requires.forest, parting))
 
 pub part-extend-requires : goal.part-extend-requires
 part-extend-requires t c =
-    let F = c.args.forest in let o = c.args.opened.now in let k = c.requires.fork in
-    let low = slice_get_within (symbols_of (grammar_in F) o.head) c.args.dot (part k.sort k.least) k.symbol in
+    let F = c.args.forest in let o = c.args.here.opened.now in let k = c.requires.fork in
+    let low = slice_get_within (symbols_of (grammar_in F) o.head) c.args.here.dot (part k.sort k.least) k.symbol in
     record {
       forest = c.requires.forest;
       opened = c.requires.opened;
-      read = rw (ap (λ e. e.to) c.one.ensures, add-one c.args.dot)
-          (over_there F c.requires.forest o c.requires.opened c.args.dot c.args.place k.sort k.least (one_of c.args.fork) c.args.one.now.items c.push.new.self.items c.in_ok-first.first
+      read = rw (ap (λ e. e.to) c.one.ensures, add-one c.args.here.dot)
+          (over_there F c.requires.forest o c.requires.opened c.args.here.dot c.args.here.place k.sort k.least (one_of c.args.fork) c.args.one.now.items c.push.new.self.items c.in_ok-first.first
           k.symbol k.one c.requires.one c.in_ok-first.ensures.one c.in_ok-push.ensures.items);
       within = omega (arith, low);
     }
 
 pub part-extend-requires-2-clause-read : goal.part-extend-requires-2-clause-read
 part-extend-requires-2-clause-read t c =
-    let F = c.args.forest in let o = c.args.opened.now in let k = c.requires.fork in
-    rw (ap (λ e. e.to) c.other.ensures, add-one c.args.dot)
-    (over_there F c.requires.forest o c.requires.opened c.args.dot c.args.place k.sort k.least (other_of c.args.fork) c.args.other.now.items c.push-2.new.self.items c.in_ok-first.second
+    let F = c.args.forest in let o = c.args.here.opened.now in let k = c.requires.fork in
+    rw (ap (λ e. e.to) c.other.ensures, add-one c.args.here.dot)
+    (over_there F c.requires.forest o c.requires.opened c.args.here.dot c.args.here.place k.sort k.least (other_of c.args.fork) c.args.other.now.items c.push-2.new.self.items c.in_ok-first.second
     k.symbol k.other c.requires.other c.in_ok-first.ensures.other c.in_ok-push-2.ensures.items)
 
 pub part-extend-requires-2-clause-within : goal.part-extend-requires-2-clause-within
 part-extend-requires-2-clause-within t c =
     let k = c.requires.fork in
-    let low = slice_get_within (symbols_of (grammar_in c.args.forest) c.args.opened.now.head) c.args.dot (part k.sort k.least) k.symbol in
+    let low = slice_get_within (symbols_of (grammar_in c.args.forest) c.args.here.opened.now.head) c.args.here.dot (part k.sort k.least) k.symbol in
     omega (arith, low)
 
 pub part-returns : goal.part-returns
 part-returns t c =
-    let F = c.args.forest in let o = c.args.opened.now in
+    let F = c.args.forest in let o = c.args.here.opened.now in
     both_ok c.extend-2.result
     (λ read behind. record {
       one_read = c.in_ok-extend.ensures.read;
       other_read = read;
-      apart = rows_apart F c.requires.forest o c.requires.opened c.args.dot c.args.place c.args.one.now.items c.args.other.now.items c.in_ok-first.first c.in_ok-first.second
+      apart = rows_apart F c.requires.forest o c.requires.opened c.args.here.dot c.args.here.place c.args.one.now.items c.args.other.now.items c.in_ok-first.first c.in_ok-first.second
           c.push.new.self.items c.push-2.new.self.items c.extend.new.kids.items c.extend-2.new.kids.items c.requires.one c.requires.other c.in_ok-first.ensures.apart
           c.in_ok-push.ensures.items c.in_ok-push-2.ensures.items c.in_ok-extend.ensures.behind behind;
     }) c.extend-2.ensures.read c.extend-2.ensures.behind

@@ -11,7 +11,7 @@ abbrev pub decreases-kids_apart : goal.decreases-kids_apart
 decreases-kids_apart l = 4 * depth_in (tally_of l.opened.now.ways) + 1
 
 abbrev pub decreases-part : goal.decreases-part
-decreases-part l = 4 * depth_in (tally_of l.opened.now.ways)
+decreases-part l = 4 * depth_in (tally_of l.here.opened.now.ways)
 
 abbrev pub decreases-pair_at : goal.decreases-pair_at
 decreases-pair_at l = 4 * depth_in (tally_of (one_of l.fork).ways) + 3

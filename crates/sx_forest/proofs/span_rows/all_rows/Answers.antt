@@ -8,8 +8,8 @@ use Rattle.sx_forest.proofs.span_rows.all_rows.Goals as goal
 
 pub loop-done-preserved : goal.loop-done-preserved
 loop-done-preserved c =
-    let g = plain c.args.grammar.now in let ts = tokens_of c.args.grammar.now c.args.shown.now in
-    let lists = c.args.table.now.lists.items in let count = c.symbol_count-count.result in let n = c.loop-done.done in
+    let g = plain c.args.basis.grammar.now in let ts = tokens_of c.args.basis.grammar.now c.args.basis.shown.now in
+    let lists = c.args.basis.table.now.lists.items in let count = c.symbol_count-count.result in let n = c.loop-done.done in
     let from = c.args.from in let to = c.args.to in let all = c.in_ok-stretches.stretches.items in
     let row = ways_of c.in_ok-row.row in let next = ways_of c.row_of-next.result.now in let dot = count - n - 1 in
     let stretch = c.stretch_of-stretch.ensures ∙ ap (λ l. stretch_at l dot) c.deref.ensures.value in
@@ -23,8 +23,8 @@ loop-done-preserved c =
 
 pub returns : goal.returns
 returns c =
-    let g = plain c.args.grammar.now in let ts = tokens_of c.args.grammar.now c.args.shown.now in
-    let lists = c.args.table.now.lists.items in let count = c.symbol_count-count.result in
+    let g = plain c.args.basis.grammar.now in let ts = tokens_of c.args.basis.grammar.now c.args.basis.shown.now in
+    let lists = c.args.basis.table.now.lists.items in let count = c.symbol_count-count.result in
     let from = c.args.from in let to = c.args.to in let all = c.in_ok-stretches.stretches.items in let rows = c.loop-done.rows.items in
     let end : c.loop-done.done ≡ count = omega arith in
     let are : AreRows g ts lists c.args.head count count from to all rows = subst (λ n. AreRows g ts lists c.args.head count n from to all rows) end c.loop-done.invariant in

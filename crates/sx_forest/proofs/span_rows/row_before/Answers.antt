@@ -9,9 +9,9 @@ use Rattle.sx_forest.proofs.span_rows.row_before.Goals as goal
 
 pub returns : goal.returns
 returns c =
-    let g = plain c.args.grammar.now in let ts = tokens_of c.args.grammar.now c.args.shown.now in
-    let lists = c.args.table.now.lists.items in let x = option_map (symbol (texts c.args.grammar.now)) c.args.expected in
-    let next = ways_of c.args.next.now in let some = c.narrowed-places.result in
-    IfOk-weaker c.row_from.result (λ r. IsRow g ts lists x c.args.from c.args.to some next (ways_of r)) (λ r. IsRow g ts lists x c.args.from c.args.to c.args.stretch next (ways_of r))
-    (λ r. row_of_some g ts lists x c.args.from c.args.to c.args.stretch some next (ways_of r) c.narrowed-places.ensures.kept (c.narrowed-places.ensures.none ts))
+    let g = plain c.args.basis.grammar.now in let ts = tokens_of c.args.basis.grammar.now c.args.basis.shown.now in
+    let lists = c.args.basis.table.now.lists.items in let x = option_map (symbol (texts c.args.basis.grammar.now)) c.args.expected in
+    let next = ways_of c.args.rest.row.now in let some = c.narrowed-places.result in
+    IfOk-weaker c.row_from.result (λ r. IsRow g ts lists x c.args.rest.from c.args.to some next (ways_of r)) (λ r. IsRow g ts lists x c.args.rest.from c.args.to c.args.stretch next (ways_of r))
+    (λ r. row_of_some g ts lists x c.args.rest.from c.args.to c.args.stretch some next (ways_of r) c.narrowed-places.ensures.kept (c.narrowed-places.ensures.none ts))
     c.row_from.ensures

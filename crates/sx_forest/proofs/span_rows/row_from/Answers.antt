@@ -10,15 +10,15 @@ use Rattle.sx_forest.proofs.span_rows.row_from.Goals.{then-is_idle, else-is_idle
 
 pub loop-place-init : goal.loop-place-init
 loop-place-init c =
-    row_begins (plain c.args.grammar.now) (tokens_of c.args.grammar.now c.args.shown.now) c.args.table.now.lists.items (option_map (symbol (texts c.args.grammar.now)) c.args.expected)
-    c.args.from c.clipped-places.result.first c.clipped-places.result.end (ways_of c.args.next.now) c.new-ways.result.items c.clipped-places.ensures.first c.new-ways.ensures.items
+    row_begins (plain c.args.basis.grammar.now) (tokens_of c.args.basis.grammar.now c.args.basis.shown.now) c.args.basis.table.now.lists.items (option_map (symbol (texts c.args.basis.grammar.now)) c.args.expected)
+    c.args.rest.from c.clipped-places.result.first c.clipped-places.result.end (ways_of c.args.rest.row.now) c.new-ways.result.items c.clipped-places.ensures.first c.new-ways.ensures.items
 
 pub loop-place-preserved : goal.loop-place-preserved
 loop-place-preserved c =
-    let g = plain c.args.grammar.now in let ts = tokens_of c.args.grammar.now c.args.shown.now in
-    let lists = c.args.table.now.lists.items in
-    let x = option_map (symbol (texts c.args.grammar.now)) c.args.expected in
-    let next = ways_of c.args.next.now in let from = c.args.from in let place = c.loop-place.place in
+    let g = plain c.args.basis.grammar.now in let ts = tokens_of c.args.basis.grammar.now c.args.basis.shown.now in
+    let lists = c.args.basis.table.now.lists.items in
+    let x = option_map (symbol (texts c.args.basis.grammar.now)) c.args.expected in
+    let next = ways_of c.args.rest.row.now in let from = c.args.rest.from in let place = c.loop-place.place in
     let first = c.clipped-places.result.first in let end = c.clipped-places.result.end in
     let xs = c.loop-place.ways.items in let w = c.next_ways-here.result in
     let here : IsNext g ts (list_at lists place) x from place next (tally_of w) =
@@ -52,10 +52,10 @@ overflow_add-skipped c =
 
 pub returns : goal.returns
 returns c =
-    let g = plain c.args.grammar.now in let ts = tokens_of c.args.grammar.now c.args.shown.now in
-    let lists = c.args.table.now.lists.items in
-    let x = option_map (symbol (texts c.args.grammar.now)) c.args.expected in
+    let g = plain c.args.basis.grammar.now in let ts = tokens_of c.args.basis.grammar.now c.args.basis.shown.now in
+    let lists = c.args.basis.table.now.lists.items in
+    let x = option_map (symbol (texts c.args.basis.grammar.now)) c.args.expected in
     let places = c.clipped-places.result in let clip = c.clipped-places.ensures in let ahead = clip.first in let end = clip.end in
     let so = c.loop-place.invariant in let along = so.along in let low = so.low in let long = so.long in let most = so.most in
-    row_is g ts lists x c.args.from c.args.to c.args.stretch places (ways_of c.args.next.now) c.loop-place.ways.items c.loop-place.skipped ahead along
+    row_is g ts lists x c.args.rest.from c.args.to c.args.stretch places (ways_of c.args.rest.row.now) c.loop-place.ways.items c.loop-place.skipped ahead along
     (omega arith) (omega arith) (λ p a b is. (clip.same p a b).0 is) (λ p a under. omega arith) (λ p a b is. (clip.same p a b).1 is) so.before so.each

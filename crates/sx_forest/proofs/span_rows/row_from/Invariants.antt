@@ -7,4 +7,4 @@ use Rattle.sx_forest.proofs.span_rows.row_from.Given as goal
 
 abbrev pub invariant-loop-place : goal.invariant-loop-place
 invariant-loop-place l =
-    IsRowSoFar (plain l.grammar) (tokens_of l.grammar l.shown) l.table.lists.items (option_map (symbol (texts l.grammar)) l.expected) l.from l.initial.place l.place-end l.place l.skipped (ways_of l.next) l.ways.items
+    IsRowSoFar (plain l.basis.grammar.now) (tokens_of l.basis.grammar.now l.basis.shown.now) l.basis.table.now.lists.items (option_map (symbol (texts l.basis.grammar.now)) l.expected) l.rest.from l.initial.place l.place-end l.place l.skipped (ways_of l.rest.row.now) l.ways.items

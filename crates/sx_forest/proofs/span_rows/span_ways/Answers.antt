@@ -11,7 +11,7 @@ returns c =
     let rows = c.in_ok-rows.rows.items in let count = c.symbol_count-count.result in
     let none : c.args.from - c.args.from ≡ 0 = omega arith in
     let row = c.row_of.ensures ∙ ap (λ rs. row_at rs count) c.deref.ensures.value in
-    let e : tally_of c.at.result ≡ ways_at (row_at rows (count_of (production_of (plain c.args.grammar.now) c.args.head))) 0 =
+    let e : tally_of c.at.result ≡ ways_at (row_at rows (count_of (production_of (plain c.args.basis.grammar.now) c.args.head))) 0 =
     c.at.ensures (omega arith) ∙ (ap (λ k. ways_at (ways_of c.row_of.result.now) k) none ∙ (ap (λ l. ways_at l 0) row ∙ ap (λ n. ways_at (row_at rows n) 0) c.symbol_count-count.ensures)) in
     record {
       rows = rows;

@@ -8,8 +8,8 @@ use Rattle.sx_forest.proofs.spreading.stretches.Goals as goal
 
 pub loop-dot-preserved : goal.loop-dot-preserved
 loop-dot-preserved c =
-    let g = plain c.args.grammar.now in
-    let lists = c.args.table.now.lists.items in let head = c.args.head in let old = c.loop-dot.all.items in let new = c.push-in-loop-dot.new.self.items in
+    let g = plain c.args.basis.grammar.now in
+    let lists = c.args.basis.table.now.lists.items in let head = c.args.head in let old = c.loop-dot.all.items in let new = c.push-in-loop-dot.new.self.items in
     let n = c.loop-dot.dot - 1 in let ahead = c.loop-dot.invariant.ahead in
     let up : suc n ≡ c.loop-dot.dot = omega arith in
     let before = c.stretch_of-before.ensures ∙ ap (λ l. stretch_at l n) c.deref.ensures.value in

@@ -8,5 +8,5 @@ abbrev pub invariant-loop-dot : goal.invariant-loop-dot
 invariant-loop-dot l = record {
   ahead : 0 < l.dot;
   long : length l.all.items ≡ l.dot;
-  are : (tokens : List Token) → AreStretches (plain l.grammar) tokens l.table.lists.items l.head l.dot l.from l.to l.all.items;
+  are : (tokens : List Token) → AreStretches (plain l.basis.grammar.now) tokens l.basis.table.now.lists.items l.head l.dot l.from l.to l.all.items;
 }
