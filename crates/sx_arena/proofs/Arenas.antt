@@ -1,14 +1,11 @@
 -- An arena's terms: a new cell, and what is read at a number.
-use Rattle.std.proofs.Common.{◌≡◌, ℕ, zero, suc, ◌+◌, ◌-◌, ◌^◌, ◌&&◌, ◌<◌, ◌≤◌, ◌⊎◌, inl, inr, min, max, drop, Bool, true, false, List, [], ◌∷◌, ◌++◌, map, length, get_or, Some, None, refl, sym, ap, ◌∙◌, arith, subst}
-use Rattle.std.specs.Prelude.{nat_eq, string_bytes, slice_get, if◌then◌else◌}
-use Rattle.std.specs.List.{list_any}
+use Rattle.std.proofs.Common.{◌≡◌, ℕ, zero, suc, ◌+◌, ◌-◌, ◌^◌, ◌&&◌, ◌<◌, ◌≤◌, ◌⊎◌, inl, inr, min, max, drop, Bool, true, false, List, [], ◌∷◌, ◌++◌, map, length, get_or, Option, Some, None, refl, sym, ap, ◌∙◌, arith, subst}
+use Rattle.std.specs.Prelude.{nat_eq, string_bytes}
 use Rattle.std.specs.Cmp.Lexicographic.{pointwise}
 use Rattle.std.proofs.lemmas.Bool.Decides.{Decides-eqb}
 use Rattle.std.proofs.lemmas.Slice.Eq.{bytes_eq-Decides}
 use Rattle.std.proofs.lemmas.List.{get_or_append_left, length_push, get_or_push, get_or_default, at_drop_more, at_drop_all}
 use Rattle.std.proofs.lemmas.Bool.{cases_lt}
-use Rattle.std.proofs.lemmas.List.Folds.{list_any-from_Any}
-use Rattle.std.proofs.lemmas.Option.{slice_get_within, get_or_from_slice_get, slice_get_cases}
 use Rattle.sx_term.specs.declared.lex_kind.LexKind.{LexKind}
 use Rattle.sx_term.specs.declared.lex_kind.LexKind.TheVariants.{Id, Num, Str}
 use Rattle.sx_term.specs.contracts.lex_kind.LexKindPartialEq.TheImpl.{eq-value as kind_eq}
@@ -16,11 +13,12 @@ use Rattle.sx_term.specs.Tree.{Tree, node, lexeme, hole, none, forest, depth_of,
 use Rattle.sx_arena.specs.declared.arena.Cell.{Cell}
 use Rattle.sx_arena.specs.declared.shape.Shape.{Shape}
 use Rattle.sx_arena.specs.declared.shape.Shape.TheVariants.{Node, Lex, Var}
-use Rattle.sx_arena.specs.contracts.arena.CellPartialEq.TheImpl.{eq-value as cell_eq}
 use Rattle.sx_arena.specs.contracts.shape.ShapePartialEq.TheImpl.{eq-value as shape_eq}
 use Rattle.sx_arena.specs.Grown.{Extends, grown_from, Fits}
-use Rattle.sx_arena.specs.Arena.{tree_at, shape_tree, AreBelow, KidsBelow, cell_tree, IsCell, IsNewCell, cell_trees, IsRead}
-use Rattle.sx_arena.proofs.Growing.{extends-same, extends-length, extends-at, grown_from-one, grown-length, fits-one, grown-at}
+use Rattle.sx_arena.specs.Arena.{tree_at, shape_tree, AreBelow, KidsBelow, cell_tree, IsCell, IsNewCell, cell_trees, IsPlace, IsRead}
+use Rattle.sx_arena.specs.Hashed.{is_node_of}
+use Rattle.sx_arena.specs.Slots.{cell_at, shape_at, IsFind}
+use Rattle.sx_arena.proofs.Growing.{extends-length, extends-at, grown_from-one, grown-length, fits-one, grown-at}
 
 and_both : (a b : Bool) → (a && b) ≡ true → (a ≡ true) × (b ≡ true)
 and_both true b e = (refl, e)
@@ -65,9 +63,6 @@ shapes_eq ts (Lex v x) (Var w) e = cc
 shapes_eq ts (Var v) (Node m js) e = cc
 shapes_eq ts (Var v) (Lex w y) e = cc
 
-pub cells_eq : (ts : List Tree) (c k : Cell) → cell_eq.it c k ≡ true → cell_tree ts c ≡ cell_tree ts k
-cells_eq ts c k e = shapes_eq ts c.shape k.shape (and_both (shape_eq.it c.shape k.shape) (nat_eq c.depth k.depth && nat_eq c.size k.size) e).0
-
 -- no two of the terms are equal
 abbrev pub Distinct : List Tree → Type 0
 Distinct ts = (i j : ℕ) → i < length ts → j < length ts → tree_at ts i ≡ tree_at ts j → i ≡ j
@@ -101,12 +96,23 @@ shapes_same ts d (Lex v x) (Var w) a b e = cc
 shapes_same ts d (Var v) (Node m js) a b e = cc
 shapes_same ts d (Var v) (Lex w y) a b e = cc
 
-cells_same : (ts : List Tree) → Distinct ts → (c k : Cell) → IsCell ts c → IsCell ts k → cell_tree ts c ≡ cell_tree ts k → cell_eq.it c k ≡ true
-cells_same ts d c k a b e =
-    let s = shapes_same ts d c.shape k.shape a.kids b.kids e in
-    let f : c.depth ≡ k.depth = a.depth ∙ ap (λ t. min (depth_of t) (2 ^ 64 - 1)) e ∙ sym b.depth in
-    let g : c.size ≡ k.size = a.size ∙ ap (λ t. min (size_of t) (2 ^ 64 - 1)) e ∙ sym b.size in
-    both_and (shape_eq.it c.shape k.shape) (nat_eq c.depth k.depth && nat_eq c.size k.size) s (both_and (nat_eq c.depth k.depth) (nat_eq c.size k.size) ((Decides-eqb c.depth k.depth).1 f) ((Decides-eqb c.size k.size).1 g))
+-- the shapes of a node
+node_is : (ts : List Tree) (label : ℕ) (is : List ℕ) (s : Shape) → is_node_of label is s ≡ true → shape_tree ts s ≡ node label (forest (map (tree_at ts) is))
+node_is ts label is (Node m js) e =
+    let b = and_both (nat_eq label m) (pointwise nat_eq is js.items) e in
+    let f = (Decides-eqb label m).0 b.0 in
+    let g = (bytes_eq-Decides is js.items).0 b.1 in
+    sym (λ i. node (f i) (forest (map (tree_at ts) (g i))))
+node_is ts label is (Lex v x) e = cc
+node_is ts label is (Var v) e = cc
+
+is_node : (ts : List Tree) → Distinct ts → (label : ℕ) (is : List ℕ) → AreBelow (length ts) is → (s : Shape) → KidsBelow (length ts) s → shape_tree ts s ≡ node label (forest (map (tree_at ts) is)) → is_node_of label is s ≡ true
+is_node ts d label is a (Node m js) b e =
+    let f : label ≡ m = cc in
+    let g : forest (map (tree_at ts) is) ≡ forest (map (tree_at ts) js.items) = cc in
+    both_and (nat_eq label m) (pointwise nat_eq is js.items) ((Decides-eqb label m).1 f) ((bytes_eq-Decides is js.items).1 (kids_same ts d is js.items a b g))
+is_node ts d label is a (Lex v x) b e = cc
+is_node ts d label is a (Var v) b e = cc
 
 distinct_one : (ts : List Tree) (c : Cell) → Distinct ts → IsNewCell ts c → Distinct (ts ++ cell_tree ts c ∷ [])
 distinct_one ts c d n i j a b e =
@@ -186,55 +192,47 @@ pub record Put (old new : List Cell) (c : Cell) (i : ℕ) : Type 0 where
   pub within : i < length (cell_trees new)
   pub is : tree_at (cell_trees new) i ≡ cell_tree (cell_trees old) c
 
-new_cell : (cs : List Cell) (c : Cell) → Fits cell_tree IsNewCell [] cs → IsCell (cell_trees cs) c → list_any (cell_eq.it c) cs ≡ false → IsNewCell (cell_trees cs) c
-new_cell cs c h a none_is = record {
-  cell = a;
-  new = λ i l e.
+-- a new cell is put behind the others
+pub add_new : (old new : List Cell) (c : Cell) (i : ℕ) → Fits cell_tree IsNewCell [] old → IsNewCell (cell_trees old) c → new ≡ old ++ c ∷ [] → i ≡ length old → Put old new c i
+add_new old new c i h n e m =
+    let f : cell_trees (old ++ c ∷ []) ≡ cell_trees old ++ cell_tree (cell_trees old) c ∷ [] = grown_from-one cell_tree [] old c in
+    let g = grown-length cell_tree old in
+    let l = length_push (cell_trees old) (cell_tree (cell_trees old) c) in
+    let w = ap length f in
+    let at : length (cell_trees old) ≡ i = omega arith in
+    subst (λ (x : List Cell). Put old x c i) (sym e) (record {
+      arena = fits-one cell_tree IsNewCell [] old c h n;
+      extends = (cell_tree (cell_trees old) c ∷ [], f);
+      within = omega arith;
+      is = ap (λ ts. tree_at ts i) f ∙ get_or_push (cell_trees old) (cell_tree (cell_trees old) c) (node 0 none) i at;
+    })
+
+-- what is found of the cells is so of the terms
+module _ (cs : List Cell) (h : Fits cell_tree IsNewCell [] cs) where
+  read_at : (i : ℕ) → i < length cs → IsRead (cell_trees cs) i (cell_at cs i)
+  read_at i l = cell_read cs h i (cell_at cs i) l (get_or_default cs i _ (cell_at cs i) l)
+
+  place_from : (wanted : Shape → Bool) (t : Tree) →
+      ((s : Shape) → KidsBelow (length (cell_trees cs)) s → wanted s ≡ true → shape_tree (cell_trees cs) s ≡ t) →
+      ((s : Shape) → KidsBelow (length (cell_trees cs)) s → shape_tree (cell_trees cs) s ≡ t → wanted s ≡ true) →
+      (r : Option ℕ) → IsFind wanted cs r → IsPlace (cell_trees cs) t r
+  place_from wanted t f g None n = λ i l e.
       let m : i < length cs = (let q = grown-length cell_tree cs in omega arith) in
-      let k = get_or cs i c in
-      let r = cell_read cs h i k m (get_or_own cs i c m) in
-      let s = cells_same (cell_trees cs) (distinct cs h) c k a r.cell (sym e ∙ r.tree) in
-      let any = list_any-from_Any (cell_eq.it c) cs (i, k, m, sym (get_or_own cs i c m), s) in
-      (let q : true ≡ false = sym any ∙ none_is in absurd (let z : ⊥ = cc in z));
-}
-  where
-    get_or_own : (cs : List Cell) (i : ℕ) (c : Cell) → i < length cs → get_or cs i c ≡ get_or cs i (get_or cs i c)
-    get_or_own cs i c h = get_or_default cs i c (get_or cs i c) h
+      let r = read_at i m in
+      n i m (g (shape_at cs i) r.cell.kids (sym r.tree ∙ e))
+  place_from wanted t f g (Some i) p =
+      let r = read_at i p.0 in
+      ((let q = grown-length cell_tree cs in let l = p.0 in omega arith), r.tree ∙ f (shape_at cs i) r.cell.kids p.1)
 
-pub put : (old new : List Cell) (c k : Cell) (i : ℕ) → Fits cell_tree IsNewCell [] old → IsCell (cell_trees old) c →
-    new ≡ (if list_any (cell_eq.it c) old then old else old ++ c ∷ []) → slice_get new i ≡ Some k → cell_eq.it c k ≡ true → Put old new c i
-put old new c k i h a e s q = go (list_any (cell_eq.it c) old) refl
-  where
-    finish : (new : List Cell) → Fits cell_tree IsNewCell [] new → Extends (cell_trees old) (cell_trees new) → slice_get new i ≡ Some k → Put old new c i
-    finish new f x s =
-        let l = slice_get_within new i k s in
-        let r = cell_read new f i k l (sym (get_or_from_slice_get new i k k s)) in
-        record {
-          arena = f;
-          extends = x;
-          within = (let z = grown-length cell_tree new in omega arith);
-          is = r.tree ∙ sym (cells_eq (cell_trees new) c k q) ∙ shape_stays (cell_trees old) (cell_trees new) x c.shape a.kids;
-        }
+  pub place_of_cell : (c : Cell) → IsCell (cell_trees cs) c → (r : Option ℕ) → IsFind (shape_eq.it c.shape) cs r → IsPlace (cell_trees cs) (cell_tree (cell_trees cs) c) r
+  place_of_cell c a = place_from (shape_eq.it c.shape) (cell_tree (cell_trees cs) c)
+      (λ s b w. sym (shapes_eq (cell_trees cs) c.shape s w))
+      (λ s b e. shapes_same (cell_trees cs) (distinct cs h) c.shape s a.kids b (sym e))
 
-    go : (b : Bool) → list_any (cell_eq.it c) old ≡ b → Put old new c i
-    go true t =
-        let f : new ≡ old = e ∙ ap (λ (b : Bool). if b then old else old ++ c ∷ []) t in
-        subst (λ (x : List Cell). Put old x c i) (sym f) (finish old h (extends-same (cell_trees old)) (subst (λ (x : List Cell). slice_get x i ≡ Some k) f s))
-    go false t =
-        let f : new ≡ old ++ c ∷ [] = e ∙ ap (λ (b : Bool). if b then old else old ++ c ∷ []) t in
-        let n = new_cell old c h a t in
-        let x : Extends (cell_trees old) (cell_trees (old ++ c ∷ [])) = (cell_tree (cell_trees old) c ∷ [], grown_from-one cell_tree [] old c) in
-        subst (λ (x : List Cell). Put old x c i) (sym f) (finish (old ++ c ∷ []) (fits-one cell_tree IsNewCell [] old c h n) x (subst (λ (x : List Cell). slice_get x i ≡ Some k) f s))
-
-pub none_within : (cs : List Cell) (i : ℕ) → None ≡ slice_get cs i → i < length (cell_trees cs) → ⊥
-none_within cs i e h = go (slice_get_cases cs i).1
-  where
-    go : ((x : Cell) × (i < length cs) × (slice_get cs i ≡ Some x) × (get_or cs i x ≡ x)) ⊎ ((length cs ≤ i) × (slice_get cs i ≡ None)) → ⊥
-    go (inl (x, l, s, g)) = absurd (let q = e ∙ s in let z : ⊥ = cc in z)
-    go (inr (l, s)) = let z = grown-length cell_tree cs in omega arith
-
-pub read_some : (cs : List Cell) (i : ℕ) (c : Cell) → Fits cell_tree IsNewCell [] cs → Some c ≡ slice_get cs i → IsRead (cell_trees cs) i c
-read_some cs i c h e = cell_read cs h i c (slice_get_within cs i c (sym e)) (sym (get_or_from_slice_get cs i c c (sym e)))
+  pub place_of_node : (label : ℕ) (is : List ℕ) → AreBelow (length (cell_trees cs)) is → (r : Option ℕ) → IsFind (is_node_of label is) cs r → IsPlace (cell_trees cs) (node label (forest (map (tree_at (cell_trees cs)) is))) r
+  place_of_node label is a = place_from (is_node_of label is) (node label (forest (map (tree_at (cell_trees cs)) is)))
+      (λ s b w. node_is (cell_trees cs) label is s w)
+      (λ s b e. is_node (cell_trees cs) (distinct cs h) label is a s b e)
 
 pub below_at : (n : ℕ) (is : List ℕ) → AreBelow n is → (i k : ℕ) → i < length is → k ≡ get_or is i k → k < n
 below_at n [] a i k h e = absurd (omega arith)

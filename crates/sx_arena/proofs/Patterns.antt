@@ -83,6 +83,15 @@ making_more start old new b env parts more kids i k kid m h e l g =
       are = ap (map (tree_at us)) e ∙ map_push (tree_at us) parts k ∙ (λ j. a j ++ d j ∷ []) ∙ sym (map_push F (map tree (take i kids)) (tree kid)) ∙ ap (map F) (sym c);
     }
 
+-- one kid is made, or two
+pub making_one : (a new : Arena) (b : Binds) (env k : ℕ) (kids : List Term) (kid : Term) → IsArena a → IsBinds (trees a) b →
+    IsHeld a new k (instance (filled (env_at (envs (trees a) b) env)) (tree kid)) → 0 < length kids → kid ≡ get_or kids 0 kid → Making (trees a) new b env (k ∷ []) kids 1
+making_one a new b env k kids kid h j m l g = making_more (trees a) a new b env [] (k ∷ []) kids 0 k kid (making_none a b env [] kids h j refl) m refl l g
+
+pub making_two : (start : List Tree) (old new : Arena) (b : Binds) (env first k : ℕ) (kids : List Term) (kid : Term) → Making start old b env (first ∷ []) kids 1 →
+    IsHeld old new k (instance (filled (env_at (envs (trees old) b) env)) (tree kid)) → 1 < length kids → kid ≡ get_or kids 1 kid → Making start new b env (first ∷ k ∷ []) kids 2
+making_two start old new b env first k kids kid m h l g = making_more start old new b env (first ∷ []) (first ∷ k ∷ []) kids 1 k kid m h refl l g
+
 pub held_after : (old mid new : Arena) (i : ℕ) (t u : Tree) → Extends (trees old) (trees mid) → t ≡ u → IsHeld mid new i t → IsHeld old new i u
 held_after old mid new i t u x e h = record {
   arena = h.arena;

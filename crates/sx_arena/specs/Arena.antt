@@ -1,6 +1,6 @@
 -- The terms of an arena as plain data.
 use Rattle.std.specs.Prelude.{◌≡◌, ℕ, ◌-◌, ◌^◌, ◌<◌, List, [], ◌∷◌, map, length, min, get_or}
-use Rattle.std.specs.Prelude.{string_bytes}
+use Rattle.std.specs.Prelude.{Option, Some, None, string_bytes}
 use Rattle.sx_term.specs.Tree.{Tree, node, lexeme, hole, none, forest, depth_of, size_of}
 use Rattle.sx_arena.specs.declared.shape.Shape.{Shape}
 use Rattle.sx_arena.specs.declared.shape.Shape.TheVariants.{Node, Lex, Var}
@@ -45,16 +45,21 @@ cell_trees cs = grown_from cell_tree [] cs
 
 -- the terms, by their numbers
 abbrev pub trees : Arena → List Tree
-trees a = cell_trees a.cells.keys
+trees a = cell_trees a.cells
 
 -- each cell refers to earlier ones, and no two terms are equal
 abbrev pub IsArena : Arena → Type 0
-IsArena a = Fits cell_tree IsNewCell [] a.cells.keys
+IsArena a = Fits cell_tree IsNewCell [] a.cells
 
 -- the cell stands at the number
 pub record IsRead (ts : List Tree) (i : ℕ) (c : Cell) : Type 0 where
   pub cell : IsCell ts c
   pub tree : tree_at ts i ≡ cell_tree ts c
+
+-- the number of the term, or None where it is none of the terms
+abbrev pub IsPlace : List Tree → Tree → Option ℕ → Type 0
+IsPlace ts t None = (i : ℕ) → i < length ts → tree_at ts i ≡ t → ⊥
+IsPlace ts t (Some i) = (i < length ts) × (tree_at ts i ≡ t)
 
 -- the arena goes on from the other, and has the term at the number
 pub record IsHeld (old new : Arena) (i : ℕ) (t : Tree) : Type 0 where

@@ -1,32 +1,29 @@
 //! Terms of a search: equal terms are stored once, and named by a number.
 
 ghost use Rattle.std.specs.Prelude.{◌≡◌, ℕ, ◌+◌, ◌-◌, ◌^◌, ◌<◌, ◌≤◌, [], IfOk, length, map, min};
-ghost use Rattle.std.specs.Prelude.{take};
+ghost use Rattle.std.specs.Prelude.{take, None};
 ghost use Rattle.sx_term.specs.Tree.{node, lexeme, hole, forest, greatest_depth, total_size};
 ghost use Rattle.sx_arena.specs.Arena.{trees, tree_at, cell_tree, IsArena, IsCell, AreBelow};
-ghost use Rattle.sx_arena.specs.Arena.{IsRead, IsHeld};
+ghost use Rattle.sx_arena.specs.Arena.{IsNewCell, IsPlace, IsRead, IsHeld};
 
+use crate::cells::Cells;
 use crate::shape::Shape;
-use indexmap::IndexSet;
 use std::alloc::Global;
 use sx_term::{LexKind, NoMemory, Text};
 
-/// A term's shape, by which it is hashed, with its depth and its size, or the greatest number where
+/// A term's shape, by which it is found, with its depth and its size, or the greatest number where
 /// it is more.
 #[derive(PartialEq, Eq, Drop)]
-#[derive_where(Hash)]
 pub struct Cell {
     pub shape: Shape,
-    #[derive_where(skip(Hash))]
     pub depth: u64,
-    #[derive_where(skip(Hash))]
     pub size: u64,
 }
 
 /// The terms.
 #[derive(Drop)]
 pub struct Arena {
-    pub cells: IndexSet<Cell>,
+    pub cells: Cells,
 }
 
 impl Arena {
@@ -36,7 +33,7 @@ impl Arena {
         ensures none { trees result ≡ [] }
     {
         Arena {
-            cells: IndexSet::new(alloc),
+            cells: Cells::new(alloc),
         }
     }
 
@@ -55,14 +52,46 @@ impl Arena {
         self.cells.truncate(length);
     }
 
+    /// The number of the term with this cell, or None where it is none of the terms.
+    fn found(&self, cell: &Cell) -> Option<usize>
+        requires arena { IsArena self.now }
+        requires cell { IsCell (trees self.now) cell.now }
+        ensures { IsPlace (trees self.now) (cell_tree (trees self.now) cell.now) result }
+    {
+        self.cells.find(&cell.shape)
+    }
+
+    /// The number of the node with these kids, or None where it is none of the terms.
+    fn found_node(&self, label: u32, kids: &[usize]) -> Option<usize>
+        requires arena { IsArena self.now }
+        requires kids { AreBelow (length (trees self.now)) kids.now }
+        ensures { IsPlace (trees self.now)
+            (node label (forest (map (tree_at (trees self.now)) kids.now))) result }
+    {
+        self.cells.find_node(label, kids)
+    }
+
+    /// The number of a new term, of which this is the cell.
+    fn add(&mut self, cell: Cell) -> Result<usize, NoMemory>
+        requires arena { IsArena self.old }
+        requires cell { IsNewCell (trees self.old) cell }
+        ensures { IfOk result (λ i. IsHeld self.old self.new i (cell_tree (trees self.old) cell)) }
+    {
+        let index = self.cells.len();
+        self.cells.push(cell)?;
+        Ok(index)
+    }
+
     /// The number of the term with this cell.
     fn put(&mut self, cell: Cell) -> Result<usize, NoMemory>
         requires arena { IsArena self.old }
         requires cell { IsCell (trees self.old) cell }
         ensures { IfOk result (λ i. IsHeld self.old self.new i (cell_tree (trees self.old) cell)) }
     {
-        let (index, _) = self.cells.insert_full(cell)?;
-        Ok(index)
+        match self.found(&cell) {
+            Some(index) => Ok(index),
+            None => self.add(cell),
+        }
     }
 
     /// The cell at this number.
@@ -71,10 +100,7 @@ impl Arena {
         requires within { index < length (trees self.now) }
         ensures { IsRead (trees self.now) index result.now }
     {
-        match self.cells.get_index(index) {
-            Some(cell) => cell,
-            None => unreachable!(),
-        }
+        self.cells.get(index)
     }
 
     /// The greatest depth of the terms.
@@ -105,6 +131,24 @@ impl Arena {
         total
     }
 
+    /// The number of a new node with these kids.
+    fn add_node(&mut self, label: u32, kids: Vec<usize>) -> Result<usize, NoMemory>
+        requires arena { IsArena self.old }
+        requires kids { AreBelow (length (trees self.old)) kids.items }
+        requires new { IsPlace (trees self.old)
+            (node label (forest (map (tree_at (trees self.old)) kids.items))) None }
+        ensures { IfOk result (λ i. IsHeld self.old self.new i
+            (node label (forest (map (tree_at (trees self.old)) kids.items)))) }
+    {
+        let depth = self.depth_over(&kids).saturating_add(1);
+        let size = self.size_over(&kids).saturating_add(1);
+        self.add(Cell {
+            shape: Shape::Node { label, kids },
+            depth,
+            size,
+        })
+    }
+
     /// The number of the node with these kids.
     pub fn node(&mut self, label: u32, kids: Vec<usize>) -> Result<usize, NoMemory>
         requires arena { IsArena self.old }
@@ -112,13 +156,28 @@ impl Arena {
         ensures { IfOk result (λ i. IsHeld self.old self.new i
             (node label (forest (map (tree_at (trees self.old)) kids.items)))) }
     {
-        let depth = self.depth_over(&kids).saturating_add(1);
-        let size = self.size_over(&kids).saturating_add(1);
-        self.put(Cell {
-            shape: Shape::Node { label, kids },
-            depth,
-            size,
-        })
+        match self.found_node(label, kids.as_slice()) {
+            Some(index) => Ok(index),
+            None => self.add_node(label, kids),
+        }
+    }
+
+    /// The number of the node with these kids, which are copied where the node is new.
+    pub(crate) fn node_of(
+        &mut self,
+        alloc: Global,
+        label: u32,
+        kids: &[usize],
+    ) -> Result<usize, NoMemory>
+        requires arena { IsArena self.old }
+        requires kids { AreBelow (length (trees self.old)) kids.now }
+        ensures { IfOk result (λ i. IsHeld self.old self.new i
+            (node label (forest (map (tree_at (trees self.old)) kids.now)))) }
+    {
+        match self.found_node(label, kids) {
+            Some(index) => Ok(index),
+            None => self.add_node(label, Vec::from_slice(alloc, kids)?),
+        }
     }
 
     /// The number of the lexeme.

@@ -11,6 +11,7 @@
 mod arena;
 mod arena_cut;
 mod binds;
+mod cells;
 mod fact;
 mod input;
 mod laws;
@@ -24,6 +25,7 @@ mod shape;
 pub use arena::{Arena, Cell};
 pub use arena_cut::keep;
 pub use binds::{Bind, Binds};
+pub use cells::Cells;
 pub use fact::{Fact, copied, same_numbers};
 pub use input::{enter, enter_facts, enter_pairs, enter_places};
 pub use laws::match_is_exact;

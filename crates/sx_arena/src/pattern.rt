@@ -30,13 +30,24 @@ pub fn made(
         (instance (filled (env_at (envs (trees arena.old) binds.now) env)) (tree pattern.now))) }
 {
     match pattern {
-        Term::Node { label, kids } => {
-            let mut parts = Vec::with_capacity(alloc, kids.len())?;
-            for kid in kids {
-                parts.push(made(alloc, arena, binds, env, kid)?)?;
+        Term::Node { label, kids } => match kids.as_slice() {
+            [only] => {
+                let part = made(alloc, arena, binds, env, only)?;
+                arena.node_of(alloc, *label, &[part])
             }
-            arena.node(*label, parts)
-        }
+            [left, right] => {
+                let first = made(alloc, arena, binds, env, left)?;
+                let second = made(alloc, arena, binds, env, right)?;
+                arena.node_of(alloc, *label, &[first, second])
+            }
+            others => {
+                let mut parts = Vec::with_capacity(alloc, others.len())?;
+                for kid in others {
+                    parts.push(made(alloc, arena, binds, env, kid)?)?;
+                }
+                arena.node(*label, parts)
+            }
+        },
         Term::Lex { kind, text } => arena.lexeme(alloc, *kind, text),
         Term::Var(variable) => match binds.find(env, *variable as usize) {
             Some(term) => Ok(term),

@@ -1,9 +1,8 @@
 //! Shapes of terms: a term's outermost part, and its kids by their numbers.
 
 ghost use Rattle.std.specs.Prelude.{◌≡◌};
-ghost use Rattle.sx_arena.specs.Hashed.{mixed_with, mixed};
+ghost use Rattle.sx_arena.specs.Hashed.{mixed_with, mixed, hash_of, is_node_of};
 
-use std::hash::{Hash, Hasher};
 use sx_term::LexKind;
 
 /// A node with the numbers of its kids, a lexeme or a variable.
@@ -19,14 +18,14 @@ const SPREAD: u64 = 0x9e37_79b9_7f4a_7c15;
 
 /// One number of what was mixed before and one more.
 #[tactic(auto, unfolding(crate::specs::Hashed::mixed_with))]
-fn mix(before: u64, number: usize) -> u64
+pub(crate) fn mix(before: u64, number: usize) -> u64
     ensures { result ≡ mixed_with before number }
 {
     before.wrapping_mul(SPREAD).wrapping_add(number as u64)
 }
 
 /// One number of a node's label and the numbers of its kids.
-fn mix_all(label: u32, kids: &[usize]) -> u64
+pub(crate) fn node_hash(label: u32, kids: &[usize]) -> u64
     ensures { result ≡ mixed label kids.now }
 {
     let mut sum = label as u64;
@@ -36,18 +35,37 @@ fn mix_all(label: u32, kids: &[usize]) -> u64
     sum
 }
 
-impl Hash for Shape {
-    ghost use Rattle.sx_arena.specs.Hashed.{fed_by, fed_alike};
+/// One number of the bytes of a text.
+fn text_hash(text: &[u8]) -> u64
+    ensures { result ≡ mixed 0 text.now }
+{
+    let mut sum: u64 = 0;
+    for byte in text {
+        sum = mix(sum, *byte as usize);
+    }
+    sum
+}
 
-    ghost hash_input = { fed_by };
+/// One number of a shape.
+pub(crate) fn hash(shape: &Shape) -> u64
+    ensures { result ≡ hash_of shape.now }
+{
+    match shape {
+        Shape::Node { label, kids } => node_hash(*label, kids),
+        Shape::Lex { kind: _, text } => text_hash(text.as_bytes()),
+        Shape::Var(variable) => *variable as u64,
+    }
+}
 
-    ghost respects_eq = { fed_alike };
-
-    fn hash<H: Hasher>(&self, state: &mut H) {
-        match self {
-            Shape::Node { label, kids } => state.write_u64(mix_all(*label, kids)),
-            Shape::Lex { kind: _, text } => text.hash(state),
-            Shape::Var(variable) => state.write_u32(*variable),
-        }
+/// Whether the shape is a node with this label and these kids.
+pub(crate) fn is_node(shape: &Shape, label: u32, kids: &[usize]) -> bool
+    ensures { result ≡ is_node_of label kids.now shape.now }
+{
+    match shape {
+        Shape::Node {
+            label: other,
+            kids: others,
+        } => label == *other && kids == others.as_slice(),
+        _ => false,
     }
 }

@@ -180,7 +180,7 @@ module _ (modes subjects : Modes) (rules : List Rule) (hyps : Hypotheses) (s : S
   fact_differs j f a n e =
       let k : f.form ≡ form = a.form ∙ ap (λ (g : Goal). g.form) e in
       let t : map (tree_at (store_trees s)) f.inputs.items ≡ map (tree_at (store_trees s)) terms = a.inputs ∙ ap (λ (g : Goal). g.terms) e in
-      n (k, terms_same (store_trees s) (distinct s.arena.cells.keys h.arena) f.inputs.items terms a.inputs_below below t)
+      n (k, terms_same (store_trees s) (distinct s.arena.cells h.arena) f.inputs.items terms a.inputs_below below t)
 
   pub fact_leads : (AmongRules : Type 0) (js : List Judgement) (fs : List Fact) (f : Fact) → AreFacts modes (store_trees s) js fs → IsFirstFact form terms fs (Some f) →
       AreBelow (length (store_trees s)) f.outputs.items × GivensStuck modes subjects rules hyps AmongRules js (goal_in s form terms) path (record { goal = goal_in s form terms; path = path; reason = mismatch None (map (tree_at (store_trees s)) f.outputs.items) })

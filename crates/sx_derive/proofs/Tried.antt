@@ -159,7 +159,7 @@ module _ (modes : Modes) (rules : List Rule) (pairs : List Pair) (s : Store) (j 
 
   pub given_other : (fact.inputs.items ≡ terms → ⊥) → IsTried modes rules pairs s s given_as Nothing
   given_other d =
-      let x = ap (λ us. same_all us (map (tree_at (store_trees s)) terms)) (sym f.inputs) ∙ numbers_differ (store_trees s) (distinct s.arena.cells.keys h.arena) fact.inputs.items terms f.inputs_below b d in
+      let x = ap (λ us. same_all us (map (tree_at (store_trees s)) terms)) (sym f.inputs) ∙ numbers_differ (store_trees s) (distinct s.arena.cells h.arena) fact.inputs.items terms f.inputs_below b d in
       record {
         grows = grows_same modes rules s h;
         is = λ js. given_when false (second_false (nat_eq j.form form) (same_all (inputs_of modes j) (map (tree_at (store_trees s)) terms)) x) (hyps_in pairs s js);

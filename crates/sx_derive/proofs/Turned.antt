@@ -300,7 +300,7 @@ wanted_true modes rules old new w outs g b e =
 pub wanted_false : (modes : Modes) (rules : List Rule) (old new : Store) (w : Vec ℕ Global) (outs : List ℕ) → Grows modes rules old new → AreBelow (length (store_trees old)) w.items → AreBelow (length (store_trees new)) outs → (outs ≡ w.items → ⊥) → are_wanted (wanted_in old (Some w)) (map (tree_at (store_trees new)) outs) ≡ false
 wanted_false modes rules old new w outs g b c d =
     ap (λ ts. are_wanted (Some ts) (map (tree_at (store_trees new)) outs)) (sym (maps_same (store_trees old) (store_trees new) g.trees w.items b))
-    ∙ numbers_differ (store_trees new) (distinct new.arena.cells.keys g.store.arena) outs w.items c (below_more (length (store_trees old)) (length (store_trees new)) (extends-length (store_trees old) (store_trees new) g.trees) w.items b) d
+    ∙ numbers_differ (store_trees new) (distinct new.arena.cells g.store.arena) outs w.items c (below_more (length (store_trees old)) (length (store_trees new)) (extends-length (store_trees old) (store_trees new) g.trees) w.items b) d
 
 -- what the test says, by cases on what is wanted
 pub tested_true : (modes : Modes) (rules : List Rule) (old new : Store) (wanted : Option (Vec ℕ Global)) (outs : List ℕ) (b : Bool) → Grows modes rules old new → WantedBelow (length (store_trees old)) wanted →

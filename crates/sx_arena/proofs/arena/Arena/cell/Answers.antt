@@ -1,8 +1,17 @@
+use Rattle.std.proofs.Common.{arith}
+use Rattle.sx_arena.specs.Arena.{cell_tree}
+use Rattle.sx_arena.proofs.Growing.{grown-length}
+use Rattle.sx_arena.proofs.Arenas.{cell_read}
 use Rattle.sx_arena.proofs.arena.Arena.cell.Goals as goal
-use Rattle.sx_arena.proofs.Arenas.{none_within, read_some}
 
-pub unreachable-requires : goal.unreachable-requires
-unreachable-requires c = none_within _ _ c.in-None.ensures.key c.requires.within
+pub get-requires : goal.get-requires
+get-requires c =
+    let l = c.requires.within in
+    let e = grown-length cell_tree c.args.self.now.cells in
+    omega arith
 
 pub returns : goal.returns
-returns c = read_some _ _ _ c.requires.arena c.in-Some.ensures.key
+returns c =
+    let l = c.requires.within in
+    let e = grown-length cell_tree c.args.self.now.cells in
+    cell_read _ c.requires.arena _ _ (omega arith) c.get.ensures

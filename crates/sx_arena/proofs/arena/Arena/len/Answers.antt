@@ -4,4 +4,4 @@ use Rattle.sx_arena.proofs.Growing.{grown-length}
 use Rattle.sx_arena.proofs.arena.Arena.len.Goals as goal
 
 pub returns : goal.returns
-returns c = c.len.ensures.len ∙ sym (grown-length cell_tree _)
+returns c = c.len.ensures ∙ sym (grown-length cell_tree _)

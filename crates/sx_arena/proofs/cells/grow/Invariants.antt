@@ -1,0 +1,11 @@
+use Rattle.std.proofs.Common.{◌≡◌, ◌≤◌, length}
+use Rattle.sx_arena.specs.Slots.{AreLinked}
+use Rattle.sx_arena.proofs.cells.grow.Given as goal
+
+abbrev pub invariant-loop-number : goal.invariant-loop-number
+invariant-loop-number l = record {
+  within : l.number ≤ length l.cells;
+  many : length l.links ≡ length l.cells;
+  slots : length l.wider.items ≡ l.slots;
+  linked : AreLinked l.slots l.cells l.links l.wider.items l.number;
+}

@@ -1,0 +1,14 @@
+use Rattle.std.proofs.Common.{◌≡◌, ◌≤◌, min, length}
+use Rattle.sx_arena.specs.Slots.{AreLinked}
+use Rattle.sx_arena.proofs.cells.unlink.Given as goal
+
+abbrev pub invariant-loop-number : goal.invariant-loop-number
+invariant-loop-number l = record {
+  least : min l.many (length l.cells) ≤ l.number;
+  within : l.number ≤ length l.cells;
+  slots : length l.lasts ≡ length l.initial.lasts;
+  linked : AreLinked (length l.initial.lasts) l.cells l.links l.lasts l.number;
+}
+
+abbrev pub decreases-loop-number : goal.decreases-loop-number
+decreases-loop-number l = l.number
