@@ -10,7 +10,7 @@ use Rattle.sx_arena.specs.Matching.{Assignment, value_or, filled}
 use Rattle.sx_arena.specs.Limits.{first_values}
 use Rattle.sx_arena.specs.declared.arena.Cell.{Cell}
 use Rattle.sx_arena.specs.declared.shape.Shape.TheVariants.{Node as Branch}
-use Rattle.sx_arena.specs.Arena.{tree_at, shape_tree, AreBelow, KidsBelow, IsRead}
+use Rattle.sx_arena.specs.Arena.{SmallVec, tree_at, shape_tree, AreBelow, KidsBelow, IsRead}
 use Rattle.sx_arena.specs.Binds.{IsFound}
 
 depth_in : (ts : List Tree) (is : List ℕ) (k i : ℕ) → k < length is → i ≡ get_or is k 0 → depth_of (tree_at ts i) ≤ greatest_depth (forest (map (tree_at ts) is))
@@ -19,7 +19,7 @@ depth_in ts (x ∷ is) zero i h e = let f = ap (λ y. depth_of (tree_at ts y)) e
 depth_in ts (x ∷ is) (suc k) i h e = let r = depth_in ts is k i (omega arith) e in omega arith
 
 -- a kid is less deep than its node
-pub kid_less : (ts : List Tree) (index label : ℕ) (c : Cell) (kids : Vec ℕ Global) (is : List ℕ) (k i : ℕ) → IsRead ts index c → c.shape ≡ Branch label kids → is ≡ kids.items → k < length is → i ≡ get_or is k 0 →
+pub kid_less : (ts : List Tree) (index label : ℕ) (c : Cell) (kids : SmallVec ℕ) (is : List ℕ) (k i : ℕ) → IsRead ts index c → c.shape ≡ Branch label kids → is ≡ kids.items → k < length is → i ≡ get_or is k 0 →
     depth_of (tree_at ts i) < depth_of (tree_at ts index)
 kid_less ts index label c kids is k i r e f h g =
     let a : tree_at ts index ≡ node label (forest (map (tree_at ts) is)) = r.tree ∙ ap (shape_tree ts) e ∙ ap (λ xs. node label (forest (map (tree_at ts) xs))) (sym f) in
@@ -27,7 +27,7 @@ kid_less ts index label c kids is k i r e f h g =
     let d = depth_in ts is k i h g in
     omega arith
 
-pub kid_within : (ts : List Tree) (index label : ℕ) (c : Cell) (kids : Vec ℕ Global) (is : List ℕ) (k i : ℕ) → IsRead ts index c → c.shape ≡ Branch label kids → is ≡ kids.items → k < length is → i ≡ get_or is k 0 → i < length ts
+pub kid_within : (ts : List Tree) (index label : ℕ) (c : Cell) (kids : SmallVec ℕ) (is : List ℕ) (k i : ℕ) → IsRead ts index c → c.shape ≡ Branch label kids → is ≡ kids.items → k < length is → i ≡ get_or is k 0 → i < length ts
 kid_within ts index label c kids is k i r e f h g = among is k (subst (λ xs. AreBelow (length ts) xs) (sym f) (subst (KidsBelow (length ts)) e r.cell.kids)) h g
   where
     among : (is : List ℕ) (k : ℕ) → AreBelow (length ts) is → k < length is → i ≡ get_or is k 0 → i < length ts
@@ -35,7 +35,7 @@ kid_within ts index label c kids is k i r e f h g = among is k (subst (λ xs. Ar
     among (x ∷ is) zero b h g = (let z = b.0 in omega arith)
     among (x ∷ is) (suc k) b h g = among is k b.1 (omega arith) g
 
-pub exported_node : (ts : List Tree) (index label : ℕ) (c : Cell) (kids : Vec ℕ Global) (is : List ℕ) (k : ℕ) (parts : Vec Term Global) → IsRead ts index c → c.shape ≡ Branch label kids → is ≡ kids.items → length is ≤ k →
+pub exported_node : (ts : List Tree) (index label : ℕ) (c : Cell) (kids : SmallVec ℕ) (is : List ℕ) (k : ℕ) (parts : Vec Term Global) → IsRead ts index c → c.shape ≡ Branch label kids → is ≡ kids.items → length is ≤ k →
     map tree parts.items ≡ map (tree_at ts) (take k is) → tree (Node label parts) ≡ tree_at ts index
 exported_node ts index label c kids is k parts r e f h m =
     tree-at_node (Node label parts) label parts refl

@@ -1,7 +1,7 @@
 -- Patterns: their instances, and matching.
 use Rattle.std.proofs.Common.{◌≡◌, ℕ, suc, ◌+◌, ◌<◌, ◌≤◌, Bool, true, false, List, [], ◌∷◌, ◌++◌, map, take, drop, length, get_or, Option, Some, None, Result, Ok, Err, IfOk, Vec, vec_len, refl, sym, ap, ◌∙◌, arith, subst}
 use Rattle.std.proofs.lemmas.Bool.Decides.{Decides-eqb}
-use Rattle.std.proofs.lemmas.List.{map_push, map_more, drop_more, drop_all, take_all, length-map}
+use Rattle.std.proofs.lemmas.List.{map_push, map_more, drop_more, drop_all, take_all, length-map, get_or_default}
 use Rattle.std.specs.declared.alloc.Global.{Global}
 use Rattle.sx_term.specs.Tree.{Tree, Trees, node, hole, ◌▹◌, forest}
 use Rattle.sx_term.specs.declared.term.Term.{Term, Node, Var}
@@ -15,7 +15,7 @@ use Rattle.sx_arena.specs.declared.shape.Shape.{Shape}
 use Rattle.sx_arena.specs.declared.shape.Shape.TheVariants.{Node as Branch}
 use Rattle.sx_arena.specs.declared.binds.Binds.{Binds}
 use Rattle.sx_arena.specs.Grown.{Extends}
-use Rattle.sx_arena.specs.Arena.{trees, tree_at, shape_tree, IsArena, IsHeld, AreBelow, KidsBelow}
+use Rattle.sx_arena.specs.Arena.{SmallVec, trees, tree_at, shape_tree, IsArena, IsHeld, AreBelow, KidsBelow}
 use Rattle.sx_arena.specs.Binds.{envs, env_at, IsBinds, BindsGrow, IsFit}
 use Rattle.sx_arena.proofs.Growing.{extends-same, extends-then, extends-length}
 use Rattle.sx_arena.proofs.Arenas.{maps_same, below_more}
@@ -115,10 +115,10 @@ pub match_nodes : (p t : Tree) (l m : ℕ) (ps ts : Trees) (env : Assignment) �
 match_nodes p t l m ps ts env e f g =
     (λ i. match (e i) (f i) env) ∙ ap (λ (b : Bool). match_when b (match_kids ps ts env)) ((Decides-eqb l m).1 g)
 
-pub kids_of_branch : (n m : ℕ) (s : Shape) (others : Vec ℕ Global) → s ≡ Branch m others → KidsBelow n s → AreBelow n others.items
+pub kids_of_branch : (n m : ℕ) (s : Shape) (others : SmallVec ℕ) → s ≡ Branch m others → KidsBelow n s → AreBelow n others.items
 kids_of_branch n m s others e h = subst (λ (x : Shape). KidsBelow n x) e h
 
-pub nodes_fit : (ts : List Tree) (pattern : Term) (label m term : ℕ) (kids : Vec Term Global) (others : Vec ℕ Global) (s : Shape) (env : Assignment) →
+pub nodes_fit : (ts : List Tree) (pattern : Term) (label m term : ℕ) (kids : Vec Term Global) (others : SmallVec ℕ) (s : Shape) (env : Assignment) →
     pattern ≡ Node label kids → tree_at ts term ≡ shape_tree ts s → s ≡ Branch m others → label ≡ m →
     match (tree pattern) (tree_at ts term) env ≡ match_kids (forest (map tree kids.items)) (forest (map (tree_at ts) others.items)) env
 nodes_fit ts pattern label m term kids others s env p e f g =
@@ -191,8 +191,11 @@ variable_other pattern v t u env p e f = variable_is (tree pattern) v t env (Som
 pub variable_new : (pattern : Term) (v : ℕ) (t : Tree) (env : Assignment) → pattern ≡ Var v → env v ≡ None → match (tree pattern) t env ≡ Some (bind env v t)
 variable_new pattern v t env p e = variable_is (tree pattern) v t env None (ap tree p) e
 
-pub same_lengths : (kids : Vec Term Global) (others : Vec ℕ Global) (m n : ℕ) → m ≡ vec_len kids → n ≡ vec_len others → m ≡ n → length kids.items ≡ length others.items
-same_lengths kids others m n e f g = let a = kids.ok in let b = others.ok in omega arith
+pub same_lengths : (kids : Vec Term Global) (others : SmallVec ℕ) (m n : ℕ) → m ≡ vec_len kids → n ≡ length others.items → m ≡ n → length kids.items ≡ length others.items
+same_lengths kids others m n e f g = let a = kids.ok in omega arith
 
-pub other_lengths : (kids : Vec Term Global) (others : Vec ℕ Global) (m n : ℕ) → m ≡ vec_len kids → n ≡ vec_len others → (m ≡ n → ⊥) → length kids.items ≡ length others.items → ⊥
-other_lengths kids others m n e f g h = let a = kids.ok in let b = others.ok in g (omega arith)
+pub other_lengths : (kids : Vec Term Global) (others : SmallVec ℕ) (m n : ℕ) → m ≡ vec_len kids → n ≡ length others.items → (m ≡ n → ⊥) → length kids.items ≡ length others.items → ⊥
+other_lengths kids others m n e f g h = let a = kids.ok in g (omega arith)
+
+pub other_is : (is others : List ℕ) (i : ℕ) → is ≡ others → i < length others → get_or is i 0 ≡ get_or others i (get_or is i 0)
+other_is is others i e l = ap (λ xs. get_or xs i 0) e ∙ get_or_default others i 0 (get_or is i 0) l

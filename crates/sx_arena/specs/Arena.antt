@@ -8,6 +8,7 @@ use Rattle.sx_arena.specs.declared.arena.Cell.{Cell}
 use Rattle.sx_arena.specs.declared.arena.Arena.{Arena}
 use Rattle.sx_arena.specs.Grown.{grown_from, Fits}
 pub use Rattle.sx_arena.specs.Grown.{Extends}
+pub use Rattle.smallvec.specs.SmallVec.{SmallVec}
 
 abbrev pub tree_at : List Tree → ℕ → Tree
 tree_at ts i = get_or ts i (node 0 none)

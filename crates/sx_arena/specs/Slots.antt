@@ -1,6 +1,6 @@
 -- Cells in slots, by which a cell is found.
-use Rattle.std.specs.Prelude.{◌≡◌, ℕ, suc, ◌-◌, ◌/◌, ◌^◌, ◌<◌, ◌≤◌, Bool, true, List, length, get_or}
-use Rattle.std.specs.Prelude.{Option, Some, None, bit_and}
+use Rattle.std.specs.Prelude.{◌≡◌, ℕ, suc, ◌-◌, ◌/◌, ◌^◌, ◌<◌, ◌≤◌, Bool, true, List, length}
+use Rattle.std.specs.Prelude.{get_or, Option, Some, None, bit_and}
 use Rattle.sx_arena.specs.declared.shape.Shape.{Shape}
 use Rattle.sx_arena.specs.declared.shape.Shape.TheVariants.{Var}
 use Rattle.sx_arena.specs.declared.arena.Cell.{Cell}

@@ -7,7 +7,7 @@ ghost use Rattle.sx_arena.specs.Arena.{trees, tree_at, cell_tree, IsArena, IsCel
 ghost use Rattle.sx_arena.specs.Arena.{IsNewCell, IsPlace, IsRead, IsHeld};
 
 use crate::cells::Cells;
-use crate::shape::Shape;
+use crate::shape::{Kids, Shape};
 use std::alloc::Global;
 use sx_term::{LexKind, NoMemory, Text};
 
@@ -132,7 +132,7 @@ impl Arena {
     }
 
     /// The number of a new node with these kids.
-    fn add_node(&mut self, label: u32, kids: Vec<usize>) -> Result<usize, NoMemory>
+    fn add_node(&mut self, label: u32, kids: Kids) -> Result<usize, NoMemory>
         requires arena { IsArena self.old }
         requires kids { AreBelow (length (trees self.old)) kids.items }
         requires new { IsPlace (trees self.old)
@@ -140,8 +140,8 @@ impl Arena {
         ensures { IfOk result (λ i. IsHeld self.old self.new i
             (node label (forest (map (tree_at (trees self.old)) kids.items)))) }
     {
-        let depth = self.depth_over(&kids).saturating_add(1);
-        let size = self.size_over(&kids).saturating_add(1);
+        let depth = self.depth_over(kids.as_slice()).saturating_add(1);
+        let size = self.size_over(kids.as_slice()).saturating_add(1);
         self.add(Cell {
             shape: Shape::Node { label, kids },
             depth,
@@ -158,7 +158,7 @@ impl Arena {
     {
         match self.found_node(label, kids.as_slice()) {
             Some(index) => Ok(index),
-            None => self.add_node(label, kids),
+            None => self.add_node(label, Kids::from_vec(kids)),
         }
     }
 
@@ -176,7 +176,7 @@ impl Arena {
     {
         match self.found_node(label, kids) {
             Some(index) => Ok(index),
-            None => self.add_node(label, Vec::from_slice(alloc, kids)?),
+            None => self.add_node(label, Kids::from_slice(alloc, kids)?),
         }
     }
 

@@ -1,6 +1,7 @@
 //! Cells of terms, each found by its shape.
 
-ghost use Rattle.std.specs.Prelude.{◌≡◌, ◌+◌, ◌<◌, ◌≤◌, [], ◌∷◌, ◌++◌, length, take, min, get_or, OnOk};
+ghost use Rattle.std.specs.Prelude.{◌≡◌, ◌+◌, ◌<◌, ◌≤◌, [], ◌∷◌, ◌++◌, OnOk};
+ghost use Rattle.std.specs.Prelude.{length, take, min, get_or};
 ghost use Rattle.sx_arena.specs.Slots.{slot_of, AreLinked, IsFind};
 ghost use Rattle.sx_arena.specs.Hashed.{is_node_of};
 ghost use Rattle.sx_arena.specs.contracts.shape.ShapePartialEq.TheImpl.{eq-value as shape_eq};

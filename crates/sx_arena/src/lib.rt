@@ -34,4 +34,4 @@ pub use pairs::{Pair, apart, instances_apart};
 pub use pattern::{fit, made};
 pub use places::{Limit, fit_places, is_output, make_places, passed};
 pub use set::{roles, rule_at};
-pub use shape::Shape;
+pub use shape::{Kids, Shape};

@@ -34,7 +34,7 @@ pub fn export(alloc: Global, arena: &Arena, index: usize) -> Result<Term, NoMemo
     match &arena.cell(index).shape {
         Shape::Node { label, kids } => {
             let mut parts = Vec::with_capacity(alloc, kids.len())?;
-            for kid in kids {
+            for kid in kids.as_slice() {
                 parts.push(export(alloc, arena, *kid)?)?;
             }
             Ok(Term::Node {

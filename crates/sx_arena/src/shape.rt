@@ -3,12 +3,16 @@
 ghost use Rattle.std.specs.Prelude.{◌≡◌};
 ghost use Rattle.sx_arena.specs.Hashed.{mixed_with, mixed, hash_of, is_node_of};
 
+use smallvec::SmallVec;
 use sx_term::LexKind;
+
+/// The numbers of a node's kids, of which a few stand in the cell itself.
+pub type Kids = SmallVec<usize, 3>;
 
 /// A node with the numbers of its kids, a lexeme or a variable.
 #[derive(PartialEq, Eq, Drop)]
 pub enum Shape {
-    Node { label: u32, kids: Vec<usize> },
+    Node { label: u32, kids: Kids },
     Lex { kind: LexKind, text: String },
     Var(u32),
 }
@@ -51,7 +55,7 @@ pub(crate) fn hash(shape: &Shape) -> u64
     ensures { result ≡ hash_of shape.now }
 {
     match shape {
-        Shape::Node { label, kids } => node_hash(*label, kids),
+        Shape::Node { label, kids } => node_hash(*label, kids.as_slice()),
         Shape::Lex { kind: _, text } => text_hash(text.as_bytes()),
         Shape::Var(variable) => *variable as u64,
     }

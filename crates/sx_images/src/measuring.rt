@@ -63,7 +63,7 @@ fn new_measure(
     match &arena.cell(term).shape {
         Shape::Node { label, kids } => {
             let mut parts = Vec::with_capacity(alloc, kids.len())?;
-            for kid in kids {
+            for kid in kids.as_slice() {
                 parts.push(measured(alloc, table, arena, notes, *kid)?)?;
             }
             Ok(table.measure(*label, &parts))

@@ -24,7 +24,7 @@ pub(crate) fn node_at(alloc: Global, arena: &Arena, term: usize) -> Result<Optio
     match &arena.cell(term).shape {
         Shape::Node { label, kids } => Ok(Some(Node {
             label: *label,
-            kids: copied(alloc, kids)?,
+            kids: copied(alloc, kids.as_slice())?,
         })),
         Shape::Lex { kind: _, text: _ } => Ok(None),
         Shape::Var(_) => Ok(None),

@@ -5,7 +5,7 @@ use Rattle.sx_arena.specs.Arena.{trees, tree_at}
 use Rattle.sx_arena.specs.Binds.{envs, env_at}
 use Rattle.sx_arena.proofs.Arenas.{below_at, distinct}
 use Rattle.sx_arena.proofs.BindChains.{binds_same, binds_then, binds_one}
-use Rattle.sx_arena.proofs.Patterns.{nodes_fit, kids_of_branch, lengths_fit, fitting_more, fitting_none, fitting_end, variable_bound, variable_other, variable_new, same_lengths, other_lengths}
+use Rattle.sx_arena.proofs.Patterns.{nodes_fit, kids_of_branch, lengths_fit, fitting_more, fitting_none, fitting_end, variable_bound, variable_other, variable_new, same_lengths, other_lengths, other_is}
 use Rattle.sx_arena.proofs.pattern.+fit.Goals as goal
 
 pub loop-i-init : goal.loop-i-init
@@ -13,10 +13,11 @@ loop-i-init t c = record { grows = binds_same _ _ c.requires.binds; within = c.r
 
 pub fit-requires : goal.fit-requires
 fit-requires t c =
-    let e = same_lengths c.in-Node.kids c.in-Node-shape.others _ _ c.len.ensures c.len-in-Node-shape.ensures c.if-len.false in
+    let e = same_lengths c.in-Node.kids c.in-Node-shape.others _ _ c.len.ensures c.len-in-Node-shape.ensures.value c.if-len.false in
     let l : c.loop-i.i < length c.in-Node.kids.items = (let a = c.loop-i-test.true in let b = c.len-i-end.ensures in let k = c.in-Node.kids.ok in omega arith) in
+    let m : c.loop-i.i < length c.in-Node-shape.others.items = omega arith in
     let k = depth_of-kid _ _ _ _ _ _ c.in-Node.is refl l c.index.ensures in
-    let w = below_at _ _ (kids_of_branch _ _ _ _ c.in-Node-shape.is c.cell.ensures.cell.kids) c.loop-i.i _ (let q = l in omega arith) c.index-in-loop-i.ensures in
+    let w = below_at _ _ (kids_of_branch _ _ _ _ c.in-Node-shape.is c.cell.ensures.cell.kids) c.loop-i.i _ m (other_is _ _ c.loop-i.i c.deref.ensures m) in
     let g = c.loop-i.invariant.grows.binds in
     let v = c.loop-i.invariant.within in
     search (rules, the_lemmas)
@@ -26,23 +27,25 @@ returns-in-None-clause-grows t c = binds_then _ _ _ _ c.loop-i.invariant.grows c
 
 pub returns-in-None-clause-fit : goal.returns-in-None-clause-fit
 returns-in-None-clause-fit t c =
-    let e = same_lengths c.in-Node.kids c.in-Node-shape.others _ _ c.len.ensures c.len-in-Node-shape.ensures c.if-len.false in
+    let e = same_lengths c.in-Node.kids c.in-Node-shape.others _ _ c.len.ensures c.len-in-Node-shape.ensures.value c.if-len.false in
     let l : c.loop-i.i < length c.in-Node.kids.items = (let a = c.loop-i-test.true in let b = c.len-i-end.ensures in let k = c.in-Node.kids.ok in omega arith) in
+    let m : c.loop-i.i < length c.in-Node-shape.others.items = omega arith in
     nodes_fit _ _ _ _ _ _ _ _ _ c.in-Node.is c.cell.ensures.tree c.in-Node-shape.is c.if-label-other_label.false
-    ∙ fitting_none _ _ _ _ _ _ _ _ _ _ c.loop-i.invariant l e c.index.ensures c.index-in-loop-i.ensures (rw c.in-None.is at c.in_ok-next-in-Node-shape.ensures.fit)
+    ∙ fitting_none _ _ _ _ _ _ _ _ _ _ c.loop-i.invariant l e c.index.ensures (other_is _ _ c.loop-i.i c.deref.ensures m) (rw c.in-None.is at c.in_ok-next-in-Node-shape.ensures.fit)
 
 pub loop-i-preserved : goal.loop-i-preserved
 loop-i-preserved t c =
-    let e = same_lengths c.in-Node.kids c.in-Node-shape.others _ _ c.len.ensures c.len-in-Node-shape.ensures c.if-len.false in
+    let e = same_lengths c.in-Node.kids c.in-Node-shape.others _ _ c.len.ensures c.len-in-Node-shape.ensures.value c.if-len.false in
     let l : c.loop-i.i < length c.in-Node.kids.items = (let a = c.loop-i-test.true in let b = c.len-i-end.ensures in let k = c.in-Node.kids.ok in omega arith) in
-    fitting_more _ _ _ _ _ _ _ _ _ _ _ _ c.loop-i.invariant l e c.index.ensures c.index-in-loop-i.ensures c.in_ok-next-in-Node-shape.ensures.grows (rw c.in-Some.is at c.in_ok-next-in-Node-shape.ensures.fit)
+    let m : c.loop-i.i < length c.in-Node-shape.others.items = omega arith in
+    fitting_more _ _ _ _ _ _ _ _ _ _ _ _ c.loop-i.invariant l e c.index.ensures (other_is _ _ c.loop-i.i c.deref.ensures m) c.in_ok-next-in-Node-shape.ensures.grows (rw c.in-Some.is at c.in_ok-next-in-Node-shape.ensures.fit)
 
 pub returns-after-loop-i-clause-grows : goal.returns-after-loop-i-clause-grows
 returns-after-loop-i-clause-grows t c = c.loop-i.invariant.grows
 
 pub returns-after-loop-i-clause-fit : goal.returns-after-loop-i-clause-fit
 returns-after-loop-i-clause-fit t c =
-    let e = same_lengths c.in-Node.kids c.in-Node-shape.others _ _ c.len.ensures c.len-in-Node-shape.ensures c.if-len.false in (
+    let e = same_lengths c.in-Node.kids c.in-Node-shape.others _ _ c.len.ensures c.len-in-Node-shape.ensures.value c.if-len.false in (
       c.loop-i.invariant.within,
       nodes_fit _ _ _ _ _ _ _ _ _ c.in-Node.is c.cell.ensures.tree c.in-Node-shape.is c.if-label-other_label.false
           ∙ fitting_end _ _ _ _ _ _ _ _ c.loop-i.invariant (let a = c.loop-i-test.false in let b = c.len-i-end.ensures in let k = c.in-Node.kids.ok in omega arith) e,
@@ -74,4 +77,4 @@ returns-in_ok-push-in-None-find-clause-fit t c =
 pub returns-then-len-clause-fit : goal.returns-then-len-clause-fit
 returns-then-len-clause-fit t c =
     nodes_fit _ _ _ _ _ _ _ _ _ c.in-Node.is c.cell.ensures.tree c.in-Node-shape.is c.if-label-other_label.false
-    ∙ lengths_fit (trees c.args.arena.now) c.in-Node.kids.items c.in-Node-shape.others.items _ (other_lengths c.in-Node.kids c.in-Node-shape.others _ _ c.len.ensures c.len-in-Node-shape.ensures c.if-len.true)
+    ∙ lengths_fit (trees c.args.arena.now) c.in-Node.kids.items c.in-Node-shape.others.items _ (other_lengths c.in-Node.kids c.in-Node-shape.others _ _ c.len.ensures c.len-in-Node-shape.ensures.value c.if-len.true)

@@ -14,7 +14,7 @@ pub returns-in_ok-part-in-len1 : goal.returns-in_ok-part-in-len1
 returns-in_ok-part-in-len1 t c =
     let l : 0 < length c.as_slice.result.now = (let a = c.in-len1.len_at_least in omega arith) in
     let e : length c.as_slice.result.now ≤ 1 = (let a = c.in-len1.len_below in omega arith) in
-    let m = making_one _ _ c.args.binds.now c.args.env _ _ _ c.requires.arena c.requires.binds c.in_ok-part-in-len1.ensures l c.only-item.is in
+    let m = making_one c.args.arena.now c.made.new.arena c.args.binds.now c.args.env c.in_ok-part-in-len1.part c.as_slice.result.now c.only-item.result c.requires.arena c.requires.binds c.in_ok-part-in-len1.ensures l c.only-item.is in
     ok_weaker _ _ (λ j h. making_end _ _ _ c.args.binds.now c.args.env _ _ _ _ _ _ m e c.as_slice.ensures.value c.in-Node.is j h) c.node_of.result c.node_of.ensures
 
 pub made-requires-in-len2 : goal.made-requires-in-len2
@@ -26,7 +26,7 @@ made-requires-in-len2 t c =
 pub made-requires-in-len2-2 : goal.made-requires-in-len2-2
 made-requires-in-len2-2 t c =
     let f : 0 < length c.as_slice.result.now = (let a = c.in-len2.len_at_least in omega arith) in
-    let m = making_one _ _ c.args.binds.now c.args.env _ _ _ c.requires.arena c.requires.binds c.in_ok-first-in-len2.ensures f c.left-item.is in
+    let m = making_one c.args.arena.now c.made-in-len2.new.arena c.args.binds.now c.args.env c.in_ok-first-in-len2.first c.as_slice.result.now c.left-item.result c.requires.arena c.requires.binds c.in_ok-first-in-len2.ensures f c.left-item.is in
     let l : 1 < length c.as_slice.result.now = (let a = c.in-len2.len_at_least in omega arith) in
     let k = depth_of-kid _ _ _ _ _ _ c.in-Node.is c.as_slice.ensures.value l c.right-item.is in
     let a = m.arena in
@@ -36,7 +36,7 @@ made-requires-in-len2-2 t c =
 pub returns-in_ok-second-in-len2 : goal.returns-in_ok-second-in-len2
 returns-in_ok-second-in-len2 t c =
     let f : 0 < length c.as_slice.result.now = (let a = c.in-len2.len_at_least in omega arith) in
-    let m = making_one _ _ c.args.binds.now c.args.env _ _ _ c.requires.arena c.requires.binds c.in_ok-first-in-len2.ensures f c.left-item.is in
+    let m = making_one c.args.arena.now c.made-in-len2.new.arena c.args.binds.now c.args.env c.in_ok-first-in-len2.first c.as_slice.result.now c.left-item.result c.requires.arena c.requires.binds c.in_ok-first-in-len2.ensures f c.left-item.is in
     let l : 1 < length c.as_slice.result.now = (let a = c.in-len2.len_at_least in omega arith) in
     let n = making_two _ _ _ c.args.binds.now c.args.env _ _ _ _ m c.in_ok-second-in-len2.ensures l c.right-item.is in
     let e : length c.as_slice.result.now ≤ 2 = (let a = c.in-len2.len_below in omega arith) in

@@ -10,9 +10,9 @@ use Rattle.sx_images.proofs.measuring.+measured.Goals as goal
 pub new_measure-measured-requires : goal.new_measure-measured-requires
 new_measure-measured-requires t c =
     let r = c.cell.ensures in
-    let l = kid_less _ _ _ _ _ _ c.loop-kid.kid-index _ r c.in-Node.is c.deref-kid-items.ensures.value c.loop-kid-test.true refl in
-    let w = kid_within _ _ _ _ _ _ c.loop-kid.kid-index _ r c.in-Node.is c.deref-kid-items.ensures.value c.loop-kid-test.true refl in
-    let f = kid_fits (table_of c.args.table.now) _ _ _ _ _ _ c.loop-kid.kid-index _ r c.in-Node.is c.deref-kid-items.ensures.value c.requires.fits c.loop-kid-test.true refl in
+    let l = kid_less _ _ _ _ _ _ c.loop-kid.kid-index _ r c.in-Node.is c.as_slice-kid-items.ensures c.loop-kid-test.true refl in
+    let w = kid_within _ _ _ _ _ _ c.loop-kid.kid-index _ r c.in-Node.is c.as_slice-kid-items.ensures c.loop-kid-test.true refl in
+    let f = kid_fits (table_of c.args.table.now) _ _ _ _ _ _ c.loop-kid.kid-index _ r c.in-Node.is c.as_slice-kid-items.ensures c.requires.fits c.loop-kid-test.true refl in
     let a = c.requires.arena in
     let k = c.loop-kid.invariant.known in
     let s = c.requires.shallow in
@@ -26,23 +26,23 @@ new_measure-loop-kid-preserved t c =
 
 pub new_measure-measure-requires-clause-many : goal.new_measure-measure-requires-clause-many
 new_measure-measure-requires-clause-many t c =
-    let m = measured_all (table_of c.args.table.now) (trees c.args.arena.now) _ _ _ _ _ _ _ _ c.loop-kid.kid-index c.cell.ensures c.in-Node.is c.deref-kid-items.ensures.value c.requires.fits c.loop-kid.invariant c.loop-kid-test.false c.deref.ensures.value in
+    let m = measured_all (table_of c.args.table.now) (trees c.args.arena.now) _ _ _ _ _ _ _ _ c.loop-kid.kid-index c.cell.ensures c.in-Node.is c.as_slice-kid-items.ensures c.requires.fits c.loop-kid.invariant c.loop-kid-test.false c.deref.ensures.value in
     m.many
 
 pub new_measure-measure-requires-clause-positive : goal.new_measure-measure-requires-clause-positive
 new_measure-measure-requires-clause-positive t c =
-    let m = measured_all (table_of c.args.table.now) (trees c.args.arena.now) _ _ _ _ _ _ _ _ c.loop-kid.kid-index c.cell.ensures c.in-Node.is c.deref-kid-items.ensures.value c.requires.fits c.loop-kid.invariant c.loop-kid-test.false c.deref.ensures.value in
+    let m = measured_all (table_of c.args.table.now) (trees c.args.arena.now) _ _ _ _ _ _ _ _ c.loop-kid.kid-index c.cell.ensures c.in-Node.is c.as_slice-kid-items.ensures c.requires.fits c.loop-kid.invariant c.loop-kid-test.false c.deref.ensures.value in
     m.positive
 
 pub new_measure-measure-requires-clause-shallow : goal.new_measure-measure-requires-clause-shallow
 new_measure-measure-requires-clause-shallow t c =
-    let m = measured_all (table_of c.args.table.now) (trees c.args.arena.now) _ _ _ _ _ _ _ _ c.loop-kid.kid-index c.cell.ensures c.in-Node.is c.deref-kid-items.ensures.value c.requires.fits c.loop-kid.invariant c.loop-kid-test.false c.deref.ensures.value in
+    let m = measured_all (table_of c.args.table.now) (trees c.args.arena.now) _ _ _ _ _ _ _ _ c.loop-kid.kid-index c.cell.ensures c.in-Node.is c.as_slice-kid-items.ensures c.requires.fits c.loop-kid.invariant c.loop-kid-test.false c.deref.ensures.value in
     let s = m.small in
-    let d = ap depth_of (node_read _ _ _ _ _ _ c.cell.ensures c.in-Node.is c.deref-kid-items.ensures.value) in
+    let d = ap depth_of (node_read _ _ _ _ _ _ c.cell.ensures c.in-Node.is c.as_slice-kid-items.ensures) in
     let l = c.requires.shallow in
     omega arith
 
 pub new_measure-returns-after-loop-kid-clause-measure : goal.new_measure-returns-after-loop-kid-clause-measure
 new_measure-returns-after-loop-kid-clause-measure t c =
-    let m = measured_all (table_of c.args.table.now) (trees c.args.arena.now) _ _ _ _ _ _ _ _ c.loop-kid.kid-index c.cell.ensures c.in-Node.is c.deref-kid-items.ensures.value c.requires.fits c.loop-kid.invariant c.loop-kid-test.false c.deref.ensures.value in
-    measured_node (table_of c.args.table.now) (trees c.args.arena.now) _ _ _ _ _ _ _ c.cell.ensures c.in-Node.is c.deref-kid-items.ensures.value m c.measure.ensures.depth c.measure.ensures.small c.measure.ensures.size
+    let m = measured_all (table_of c.args.table.now) (trees c.args.arena.now) _ _ _ _ _ _ _ _ c.loop-kid.kid-index c.cell.ensures c.in-Node.is c.as_slice-kid-items.ensures c.requires.fits c.loop-kid.invariant c.loop-kid-test.false c.deref.ensures.value in
+    measured_node (table_of c.args.table.now) (trees c.args.arena.now) _ _ _ _ _ _ _ c.cell.ensures c.in-Node.is c.as_slice-kid-items.ensures m c.measure.ensures.depth c.measure.ensures.small c.measure.ensures.size
