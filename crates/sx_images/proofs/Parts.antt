@@ -1,6 +1,5 @@
 -- Nodes by the numbers of their kids, and their plain images.
-use Rattle.std.proofs.Common.{◌≡◌, arith, ℕ, zero, suc, ◌<◌, ◌≤◌, map, length, get_or, List, [], ◌∷◌, Option, Some, None, Vec, refl, sym, ap, ◌∙◌, subst}
-use Rattle.std.specs.declared.alloc.Global.{Global}
+use Rattle.std.proofs.Common.{◌≡◌, arith, ℕ, zero, suc, ◌<◌, ◌≤◌, map, length, get_or, List, [], ◌∷◌, Option, Some, None, refl, sym, ap, ◌∙◌, subst}
 use Rattle.std.specs.Prelude.{option_map}
 use Rattle.sx_term.specs.Tree.{Tree, Trees, node, ◌▹◌, forest, listed, depth_of, greatest_depth}
 use Rattle.sx_term.specs.Instances.{instance, bound_by}
