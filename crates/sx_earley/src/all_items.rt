@@ -23,6 +23,7 @@ use std::alloc::Global;
 use sx_grammar::{Grammar, Item};
 
 /// The item at a place.
+#[inline(always)]
 pub(crate) fn item_at(found: &IndexSet<Item>, place: usize) -> Option<Item>
     ensures { result ≡ slice_get found.now.keys place }
 {

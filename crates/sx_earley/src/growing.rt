@@ -46,6 +46,7 @@ fn add(found: &mut IndexSet<Item>, item: Item) -> Result<(), ChartError>
 }
 
 /// Whether hints tell that the dot of the first item was moved over the second.
+#[inline(always)]
 fn is_known(found: &IndexSet<Item>, hints: &Hints, before: Item, filling: Item) -> bool
     ensures { IsTrue result → Contains found.now.keys (moved before filling.end) }
 {
@@ -221,9 +222,6 @@ fn join(
     ensures few { OnOk result (length found.new.keys ≤ 2000000) }
     ensures hard { result ≡ Err ChartError.TooHard → 2000000 < length found.new.keys }
 {
-    if is_known(found, hints, before, filling) {
-        return Ok(());
-    }
     match next_part(grammar, before.head, before.dot) {
         None => Ok(()),
         Some((sort, least)) => {
@@ -267,6 +265,9 @@ fn join_each(
     ensures hard { result ≡ Err ChartError.TooHard → 2000000 < length found.new.keys }
 {
     for before in befores {
+        if is_known(found, hints, *before, filling) {
+            continue;
+        }
         join(grammar, found, hints, *before, filling)?;
     }
     Ok(())
@@ -291,6 +292,9 @@ fn join_over(
     ensures hard { result ≡ Err ChartError.TooHard → 2000000 < length found.new.keys }
 {
     for filling in fillings {
+        if is_known(found, hints, before, *filling) {
+            continue;
+        }
         join(grammar, found, hints, before, *filling)?;
     }
     Ok(())

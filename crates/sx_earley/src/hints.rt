@@ -1,6 +1,6 @@
 //! Where items were found.
 
-ghost use Rattle.std.specs.Prelude.{◌≤◌, ◌<◌, ◌^◌, IsTrue, Contains};
+ghost use Rattle.std.specs.Prelude.{◌≡◌, ◌≤◌, ◌<◌, ◌^◌, IsTrue, Contains};
 
 use crate::all_items::item_at;
 use indexmap::IndexSet;
@@ -11,10 +11,11 @@ use sx_grammar::{Head, Item};
 /// one costs nothing but the look.
 #[derive(Drop)]
 pub(crate) struct Hints {
-    places: Vec<usize>,
+    places: Vec<u32>,
 }
 
 /// The number of the head's production, or of its sort.
+#[inline(always)]
 fn number_in(head: Head) -> u32 {
     match head {
         Head::Labelled(label) => label,
@@ -23,8 +24,43 @@ fn number_in(head: Head) -> u32 {
 }
 
 /// Where the place of the item is kept. Items with other ends may share it.
+#[inline(always)]
 fn slot_of(item: Item) -> usize {
     item.origin as usize * 16 + item.dot % 4 * 4 + (number_in(item.head) % 4) as usize
+}
+
+/// Whether the heads are the same.
+#[inline(always)]
+fn is_same_head(one: Head, other: Head) -> bool
+    ensures { IsTrue result → one ≡ other }
+{
+    match (one, other) {
+        (Head::Labelled(a), Head::Labelled(b)) => a == b,
+        (Head::Bracketed(a), Head::Bracketed(b)) => a == b,
+        _ => false,
+    }
+}
+
+/// Whether the items are the same.
+#[inline(always)]
+fn is_same(one: Item, other: Item) -> bool
+    ensures { IsTrue result → one ≡ other }
+{
+    one.origin == other.origin
+        && one.end == other.end
+        && one.dot == other.dot
+        && is_same_head(one.head, other.head)
+}
+
+/// Whether the item is found at the place.
+#[inline(always)]
+fn is_at(found: &IndexSet<Item>, place: usize, item: Item) -> bool
+    ensures { IsTrue result → Contains found.now.keys item }
+{
+    match item_at(found, place) {
+        None => false,
+        Some(other) => is_same(other, item),
+    }
 }
 
 impl Hints {
@@ -38,22 +74,22 @@ impl Hints {
     }
 
     /// Whether the item is found where it is said to be.
+    #[inline(always)]
     pub(crate) fn is_right(&self, found: &IndexSet<Item>, item: Item) -> bool
         ensures { IsTrue result → Contains found.now.keys item }
     {
-        let Some(place) = self.places.get(slot_of(item)) else {
-            return false;
-        };
-        match item_at(found, *place) {
+        match self.places.get(slot_of(item)) {
             None => false,
-            Some(other) => other == item,
+            Some(place) => is_at(found, *place as usize, item),
         }
     }
 
     /// Keeps the place of the item.
-    pub(crate) fn note(&mut self, item: Item, place: usize) {
+    pub(crate) fn note(&mut self, item: Item, place: usize)
+        requires { place ≤ 2000000 }
+    {
         if let Some(hint) = self.places.get_mut(slot_of(item)) {
-            *hint = place;
+            *hint = place as u32;
         }
     }
 }

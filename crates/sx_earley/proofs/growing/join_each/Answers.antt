@@ -18,6 +18,19 @@ loop-before-preserved c =
           (λ b there joins. still_there mid new (moved b c.args.filling.end) c.join.ensures.extends (c.loop-before.invariant.every b there joins)) c.in_ok-join.ensures.every;
     }
 
+-- where the hints know, the item is there
+pub loop-before-preserved-then-is_known : goal.loop-before-preserved-then-is_known
+loop-before-preserved-then-is_known c =
+    let g = plain c.args.grammar.now in let keys = c.loop-before.found.keys in
+    let low : c.loop-before.before-index < length c.args.befores.now = omega arith in
+    record {
+      few = c.loop-before.invariant.few;
+      extends = c.loop-before.invariant.extends;
+      only = c.loop-before.invariant.only;
+      every = one_more_done c.args.befores.now c.loop-before.before-index (λ b. Joins g b c.args.filling → Contains keys (moved b c.args.filling.end)) low
+          c.loop-before.invariant.every (λ _. c.is_known.ensures c.if-is_known.true);
+    }
+
 pub returns-in_err-join-clause-only : goal.returns-in_err-join-clause-only
 returns-in_err-join-clause-only c =
     let g = plain c.args.grammar.now in

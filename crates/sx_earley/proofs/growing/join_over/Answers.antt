@@ -18,6 +18,19 @@ loop-filling-preserved c =
           (λ b there joins. still_there mid new (moved c.args.before b.end) c.join.ensures.extends (c.loop-filling.invariant.every b there joins)) c.in_ok-join.ensures.every;
     }
 
+-- where the hints know, the item is there
+pub loop-filling-preserved-then-is_known : goal.loop-filling-preserved-then-is_known
+loop-filling-preserved-then-is_known c =
+    let g = plain c.args.grammar.now in let keys = c.loop-filling.found.keys in
+    let low : c.loop-filling.filling-index < length c.args.fillings.now = omega arith in
+    record {
+      few = c.loop-filling.invariant.few;
+      extends = c.loop-filling.invariant.extends;
+      only = c.loop-filling.invariant.only;
+      every = one_more_done c.args.fillings.now c.loop-filling.filling-index (λ b. Joins g c.args.before b → Contains keys (moved c.args.before b.end)) low
+          c.loop-filling.invariant.every (λ _. c.is_known.ensures c.if-is_known.true);
+    }
+
 pub returns-in_err-join-clause-only : goal.returns-in_err-join-clause-only
 returns-in_err-join-clause-only c =
     let g = plain c.args.grammar.now in
