@@ -1,7 +1,11 @@
 -- The extension that is checked comes last.
-use Rattle.std.proofs.Common.{◌≡◌, ℕ, ◌+◌, List, [], ◌∷◌, ◌++◌, refl, sym, ap, ◌∙◌, subst}
+use Rattle.std.proofs.Common.{◌≡◌, ℕ, ◌+◌, List, [], ◌∷◌, ◌++◌, length, map, refl, sym, ap, ◌∙◌, subst}
 use Rattle.std.specs.Prelude.{Ok, Some}
 use Rattle.std.specs.List.{AllByRecursion}
+use Rattle.sx_rules.specs.Views.{subjects_in}
+use Rattle.sx_rewrite.specs.Extensions.{with_table}
+use Rattle.sx_rewrite.specs.ExtensionView.{ext_rule}
+use Rattle.sx_rewrite.specs.Sound.{AreSoundBy}
 use Rattle.sx_outline.specs.Headers.{IsHeaderAnswer}
 use Rattle.sx_extcheck.specs.declared.budgets.Budgets.{Budgets}
 use Rattle.sx_outside.specs.Files.{Files}
@@ -16,9 +20,11 @@ use Rattle.sx_uses.specs.ReadExtension.{StatesExtension, ReadsFile, IsFor, Reads
 use Rattle.sx_uses.specs.ReadUses.{ReadsUses}
 use Rattle.sx_uses.proofs.Coming.{come_first}
 use Rattle.sx_uses.proofs.Lasting.{come_last}
-use Rattle.sx_accepting.specs.ExtendedLanguages.{BaseLanguage, ExtendedData, unextended}
-use Rattle.sx_accepting.specs.Extending.{ReadsAfter, Accepts, ExtendsBy, Extends}
-use Rattle.sx_check.specs.CheckedExtension.{ComesLast}
+use Rattle.sx_accepting.specs.ExtendedLanguages.{BaseLanguage, ExtendedData, ground_of, unextended}
+use Rattle.sx_accepting.specs.Extending.{ReadData, IsStated, ReadsAfter, Accepts, ExtendsBy, Extends}
+use Rattle.sx_accepting.specs.Laws.{IsAcceptedOver}
+use Rattle.sx_accepting.proofs.AcceptedExtended.{stored_soundly, checks_of, accepted_from}
+use Rattle.sx_check.specs.CheckedExtension.{LastAreSound, ComesLast}
 
 -- ---- the last of those that are reached
 
@@ -89,6 +95,23 @@ own_is_last file language name files xs reached =
 -- ---- what is accepted before it, and then with it
 
 module _ (l : BaseLanguage) (budgets : Budgets) where
+  -- the rules of an extension that is read and accepted are sound
+  last_are_sound : (own : Extension) (so_far x : ExtendedData) (read : ReadData) (tries : ℕ) → IsAcceptedOver l so_far → IsStated (ground_of l so_far) own.bytes read →
+      Accepts l budgets (extension_file own.header.name) so_far read (Ok x) tries → LastAreSound so_far read x
+  last_are_sound own so_far x read tries over stated accepts =
+      let stored = accepts.0 in
+      let rules = stated.whole.extension.rules.items in
+      let checks = checks_of l budgets so_far own.bytes read tries stated stored accepts.1 in
+      record {
+        rules = rules;
+        rules_are = ap (λ (d : ReadData). d.rules) (sym stated.is);
+        bodies_are = ap (λ (d : ReadData). d.bodies) (sym stated.is);
+        stored = stored;
+        stored_are = ap (λ (y : ExtendedData). y.set.kept.more) accepts.2;
+        sound = subst (λ (d : ReadData). AreSoundBy (subjects_in so_far.set.forms) (length so_far.set.base_shapes) (with_table so_far.set.kept d.table) (map ext_rule rules) stored)
+            (sym stated.is) (stored_soundly l so_far over own.bytes read stated budgets stored tries checks);
+      }
+
   record Apart (before : List Extension) (own : Extension) (x y : ExtendedData) : Type 0 where
     middle : ExtendedData
     tries : ℕ
@@ -112,11 +135,13 @@ module _ (l : BaseLanguage) (budgets : Budgets) where
         by = rest.by;
       }
 
-  pub comes_last : (own : Extension) (before xs : List Extension) (x : ExtendedData) (tries : ℕ) → xs ≡ before ++ own ∷ [] → Extends l budgets xs (unextended l.content) (Ok x) tries → ComesLast l budgets own xs x
-  comes_last own before xs x tries parts extends =
+  pub comes_last : IsAcceptedOver l (unextended l.content) → (own : Extension) (before xs : List Extension) (x : ExtendedData) (tries : ℕ) → xs ≡ before ++ own ∷ [] →
+      Extends l budgets xs (unextended l.content) (Ok x) tries → ComesLast l budgets own xs x
+  comes_last begun own before xs x tries parts extends =
       let at = apart_at before own (unextended l.content) x tries (subst (λ (ys : List Extension). Extends l budgets ys (unextended l.content) (Ok x) tries) parts extends) in
       let read = went_on (Untried (ReadsAfter l at.middle own)) (Accepts l budgets (extension_file own.header.name) at.middle) x at.more at.by in
       let made = read.goes.2 in
+      let over = accepted_from l budgets before (unextended l.content) at.middle at.tries begun at.extends in
       record {
         before = before;
         parts = parts;
@@ -127,4 +152,5 @@ module _ (l : BaseLanguage) (budgets : Budgets) where
         reads = read.begins.0;
         rules = ap (λ (y : ExtendedData). y.set.rules) made;
         count = ap (λ (y : ExtendedData). y.last) made;
+        sound = last_are_sound own at.middle x read.given read.after over read.begins.0 read.goes;
       }

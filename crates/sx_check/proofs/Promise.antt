@@ -12,6 +12,7 @@ use Rattle.sx_accepting.specs.ExtendedLanguages.{ExtendedData, unextended}
 use Rattle.sx_accepting.specs.Extending.{Extends}
 use Rattle.sx_accepting.specs.LanguageFiles.{language_file}
 use Rattle.sx_accepting.specs.ReadLanguage.{Stated, IsStated, base_in}
+use Rattle.sx_accepting.proofs.AcceptedExtended.{accepted_begin}
 use Rattle.sx_accepting.proofs.OneExtended.{extended_is_accepted}
 use Rattle.sx_check.specs.CheckExtension.{check_plan}
 use Rattle.sx_check.specs.CheckedExtension.{CheckedExtension, ChecksKeepPromise}
@@ -40,7 +41,7 @@ module _ (name language : List ℕ) (budgets : Budgets) (old : Files) (bytes : L
         reached = subst (λ (named : List ℕ). ReadsUses (extension_file name) named (name ∷ []) old (Ok xs)) as_own reached;
         extends = extends;
         accepted = extended_is_accepted language bytes l stated budgets xs x tries extends;
-        last = comes_last (base_in l) budgets last.own last.before xs x tries last.parts extends;
+        last = comes_last (base_in l) budgets (accepted_begin language bytes l stated) last.own last.before xs x tries last.parts extends;
         certified = have_certificates x (all_counted (base_in l) budgets xs (unextended l.language) x tries (begin_counted l.language) extends);
         same = files_are ∙ ap (λ (p : Plan). after p.files old) made;
         lines = ap (λ (p : Plan). p.lines) made;
