@@ -11,5 +11,6 @@ pub mod FoundRules
 pub mod StoredRules
 pub mod Fronts
 pub mod Fitting
+pub mod AddedSound
 pub mod Verdicts
 pub mod OneOutcome

@@ -1,18 +1,23 @@
 -- What adding an extension to an accepted set answers, rule by rule in order.
-use Rattle.std.specs.Prelude.{◌≡◌, ℕ, ◌+◌, ◌≤◌, ◌⊎◌, List, [], ◌∷◌, length, map, Result, Ok, Err}
+use Rattle.std.specs.Prelude.{◌≡◌, ℕ, ◌+◌, ◌≤◌, ◌⊎◌, List, [], ◌∷◌, ◌++◌, length, map, Result}
+use Rattle.std.specs.Prelude.{Ok, Err}
 use Rattle.std.specs.Global.{Vec}
 use Rattle.std.specs.List.{AllByRecursion}
 use Rattle.sx_term.specs.Sorts.{Shape}
+use Rattle.sx_rules.specs.Sets.{shapes_in}
 use Rattle.sx_rules.specs.Views.{rule}
+use Rattle.sx_plain.specs.Views.{table_of}
 use Rattle.sx_rewrite.specs.declared.accepted.Accepted.{Accepted as AcceptedOf}
 use Rattle.sx_rewrite.specs.declared.ext_rule.ExtRule.{ExtRule as ExtRuleOf}
 use Rattle.sx_rewrite.specs.declared.extension_data.ExtensionData.{ExtensionData}
 use Rattle.sx_rewrite.specs.declared.flat.Flat.{Flat}
 use Rattle.sx_rewrite.specs.Accepted.{Checked}
+use Rattle.sx_rewrite.specs.AcceptedView.{accepted, signature}
 use Rattle.sx_rewrite.specs.Adds.{IsAdded, IsAsBefore}
+use Rattle.sx_rewrite.specs.Extensions.{with_table}
 use Rattle.sx_rewrite.specs.ExtensionView.{ext_rule}
 use Rattle.sx_rewrite.specs.Shallow.{IsShallow}
-use Rattle.sx_rewrite.specs.Sound.{IsSoundBy}
+use Rattle.sx_rewrite.specs.Sound.{IsSoundBy, AreSoundBy}
 use Rattle.sx_rewrite.specs.Stored.{checked_of}
 use Rattle.sx_extcheck.specs.declared.accept_error.AcceptError.{AcceptError}
 use Rattle.sx_extcheck.specs.declared.accept_error.AcceptError.TheVariants.{Memory, Rule}
@@ -71,6 +76,14 @@ abbrev pub IsAnswered : AcceptedOf → List Shape → ExtensionData → Check �
     Result AcceptedOf Refused → Type 0
 IsAnswered old all ext c first last result =
     (count : ℕ) × (last ≡ first + count) × IsOutcome old all ext c count result
+
+-- the rules of the extension, each with its body, are sound after the set with the extension's
+-- table, by what the new set has stored of them
+pub record AddsSound (old : AcceptedOf) (ext : ExtensionData) (new : AcceptedOf) : Type 0 where
+  pub stored : List Checked
+  pub stored_are : (accepted new).more ≡ (accepted old).more ++ stored
+  pub sound : AreSoundBy (signature old).subjects (length (shapes_in old.base))
+      (with_table (accepted old) (table_of ext.plain)) (map ext_rule ext.rules.items) stored
 
 -- one of the rules has the name, and nothing makes it sound
 abbrev pub HasUnsound : Check → List ExtRuleOf → List ℕ → Type 0

@@ -1,11 +1,22 @@
 -- Laws of checking rules.
+use Rattle.std.specs.Prelude.{ℕ, List, map, Ok}
+use Rattle.sx_term.specs.Sorts.{Shape}
 use Rattle.sx_rules.specs.Modes.{AllModed}
+use Rattle.sx_rules.specs.Sets.{shapes_in}
+use Rattle.sx_plain.specs.Views.{table_of}
 use Rattle.sx_derive.specs.declared.blame.Blame.{Blame}
-use Rattle.sx_rewrite.specs.Accepted.{ExtRule, Checked, rules_of}
+use Rattle.sx_rewrite.specs.declared.accepted.Accepted.{Accepted as AcceptedOf}
+use Rattle.sx_rewrite.specs.declared.extension_data.ExtensionData.{ExtensionData}
+use Rattle.sx_rewrite.specs.Accepted.{ExtRule, Checked, rules_of, IsAccepted}
+use Rattle.sx_rewrite.specs.AcceptedView.{accepted, signature}
 use Rattle.sx_rewrite.specs.Accepting.{IsStored}
+use Rattle.sx_rewrite.specs.Extensions.{Fits}
+use Rattle.sx_rewrite.specs.ExtensionView.{ext_rule}
 use Rattle.sx_rewrite.specs.PlainRules.{plain_of}
 use Rattle.sx_rewrite.specs.Sound.{IsSoundBy}
+use Rattle.sx_extcheck.specs.declared.budgets.Budgets.{Budgets}
 use Rattle.sx_extcheck.specs.declared.rule_defect.RuleDefect.TheVariants.{Rejected}
+use Rattle.sx_extcheck.specs.Accepts.{check_for, IsOutcome, AddsSound}
 use Rattle.sx_extcheck.specs.Checks.{Check, IsStoredFor, IsRefusedFor}
 
 -- what is stored of a rule is the first derivation by the base rules with the plain image of its
@@ -23,3 +34,13 @@ RejectedRulesAreUnsound =
     AllModed c.sig.modes c.set.base → AllModed c.sig.modes (rules_of (plain_of c.set)) →
     (b : Blame) → IsRefusedFor c ext (Rejected b) →
     (s : Checked) → IsSoundBy c.sig.subjects c.labels c.set ext s → ⊥
+
+-- where an extension that fits is added, each of its rules is sound after the set
+abbrev pub AddedRulesAreSound : Type 0
+AddedRulesAreSound =
+    (old : AcceptedOf) (all : List Shape) (ext : ExtensionData) (budgets : Budgets) →
+    IsAccepted (signature old) (shapes_in old.base) (shapes_in old.rules) (accepted old) →
+    Fits (signature old) (shapes_in old.base) (shapes_in old.rules) all
+    (table_of old.plain) (table_of ext.plain) (map ext_rule ext.rules.items) →
+    (count : ℕ) (new : AcceptedOf) →
+    IsOutcome old all ext (check_for old ext budgets) count (Ok new) → AddsSound old ext new

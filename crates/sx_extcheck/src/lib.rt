@@ -31,6 +31,8 @@ mod storing;
 pub use accept_error::AcceptError;
 pub use accepting::accept;
 pub use budgets::Budgets;
-pub use laws::{checked_rules_are_stored, one_outcome_is_due, rejected_rules_are_unsound};
+pub use laws::{
+    added_rules_are_sound, checked_rules_are_stored, one_outcome_is_due, rejected_rules_are_unsound,
+};
 pub use refused::Refused;
 pub use rule_defect::RuleDefect;
