@@ -96,8 +96,9 @@ fn a_module_that_is_added_again(rt: HostRuntime) -> Result<(), Fail> {
 
 #[test]
 fn a_module_that_is_missing(rt: HostRuntime) -> Result<(), Fail> {
-    let (_, words) = told_of_modules(rt.alloc(), "C", "Last").ok_or("an answer")?;
-    assert_eq!(rt; words.as_str(), "missing C");
+    let (added, words) = told_of_modules(rt.alloc(), "Last", "Last").ok_or("an answer")?;
+    let hold = [added, words.as_str() == "missing C"];
+    assert_eq!(rt; hold, [true; 2]);
     Ok(())
 }
 

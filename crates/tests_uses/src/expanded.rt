@@ -340,17 +340,50 @@ fn told_of(alloc: Global, subject: &str, lowered: &str, nodes: u64) -> Option<To
     tell_asked(alloc, asked)
 }
 
+/// The core text of a number under so many nodes of the extension, or of what these become.
+fn nested(alloc: Global, times: u32, are_lowered: bool) -> Option<String> {
+    let mut text = String::from_str(alloc, "(3 n1:7)").ok()?;
+    for _ in 0..times {
+        let next = if are_lowered {
+            format!(in alloc; "(4 {text} {text})")
+        } else {
+            format!(in alloc; "(5 {text})")
+        };
+        drop(text);
+        text = next.ok()?;
+    }
+    Some(text)
+}
+
+/// What the two answers tell of a number under so many nodes of the extension.
+fn told_of_nested(alloc: Global, times: u32, nodes: u64) -> Option<Told> {
+    let subject = nested(alloc, times, false)?;
+    match nested(alloc, times, true) {
+        Some(lowered) => {
+            let told = told_of(alloc, subject.as_str(), lowered.as_str(), nodes);
+            drop(lowered);
+            drop(subject);
+            told
+        }
+        None => {
+            drop(subject);
+            None
+        }
+    }
+}
+
 #[test]
 fn a_list_is_expanded(rt: HostRuntime) {
     let alloc = rt.alloc();
     let subject = "(5 (5 (3 n1:7)))";
     let lowered = "(4 (4 (3 n1:7) (3 n1:7)) (4 (3 n1:7) (3 n1:7)))";
     let hold = [
+        told_of_nested(alloc, 11, 4095) == Some(Told::Alike(u64::MAX, 4083)),
         told_of(alloc, subject, lowered, 7) == Some(Told::Alike(1_100_100, 4)),
         told_of(alloc, subject, lowered, 6) == Some(Told::Spent(6)),
         told_of(alloc, subject, subject, 7) == Some(Told::Other),
         told_of(alloc, "(3 n1:7)", "(3 n1:7)", 1) == Some(Told::Alike(0, 0)),
         told_of(alloc, "(5 (2))", "(2)", 9) == Some(Told::Unasked),
     ];
-    assert_eq!(rt; hold, [true; 5]);
+    assert_eq!(rt; hold, [true; 6]);
 }
