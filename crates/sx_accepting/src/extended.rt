@@ -25,7 +25,7 @@ pub struct Extended {
 }
 
 impl Extended {
-    /// The language without extensions. The one refusal is want of memory.
+    /// The language without extensions. The one refusal is out of memory.
     pub fn begin(alloc: Global, language: &Language) -> Result<Extended, NoMemory>
         requires { IsLanguage language.now }
         ensures { IfOk result (λ x.

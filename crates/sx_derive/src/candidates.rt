@@ -30,7 +30,8 @@ pub(crate) fn try_rule(
 ) -> Result<Step, NoMemory>
     requires shallow { RulesAreShallow (rules_of given.now.rules.now) }
     requires number { number < length (rules_of given.now.rules.now) }
-    requires store { IsStore (modes_of given.now.rules.now) (rules_of given.now.rules.now) store.old }
+    requires store { IsStore (modes_of given.now.rules.now) (rules_of given.now.rules.now)
+        store.old }
     requires pairs { ArePairs (length (store_trees store.old)) given.now.pairs.now }
     requires frames { task.now.frames ≤ length store.old.frames.items }
     requires terms { AreBelow (length (store_trees store.old)) task.now.terms.items }
@@ -84,7 +85,8 @@ pub(crate) fn try_given(
     task: &Task,
 ) -> Result<Step, NoMemory>
     requires shallow { RulesAreShallow (rules_of given.now.rules.now) }
-    requires store { IsStore (modes_of given.now.rules.now) (rules_of given.now.rules.now) store.old }
+    requires store { IsStore (modes_of given.now.rules.now) (rules_of given.now.rules.now)
+        store.old }
     requires pairs { ArePairs (length (store_trees store.old)) given.now.pairs.now }
     requires frames { task.now.frames ≤ length store.old.frames.items }
     requires terms { AreBelow (length (store_trees store.old)) task.now.terms.items }

@@ -6,7 +6,7 @@ use std::fmt;
 use sx_term::NoMemory;
 use thiserror::Error;
 
-/// Want of memory, or how a search without an answer ended.
+/// Out of memory, or how a search without an answer ended.
 #[derive(Drop, Error)]
 pub enum DeriveError {
     #[error("out of memory")]

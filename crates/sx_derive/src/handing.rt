@@ -27,7 +27,8 @@ fn resume(
     outputs: &[usize],
 ) -> Result<Step, NoMemory>
     requires shallow { RulesAreShallow (rules_of given.now.rules.now) }
-    requires store { IsStore (modes_of given.now.rules.now) (rules_of given.now.rules.now) store.old }
+    requires store { IsStore (modes_of given.now.rules.now) (rules_of given.now.rules.now)
+        store.old }
     requires pairs { ArePairs (length (store_trees store.old)) given.now.pairs.now }
     requires frame { IsWaiting (modes_of given.now.rules.now) (rules_of given.now.rules.now)
         store.old frame }
@@ -79,7 +80,8 @@ pub(crate) fn hand_on(
     frames: usize,
 ) -> Result<Step, NoMemory>
     requires shallow { RulesAreShallow (rules_of given.now.rules.now) }
-    requires store { IsStore (modes_of given.now.rules.now) (rules_of given.now.rules.now) store.old }
+    requires store { IsStore (modes_of given.now.rules.now) (rules_of given.now.rules.now)
+        store.old }
     requires pairs { ArePairs (length (store_trees store.old)) given.now.pairs.now }
     requires frames { frames ≤ length store.old.frames.items }
     requires head { HeadFits (length (store_envs store.old)) (length (store_kids store.old)) head }

@@ -72,7 +72,8 @@ pub(crate) fn reach<L: Ledger>(
     requires few { length given.now.facts.now < 2 ^ 32 }
     requires facts { (js : List Judgement)
         × AreFacts (modes_of given.now.rules.now) (store_trees store.old) js given.now.facts.now }
-    requires store { IsStore (modes_of given.now.rules.now) (rules_of given.now.rules.now) store.old }
+    requires store { IsStore (modes_of given.now.rules.now) (rules_of given.now.rules.now)
+        store.old }
     requires pairs { ArePairs (length (store_trees store.old)) given.now.pairs.now }
     requires tasks { TasksFit (modes_of given.now.rules.now) (rules_of given.now.rules.now)
         store.old

@@ -46,7 +46,8 @@ pub(crate) fn concluded(
     store: &mut Store,
 ) -> Result<Step, NoMemory>
     requires shallow { AreShallow (map tree rule.now.conclusion.places.items) }
-    requires store { IsStore (modes_of given.now.rules.now) (rules_of given.now.rules.now) store.old }
+    requires store { IsStore (modes_of given.now.rules.now) (rules_of given.now.rules.now)
+        store.old }
     requires env { from.env ≤ length store.old.binds.cells.items }
     requires kids { from.kids ≤ length store.old.kids.items }
     ensures { IfOk result
@@ -86,7 +87,8 @@ pub(crate) fn asked(
     waiting: Waiting,
 ) -> Result<Step, NoMemory>
     requires shallow { AreShallow (map tree judgement.now.places.items) }
-    requires store { IsStore (modes_of given.now.rules.now) (rules_of given.now.rules.now) store.old }
+    requires store { IsStore (modes_of given.now.rules.now) (rules_of given.now.rules.now)
+        store.old }
     requires waits { Awaits (rules_of given.now.rules.now) (judgement_of judgement.now) waiting }
     requires env { waiting.env ≤ length store.old.binds.cells.items }
     requires kids { waiting.kids ≤ length store.old.kids.items }

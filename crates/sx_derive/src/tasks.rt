@@ -73,7 +73,8 @@ pub(crate) fn try_next(given: &Given, store: &mut Store, task: &Task) -> Result<
     requires few { length given.now.facts.now < 2 ^ 32 }
     requires facts { (js : List Judgement)
         × AreFacts (modes_of given.now.rules.now) (store_trees store.old) js given.now.facts.now }
-    requires store { IsStore (modes_of given.now.rules.now) (rules_of given.now.rules.now) store.old }
+    requires store { IsStore (modes_of given.now.rules.now) (rules_of given.now.rules.now)
+        store.old }
     requires pairs { ArePairs (length (store_trees store.old)) given.now.pairs.now }
     requires task { TaskFits (modes_of given.now.rules.now) (rules_of given.now.rules.now) store.old
         (length given.now.facts.now + length (rules_of given.now.rules.now)) task.now }

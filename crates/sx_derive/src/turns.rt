@@ -65,7 +65,8 @@ fn try_task(given: &Given, store: &mut Store, task: &Task) -> Result<Step, NoMem
     requires few { length given.now.facts.now < 2 ^ 32 }
     requires facts { (js : List Judgement)
         × AreFacts (modes_of given.now.rules.now) (store_trees store.old) js given.now.facts.now }
-    requires store { IsStore (modes_of given.now.rules.now) (rules_of given.now.rules.now) store.old }
+    requires store { IsStore (modes_of given.now.rules.now) (rules_of given.now.rules.now)
+        store.old }
     requires pairs { ArePairs (length (store_trees store.old)) given.now.pairs.now }
     requires task { TaskFits (modes_of given.now.rules.now) (rules_of given.now.rules.now) store.old
         (length given.now.facts.now + length (rules_of given.now.rules.now)) task.now }
@@ -98,7 +99,8 @@ pub(crate) fn turn(
     requires few { length given.now.facts.now < 2 ^ 32 }
     requires facts { (js : List Judgement)
         × AreFacts (modes_of given.now.rules.now) (store_trees store.old) js given.now.facts.now }
-    requires store { IsStore (modes_of given.now.rules.now) (rules_of given.now.rules.now) store.old }
+    requires store { IsStore (modes_of given.now.rules.now) (rules_of given.now.rules.now)
+        store.old }
     requires pairs { ArePairs (length (store_trees store.old)) given.now.pairs.now }
     requires wanted { WantedBelow (length (store_trees store.old)) wanted.now }
     requires task { TaskFits (modes_of given.now.rules.now) (rules_of given.now.rules.now) store.old

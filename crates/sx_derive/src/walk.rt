@@ -31,7 +31,8 @@ fn walk_tasks<L: Ledger>(
     requires few { length given.now.facts.now < 2 ^ 32 }
     requires facts { (js : List Judgement)
         × AreFacts (modes_of given.now.rules.now) (store_trees store.old) js given.now.facts.now }
-    requires store { IsStore (modes_of given.now.rules.now) (rules_of given.now.rules.now) store.old }
+    requires store { IsStore (modes_of given.now.rules.now) (rules_of given.now.rules.now)
+        store.old }
     requires pairs { ArePairs (length (store_trees store.old)) given.now.pairs.now }
     requires wanted { WantedBelow (length (store_trees store.old)) wanted.now }
     requires tasks { Piled (modes_of given.now.rules.now) (rules_of given.now.rules.now)
@@ -150,7 +151,8 @@ pub(crate) fn walk<L: Ledger>(
     requires few { length given.now.facts.now < 2 ^ 32 }
     requires facts { (js : List Judgement)
         × AreFacts (modes_of given.now.rules.now) (store_trees store.old) js given.now.facts.now }
-    requires store { IsStore (modes_of given.now.rules.now) (rules_of given.now.rules.now) store.old }
+    requires store { IsStore (modes_of given.now.rules.now) (rules_of given.now.rules.now)
+        store.old }
     requires pairs { ArePairs (length (store_trees store.old)) given.now.pairs.now }
     requires wanted { WantedBelow (length (store_trees store.old)) wanted.now }
     requires terms { AreBelow (length (store_trees store.old)) goal.terms.items }

@@ -55,7 +55,7 @@ pub record IsOwnSubject (a : Accepted) (subjects : Modes) (hyps : Hypotheses)
   pub subject : IsInstanceAt terms made
       (subjects_of subjects (own_judgement a.table subjects n.known)) number
 
--- the error tells the first of the node's own terms that passes a limit, or want of memory
+-- the error tells the first of the node's own terms that passes a limit, or out of memory
 abbrev pub IsNodeRefused : Accepted → Modes → Hypotheses → NodeOver → RewriteError → Type 0
 IsNodeRefused a subjects hyps n e =
     (e ≡ Memory) ⊎ (more : List Tree) × ArePutFor a subjects hyps n more

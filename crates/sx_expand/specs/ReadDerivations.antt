@@ -31,8 +31,8 @@ abbrev pub AreInputs : Reading → List Tree → List ℕ → Judgement → Type
 AreInputs l terms numbers j =
     map (tree_at terms) numbers ≡ inputs_of (signature_by l).modes j
 
--- the error tells the first measured term that passes a limit, or want of memory;
--- where the derivation is not needed, want of memory alone
+-- the error tells the first measured term that passes a limit, or out of memory;
+-- where the derivation is not needed, out of memory alone
 abbrev pub IsReadRefused : Reading → Bool → Proof → RewriteError → Type 0
 IsReadRefused l is_needed p e =
     (is_needed ≡ true → IsRefused (set_by l) (signature_by l).subjects (hyps_by l) p e)

@@ -20,7 +20,7 @@ use sx_rules::{Entry, Hyps, Judgement, Proof, RuleSet};
 use sx_term::NoMemory;
 
 /// The derivation of the judgement that has this list, by the rules and from the hypotheses. The
-/// one refusal is want of memory.
+/// one refusal is out of memory.
 ///
 /// The list and the judgement tell its terms: those of a node follow from the inputs of what it
 /// derives and from the outputs of its kids, in the order of the premises.

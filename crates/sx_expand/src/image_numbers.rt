@@ -21,7 +21,7 @@ use sx_term::{NoMemory, Sort, TermError};
 
 /// What is put for variables of these sorts to which the terms with these numbers are bound: the
 /// plain image of each, and a node without kids for one of a typed sort. An image is measured
-/// before it is made, and made only where it passes no limit. The one refusal is want of memory.
+/// before it is made, and made only where it passes no limit. The one refusal is out of memory.
 pub(crate) fn image_numbers(
     alloc: Global,
     table: &PlainTable,
@@ -59,7 +59,7 @@ fn sort_at(sorts: &[Sort], place: usize) -> Sort
 }
 
 /// What is put for a variable of the sort to which the term with this number is bound.
-/// The one refusal is want of memory.
+/// The one refusal is out of memory.
 fn put_image(
     alloc: Global,
     table: &PlainTable,
@@ -86,7 +86,7 @@ fn put_image(
 }
 
 /// The plain image of the term with this number, which is made where it passes no limit.
-/// The one refusal is want of memory.
+/// The one refusal is out of memory.
 fn image_number(
     alloc: Global,
     table: &PlainTable,

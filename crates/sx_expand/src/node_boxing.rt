@@ -26,7 +26,7 @@ use sx_rules::{Entry, Judgement, Premise, Proof};
 use sx_term::NoMemory;
 
 /// Makes the derivation whose entries are next in the list, by the numbers of the inputs of what
-/// it derives. The one refusal is want of memory.
+/// it derives. The one refusal is out of memory.
 #[cycle(boxing)]
 pub(crate) fn box_node(
     alloc: Global,

@@ -35,7 +35,7 @@ use sx_rules::{Entry, Premise};
 
 /// Reads the derivation that begins with the entry at the place, by the numbers of the inputs of
 /// what it derives. Where it is needed, the first term of what it is lowered to that passes a
-/// limit is refused; else the one refusal is want of memory.
+/// limit is refused; else the one refusal is out of memory.
 #[cycle(reading)]
 pub(crate) fn read_node(
     alloc: Global,

@@ -30,7 +30,7 @@ use sx_term::NoMemory;
 /// What is put for the variables of the rule at a node to which the terms with these numbers are
 /// bound, and whose lowered kids have the subjects with these numbers: the plain image of what is
 /// bound, and for the subject of each premise whose kid is needed the subject of that kid.
-/// The one refusal is want of memory.
+/// The one refusal is out of memory.
 pub(crate) fn put_node(
     alloc: Global,
     reading: &Reading,

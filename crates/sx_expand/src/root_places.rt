@@ -22,7 +22,7 @@ use sx_rules::{Judgement, Place};
 use sx_term::{NoMemory, Role, TermError};
 
 /// The judgement of the form with the plain images of the inputs and of the outputs at its places,
-/// and the lowered subject. The one refusal is want of memory.
+/// and the lowered subject. The one refusal is out of memory.
 pub(crate) fn root_judgement(
     alloc: Global,
     set: &Accepted,
@@ -52,7 +52,7 @@ pub(crate) fn root_judgement(
 }
 
 /// The numbers of the plain images of the inputs and of the outputs, each at a place of its role,
-/// with that of the lowered subject. The one refusal is want of memory.
+/// with that of the lowered subject. The one refusal is out of memory.
 fn root_numbers(
     alloc: Global,
     table: &PlainTable,
@@ -93,7 +93,7 @@ fn root_numbers(
 }
 
 /// The number of what stands at a place of this role in the lowered judgement, where the term with
-/// the other number stands there in the judgement. The one refusal is want of memory.
+/// the other number stands there in the judgement. The one refusal is out of memory.
 fn place_number(
     alloc: Global,
     table: &PlainTable,
@@ -120,7 +120,7 @@ fn place_number(
 }
 
 /// The number of the plain image of the term with this number, which passes no limit.
-/// The one refusal is want of memory.
+/// The one refusal is out of memory.
 fn small_image(
     alloc: Global,
     table: &PlainTable,

@@ -109,7 +109,7 @@ WereChecked c es first last (Ok flats) =
 WereChecked c es first last (Err error) =
     (count : ℕ) × (last ≡ first + count) × AreChecked c es count (Err error)
 
--- the error is the defect of the rule with this name, or want of memory
+-- the error is the defect of the rule with this name, or out of memory
 abbrev pub IsRefusal : List ℕ → CheckError → AcceptError → Type 0
 IsRefusal name e Memory = Unit {0}
 IsRefusal name NoMemory (Rule n defect) = ⊥

@@ -16,7 +16,7 @@ use Rattle.sx_extcheck.specs.declared.rule_defect.RuleDefect.TheVariants.{
   RewriteDeep,
 }
 
--- the error of a measure or of rewriting, as want of memory or as a defect
+-- the error of a measure or of rewriting, as out of memory or as a defect
 abbrev pub defect_of : RewriteError → CheckError
 defect_of NoMemory = Memory
 defect_of (NodesSpent n) = Defect (RewriteSpent n)

@@ -131,7 +131,7 @@ abbrev pub AreCounted : {X : Type 0} → ℕ → ℕ → ℕ → Result X CheckE
 AreCounted tries first last (Err Memory) = (first ≤ last) × (last ≤ first + tries)
 AreCounted tries first last _ = last ≡ first + tries
 
--- the error of a search, as want of memory or as a defect
+-- the error of a search, as out of memory or as a defect
 abbrev pub defect_of : DeriveError → CheckError
 defect_of NoMemory = Memory
 defect_of (Underivable b) = Defect (Rejected b)

@@ -116,7 +116,7 @@ fn check_rules<L: Ledger>(
     Ok(flats)
 }
 
-/// Why the rule with this name is refused, or want of memory.
+/// Why the rule with this name is refused, or out of memory.
 fn refusal(alloc: Global, name: &Text, e: CheckError) -> AcceptError
     ensures { IsRefusal name.now e result }
 {

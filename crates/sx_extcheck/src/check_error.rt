@@ -4,7 +4,7 @@ use crate::rule_defect::RuleDefect;
 use std::alloc::AllocError;
 use sx_term::NoMemory;
 
-/// Want of memory, or a defect of the rule.
+/// Out of memory, or a defect of the rule.
 #[derive(Drop)]
 pub(crate) enum CheckError {
     Memory,

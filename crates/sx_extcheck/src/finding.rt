@@ -78,7 +78,7 @@ pub(crate) fn find_list<L: Ledger>(
     }
 }
 
-/// Want of memory, or the defect of a rule whose search ends so.
+/// Out of memory, or the defect of a rule whose search ends so.
 fn walk_defect(e: DeriveError) -> CheckError
     ensures { result ≡ defect_of e }
 {

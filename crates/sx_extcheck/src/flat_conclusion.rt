@@ -31,7 +31,7 @@ use sx_rules::{Goal, Place, RuleSet};
 use sx_term::{NoMemory, Role, Term};
 
 /// The goal and the outputs of the flat conclusion: its places have plain images, and the subject
-/// gives way to the plain image of the body. The one refusal is want of memory.
+/// gives way to the plain image of the body. The one refusal is out of memory.
 pub(crate) fn flat_goal(
     alloc: Global,
     set: &RuleSet,
@@ -86,7 +86,7 @@ fn is_output(places: &[Place], place: usize) -> bool
 }
 
 /// The plain image of the term; a subject gives way to the plain image of the body, where there
-/// is one, or stays as it is. The one refusal is want of memory.
+/// is one, or stays as it is. The one refusal is out of memory.
 fn flat_term(
     alloc: Global,
     plain: &PlainTable,

@@ -14,7 +14,7 @@ use sx_rules::{Hyps, Premise};
 use sx_term::NoMemory;
 
 /// The premises with plain images, as hypotheses: the judgements, and the pairs of terms that are
-/// to be apart. The one refusal is want of memory.
+/// to be apart. The one refusal is out of memory.
 pub(crate) fn plain_premises(
     alloc: Global,
     plain: &PlainTable,
@@ -34,7 +34,7 @@ pub(crate) fn plain_premises(
     Ok(given)
 }
 
-/// Adds the premise with plain images to the hypotheses. The one refusal is want of memory.
+/// Adds the premise with plain images to the hypotheses. The one refusal is out of memory.
 fn add_premise(
     alloc: Global,
     plain: &PlainTable,

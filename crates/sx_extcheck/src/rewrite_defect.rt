@@ -7,7 +7,7 @@ use crate::check_error::CheckError;
 use crate::rule_defect::RuleDefect;
 use sx_rewrite::RewriteError;
 
-/// Want of memory, or the defect of a rule that passes this limit.
+/// Out of memory, or the defect of a rule that passes this limit.
 pub(crate) fn rewrite_defect(e: RewriteError) -> CheckError
     ensures { result ≡ defect_of e }
 {

@@ -58,7 +58,7 @@ pub(crate) fn with_image(
 }
 
 /// The derivation of the judgement with this list, in boxes, and the subject of the judgement. The
-/// one refusal is want of memory.
+/// one refusal is out of memory.
 pub(crate) fn with_certificate(
     alloc: Global,
     set: &RuleSet,
@@ -90,7 +90,7 @@ pub(crate) fn with_certificate(
     }
 }
 
-/// An equal term to the subject of the judgement. The one refusal is want of memory.
+/// An equal term to the subject of the judgement. The one refusal is out of memory.
 fn subject_copy(alloc: Global, set: &RuleSet, from: &Judgement) -> Result<Term, NoMemory>
     requires places { AreShallow (judgement from.now).places }
     requires subject { (t : Tree)

@@ -24,7 +24,7 @@ use Rattle.sx_extension.proofs.OneGround.{outline_one}
 use Rattle.sx_extension.proofs.OneTexts.{readable_outline}
 use Rattle.sx_extension.proofs.OneTexts.{reader_one, texts_one}
 
--- the refusal of rules, which is not want of memory
+-- the refusal of rules, which is not out of memory
 pub no_rules : (g : Ground) (o : ExtensionOutlineData) (x : Texts) (e : RuleError) →
     IsNoRules g o x e → IsNoRuleSet (shapes_of (with_own g o.productions)) g.forms
     (g.rules ++ x.rules) e × (e ≢ rules.Memory)

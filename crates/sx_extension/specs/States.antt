@@ -131,7 +131,7 @@ IsBadNotation g bytes (Grammar e) = HasNoGrammars g bytes e
 IsBadNotation g bytes (Read line e) = HasBadText g bytes (Read line e)
 IsBadNotation g bytes (Rules e unbound) = HasNoRuleSet g bytes e unbound
 
--- why the text states no extension, want of memory aside
+-- why the text states no extension, out of memory aside
 abbrev pub IsRefused : Ground → Text → ExtensionError → Type 0
 IsRefused g bytes extension.Memory = Unit {0}
 IsRefused g bytes (extension.Notation e) = IsBadNotation g bytes e

@@ -2,7 +2,7 @@
 
 ghost use Rattle.sx_extension.specs.Laws.{OneExtension, LanguagesBegin, ExtensionsGoOn};
 
-/// A text states one extension, or has one refusal, want of memory and the readings that a refusal
+/// A text states one extension, or has one refusal, out of memory and the readings that a refusal
 /// shows aside.
 pub fn one_extension()
     ensures { OneExtension }

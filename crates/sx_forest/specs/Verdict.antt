@@ -42,7 +42,7 @@ as_refusal chart.TooHard = TooHard
 abbrev pub IsNotAfter : Text → Text → Type 0
 IsNotAfter one other = is_le (slice_cmp nat_cmp one other) ≡ true
 
--- the refusal is the answer for the tokens, want of memory aside; labels and texts are those of the
+-- the refusal is the answer for the tokens, out of memory aside; labels and texts are those of the
 -- grammar and the tokens
 abbrev pub IsRefusal : (labels texts : List Text) → Grammar → List Token → ℕ → ReadError → Type 0
 IsRefusal labels texts g tokens start Memory = Unit {0}

@@ -43,7 +43,7 @@ no_bodies o = map (λ l. None) (map rule_data o.rules.items)
 bare_one : (r : Reader) (ls : List RuleData) (ns ms : List (List Text)) (qs ws : List NamedRule) → AreBareRules r ls ns qs → AreBareRules r ls ms ws → (ns ≡ ms) × (qs ≡ ws)
 bare_one r ls ns ms qs ws h k = let same = rules_one r ls ns ms qs ws (map (λ l. None) ls) (map (λ l. None) ls) h k in (same.0, same.1)
 
--- the refusal of rules, which is not want of memory
+-- the refusal of rules, which is not out of memory
 no_rules : (o : Outline) (qs : List NamedRule) (e : RuleError) → IsNoRules o qs e → IsNoRuleSet (shapes_of (parts o.parts)) (forms_of o) qs e × (e ≢ rules.Memory)
 no_rules o qs rules.Memory h = absurd h
 no_rules o qs rules.TooManyRules h = (h, λ e. cc)

@@ -51,7 +51,7 @@ pub record IsLine (r : Reader) (text : Text) (old new : List Text) (q : Premise)
   pub read : IsRead r.parts r.stems (judgements r.parts) text old new term
   pub says : Says r term q
 
--- why the line is not read, want of memory aside
+-- why the line is not read, out of memory aside
 abbrev pub IsBadLine : Reader → Numbered → NotationError → Type 0
 IsBadLine r l e = IsRefused r.parts r.stems (judgements r.parts) l.text l.number e
 

@@ -129,7 +129,7 @@ pub record HasNoRuleSet (name bytes : Text) (e : RuleError) (unbound : Option Te
   pub refused : IsNoRules outline rules e
   pub named : unbound ≡ name_unbound (map (λ q. q.name) rules) names e
 
--- why the text states no language, want of memory aside
+-- why the text states no language, out of memory aside
 abbrev pub IsRefused : (name bytes : Text) → NotationError → Type 0
 IsRefused name bytes Memory = Unit {0}
 IsRefused name bytes (NotUtf8 place) = IsOutlined name bytes (Err (outline.NotUtf8 place))

@@ -3,14 +3,14 @@
 ghost use Rattle.sx_language.specs.Laws.{OneLanguage, OneRules, ReadsAreSorted, BodiesAreSorted};
 ghost use Rattle.sx_language.specs.Laws.{RulesAreUsable, UnboundIsLater};
 
-/// A text states one language, or has one refusal, want of memory and the readings that a refusal
+/// A text states one language, or has one refusal, out of memory and the readings that a refusal
 /// shows aside.
 pub fn one_language()
     ensures { OneLanguage }
 {}
 
 /// Lines state one list of rules, with their bodies and the names of their variables, or have one
-/// first bad line, want of memory and the readings that its refusal shows aside.
+/// first bad line, out of memory and the readings that its refusal shows aside.
 pub fn one_rules()
     ensures { OneRules }
 {}
