@@ -1,4 +1,4 @@
--- What holds of each term that a line is read as.
+-- What holds of each term that `read_text` reads.
 use Rattle.std.specs.Prelude.{◌≤◌, List}
 use Rattle.sx_term.specs.declared.sort.Sort.{Sort}
 use Rattle.sx_term.specs.Tree.{Tree, depth_of}

@@ -18,15 +18,15 @@ pub fn sorted_goals_fit()
     ensures { SortedGoalsFit }
 {}
 
-/// The lexemes of a term that a line is read as are tokens of their kinds and no literals of the
+/// The lexemes of a term that `read_text` reads are tokens of their kinds and no literals of the
 /// grammar, and the term is at most 1,000 deep.
 pub fn read_terms_are_usable()
     ensures lexemes { ReadsHaveLexemes }
     ensures shallow { ReadsAreShallow }
 {}
 
-/// What is read with variables among some names is what is read after these names, and it adds
-/// none.
+/// What is read with variables among some names is what `read_text` reads after these names, and it
+/// adds none.
 pub fn read_among_is_read()
     ensures { AmongIsRead }
 {}

@@ -208,11 +208,7 @@ impl<'a> LineReader<'a> {
         &self.stems
     }
 
-    /// The term of the line's only reading as the sort. Names of metavariables that `vars` lacks
-    /// are added in order of standing. The line is refused, with its number, where it has no
-    /// tokens, where the stem of a metavariable is unknown, and where its tokens have not one
-    /// reading, in this order; `vars` is then as before. Out of memory, `vars` may have some of the
-    /// names that it lacks.
+    /// The term of the line's only reading as the sort, as `read_into` has it.
     pub fn read_line(
         &self,
         alloc: Global,

@@ -4,7 +4,6 @@ ghost use Rattle.std.specs.Prelude.{◌≤◌, ◌+◌, ◌<◌, ◌^◌, IfOk, 
 ghost use Rattle.sx_earley.specs.Completed.{IsSort};
 ghost use Rattle.sx_term.specs.Term.{tree};
 ghost use Rattle.sx_term.specs.Tree.{depth_of};
-ghost use Rattle.sx_notation.specs.ReadText.{IsRead};
 
 use crate::refusals::{Told, has_readings, read, refusal};
 use crate::samples::{AMB, SUMS};
@@ -12,7 +11,7 @@ use std::alloc::Global;
 use std::test::*;
 use sx_earley::Metas;
 use sx_grammar::Grammar;
-use sx_notation::{Directive, Kind, Language, LineReader, NotationError, read_directive};
+use sx_notation::{Directive, Kind, Language, NotationError, read_directive, read_text};
 use sx_term::{NoMemory, Sort, Term, Text, Vars, read_core};
 
 /// The sort with this number, if there is one.
@@ -66,25 +65,6 @@ fn is_term(alloc: Global, term: &Term, core: &str) -> bool
     }
 }
 
-/// The term of the line with the number 7 as the sort.
-fn read_line(
-    alloc: Global,
-    grammar: &Grammar,
-    sort: Sort,
-    metas: &Metas,
-    line: &[u8],
-    vars: &mut Vars,
-) -> Result<Term, NotationError>
-    requires sort { IsSort grammar.now.parts sort }
-    requires short { length line.now ≤ 262144 }
-    requires room { length vars.now + 10000 < 2 ^ 32 }
-    ensures { IfOk result (λ t. IsRead grammar.now.parts metas.now.stems.items sort line.now
-        vars.old vars.new (tree t)) }
-{
-    let reader = LineReader::new(alloc, grammar, metas)?;
-    reader.read_line(alloc, sort, line, 7, vars)
-}
-
 /// Whether the line is read by the rules as the term with this core text, and adds `C` and `T12`
 /// to the name `e`.
 fn is_read_as(
@@ -99,8 +79,15 @@ fn is_read_as(
     requires short { length line.now ≤ 262144 }
     requires room { length vars.now + 10000 < 2 ^ 32 }
 {
-    let grammar = &language.rule_grammar;
-    match read_line(alloc, grammar, sort, &language.metas, line, vars) {
+    match read_text(
+        alloc,
+        &language.rule_grammar,
+        sort,
+        &language.metas,
+        line,
+        7,
+        vars,
+    ) {
         Ok(term) => {
             let answer = is_term(alloc, &term, core) && are_names(vars);
             drop(term);
@@ -157,7 +144,7 @@ fn come_of(
         _ => return Err(NotationError::Memory),
     };
     let mut vars = one_name(alloc)?;
-    let read = read_line(alloc, grammar, sort, metas, text, &mut vars);
+    let read = read_text(alloc, grammar, sort, metas, text, 7, &mut vars);
     let stay = vars.name(0).is_some() && vars.name(1).is_none();
     drop(vars);
     match read {
