@@ -1,5 +1,6 @@
 pub mod Images
 pub mod Tables
+pub mod Lexical
 pub mod UseLaws
 pub mod Measured
 pub mod Gathered

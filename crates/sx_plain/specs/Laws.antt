@@ -1,7 +1,9 @@
 -- Laws of plain images.
 use Rattle.std.specs.Prelude.{◌≡◌, ◌↔◌, ℕ, ◌<◌, List, length, slice_get, Some, Ok}
 use Rattle.sx_term.specs.Tree.{Tree}
+use Rattle.sx_term.specs.declared.lex_kind.LexKind.{LexKind}
 use Rattle.sx_term.specs.declared.sort.Sort.{Sort}
+use Rattle.sx_term.specs.declared.sort.Sort.TheVariants.{Lex}
 use Rattle.sx_term.specs.Sorts.{Shape, HasSort}
 use Rattle.sx_term.specs.Instances.{instance, Stands}
 use Rattle.sx_term.specs.Untyped.{IsUntypedSort, PlainHaveNoTyped}
@@ -73,3 +75,15 @@ SortedTermsFit =
 abbrev pub SortedTermsAreBelow : Type 0
 SortedTermsAreBelow = (shapes : List Shape) (vars : List Sort) (t : Tree) (sort : Sort) →
     HasSort shapes vars t sort → LabelsBelow (length shapes) t
+
+-- no constructor has a lexical sort
+abbrev pub HaveNoLexical : List Shape → Type 0
+HaveNoLexical shapes = (label : ℕ) (shape : Shape) (kind : LexKind) →
+    slice_get shapes label ≡ Some shape → shape.sort ≡ Lex kind → ⊥
+
+-- a term of a lexical sort is its own plain image, so that two such terms are apart exactly where
+-- their plain images are
+abbrev pub LexicalTermsStay : Type 0
+LexicalTermsStay =
+    (shapes : List Shape) (table : Table) (vars : List Sort) (t : Tree) (kind : LexKind) →
+    HaveNoLexical shapes → HasSort shapes vars t (Lex kind) → image table t ≡ t
