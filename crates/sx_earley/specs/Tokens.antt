@@ -1,12 +1,13 @@
 -- The tokens of a text with metavariables, as a grammar reads them.
 use Rattle.std.specs.Prelude.{◌≡◌, ℕ, true, if◌then◌else◌, List, [], ◌∷◌, Option, Some, None, map}
-use Rattle.std.specs.Prelude.{drop, slice_get, is_some}
+use Rattle.std.specs.Prelude.{slice_get, is_some}
 use Rattle.std.specs.Char.{is_ascii_digit}
 use Rattle.std.specs.Str.{bytes_eq}
 use Rattle.std.specs.List.{AllByRecursion}
 use Rattle.sx_term.specs.declared.lex_kind.LexKind.TheVariants.{Id}
 use Rattle.sx_term.specs.declared.sort.Sort.{Sort}
 use Rattle.sx_term.specs.declared.sort.Sort.TheVariants as sorts
+use Rattle.sx_term.specs.Vars.{without_tilde}
 use Rattle.sx_term.specs.declared.mark.Mark.{Mark}
 use Rattle.sx_term.specs.declared.mark.Mark.TheVariants.{Lit, Lex, Meta}
 use Rattle.sx_token.specs.declared.token.Token.{Token}
@@ -24,9 +25,9 @@ abbrev pub without_digits : Text → Text
 without_digits [] = []
 without_digits (c ∷ cs) = kept c (without_digits cs)
 
--- the stem of a metavariable: its word, which comes after `~`, without the digits at its end
+-- the stem of a metavariable: its name, which comes after `~`, without the digits at its end
 abbrev pub stem_of : Text → Text
-stem_of text = without_digits (drop 1 text)
+stem_of text = without_digits (without_tilde text)
 
 -- stems with their sorts
 abbrev pub Stems : Type 0

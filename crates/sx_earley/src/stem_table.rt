@@ -58,7 +58,12 @@ fn stem_of(text: &[u8]) -> &[u8]
 {
     match text.split_first() {
         None => text,
-        Some((_, word)) => without_digits(word),
+        Some((first, name)) => {
+            if *first == b'~' {
+                return without_digits(name);
+            }
+            without_digits(text)
+        }
     }
 }
 

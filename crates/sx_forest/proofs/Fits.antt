@@ -14,7 +14,7 @@ use Rattle.sx_grammar.specs.Reading.{Reading, Readings, Marked, Reads, by_produc
 use Rattle.sx_earley.specs.Tokens.{Stems, shown, plain_tokens}
 use Rattle.sx_forest.specs.Text.{IsWithin, AreWithin}
 use Rattle.sx_forest.specs.Names.{IsLexeme, IsMetavariable, IsMarked, AreMarked, names_in, names_of}
-use Rattle.sx_forest.specs.Fitting.{HaveNames, ReadingsAreWithin, ReadingsAreMarked, ReadingsHaveFewNames}
+use Rattle.sx_forest.specs.Fitting.{ReadingsAreWithin, ReadingsAreMarked, ReadingsHaveFewNames}
 
 module _ (g : Grammar) (tokens : List plain.Token) where
   mutual
@@ -62,25 +62,18 @@ lexeme_shown stems (Some t) kind text e =
     let q : shown stems t.mark t.text ≡ record { mark = is_lexeme kind; text = text } = cc in
     mark_kind stems t.mark t.text kind (ap (λ (s : plain.Token). s.mark) q)
 
-named : (tokens : List Token) (i : ℕ) (t : Token) → HaveNames tokens → slice_get tokens i ≡ Some t → t.mark ≡ marks.Meta → (name : Text) × (t.text ≡ 126 ∷ name)
-named [] i t have e m = cc
-named (u ∷ us) zero t have e m = let q : u ≡ t = cc in subst (λ (x : Token). x.mark ≡ marks.Meta → (name : Text) × (x.text ≡ 126 ∷ name)) q have.0 m
-named (u ∷ us) (suc i) t have e m = named us i t have.1 e m
-
-variable_shown : (stems : Stems) (tokens : List Token) (i : ℕ) (o : Option Token) (stem : Stem) (text : Text) → HaveNames tokens → o ≡ slice_get tokens i → option_map (λ t. shown stems t.mark t.text) o ≡ Some (record { mark = is_variable stem; text = text }) → IsMetavariable o
-variable_shown stems tokens i None stem text have at e = cc
-variable_shown stems tokens i (Some t) stem text have at e =
+variable_shown : (stems : Stems) (o : Option Token) (stem : Stem) (text : Text) → option_map (λ t. shown stems t.mark t.text) o ≡ Some (record { mark = is_variable stem; text = text }) → IsMetavariable o
+variable_shown stems None stem text e = cc
+variable_shown stems (Some t) stem text e =
     let q : shown stems t.mark t.text ≡ record { mark = is_variable stem; text = text } = cc in
-    let m = mark_meta stems t.mark t.text stem (ap (λ (s : plain.Token). s.mark) q) in
-    let name = named tokens i t have (sym at) m in
-    (name.0, m, name.1)
+    mark_meta stems t.mark t.text stem (ap (λ (s : plain.Token). s.mark) q)
 
-module _ (g : Grammar) (stems : Stems) (tokens : List Token) (have : HaveNames tokens) where
+module _ (g : Grammar) (stems : Stems) (tokens : List Token) where
   lexeme_at : (i : ℕ) (kind : LexKind) → Marked (plain_tokens stems tokens) i (is_lexeme kind) → IsLexeme (slice_get tokens i)
   lexeme_at i kind m = lexeme_shown stems (slice_get tokens i) kind m.0 (sym (slice_get-map (λ t. shown stems t.mark t.text) tokens i) ∙ m.1)
 
   variable_at : (i : ℕ) (stem : Stem) → Marked (plain_tokens stems tokens) i (is_variable stem) → IsMetavariable (slice_get tokens i)
-  variable_at i stem m = variable_shown stems tokens i (slice_get tokens i) stem m.0 have refl (sym (slice_get-map (λ t. shown stems t.mark t.text) tokens i) ∙ m.1)
+  variable_at i stem m = variable_shown stems (slice_get tokens i) stem m.0 (sym (slice_get-map (λ t. shown stems t.mark t.text) tokens i) ∙ m.1)
 
   mutual
     marked : {sort least from to : ℕ} {r : Reading} → Reads g (plain_tokens stems tokens) sort least from to r → IsMarked tokens r
@@ -100,7 +93,7 @@ readings_within p tokens sort least from to r reads =
     subst (λ n. IsWithin n (length tokens) r) (let e : length (map (numbered_line (names p)) p.productions) ≡ length p.productions = simp length-map in e) (within (numbered p) tokens reads)
 
 pub readings_marked : ReadingsAreMarked
-readings_marked g stems tokens sort least from to r have reads = marked g stems tokens have reads
+readings_marked g stems tokens sort least from to r reads = marked g stems tokens reads
 
 pub readings_few : ReadingsHaveFewNames
 readings_few g tokens all sort least from to r reads = few g tokens all reads

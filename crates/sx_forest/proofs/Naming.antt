@@ -1,5 +1,5 @@
 -- Names that are added in order, and the numbers of variables.
-use Rattle.std.proofs.Common.{◌≡◌, ℕ, ◌+◌, ◌≤◌, ◌⊎◌, inl, inr, zero, suc, Bool, true, false, cond, nat_lt, not, List, [], ◌∷◌, ◌++◌, Some, None, unwrap_or, Result, Ok, Err, OnErr, IfOk, slice_get, length, length-append, append_assoc, refl, ap, ◌∙◌, sym, subst, arith}
+use Rattle.std.proofs.Common.{◌≡◌, ℕ, ◌+◌, ◌≤◌, ◌⊎◌, inl, inr, zero, suc, Bool, true, false, cond, nat_lt, not, List, [], ◌∷◌, ◌++◌, Some, None, unwrap_or, Result, Ok, Err, OnErr, IfOk, slice_get, take, length, length-append, append_assoc, refl, ap, ◌∙◌, sym, subst, arith}
 use Rattle.std.specs.List.{position, position_or_len}
 use Rattle.std.specs.Str.{bytes_eq}
 use Rattle.std.proofs.lemmas.List.{append-nil}
@@ -49,6 +49,16 @@ each_one old new name number a = (new, number, a, refl)
 
 pub front_none : (names old new : List Text) → new ≡ old → AddsFront old names new
 front_none names old new e = ([], names, refl, e)
+
+take_front : (old more : List Text) → take (length old) (old ++ more) ≡ old
+take_front [] more = refl
+take_front (x ∷ xs) more = ap (λ ys. x ∷ ys) (take_front xs more)
+
+-- where as many names are left as there were, these are the same
+pub front_cut : (old names middle new : List Text) → AddsFront old names middle → new ≡ take (length old) middle → new ≡ old
+front_cut old names middle new front e =
+    let m = each_more old front.0 middle front.3 in
+    e ∙ ap (take (length old)) m.1 ∙ take_front old m.0
 
 pub front_after : (a b c xs ys : List Text) → AddsEach a xs b → AddsFront b ys c → AddsFront a (xs ++ ys) c
 front_after a b c xs ys h k = (xs ++ k.0, k.1, ap (λ y. xs ++ y) k.2 ∙ sym (append_assoc xs k.0 k.1), each_append a b c xs k.0 h k.3)

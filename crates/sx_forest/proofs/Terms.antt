@@ -9,6 +9,7 @@ use Rattle.sx_term.specs.declared.lex_kind.LexKind.{LexKind}
 use Rattle.sx_term.specs.declared.mark.Mark.{Mark}
 use Rattle.sx_term.specs.declared.mark.Mark.TheVariants as marks
 use Rattle.sx_term.specs.Cutting.{AreDistinct}
+use Rattle.sx_term.specs.Vars.{without_tilde}
 use Rattle.sx_term.specs.Tree.{Tree, node, lexeme, hole, ◌▹◌, forest}
 use Rattle.sx_term.specs.Term.{tree}
 use Rattle.sx_term.proofs.Kids.{tree-at_node}
@@ -68,12 +69,12 @@ shown_at : (stems : Stems) (tokens : List Token) (i : ℕ) (t : Token) → i < l
 shown_at stems tokens i t h e =
     slice_get-map (λ t. shown stems t.mark t.text) tokens i ∙ ap (option_map (λ t. shown stems t.mark t.text)) (slice_get_read tokens (length tokens) i t refl h e)
 
-pub variable_made : (stems : Stems) (tokens : List Token) (i : ℕ) (t : Token) (r : Reading) (made : Tree) (new later : List Text) (number : ℕ) → r ≡ Var i → i < length tokens → t ≡ get_or tokens i t → AreDistinct new → slice_get new number ≡ Some (drop 1 t.text) →
+pub variable_made : (stems : Stems) (tokens : List Token) (i : ℕ) (t : Token) (r : Reading) (made : Tree) (new later : List Text) (number : ℕ) → r ≡ Var i → i < length tokens → t ≡ get_or tokens i t → AreDistinct new → slice_get new number ≡ Some (without_tilde t.text) →
     made ≡ hole number → made ≡ term_by (plain_tokens stems tokens) (new ++ later) r
 variable_made stems tokens i t r made new later number e h g d at is =
     let s = shown stems t.mark t.text in
-    let same : drop 1 s.text ≡ drop 1 t.text = ap (drop 1) (shown_text stems t.mark t.text) in
-    is ∙ ap hole (sym (number_at new later (drop 1 s.text) number d (at ∙ ap Some (sym same))))
+    let same : without_tilde s.text ≡ without_tilde t.text = ap without_tilde (shown_text stems t.mark t.text) in
+    is ∙ ap hole (sym (number_at new later (without_tilde s.text) number d (at ∙ ap Some (sym same))))
     ∙ sym (ap (variable_term (new ++ later)) (shown_at stems tokens i t h g))
     ∙ sym (ap (term_by (plain_tokens stems tokens) (new ++ later)) e)
 
@@ -94,13 +95,11 @@ lexeme_there tokens i (Some u) e m =
 pub marked_lexeme : (tokens : List Token) (r : Reading) (i : ℕ) → r ≡ Lex i → IsMarked tokens (plain_reading r) → (i < length tokens) × ((t : Token) → t ≡ get_or tokens i t → (kind : LexKind) × (t.mark ≡ marks.Lex kind))
 marked_lexeme tokens r i e m = lexeme_there tokens i (slice_get tokens i) refl (subst (λ x. IsMarked tokens (plain_reading x)) e m)
 
-variable_there : (tokens : List Token) (i : ℕ) (o : Option Token) → o ≡ slice_get tokens i → IsMetavariable o → (i < length tokens) × ((t : Token) → t ≡ get_or tokens i t → (name : Text) × (t.text ≡ 126 ∷ name))
+variable_there : (tokens : List Token) (i : ℕ) (o : Option Token) → o ≡ slice_get tokens i → IsMetavariable o → i < length tokens
 variable_there tokens i None e m = absurd m
-variable_there tokens i (Some u) e m =
-    let h = slice_get_within tokens i u (sym e) in
-    (h, λ t g. let same : u ≡ t = (let q : Some u ≡ Some t = e ∙ slice_get_read tokens (length tokens) i t refl h g in cc) in subst (λ (x : Token). (name : Text) × (x.text ≡ 126 ∷ name)) same (m.0, m.2))
+variable_there tokens i (Some u) e m = slice_get_within tokens i u (sym e)
 
-pub marked_variable : (tokens : List Token) (r : Reading) (i : ℕ) → r ≡ Var i → IsMarked tokens (plain_reading r) → (i < length tokens) × ((t : Token) → t ≡ get_or tokens i t → (name : Text) × (t.text ≡ 126 ∷ name))
+pub marked_variable : (tokens : List Token) (r : Reading) (i : ℕ) → r ≡ Var i → IsMarked tokens (plain_reading r) → i < length tokens
 marked_variable tokens r i e m = variable_there tokens i (slice_get tokens i) refl (subst (λ x. IsMarked tokens (plain_reading x)) e m)
 
 pub kids_marked : (tokens : List Token) (r : Reading) (label : ℕ) (kids : Vec Reading Global) (from to : ℕ) (rs : List Reading) → r ≡ Node label kids from to → rs ≡ kids.items → IsMarked tokens (plain_reading r) → AreMarked tokens (plain_readings rs)
@@ -122,9 +121,9 @@ pub names_done : (tokens : List Token) (rs : List Reading) (i : ℕ) → length 
 names_done tokens rs i h = ap (names_of tokens) (readings-drop_all rs i h)
 
 -- the name of a metavariable is its token's
-pub names_at_variable : (tokens : List Token) (r : Reading) (i : ℕ) (t : Token) → r ≡ Var i → i < length tokens → t ≡ get_or tokens i t → names_in tokens (plain_reading r) ≡ drop 1 t.text ∷ []
+pub names_at_variable : (tokens : List Token) (r : Reading) (i : ℕ) (t : Token) → r ≡ Var i → i < length tokens → t ≡ get_or tokens i t → names_in tokens (plain_reading r) ≡ without_tilde t.text ∷ []
 names_at_variable tokens r i t e h g =
-    ap (λ x. names_in tokens (plain_reading x)) e ∙ ap (λ x. drop 1 x ∷ []) (get_or-map (λ t. t.text) tokens i t [] h ∙ sym (ap (λ t. t.text) g))
+    ap (λ x. names_in tokens (plain_reading x)) e ∙ ap (λ x. without_tilde x ∷ []) (get_or-map (λ t. t.text) tokens i t [] h ∙ sym (ap (λ t. t.text) g))
 
 -- there is room for the names of a kid, and then for those of the others
 pub kid_room : (tokens : List Token) (rs : List Reading) (i : ℕ) (k : Reading) (n bound : ℕ) → i < length rs → k ≡ get_or rs i k → n + length (names_of tokens (plain_readings (drop i rs))) < bound → n + length (names_in tokens (plain_reading k)) < bound

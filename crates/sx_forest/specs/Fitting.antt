@@ -1,20 +1,12 @@
 -- What reads the tokens meets the conditions of the calls.
-use Rattle.std.specs.Prelude.{◌≡◌, ℕ, ◌+◌, ◌≤◌, List, ◌∷◌, length}
-use Rattle.std.specs.List.{AllByRecursion}
-use Rattle.sx_term.specs.declared.mark.Mark.TheVariants.{Meta}
+use Rattle.std.specs.Prelude.{ℕ, ◌+◌, ◌≤◌, List, length}
 use Rattle.sx_token.specs.declared.token.Token.{Token}
 use Rattle.sx_grammar.specs.Grammar as plain
-use Rattle.sx_grammar.specs.Grammar.{Text}
 use Rattle.sx_grammar.specs.Parts.{Parts, numbered}
 use Rattle.sx_grammar.specs.Reading.{Reading, Reads}
 use Rattle.sx_earley.specs.Tokens.{Stems, plain_tokens}
 use Rattle.sx_forest.specs.Text.{IsWithin}
 use Rattle.sx_forest.specs.Names.{IsMarked, names_in}
-
--- each metavariable among the tokens is `~` and a name
-abbrev pub HaveNames : List Token → Type 0
-HaveNames tokens = AllByRecursion (λ t. t.mark ≡ Meta →
-    (name : Text) × (t.text ≡ 126 ∷ name)) tokens
 
 -- the labels and tokens of what reads the tokens by a grammar are the grammar's and theirs
 abbrev pub ReadingsAreWithin : Type 0
@@ -26,7 +18,7 @@ ReadingsAreWithin = (p : Parts) (tokens : List plain.Token) (sort least from to 
 abbrev pub ReadingsAreMarked : Type 0
 ReadingsAreMarked = (g : plain.Grammar) (stems : Stems) (tokens : List Token)
     (sort least from to : ℕ) (r : Reading) →
-    HaveNames tokens → Reads g (plain_tokens stems tokens) sort least from to r → IsMarked tokens r
+    Reads g (plain_tokens stems tokens) sort least from to r → IsMarked tokens r
 
 -- it has no more names than it reads tokens
 abbrev pub ReadingsHaveFewNames : Type 0

@@ -1,9 +1,9 @@
 -- The names of the metavariables in a reading.
 use Rattle.std.specs.Prelude.{◌≡◌, ℕ, List, [], ◌∷◌, ◌++◌, Option, Some, None, slice_get}
-use Rattle.std.specs.Prelude.{slice_index_or, drop}
+use Rattle.std.specs.Prelude.{slice_index_or}
 use Rattle.sx_term.specs.declared.lex_kind.LexKind.{LexKind}
 use Rattle.sx_term.specs.declared.mark.Mark.TheVariants.{Lex, Meta}
-use Rattle.sx_term.specs.Vars.{IsAdded}
+use Rattle.sx_term.specs.Vars.{IsAdded, without_tilde}
 use Rattle.sx_token.specs.declared.token.Token.{Token}
 use Rattle.sx_grammar.specs.Grammar.{Text}
 use Rattle.sx_grammar.specs.Reading.{Reading, Readings, branch, bracket, leaf, variable, done, ◌▸◌}
@@ -14,10 +14,10 @@ abbrev pub IsLexeme : Option Token → Type 0
 IsLexeme None = ⊥
 IsLexeme (Some t) = (kind : LexKind) × (t.mark ≡ Lex kind)
 
--- there is a token, and it is a metavariable: `~` and a name
+-- there is a token, and it is a metavariable
 abbrev pub IsMetavariable : Option Token → Type 0
 IsMetavariable None = ⊥
-IsMetavariable (Some t) = (name : Text) × (t.mark ≡ Meta) × (t.text ≡ 126 ∷ name)
+IsMetavariable (Some t) = t.mark ≡ Meta
 
 abbrev mutual
   -- each lexeme of the reading is one of the tokens, and each metavariable too
@@ -38,7 +38,7 @@ abbrev mutual
   names_in tokens (branch label kids from to) = names_of tokens kids
   names_in tokens (bracket inner from to) = names_in tokens inner
   names_in tokens (leaf token) = []
-  names_in tokens (variable token) = drop 1 (slice_index_or (texts tokens) token []) ∷ []
+  names_in tokens (variable token) = without_tilde (slice_index_or (texts tokens) token []) ∷ []
 
   pub names_of : List Token → Readings → List Text
   names_of tokens done = []

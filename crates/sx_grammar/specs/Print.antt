@@ -1,9 +1,10 @@
 -- The printed tokens of a term.
 use Rattle.std.specs.Prelude.{◌≡◌, ℕ, ◌<◌, List, [], ◌∷◌, ◌++◌, cond, nat_lt, Option, Some, None}
-use Rattle.std.specs.Prelude.{slice_index_or, drop, position, unwrap_or}
+use Rattle.std.specs.Prelude.{slice_index_or, position, unwrap_or}
 use Rattle.std.specs.Str.{bytes_eq}
 use Rattle.std.specs.List.{slice_get}
 use Rattle.sx_term.specs.declared.lex_kind.LexKind.{LexKind}
+use Rattle.sx_term.specs.Vars.{without_tilde}
 use Rattle.sx_term.specs.Tree.{Tree, Trees, node, lexeme, hole, none, ◌▹◌}
 use Rattle.sx_grammar.specs.Grammar.{Text, Symbol, literal, lexical, part, Production, Brackets}
 use Rattle.sx_grammar.specs.Grammar.{Grammar, pair_of, Stem, of_kind, of_sort, Mark, is_literal}
@@ -100,7 +101,7 @@ leaf_term (Some token) = mark_term token.mark token.text
 abbrev pub variable_term : List Text → Option Token → Tree
 variable_term names None = hole 0
 variable_term names (Some token) = hole (unwrap_or
-    (position (λ name. bytes_eq name (drop 1 token.text)) names) 0)
+    (position (λ name. bytes_eq name (without_tilde token.text)) names) 0)
 
 -- the term of a reading of the tokens: brackets are left out, and variables are numbered by their
 -- names

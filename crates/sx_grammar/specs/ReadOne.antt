@@ -29,7 +29,7 @@ pub data ReadAnswer : Type 0 where
   too_deep : (depth : ℕ) → ReadAnswer
   ambiguous : (one other : Reading) → ReadAnswer
 
--- each answer comes exactly where this holds, want of memory aside
+-- each answer comes exactly where this holds, out of memory aside
 abbrev pub IsAnswer : Grammar → List Token → ℕ → ReadAnswer → Type 0
 IsAnswer g tokens start too_hard = MoreHold g tokens start 2000000
 IsAnswer g tokens start (only r) =

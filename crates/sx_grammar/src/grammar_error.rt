@@ -5,7 +5,7 @@ use std::fmt;
 use sx_term::{NoMemory, Text};
 use thiserror::Error;
 
-/// Want of memory, or the first refusal that holds of the parts.
+/// Out of memory, or the first refusal that holds of the parts.
 #[derive(Drop, Error)]
 pub enum GrammarError {
     #[error("out of memory")]

@@ -70,7 +70,7 @@ fn copy_productions(alloc: Global, productions: &[Production]) -> Result<Vec<Pro
 }
 
 impl GrammarParts {
-    /// Equal sorts and productions. The one refusal is want of memory.
+    /// Equal sorts and productions. The one refusal is out of memory.
     pub fn copy(&self, alloc: Global) -> Result<GrammarParts, NoMemory>
         ensures { IfOk result (λ p. parts p ≡ parts self.now) }
     {

@@ -2,7 +2,7 @@
 
 ghost use Rattle.std.specs.Prelude.{◌≡◌, ℕ, List, ◌<◌, ◌↔◌, length, slice_index_or, max, min, None};
 ghost use Rattle.std.specs.Prelude.{IsTrue, IfOk, OnOk, IfErr};
-ghost use Rattle.sx_grammar.specs.declared.numbered.NumberedProduction.{NumberedProduction as ProductionOf};
+ghost use Rattle.sx_grammar.specs.declared.numbered.NumberedProduction as numbered;
 ghost use Rattle.sx_grammar.specs.Parts.{parts};
 ghost use Rattle.sx_grammar.specs.Tables.{AreNumbered};
 ghost use Rattle.sx_grammar.specs.Cycles.{HaveSortsBelow, HavePartsBelow};
@@ -108,7 +108,7 @@ fn has_brackets_at(
     requires sorts { KeepsSorts (parts from.now) }
     requires asked_size { length asked.now ≡ length from.now.sorts.items }
     requires least_size { length least.now ≡ length from.now.sorts.items }
-    requires levels { (ps : List ProductionOf) × AreNumbered (parts from.now) ps ×
+    requires levels { (ps : List numbered.NumberedProduction) × AreNumbered (parts from.now) ps ×
         AreGreatest ps asked.now × AreLeast ps least.now }
     ensures good { OnOk result (HasBrackets (parts from.now)) }
     ensures refused { IfErr result (IsRefused (parts from.now)) }

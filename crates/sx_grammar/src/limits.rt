@@ -75,7 +75,7 @@ fn are_few(from: &GrammarParts, literals: usize) -> bool
 
 impl GrammarParts {
     /// Whether a grammar can be made of the parts, or why not can be told: sorts, productions and
-    /// literals are fewer than 2^32, and levels are at most 99. The one refusal is want of memory.
+    /// literals are fewer than 2^32, and levels are at most 99. The one refusal is out of memory.
     pub fn is_within_limits(&self, alloc: Global) -> Result<bool, AllocError>
         ensures { IfOk result (λ r. IsTrue r ↔ IsWithinLimits (parts self.now)) }
     {

@@ -28,7 +28,7 @@ fn copy_symbols(alloc: Global, symbols: &[Symbol]) -> Result<Vec<Symbol>, NoMemo
 }
 
 impl Production {
-    /// An equal production. The one refusal is want of memory.
+    /// An equal production. The one refusal is out of memory.
     pub fn copy(&self, alloc: Global) -> Result<Production, NoMemory>
         ensures { IfOk result (λ p. line p ≡ line self.now) }
     {

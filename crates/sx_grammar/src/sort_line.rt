@@ -27,7 +27,7 @@ fn copy_brackets(
 }
 
 impl SortLine {
-    /// An equal sort. The one refusal is want of memory.
+    /// An equal sort. The one refusal is out of memory.
     pub fn copy(&self, alloc: Global) -> Result<SortLine, NoMemory>
         ensures { IfOk result (λ s. s ≡ self.now) }
     {

@@ -15,7 +15,7 @@ pub enum Symbol {
 }
 
 impl Symbol {
-    /// An equal symbol. The one refusal is want of memory.
+    /// An equal symbol. The one refusal is out of memory.
     pub fn copy(&self, alloc: Global) -> Result<Symbol, NoMemory>
         ensures { IfOk result (λ s. s ≡ self.now) }
     {

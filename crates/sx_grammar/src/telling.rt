@@ -77,7 +77,7 @@ impl Grammar {
         has_labels_below(term, self.base)
     }
 
-    /// The sorts of labels and of their parts. The one refusal is want of memory.
+    /// The sorts of labels and of their parts. The one refusal is out of memory.
     pub fn shapes(&self, alloc: Global) -> Result<Shapes, NoMemory>
         ensures { IfOk result (λ s. shapes s ≡ shapes_of self.now.parts) }
     {

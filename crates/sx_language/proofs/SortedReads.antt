@@ -1,5 +1,5 @@
 -- What is read at a sort has the sort, where variables have the sorts of their stems.
-use Rattle.std.proofs.Common.{◌≡◌, ℕ, zero, suc, ◌<◌, inl, inr, Bool, true, false, cond, if◌then◌else◌, List, [], ◌∷◌, ◌++◌, length, drop, Option, Some, None, slice_get, Contains, refl, ap, ◌∙◌, sym, subst, arith}
+use Rattle.std.proofs.Common.{◌≡◌, ℕ, zero, suc, ◌<◌, inl, inr, Bool, true, false, cond, if◌then◌else◌, List, [], ◌∷◌, ◌++◌, length, Option, Some, None, slice_get, Contains, refl, ap, ◌∙◌, sym, subst, arith}
 use Rattle.std.specs.Prelude.{flat_map, option_map, unwrap_or, position, slice_index_or}
 use Rattle.std.specs.List.{AllByRecursion}
 use Rattle.std.specs.Str.{bytes_eq}
@@ -12,6 +12,7 @@ use Rattle.sx_term.specs.declared.mark.Mark.TheVariants as marks
 use Rattle.sx_term.specs.declared.sort.Sort.{Sort}
 use Rattle.sx_term.specs.declared.sort.Sort.TheVariants as TheSort
 use Rattle.sx_term.specs.Sorts.{HasSort, KidsHaveSorts}
+use Rattle.sx_term.specs.Vars.{without_tilde}
 use Rattle.sx_term.specs.Tree.{Tree}
 use Rattle.sx_token.specs.declared.token.Token.{Token}
 use Rattle.sx_grammar.specs.Grammar as plain
@@ -150,14 +151,14 @@ module _ (p : Parts) (stems : Stems) (own : (stem : Text) (s : Sort) → sort_of
     is_own : IsOwn p sort
     sorted : HasSort (shapes_of p) sorts (variable_term ns o) sort
 
-  found : (us : List Token) (n : ℕ) (stem : plain.Stem) → Marked (plain_tokens stems us) n (plain.is_variable stem) → Contains ns (drop 1 (slice_index_or (texts us) n [])) →
+  found : (us : List Token) (n : ℕ) (stem : plain.Stem) → Marked (plain_tokens stems us) n (plain.is_variable stem) → Contains ns (without_tilde (slice_index_or (texts us) n [])) →
       IsVariable (slice_get (plain_tokens stems us) n) stem
   found [] n stem h has = absurd (none-some _ h.1)
   found (t ∷ us) zero stem h has =
       let here : shown stems t.mark t.text ≡ record { mark = plain.is_variable stem; text = h.0 } = some_same _ _ h.1 in
       let w = shown_stem stems t.mark t.text stem h.0 here in
-      let at = place_of ns (drop 1 t.text) has in
-      let x = sort_at stems ns sorts (unwrap_or (position (λ other. bytes_eq other (drop 1 t.text)) ns) 0) (drop 1 t.text) have at in
+      let at = place_of ns (without_tilde t.text) has in
+      let x = sort_at stems ns sorts (unwrap_or (position (λ other. bytes_eq other (without_tilde t.text)) ns) 0) (without_tilde t.text) have at in
       let token : Some (record { mark = plain.is_variable stem; text = t.text }) ≡ Some (shown stems t.mark t.text) =
       ap (λ (text : Text). let k : plain.Token = record { mark = plain.is_variable stem; text = text } in Some k) (sym w.1) ∙ sym h.1 in
       record {

@@ -1,10 +1,10 @@
 -- The names of the variables of lines that are read have stems with sorts.
-use Rattle.std.proofs.Common.{◌≡◌, ℕ, zero, suc, ◌⊎◌, inl, inr, true, List, [], ◌∷◌, ◌++◌, drop, Contains, Option, Some, None, sym, subst}
+use Rattle.std.proofs.Common.{◌≡◌, ℕ, zero, suc, ◌⊎◌, inl, inr, true, List, [], ◌∷◌, ◌++◌, Contains, Option, Some, None, sym, subst}
 use Rattle.std.specs.Prelude.{is_some, slice_get, slice_index_or}
 use Rattle.std.specs.List.{AllByRecursion}
 use Rattle.sx_term.specs.declared.sort.Sort.{Sort}
 use Rattle.sx_term.specs.Tree.{Tree}
-use Rattle.sx_term.specs.Vars.{IsAdded}
+use Rattle.sx_term.specs.Vars.{IsAdded, without_tilde}
 use Rattle.sx_token.specs.declared.token.Token.{Token}
 use Rattle.sx_grammar.specs.Grammar.{Text}
 use Rattle.sx_grammar.specs.Parts.{Parts}
@@ -25,9 +25,9 @@ stems_append stems [] ys h k = k
 stems_append stems (x ∷ xs) ys h k = (h.0, stems_append stems xs ys h.1 k)
 
 variable_stem : (stems : Stems) (ts : List Token) (n : ℕ) → IsMetavariable (slice_get ts n) → AllByRecursion (HasStem stems) ts
-    → is_some (sort_of stems (without_digits (drop 1 (slice_index_or (texts ts) n [])))) ≡ true
+    → is_some (sort_of stems (without_digits (without_tilde (slice_index_or (texts ts) n [])))) ≡ true
 variable_stem stems [] n h all = absurd h
-variable_stem stems (t ∷ ts) zero h all = all.0 h.1
+variable_stem stems (t ∷ ts) zero h all = all.0 h
 variable_stem stems (t ∷ ts) (suc n) h all = variable_stem stems ts n h all.1
 
 module _ (stems : Stems) (ts : List Token) (all : AllByRecursion (HasStem stems) ts) where

@@ -1,12 +1,12 @@
 -- Lines whose metavariables are among some names.
-use Rattle.std.proofs.Common.{◌≡◌, ℕ, zero, suc, ◌+◌, ◌<◌, ◌^◌, ◌⊎◌, inl, inr, List, [], ◌∷◌, ◌++◌, length, drop, Option, Some, None, slice_get, Contains, refl, ap, ◌∙◌, sym, subst, arith}
+use Rattle.std.proofs.Common.{◌≡◌, ℕ, zero, suc, ◌+◌, ◌<◌, ◌^◌, ◌⊎◌, inl, inr, List, [], ◌∷◌, ◌++◌, length, Option, Some, None, slice_get, Contains, refl, ap, ◌∙◌, sym, subst, arith}
 use Rattle.std.specs.Prelude.{slice_index_or}
 use Rattle.std.specs.List.{AllByRecursion}
 use Rattle.std.proofs.lemmas.List.{append-nil}
 use Rattle.std.proofs.lemmas.Option.{slice_get_within, none-some}
 use Rattle.sx_term.specs.declared.sort.Sort.{Sort}
 use Rattle.sx_term.specs.Tree.{Tree}
-use Rattle.sx_term.specs.Vars.{IsAdded}
+use Rattle.sx_term.specs.Vars.{IsAdded, without_tilde}
 use Rattle.sx_token.specs.declared.token.Token.{Token}
 use Rattle.sx_grammar.specs.Grammar.{Text}
 use Rattle.sx_grammar.specs.Parts.{Parts, numbered}
@@ -51,9 +51,9 @@ module _ (names new : List Text) (name : Text) (n : ℕ) (added : IsAdded names 
 
 -- ---- the names in a reading
 
-variable_named : (names : List Text) (ts : List Token) (n : ℕ) → IsMetavariable (slice_get ts n) → AllByRecursion (IsNamed names) ts → Contains names (drop 1 (slice_index_or (texts ts) n []))
+variable_named : (names : List Text) (ts : List Token) (n : ℕ) → IsMetavariable (slice_get ts n) → AllByRecursion (IsNamed names) ts → Contains names (without_tilde (slice_index_or (texts ts) n []))
 variable_named names [] n h all = absurd h
-variable_named names (t ∷ ts) zero h all = all.0 h.1
+variable_named names (t ∷ ts) zero h all = all.0 h
 variable_named names (t ∷ ts) (suc n) h all = variable_named names ts n h all.1
 
 all_append : (names xs ys : List Text) → AllByRecursion (Contains names) xs → AllByRecursion (Contains names) ys → AllByRecursion (Contains names) (xs ++ ys)

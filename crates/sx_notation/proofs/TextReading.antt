@@ -1,14 +1,11 @@
 -- The tokens that a line is cut into can be read, and their only reading can be stripped.
-use Rattle.std.proofs.Common.{◌≡◌, ℕ, zero, suc, ◌+◌, ◌<◌, ◌≤◌, ◌^◌, Bool, List, [], ◌∷◌, ◌++◌, Contains, length, length-append, ap, ◌∙◌, sym, subst, arith}
+use Rattle.std.proofs.Common.{◌≡◌, ℕ, zero, suc, ◌+◌, ◌<◌, ◌≤◌, ◌^◌, List, [], ◌∷◌, ◌++◌, Contains, length, ap, ◌∙◌, sym, subst, arith}
 use Rattle.std.specs.Prelude.{Result, Ok, Err, IfErr}
 use Rattle.std.specs.Result.{IsErrAnd}
 use Rattle.std.specs.List.{AllByRecursion}
 use Rattle.std.proofs.lemmas.List.{length-map, append-nil}
-use Rattle.sx_term.specs.declared.mark.Mark.{Mark}
-use Rattle.sx_term.specs.declared.mark.Mark.TheVariants.{Lit, Lex, Meta}
 use Rattle.sx_term.specs.declared.sort.Sort.{Sort}
 use Rattle.sx_term.specs.Tree.{Tree}
-use Rattle.sx_term.specs.Cutting.{Piece, Stands, Cuts, done, skip, piece}
 use Rattle.sx_token.specs.declared.token.Token.{Token}
 use Rattle.sx_token.specs.Tokens.{piece_of, pieces}
 use Rattle.sx_grammar.specs.Grammar.{Text}
@@ -21,8 +18,7 @@ use Rattle.sx_earley.specs.Tokens.{Stems, shown, plain_tokens, AreKnown}
 use Rattle.sx_earley.specs.Unknown.{HasStem}
 use Rattle.sx_earley.specs.Completed.{number_of}
 use Rattle.sx_earley.proofs.Known.{cut_known}
-use Rattle.sx_forest.specs.Fitting.{HaveNames}
-use Rattle.sx_forest.specs.Names.{IsMarked, names_in, AddsEach, AddsFront}
+use Rattle.sx_forest.specs.Names.{IsMarked, names_in, AddsEach}
 use Rattle.sx_forest.proofs.Fits.{readings_marked, readings_few}
 use Rattle.sx_forest.proofs.Naming.{each_long}
 use Rattle.sx_notation.specs.declared.notation_error.NotationError.{NotationError}
@@ -33,21 +29,6 @@ use Rattle.sx_notation.specs.ReadText.{IsKnownCut, IsRead, IsUncut, IsRefused}
 pub err_if : {T E : Type 0} (r : Result T E) (P Q : E → Type 0) → IsErrAnd r P → ((e : E) → P e → Q e) → IfErr r Q
 err_if (Ok x) P Q h f = tt
 err_if (Err e) P Q h f = f e h
-
--- a metavariable is `~` and a name
-named_mark : (literals : List Text) (metas : Bool) (m : Mark) (text rest : Text) → Stands literals metas m text rest → m ≡ Meta → (name : Text) × (text ≡ 126 ∷ name)
-named_mark literals metas (Lit n) text rest h e = cc
-named_mark literals metas (Lex kind) text rest h e = cc
-named_mark literals metas Meta text rest h e = (h.1.0, h.1.1)
-
-named_pieces : {literals : List Text} {metas : Bool} {size : ℕ} {text rest : Text} {ps : List Piece} → Cuts literals metas size text ps rest → AllByRecursion (λ p. p.mark ≡ Meta → (name : Text) × (p.text ≡ 126 ∷ name)) ps
-named_pieces done = tt
-named_pieces (skip blank more) = named_pieces more
-named_pieces {literals = literals} {metas = metas} (piece {more = more} {t = t} at rest) = (named_mark literals metas t.mark t.text more at.stands, named_pieces rest)
-
-named_tokens : (ts : List Token) → AllByRecursion (λ p. p.mark ≡ Meta → (name : Text) × (p.text ≡ 126 ∷ name)) (pieces ts) → HaveNames ts
-named_tokens [] h = tt
-named_tokens (t ∷ ts) h = (h.0, named_tokens ts h.1)
 
 stem_at : (stems : Stems) (ts : List Token) (t : Token) → AllByRecursion (HasStem stems) ts → Contains ts t → HasStem stems t
 stem_at stems [] t all h = absurd (omega (arith, h.1))
@@ -79,16 +60,12 @@ module _ (p : Parts) (stems : Stems) (line : Text) (ts : List Token) (known : Is
   pub few_tokens : length ts ≤ 10000
   few_tokens = as_many_tokens ts 10000 known.0.1
 
-  -- each metavariable is `~` and a name
-  pub tokens_named : HaveNames ts
-  tokens_named = named_tokens ts (named_pieces known.0.2)
-
   pub known_tokens : AreKnown (literals_of p) stems ts
   known_tokens = cut_known stems ts known.0.2 (λ t there. stem_at stems ts t known.1 there)
 
   module _ (sort : Sort) (r : Reading) (answer : IsAnswer (numbered p) (plain_tokens stems ts) (number_of sort) (only r)) where
     pub is_marked : IsMarked ts r
-    is_marked = readings_marked (numbered p) stems ts (number_of sort) 0 0 (length (plain_tokens stems ts)) r tokens_named answer.1.0
+    is_marked = readings_marked (numbered p) stems ts (number_of sort) 0 0 (length (plain_tokens stems ts)) r answer.1.0
 
     few_names : length (names_in ts r) ≤ 10000
     few_names =
@@ -99,12 +76,6 @@ module _ (p : Parts) (stems : Stems) (line : Text) (ts : List Token) (known : Is
     -- there is room for the names
     pub has_room : (old : List Text) → length old + 10000 < 2 ^ 32 → length old + length (names_in ts r) < 2 ^ 32
     has_room old room = omega (arith, room, few_names)
-
-    -- the first of some names are no more than these
-    pub grown_front : (old new : List Text) → AddsFront old (names_in ts r) new → length new ≤ length old + 10000
-    grown_front old new a =
-        let names : length (names_in ts r) ≡ length a.0 + length a.1 = ap length a.2 ∙ length-append a.0 a.1 in
-        omega (arith, each_long old a.0 new a.3, names, few_names)
 
     module _ (old new : List Text) (names : AddsEach old (names_in ts r) new) where
       pub grown : length new ≤ length old + 10000

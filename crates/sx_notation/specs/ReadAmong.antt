@@ -1,9 +1,10 @@
 -- Lines whose metavariables are to be among some names.
-use Rattle.std.specs.Prelude.{◌≡◌, ℕ, ◌⊎◌, List, length, drop, Contains}
+use Rattle.std.specs.Prelude.{◌≡◌, ℕ, ◌⊎◌, List, length, Contains}
 use Rattle.std.specs.List.{AllByRecursion}
 use Rattle.sx_term.specs.declared.mark.Mark.TheVariants.{Meta}
 use Rattle.sx_term.specs.declared.sort.Sort.{Sort}
 use Rattle.sx_term.specs.Tree.{Tree}
+use Rattle.sx_term.specs.Vars.{without_tilde}
 use Rattle.sx_token.specs.declared.token.Token.{Token}
 use Rattle.sx_grammar.specs.Grammar.{Text}
 use Rattle.sx_grammar.specs.Parts.{Parts, numbered}
@@ -23,11 +24,11 @@ use Rattle.sx_notation.specs.declared.notation_error.NotationError.TheVariants.{
 
 -- if the token is a metavariable, its name is one of these
 abbrev pub IsNamed : (names : List Text) → Token → Type 0
-IsNamed names t = t.mark ≡ Meta → Contains names (drop 1 t.text)
+IsNamed names t = t.mark ≡ Meta → Contains names (without_tilde t.text)
 
 -- the token is a metavariable, and its name is none of these
 abbrev pub IsUnnamed : (names : List Text) → Token → Type 0
-IsUnnamed names t = (t.mark ≡ Meta) × ¬ (Contains names (drop 1 t.text))
+IsUnnamed names t = (t.mark ≡ Meta) × ¬ (Contains names (without_tilde t.text))
 
 -- the line is cut into the tokens, and each metavariable has a known stem and one of the names
 abbrev pub IsNamedCut : Parts → Stems → (names : List Text) → (line : Text) → List Token → Type 0

@@ -1,7 +1,7 @@
 //! Reading lines of text.
 
-ghost use Rattle.std.specs.Prelude.{◌≡◌, ◌≢◌, ◌+◌, ◌<◌, ◌≤◌, ◌^◌, ℕ, List, None, length, IfOk};
-ghost use Rattle.std.specs.Prelude.{IfErr};
+ghost use Rattle.std.specs.Prelude.{◌≡◌, ◌+◌, ◌<◌, ◌≤◌, ◌^◌, ℕ, List, None, length, IfOk};
+ghost use Rattle.std.specs.Prelude.{IfErr, OnErr};
 ghost use Rattle.sx_term.specs.declared.sort.Sort.{Sort};
 ghost use Rattle.sx_term.specs.Term.{tree};
 ghost use Rattle.sx_grammar.specs.Parts.{numbered};
@@ -11,7 +11,6 @@ ghost use Rattle.sx_earley.specs.Unknown.{IsFirstUnknown};
 ghost use Rattle.sx_earley.specs.Completed.{IsSort, number_of};
 ghost use Rattle.sx_forest.specs.Readings.{plain_reading};
 ghost use Rattle.sx_notation.specs.WhyUnread.{IsReadError};
-ghost use Rattle.sx_notation.specs.declared.notation_error.NotationError.TheVariants.{Memory};
 ghost use Rattle.sx_notation.specs.ReadText.{IsCut, IsKnownCut, IsRead, IsUncut, IsRefused};
 ghost use Rattle.sx_notation.specs.ReadText.{IsUnreadLine, of_token_error};
 ghost use Rattle.sx_notation.specs.ReadAmong.{IsNamedCut, IsReadAmong, IsRefusedAmong};
@@ -208,7 +207,7 @@ impl<'a> LineReader<'a> {
         &self.stems
     }
 
-    /// The term of the line's only reading as the sort, as `read_into` has it.
+    /// The term of the line's only reading as the sort, as `read_text` has it.
     pub fn read_line(
         &self,
         alloc: Global,
@@ -224,7 +223,7 @@ impl<'a> LineReader<'a> {
             (λ t. IsRead self.now.parts self.now.stems sort line.now vars.old vars.new (tree t)) }
         ensures refused { IfErr result
             (IsRefused self.now.parts self.now.stems sort line.now number) }
-        ensures kept { IfErr result (λ e. e ≢ Memory → vars.new ≡ vars.old) }
+        ensures kept { OnErr result (vars.new ≡ vars.old) }
         ensures grows { length vars.new ≤ length vars.old + 10000 }
     {
         let tokens = known_tokens(alloc, self, line, number)?;

@@ -1,26 +1,14 @@
 //! Tokens whose metavariables are among some names.
 
-ghost use Rattle.std.specs.Prelude.{◌≡◌, ◌+◌, ◌<◌, ◌^◌, ◌∷◌, ℕ, List, true, false, length, drop};
+ghost use Rattle.std.specs.Prelude.{◌≡◌, ◌+◌, ◌<◌, ◌^◌, true, false, length};
 ghost use Rattle.std.specs.Prelude.{Contains, IfOk};
 ghost use Rattle.std.specs.List.{AllByRecursion};
 ghost use Rattle.sx_token.specs.declared.token.Token.{Token as TokenData};
-ghost use Rattle.sx_forest.specs.Fitting.{HaveNames};
 ghost use Rattle.sx_notation.specs.ReadAmong.{IsNamed, IsUnnamed};
 
 use std::alloc::Global;
 use sx_term::{Mark, NoMemory, Text, Vars};
 use sx_token::Token;
-
-/// The name behind the `~` of the token.
-fn name_of(alloc: Global, token: &Token) -> Result<Text, NoMemory>
-    requires { (name : List ℕ) × (token.now.text ≡ 126 ∷ name) }
-    ensures { IfOk result (λ t. t ≡ drop 1 token.now.text) }
-{
-    match token.text.as_str().strip_prefix('~') {
-        Some(name) => Text::of_str(alloc, name),
-        None => unreachable!(),
-    }
-}
 
 /// Whether the name is among the names, which `copy` has too. Where it is not, `copy` may get it.
 fn is_among(names: &Vars, copy: &mut Vars, name: Text) -> Result<bool, NoMemory>
@@ -41,14 +29,13 @@ fn is_among(names: &Vars, copy: &mut Vars, name: Text) -> Result<bool, NoMemory>
 fn is_named(alloc: Global, names: &Vars, copy: &mut Vars, token: &Token) -> Result<bool, NoMemory>
     requires same { copy.old ≡ names.now }
     requires room { length names.now + 1 < 2 ^ 32 }
-    requires text { token.now.mark ≡ Mark.Meta → (name : List ℕ) × (token.now.text ≡ 126 ∷ name) }
     ensures named { IfOk result (λ b. b ≡ true →
         IsNamed names.now token.now × (copy.new ≡ names.now)) }
     ensures not { IfOk result (λ b. b ≡ false → IsUnnamed names.now token.now) }
 {
     match token.mark {
         Mark::Meta => {
-            let name = name_of(alloc, token)?;
+            let name = token.name(alloc)?;
             is_among(names, copy, name)
         }
         _ => Ok(true),
@@ -65,7 +52,6 @@ pub(crate) fn are_named(
 ) -> Result<bool, NoMemory>
     requires same { copy.old ≡ names.now }
     requires room { length names.now + 1 < 2 ^ 32 }
-    requires text { HaveNames tokens.now }
     ensures named { IfOk result (λ b. b ≡ true →
         AllByRecursion (IsNamed names.now) tokens.now × (copy.new ≡ names.now)) }
     ensures not { IfOk result (λ b. b ≡ false →

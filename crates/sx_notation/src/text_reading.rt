@@ -1,51 +1,21 @@
 //! Reading a line of text.
 
-ghost use Rattle.std.specs.Prelude.{◌≡◌, ◌≢◌, ◌+◌, ◌<◌, ◌≤◌, ◌^◌, length, IfOk, IfErr, OnErr};
+ghost use Rattle.std.specs.Prelude.{◌≡◌, ◌+◌, ◌<◌, ◌≤◌, ◌^◌, length, IfOk, IfErr, OnErr};
 ghost use Rattle.sx_term.specs.Term.{tree};
 ghost use Rattle.sx_earley.specs.Completed.{IsSort};
-ghost use Rattle.sx_notation.specs.declared.notation_error.NotationError.TheVariants.{Memory};
 ghost use Rattle.sx_notation.specs.ReadText.{IsRead, IsRefused};
 
 use crate::line_reader::LineReader;
-use crate::names::copy_names;
 use crate::notation_error::NotationError;
 use std::alloc::Global;
-use std::mem;
 use sx_earley::Metas;
 use sx_grammar::Grammar;
 use sx_term::{Sort, Term, Vars};
 
 /// The term of the line's only reading as the sort. Names of metavariables that `vars` lacks are
 /// added in order of standing. The line is refused, with its number, where it has no tokens, where
-/// the stem of a metavariable is unknown, and where its tokens have not one reading, in this order;
-/// `vars` is then as before. Where memory is lacking, `vars` may have some of the names that it
-/// lacks.
-pub fn read_into(
-    alloc: Global,
-    grammar: &Grammar,
-    sort: Sort,
-    metas: &Metas,
-    line: &[u8],
-    number: u32,
-    vars: &mut Vars,
-) -> Result<Term, NotationError>
-    requires sort { IsSort grammar.now.parts sort }
-    requires short { length line.now ≤ 262144 }
-    requires room { length vars.now + 10000 < 2 ^ 32 }
-    ensures read { IfOk result
-        (λ t. IsRead grammar.now.parts metas.now.stems.items sort line.now vars.old vars.new
-        (tree t)) }
-    ensures refused { IfErr result
-        (IsRefused grammar.now.parts metas.now.stems.items sort line.now number) }
-    ensures kept { IfErr result (λ e. e ≢ Memory → vars.new ≡ vars.old) }
-    ensures grows { length vars.new ≤ length vars.old + 10000 }
-{
-    let reader = LineReader::new(alloc, grammar, metas)?;
-    reader.read_line(alloc, sort, line, number, vars)
-}
-
-/// The same of a copy of the names: after each refusal, also where memory is lacking, `vars` is as
-/// before.
+/// the stem of a metavariable is unknown, and where its tokens have not one reading, in this order.
+/// After each refusal, also where memory is lacking, `vars` is as before.
 pub fn read_text(
     alloc: Global,
     grammar: &Grammar,
@@ -66,16 +36,6 @@ pub fn read_text(
     ensures err { OnErr result (vars.new ≡ vars.old) }
     ensures grows { length vars.new ≤ length vars.old + 10000 }
 {
-    let mut names = copy_names(alloc, vars)?;
-    match read_into(alloc, grammar, sort, metas, line, number, &mut names) {
-        Ok(term) => {
-            let before = mem::replace(vars, names);
-            drop(before);
-            Ok(term)
-        }
-        Err(error) => {
-            drop(names);
-            Err(error)
-        }
-    }
+    let reader = LineReader::new(alloc, grammar, metas)?;
+    reader.read_line(alloc, sort, line, number, vars)
 }

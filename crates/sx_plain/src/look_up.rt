@@ -25,7 +25,7 @@ impl PlainTable {
         }
     }
 
-    /// An equal table. The one refusal is want of memory.
+    /// An equal table. The one refusal is out of memory.
     pub fn copy(&self, alloc: Global) -> Result<PlainTable, NoMemory>
         ensures base { IfOk result (λ t. t.base ≡ self.now.base) }
         ensures table { IfOk result (λ t. table_of t ≡ table_of self.now) }
@@ -72,7 +72,7 @@ impl PlainTable {
     }
 }
 
-/// Equal entries. The one refusal is want of memory.
+/// Equal entries. The one refusal is out of memory.
 fn copy_entries(alloc: Global, entries: &[Option<Entry>]) -> Result<Vec<Option<Entry>>, NoMemory>
     ensures { IfOk result (λ es. bodies es.items ≡ bodies entries.now) }
 {

@@ -33,7 +33,7 @@ impl Entry {
         })
     }
 
-    /// An equal entry. The one refusal is want of memory.
+    /// An equal entry. The one refusal is out of memory.
     pub(crate) fn copy(&self, alloc: Global) -> Result<Entry, NoMemory>
         ensures { IfOk result (λ e. body e ≡ body self.now) }
     {

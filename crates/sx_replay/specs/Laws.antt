@@ -51,7 +51,7 @@ DerivationsAreReplayed =
     (answer : Result (Vec Term Global) ReplayError) →
     IsReplayed modes rules hyps goal (order_of p) answer → HasOutputs outs answer
 
--- a list has one answer, want of memory aside
+-- a list has one answer, out of memory aside
 abbrev pub OneAnswerIsDue : Type 0
 OneAnswerIsDue =
     (modes : Modes) (rules : List Rule) (hyps : Hypotheses) → AllModed modes rules →

@@ -19,7 +19,7 @@ pub fn derivations_are_replayed()
     ensures { DerivationsAreReplayed }
 {}
 
-/// A list has one answer, want of memory aside.
+/// A list has one answer, out of memory aside.
 pub fn one_answer_is_due()
     ensures { OneAnswerIsDue }
 {}

@@ -27,6 +27,7 @@ pub mod Stored
 pub mod AcceptedView
 pub mod ExtensionView
 pub mod Adds
+pub mod Joins
 pub mod Sizes
 pub mod LoweredSizes
 pub mod SizeLaws

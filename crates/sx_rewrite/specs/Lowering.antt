@@ -60,7 +60,7 @@ needed_terms need i [] = []
 needed_terms need i (ts ∷ tss) = (if need i then ts else []) ++ needed_terms need (i + 1) tss
 
 -- the error tells the first term that is measured for the proof and passes a limit,
--- or want of memory
+-- or out of memory
 abbrev pub IsRefused : Accepted → Modes → Hypotheses → Proof → RewriteError → Type 0
 IsRefused a subjects hyps p e =
     (ts : List Tree) → Measures a subjects hyps p ts → Tells (first_over ts) e
@@ -93,7 +93,7 @@ abbrev pub IsKidLowered : Accepted → Modes → Hypotheses → Bool → Proof �
 IsKidLowered a subjects hyps need p q =
     (need ≡ true → IsLoweredTo a subjects hyps p q) × (need ≡ false → (n : ℕ) × (q ≡ given n))
 
--- the error tells the first term that passes a limit of a kid that is needed, or want of memory
+-- the error tells the first term that passes a limit of a kid that is needed, or out of memory
 abbrev pub IsKidRefused : Accepted → Modes → Hypotheses → Bool → Proof → RewriteError → Type 0
 IsKidRefused a subjects hyps need p e =
     (ts : List Tree) → Measures a subjects hyps p ts →

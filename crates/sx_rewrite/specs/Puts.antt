@@ -38,7 +38,7 @@ IsLimited m (Err RewriteDeep) = ⊥
 IsLimited m (Err (TooDeep depth)) = (1000 < m.depth) × (depth ≡ m.depth)
 IsLimited m (Err (TooBig nodes)) = (m.depth ≤ 1000) × (1000000 < m.size) × (nodes ≡ m.size)
 
--- the error tells this refusal, or want of memory
+-- the error tells this refusal, or out of memory
 abbrev pub Tells : Option Refusal → RewriteError → Type 0
 Tells over Memory = Unit {0}
 Tells over (RewriteSpent nodes) = ⊥

@@ -34,7 +34,7 @@ impl Accepted {
     /// The set with the extension after it: its rules, each with the flat body and the
     /// certificate at its place, and its plain table. Bodies and the terms of
     /// certificates are no deeper than 1,000, and certificates no deeper than 3,000. The
-    /// one refusal is want of memory, and hands the set back as it was.
+    /// one refusal is out of memory, and hands the set back as it was.
     pub fn add(
         self,
         all: &Shapes,

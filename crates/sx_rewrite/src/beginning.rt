@@ -18,7 +18,7 @@ use sx_term::NoMemory;
 
 impl Accepted {
     /// The set without extensions: the base rules alone. The base labels of its plain table
-    /// are those of the rules' shapes. The one refusal is want of memory.
+    /// are those of the rules' shapes. The one refusal is out of memory.
     pub fn none(alloc: Global, base: &RuleSet) -> Result<Accepted, NoMemory>
         requires no_typed { PlainHaveNoTyped (shapes_in base.now) }
         requires forms { HaveSortsFor (forms_in base.now) }
@@ -55,7 +55,7 @@ impl Accepted {
     }
 }
 
-/// Two equal sets. The one refusal is want of memory.
+/// Two equal sets. The one refusal is out of memory.
 fn two_copies(alloc: Global, set: &RuleSet) -> Result<Grown, NoMemory>
     ensures rules { IfOk result
         (λ x. (shapes_in x.rules ≡ shapes_in set.now) × (forms_in x.rules ≡ forms_in set.now)

@@ -82,7 +82,7 @@ fn kid_instances(
     Ok(made)
 }
 
-/// The derivation by the rule with these bindings and kids. The one refusal is want of memory.
+/// The derivation by the rule with these bindings and kids. The one refusal is out of memory.
 pub(crate) fn by_rule(
     alloc: Global,
     rule: u32,
@@ -96,7 +96,7 @@ pub(crate) fn by_rule(
     Ok(Box::new(alloc, Proof::By { rule, binds, kids })?)
 }
 
-/// The next given, and after those so far which it is. The one refusal is want of memory:
+/// The next given, and after those so far which it is. The one refusal is out of memory:
 /// there is no room for more than 2^32 of them.
 fn place(alloc: Global, given: u32, givens: &mut Vec<u32>) -> Result<Box<Proof>, RewriteError>
     ensures proof { MatchResult result

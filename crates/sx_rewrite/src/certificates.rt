@@ -14,7 +14,7 @@ pub(crate) struct Certificates {
 }
 
 impl Certificates {
-    /// What is stored, and then more. The one refusal is want of memory,
+    /// What is stored, and then more. The one refusal is out of memory,
     /// and hands back what is stored.
     pub(crate) fn appended(self, more: Certificates) -> Result<Certificates, Certificates>
         ensures flats { MatchResult result
@@ -38,7 +38,7 @@ impl Certificates {
     }
 }
 
-/// Appends what is stored. The one refusal is want of memory, and then nothing is appended.
+/// Appends what is stored. The one refusal is out of memory, and then nothing is appended.
 fn append(
     flats: &mut Vec<Flat>,
     sizes: &mut Vec<CertificateSize>,

@@ -17,7 +17,7 @@ use sx_term::{NoMemory, Sort, Term, TermError};
 
 /// What is put for variables of these sorts to which these terms are bound: the plain image of
 /// each, and a node without kids for one of a typed sort. An image is measured before it is made,
-/// and made only where it passes no limit. The one refusal is want of memory.
+/// and made only where it passes no limit. The one refusal is out of memory.
 pub(crate) fn image_terms(
     alloc: Global,
     table: &PlainTable,
@@ -50,7 +50,7 @@ fn sort_at(sorts: &[Sort], place: usize) -> Sort
 }
 
 /// What is put for a variable of the sort to which the term is bound.
-/// The one refusal is want of memory.
+/// The one refusal is out of memory.
 fn put_image(
     alloc: Global,
     table: &PlainTable,
@@ -72,7 +72,7 @@ fn put_image(
 }
 
 /// The plain image of the term, which is made where it passes no limit.
-/// The one refusal is want of memory.
+/// The one refusal is out of memory.
 fn image_put(alloc: Global, table: &PlainTable, term: &Term) -> Result<PutTerm, NoMemory>
     requires shallow { depth_of (tree term.now) ≤ 1000 }
     requires fits { FitsTable (table_of table.now) (tree term.now) }

@@ -9,7 +9,7 @@ use std::alloc::Global;
 use sx_term::{NoMemory, Term};
 
 /// The instance of the term, with a part in the place of each variable.
-/// The one refusal is want of memory.
+/// The one refusal is out of memory.
 pub(crate) fn instance_made(alloc: Global, term: &Term, parts: &[Term]) -> Result<Term, NoMemory>
     requires shallow { depth_of (tree term.now) ≤ 1000 }
     requires parts { greatest_depth (forest (map tree parts.now)) ≤ 1000 }

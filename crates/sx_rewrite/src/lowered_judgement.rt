@@ -18,7 +18,7 @@ use sx_rules::{Hyps, Judgement, Proof, RuleSet};
 use sx_term::{NoMemory, Term};
 
 /// The judgement that the derivation by base rules derives from the hypotheses. It is
-/// read off the last step alone. The one refusal is want of memory.
+/// read off the last step alone. The one refusal is out of memory.
 pub(crate) fn lowered_judgement(
     alloc: Global,
     base: &RuleSet,
@@ -50,7 +50,7 @@ pub(crate) fn lowered_judgement(
     }
 }
 
-/// The judgement under these terms. The one refusal is want of memory.
+/// The judgement under these terms. The one refusal is out of memory.
 fn instance_judgement(
     alloc: Global,
     from: &Judgement,
@@ -67,7 +67,7 @@ fn instance_judgement(
     })
 }
 
-/// The instances of the terms. The one refusal is want of memory.
+/// The instances of the terms. The one refusal is out of memory.
 fn instances(alloc: Global, terms: &[Term], binds: &[Term]) -> Result<Vec<Term>, NoMemory>
     requires terms { greatest_depth (forest (map tree terms.now)) ≤ 1000 }
     requires binds { greatest_depth (forest (map tree binds.now)) ≤ 1000 }
@@ -81,7 +81,7 @@ fn instances(alloc: Global, terms: &[Term], binds: &[Term]) -> Result<Vec<Term>,
     Ok(made)
 }
 
-/// An equal judgement. The one refusal is want of memory.
+/// An equal judgement. The one refusal is out of memory.
 fn own_judgement(alloc: Global, from: &Judgement) -> Result<Judgement, NoMemory>
     requires { AreShallow (judgement from.now).places }
     ensures { IfOk result (λ j. judgement j ≡ judgement from.now) }
@@ -92,7 +92,7 @@ fn own_judgement(alloc: Global, from: &Judgement) -> Result<Judgement, NoMemory>
     })
 }
 
-/// Equal terms. The one refusal is want of memory.
+/// Equal terms. The one refusal is out of memory.
 fn copies(alloc: Global, terms: &[Term]) -> Result<Vec<Term>, NoMemory>
     requires { greatest_depth (forest (map tree terms.now)) ≤ 1000 }
     ensures { IfOk result (λ x. map tree x.items ≡ map tree terms.now) }

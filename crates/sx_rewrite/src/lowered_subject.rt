@@ -21,7 +21,7 @@ use sx_rules::{Hyps, Judgement, Place, Proof, RuleSet};
 use sx_term::{NoMemory, Role, Term};
 
 /// The subject of the judgement that the derivation by base rules derives from the hypotheses, or
-/// None where it has none. It is read off the last step alone. The one refusal is want of memory.
+/// None where it has none. It is read off the last step alone. The one refusal is out of memory.
 pub(crate) fn lowered_subject(
     alloc: Global,
     base: &RuleSet,
@@ -63,7 +63,7 @@ pub(crate) fn hypothesis(given: &Hyps, number: u32) -> Option<&Judgement>
     None
 }
 
-/// The subject of the judgement under these terms. The one refusal is want of memory.
+/// The subject of the judgement under these terms. The one refusal is out of memory.
 fn instance_subject(
     alloc: Global,
     set: &RuleSet,
@@ -82,7 +82,7 @@ fn instance_subject(
     }
 }
 
-/// The subject of the judgement. The one refusal is want of memory.
+/// The subject of the judgement. The one refusal is out of memory.
 fn own_subject(alloc: Global, set: &RuleSet, from: &Judgement) -> Result<Option<Term>, NoMemory>
     requires { AreShallow (judgement from.now).places }
     ensures { IfOk result

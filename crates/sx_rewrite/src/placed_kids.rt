@@ -14,7 +14,7 @@ use sx_term::NoMemory;
 
 /// The kid at each place, where the givens tell whose place it is. A kid is
 /// moved to its last place and copied for those before it; one without a
-/// place is dropped. The one refusal is want of memory.
+/// place is dropped. The one refusal is out of memory.
 pub(crate) fn placed_kids(
     alloc: Global,
     givens: &Vec<u32>,

@@ -15,7 +15,7 @@ use sx_plain::{PlainTable, lower};
 use sx_rules::{Judgement, Premise, Rule};
 use sx_term::{NoMemory, Term, TermError};
 
-/// The plain rules of extension rules, in order. The one refusal is want of memory.
+/// The plain rules of extension rules, in order. The one refusal is out of memory.
 pub(crate) fn plain_rules(
     alloc: Global,
     table: &PlainTable,

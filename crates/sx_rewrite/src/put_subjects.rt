@@ -26,7 +26,7 @@ use sx_rules::{Hyps, Judgement, Premise, Proof, RuleSet};
 use sx_term::{NoMemory, Term};
 
 /// Puts the subject of each lowered kid that a node by the rule needs for the variable
-/// that is the subject of its premise. The one refusal is want of memory.
+/// that is the subject of its premise. The one refusal is out of memory.
 pub(crate) fn put_subjects(
     alloc: Global,
     source: &Source,
@@ -74,7 +74,7 @@ pub(crate) fn put_subjects(
 }
 
 /// Puts the subject of what the kid derives for the variable that is the subject of the premise.
-/// The one refusal is want of memory.
+/// The one refusal is out of memory.
 fn put_subject(
     alloc: Global,
     base: &RuleSet,

@@ -28,7 +28,7 @@ use sx_term::{NoMemory, Term};
 
 /// What is put for the variables of the rule at a node with these bindings and lowered kids: the
 /// plain image of what is bound, and for the subject of each premise whose kid is needed the
-/// subject of what that kid derives. The one refusal is want of memory.
+/// subject of what that kid derives. The one refusal is out of memory.
 pub(crate) fn put_terms(
     alloc: Global,
     source: &Source,

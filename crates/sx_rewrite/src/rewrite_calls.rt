@@ -134,7 +134,7 @@ fn rewrite_by(
     }
 }
 
-/// The lowered derivation with its judgement. The one refusal is want of memory.
+/// The lowered derivation with its judgement. The one refusal is out of memory.
 fn with_judgement(
     alloc: Global,
     source: &Source,

@@ -15,7 +15,7 @@ use sx_term::{NoMemory, Shapes};
 const MOST_RULES: u32 = 4096;
 
 /// The rules of the set and then more, which are good with these shapes.
-/// The one refusal is want of memory.
+/// The one refusal is out of memory.
 pub(crate) fn with_more(
     alloc: Global,
     set: &RuleSet,
@@ -40,7 +40,7 @@ pub(crate) fn with_more(
     }
 }
 
-/// An equal set. The one refusal is want of memory.
+/// An equal set. The one refusal is out of memory.
 pub(crate) fn copied(alloc: Global, set: &RuleSet) -> Result<RuleSet, NoMemory>
     ensures { IfOk result (λ x. (shapes_in x ≡ shapes_in set.now) × (forms_in x ≡ forms_in set.now)
         × (rules_in x ≡ rules_in set.now)) }

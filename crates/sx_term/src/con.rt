@@ -15,7 +15,7 @@ pub struct Con {
 }
 
 impl Con {
-    /// An equal constructor. The one refusal is want of memory.
+    /// An equal constructor. The one refusal is out of memory.
     pub fn copy(&self, alloc: Global) -> Result<Con, NoMemory>
         ensures { IfOk result (λ x. shape x ≡ shape self.now) }
     {

@@ -59,7 +59,7 @@ impl Names {
         Ok(())
     }
 
-    /// Equal names. The one refusal is want of memory.
+    /// Equal names. The one refusal is out of memory.
     pub fn copy(&self) -> Result<Names, NoMemory>
         ensures { IfOk result (λ n. n ≡ self.now) }
     {

@@ -75,7 +75,7 @@ impl Shapes {
         }
     }
 
-    /// Equal shapes. The one refusal is want of memory.
+    /// Equal shapes. The one refusal is out of memory.
     pub fn copy(&self, alloc: Global) -> Result<Shapes, NoMemory>
         ensures { IfOk result (λ x. shapes x ≡ shapes self.now) }
     {

@@ -89,7 +89,7 @@ impl Term {
         }
     }
 
-    /// An equal term. The one refusal is want of memory.
+    /// An equal term. The one refusal is out of memory.
     pub fn copy(&self, alloc: Global) -> Result<Term, NoMemory>
         requires { depth_of (tree self.now) ≤ 1000 }
         ensures { IfOk result (λ t. tree t ≡ tree self.now) }

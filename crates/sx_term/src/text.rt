@@ -107,7 +107,7 @@ impl Text {
         self.string.as_str()
     }
 
-    /// An equal text. The one refusal is want of memory.
+    /// An equal text. The one refusal is out of memory.
     pub fn copy(&self, alloc: Global) -> Result<Text, NoMemory>
         ensures { IfOk result (λ t. t ≡ self.now) }
     {

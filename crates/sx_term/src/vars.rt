@@ -1,7 +1,7 @@
 //! The names of variables.
 
 ghost use Rattle.std.specs.Prelude.{◌≡◌, ◌+◌, ◌-◌, ◌^◌, ◌<◌, ◌≤◌, [], length, slice_get};
-ghost use Rattle.std.specs.Prelude.{option_copied, IfOk, OnErr};
+ghost use Rattle.std.specs.Prelude.{option_copied, IfOk, OnErr, take};
 ghost use Rattle.sx_term.specs.Cutting.{AreDistinct};
 ghost use Rattle.sx_term.specs.Vars.{IsAdded};
 
@@ -58,5 +58,19 @@ impl Vars {
         ensures distinct { AreDistinct self.now }
     {
         self.names.get_index(number as usize)
+    }
+
+    /// How many names there are.
+    pub fn count(&self) -> usize
+        ensures { result ≡ length self.now }
+    {
+        self.names.len()
+    }
+
+    /// Leaves the first names, so many as `count` says, or all where there are no more.
+    pub fn cut(&mut self, count: usize)
+        ensures { self.new ≡ take count self.old }
+    {
+        self.names.truncate(count);
     }
 }

@@ -5,7 +5,7 @@ use std::fmt;
 use sx_term::NoMemory;
 use thiserror::Error;
 
-/// Want of memory, or the first defect of a text. Places count bytes from 0.
+/// Out of memory, or the first defect of a text. Places count bytes from 0.
 #[derive(Drop, Error)]
 pub enum TokenError {
     #[error("out of memory")]

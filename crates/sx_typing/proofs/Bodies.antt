@@ -20,7 +20,6 @@ use Rattle.sx_grammar.specs.Print.{term_of}
 use Rattle.sx_earley.specs.Tokens.{plain_tokens, AreKnown}
 use Rattle.sx_earley.specs.Completed.{number_of}
 use Rattle.sx_earley.proofs.Known.{cut_known}
-use Rattle.sx_forest.specs.Fitting.{HaveNames}
 use Rattle.sx_forest.specs.Names.{IsMetavariable, IsMarked, AreMarked, names_in, names_of, AddsEach}
 use Rattle.sx_forest.proofs.Fits.{readings_marked}
 use Rattle.sx_notation.proofs.TextReading.{as_many_tokens}
@@ -48,10 +47,6 @@ plain_all : (ts : List Token) → AllByRecursion (λ p. p.mark ≡ Meta → ⊥)
 plain_all [] h = tt
 plain_all (t ∷ ts) h = (h.0, plain_all ts h.1)
 
-named_plain : (ts : List Token) → AllByRecursion IsPlain ts → HaveNames ts
-named_plain [] h = tt
-named_plain (t ∷ ts) h = ((λ e. absurd (h.0 e)), named_plain ts h.1)
-
 plain_at : (ts : List Token) (t : Token) → AllByRecursion IsPlain ts → Contains ts t → IsPlain t
 plain_at [] t all h = absurd (omega (arith, h.1))
 plain_at (u ∷ us) t all (zero, h, e) = subst IsPlain e all.0
@@ -60,7 +55,7 @@ plain_at (u ∷ us) t all (suc k, h, e) = plain_at us t all.1 (k, omega (arith, 
 no_variable : (ts : List Token) (n : ℕ) → AllByRecursion IsPlain ts →
     IsMetavariable (slice_get ts n) → ⊥
 no_variable [] n all h = h
-no_variable (t ∷ ts) zero all h = all.0 h.1
+no_variable (t ∷ ts) zero all h = all.0 h
 no_variable (t ∷ ts) (suc n) all h = no_variable ts n all.1 h
 
 module _ (ts : List Token) (all : AllByRecursion IsPlain ts) where
@@ -93,7 +88,7 @@ module _ (p : Parts) (text : Text) (ts : List Token) (cut : IsCut p text ts) whe
       (answer : IsAnswer (numbered p) (plain_tokens [] ts) (number_of sort) (only r)) where
     pub is_marked : IsMarked ts r
     is_marked = readings_marked (numbered p) [] ts (number_of sort) 0 0
-        (length (plain_tokens [] ts)) r (named_plain ts plain) answer.1.0
+        (length (plain_tokens [] ts)) r answer.1.0
 
     pub has_no_names : names_in ts r ≡ []
     has_no_names = no_names ts plain r is_marked

@@ -2,10 +2,9 @@ use Rattle.std.proofs.Common.{List, Contains, inr, refl, sym, subst}
 use Rattle.std.specs.List.{AllByRecursion}
 use Rattle.sx_term.specs.declared.sort.Sort.{Sort}
 use Rattle.sx_token.specs.declared.token.Token.{Token}
-use Rattle.sx_forest.specs.Fitting.{HaveNames}
 use Rattle.sx_notation.specs.declared.notation_error.NotationError.{NotationError}
 use Rattle.sx_notation.specs.ReadAmong.{IsNamed, IsRefusedAmong}
-use Rattle.sx_notation.proofs.TextReading.{err_if, tokens_named}
+use Rattle.sx_notation.proofs.TextReading.{err_if}
 use Rattle.sx_notation.proofs.AmongNames.{uncut_among}
 use Rattle.sx_notation.proofs.line_reader.named_tokens.Goals as goal
 
@@ -16,10 +15,6 @@ returns-in_err-tokens-clause-refused c =
     let P : NotationError → Type 0 = λ e. (sort : Sort) → IsRefusedAmong p stems sort c.args.line.now c.args.names.now c.args.number e in
     err_if c.from_residual.result _ P c.from_residual.ensures.1
     (λ e is. subst P (sym is) (λ sort. uncut_among p stems sort c.args.line.now c.args.names.now c.args.number _ c.in_err-tokens.ensures.refused))
-
-pub are_named-requires-clause-text : goal.are_named-requires-clause-text
-are_named-requires-clause-text c =
-    subst HaveNames (sym c.deref.ensures.value) (tokens_named c.args.by.now.parts c.args.by.now.stems c.args.line.now c.in_ok-tokens.tokens.items c.in_ok-tokens.ensures.known)
 
 pub returns-in-Ok-true-clause-named : goal.returns-in-Ok-true-clause-named
 returns-in-Ok-true-clause-named c = (

@@ -2,7 +2,7 @@ use Rattle.std.proofs.Common.{[], sym, subst}
 use Rattle.sx_term.specs.Term.{tree}
 use Rattle.sx_forest.specs.Readings.{plain_reading}
 use Rattle.sx_notation.specs.ReadText.{IsRefused}
-use Rattle.sx_notation.proofs.TextReading.{err_if, uncut_refused, known_at, answer_at, is_marked, has_room, grown, grown_front, is_read}
+use Rattle.sx_notation.proofs.TextReading.{err_if, uncut_refused, known_at, answer_at, is_marked, has_room, grown, is_read}
 use Rattle.sx_notation.proofs.line_reader.LineReader.read_line.Goals as goal
 
 pub returns-in_err-tokens-clause-refused : goal.returns-in_err-tokens-clause-refused
@@ -32,17 +32,6 @@ strip-requires-clause-room c =
     let known = known_at p stems line c.in_ok-tokens.tokens.items ts c.deref-2.ensures.value c.in_ok-tokens.ensures.known in
     let answer = answer_at p stems c.args.sort r c.in_ok-tokens.tokens.items c.deref.result.now ts c.deref.ensures.value c.deref-2.ensures.value c.in_ok-reading.ensures.only in
     has_room p stems line ts known c.args.sort r answer c.args.vars.now c.requires.room
-
-pub returns-in_err-term-clause-grows : goal.returns-in_err-term-clause-grows
-returns-in_err-term-clause-grows c =
-    let p = c.args.self.now.parts in
-    let stems = c.args.self.now.stems in
-    let line = c.args.line.now in
-    let ts = c.deref-2.result.now in
-    let r = plain_reading c.in_ok-reading.reading in
-    let known = known_at p stems line c.in_ok-tokens.tokens.items ts c.deref-2.ensures.value c.in_ok-tokens.ensures.known in
-    let answer = answer_at p stems c.args.sort r c.in_ok-tokens.tokens.items c.deref.result.now ts c.deref.ensures.value c.deref-2.ensures.value c.in_ok-reading.ensures.only in
-    grown_front p stems line ts known c.args.sort r answer c.args.vars.now c.strip.new.vars c.in_err-term.ensures.err
 
 pub returns-clause-read : goal.returns-clause-read
 returns-clause-read c =

@@ -5,10 +5,10 @@ use Rattle.sx_earley.specs.Tokens.{Stems, plain_tokens}
 use Rattle.sx_forest.specs.Readings.{plain_reading, plain_readings}
 use Rattle.sx_forest.specs.Names.{AreMarked, names_of, AddsEach, AddsFront}
 use Rattle.sx_forest.proofs.Terms.{term_by}
-use Rattle.sx_forest.proofs.stripping.+strip.Given as goal
+use Rattle.sx_forest.proofs.stripping.+strip_into.Given as goal
 
-abbrev pub decreases-strip : goal.decreases-strip
-decreases-strip l = reading_depth (plain_reading l.reading.now)
+abbrev pub decreases-strip_into : goal.decreases-strip_into
+decreases-strip_into l = reading_depth (plain_reading l.reading.now)
 
 abbrev pub invariant-loop-kid : goal.invariant-loop-kid
 invariant-loop-kid l = record {
