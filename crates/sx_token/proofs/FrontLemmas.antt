@@ -1,5 +1,5 @@
 -- What stands at the front of a text.
-use Rattle.std.proofs.Common.{◌≡◌, ◌≢◌, ℕ, zero, suc, ◌+◌, ◌<◌, ◌≤◌, ◌==◌, List, [], ◌∷◌, ◌++◌, length, take, drop, get_or, IsTrue, Bool, true, false, Some, inl, inr, sym, refl, ap, ◌∙◌, subst, append_assoc, length-append, length-take-le, take-append-drop, length-drop, get_or-drop, add-zero, add-one, arith}
+use Rattle.std.proofs.Common.{◌≡◌, ◌≢◌, ℕ, zero, suc, ◌+◌, ◌<◌, ◌≤◌, ◌==◌, List, [], ◌∷◌, ◌++◌, length, take, drop, get_or, IsTrue, Bool, true, false, Some, inl, inr, sym, refl, if◌then◌else◌, ap, ◌∙◌, subst, append_assoc, length-append, length-take-le, take-append-drop, length-drop, get_or-drop, add-zero, add-one, arith}
 use Rattle.std.specs.Prelude.{slice_index, slice_get}
 use Rattle.std.specs.Char.{encode_utf8, is_ascii_digit}
 use Rattle.std.specs.Str.{IsCharBoundary, IsUtf8}
@@ -7,9 +7,10 @@ use Rattle.std.proofs.Math.Seq.{take-append_seam, drop-append_seam, drop-cons}
 use Rattle.std.proofs.lemmas.Bool.Decides.{nat_tests}
 use Rattle.std.proofs.lemmas.Str.{byte_from_char, encode_ascii, length-encode, len_utf8_bounds, IsCharBoundary-at_seam, IsCharBoundary-after_ascii, IsUtf8-drop}
 use Rattle.sx_term.specs.declared.mark.Mark.{Mark}
+use Rattle.sx_term.specs.Vars.{without_tilde}
 use Rattle.sx_term.specs.Cutting.{is_blank, is_symbol, is_in_line, is_in_string, begins_word, BeginsWith, IsMaximalRun, IsWord, IsString, AreSymbols, IsLongestSymbol, Skips, IsOpenString, IsBadToken}
 use Rattle.sx_term.proofs.Firsts.{Class, Quote, Tilde, Blank, Symbol, Other, class_of, HasClass, HasClass-same, HasClass-quote, HasClass-tilde, HasClass-blank, HasClass-symbol}
-use Rattle.std.proofs.lemmas.Bool.{false_from_ne_true}
+use Rattle.std.proofs.lemmas.Bool.{false_from_ne_true, eqb-true}
 use Rattle.sx_term.proofs.CutLaws.{Classed, meta, symbol, at_class, Contains-at}
 use Rattle.sx_token.specs.Front.{IsCut, IsOther}
 use Rattle.sx_token.specs.Symbol.{NoneLonger}
@@ -166,3 +167,12 @@ symbol_low c h = grind (arith, nat_tests)
 -- a symbol character is one byte
 pub symbol_first : (text rest : List ℕ) (c : ℕ) → is_symbol c ≡ true → text ≡ encode_utf8 c ++ rest → is_symbol (slice_index text 0) ≡ true
 symbol_first text rest c h e = ap is_symbol (byte_from_char text rest c e (symbol_low c h)) ∙ h
+
+-- a text that does not begin with `~` is its own name
+pub no_tilde : (text : List ℕ) → ((rest : List ℕ) → text ≡ 126 ∷ rest → ⊥) → without_tilde text ≡ text
+no_tilde [] h = refl
+no_tilde (c ∷ cs) h = by (c == 126) refl
+  where
+    by : (b : Bool) → (c == 126) ≡ b → (if b then cs else c ∷ cs) ≡ c ∷ cs
+    by true e = absurd (h cs (ap (λ x. x ∷ cs) (eqb-true c 126 e)))
+    by false e = refl
