@@ -191,7 +191,7 @@ unfolding list_of
 list_stated names lines list h e =
     let p = bind_ok (the_line (codes "sxder 1") lines) (λ entries. each_line (entry_of names) entries) list e in
     let first = the_line-read (codes "sxder 1") lines p.0 1 h p.1 in
-    let q = reads_found names (texts p.0) list (each_ok (entry_of names) (texts p.0) 2 _ list (each_line-gives (entry_of names) p.0 2 first.1) p.2) in
+    let q = reads_found names (texts p.0) list (each_ok (entry_of names) (texts p.0) 1 _ list (each_line-gives (entry_of names) p.0 1 first.1) p.2) in
     record { spelled = first.0 ∙ ap (λ (x : List (List ℕ)). codes "sxder 1" ∷ x) q.0; entries = q.1 }
 
 -- what is stated is read
@@ -251,7 +251,7 @@ list_refused names lines k h n e =
           record { front = []; rest = texts lines; parts = refl; place = p.0; more = codes "sxder 1" ∷ []; value = []; good = no_entries names; bad = head_bad names (texts lines) p.1 }
       | inr later ↦
           let first = the_line-read (codes "sxder 1") lines later.0 1 n later.1 in
-          let r = each_err (entry_of names) (texts later.0) 2 _ k (each_line-gives (entry_of names) later.0 2 first.1) later.2 in
+          let r = each_err (entry_of names) (texts later.0) 1 _ k (each_line-gives (entry_of names) later.0 1 first.1) later.2 in
           record {
             front = codes "sxder 1" ∷ r.front;
             rest = r.text ∷ r.rest;

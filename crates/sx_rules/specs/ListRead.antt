@@ -8,7 +8,7 @@ abbrev pub refusal : ListError → Option ℕ
 refusal Memory = None
 refusal (BadList n) = Some n
 
--- an error for want of memory, or at the line that reading refuses
+-- an error where memory runs out, or at the line that reading refuses
 abbrev pub Refuses : {Y : Type 0} → ListError → Result Y ℕ → Type 0
 Refuses Memory read = Unit {0}
 Refuses (BadList n) read = read ≡ Err n

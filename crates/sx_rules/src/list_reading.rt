@@ -1,7 +1,6 @@
 //! Reading derivation lists.
 
-ghost use Rattle.std.specs.Prelude.{◌≡◌, ℕ, ◌+◌, ◌<◌, ◌^◌, List, length, codes, Ok, IfOk, IfErr};
-ghost use Rattle.std.specs.Prelude.{IfSome};
+ghost use Rattle.std.specs.Prelude.{◌≡◌, List, codes, Ok, IfOk, IfErr, IfSome};
 ghost use Rattle.sx_lines.specs.Left.{left};
 ghost use Rattle.sx_lines.specs.Lines.{lines_from, texts};
 ghost use Rattle.sx_rules.specs.BadLine.{IsFirstBad};
@@ -86,7 +85,6 @@ fn entries(alloc: Global, rules: &RuleSet, rest: Rest<'_>) -> Result<Vec<Entry>,
 /// The list that lines state, or the number of the first line that is not as defined.
 #[tactic(auto, unfolding(crate::specs::ListText::list_of))]
 fn list(alloc: Global, rules: &RuleSet, bytes: &[u8]) -> Result<Vec<Entry>, ListError>
-    requires { length bytes.now + 1 < 2 ^ 32 }
     ensures { Gives (λ v. v.items) Refuses result
         (spec.list_of (names_in rules.now) (lines_from 1 bytes.now)) }
 {
@@ -96,9 +94,8 @@ fn list(alloc: Global, rules: &RuleSet, bytes: &[u8]) -> Result<Vec<Entry>, List
 
 /// The derivation list that the bytes state: the line `sxder 1`, and then for each entry a line
 /// with a rule's name or with `given N`, where N counts from 1. The refusal names the first line
-/// that is not as defined.
+/// that is not as defined. Lines past 4,294,967,294 have all the number 4,294,967,295.
 pub fn read_list(alloc: Global, rules: &RuleSet, bytes: &[u8]) -> Result<Vec<Entry>, ListError>
-    requires { length bytes.now + 1 < 2 ^ 32 }
     ensures exact { Gives (λ v. v.items) Refuses result
         (spec.list_of (names_in rules.now) (lines_from 1 bytes.now)) }
     // What is read is stated.

@@ -9,7 +9,7 @@ use crate::proof::Proof;
 use std::alloc::Global;
 use sx_term::NoMemory;
 
-/// An equal derivation. The one refusal is want of memory.
+/// An equal derivation. The one refusal is out of memory.
 pub fn copy_proof(alloc: Global, proof: &Proof) -> Result<Box<Proof>, NoMemory>
     requires height { height_of (view.proof proof.now) ≤ 3000 }
     requires binds { HasShallowBinds (view.proof proof.now) }
