@@ -1,10 +1,8 @@
 -- Finding the sorts of a core file.
-use Rattle.std.proofs.Common.{◌≡◌, ℕ, suc, ◌+◌, ◌*◌, ◌<◌, ◌≤◌, Bool, true, false, cond, ◌&&◌, ◌==◌, List, [], ◌∷◌, ◌++◌, length, inl, inr, map, refl, sym, ap, ◌∙◌, subst, arith}
-use Rattle.std.specs.Prelude.{codes, Contains, Option, Some, MatchOption, ◌^◌}
-use Rattle.std.proofs.lemmas.List.{length-append}
-use Rattle.sx_lines.specs.Bytes.{line_feed, carriage_return, is_skipped}
-use Rattle.sx_lines.specs.Lines.{Lines, over, line, lines_from, with_byte, ends_here}
-use Rattle.sx_lines.specs.Reading.{kept}
+use Rattle.std.proofs.Common.{◌≡◌, ℕ, ◌+◌, ◌<◌, List, [], ◌∷◌, ◌++◌, length, inl, inr, map, refl, sym, ap, ◌∙◌, subst, arith}
+use Rattle.std.specs.Prelude.{codes, Contains, Option, Some, MatchOption, Result, Ok, Err, IfOk, ◌^◌}
+use Rattle.sx_term.specs.declared.no_memory.NoMemory.{NoMemory}
+use Rattle.sx_lines.specs.Lines.{Lines, over, line}
 use Rattle.sx_core.specs.File.{SortRow, sort_line}
 use Rattle.sx_core.specs.Stated.{IsName, AreNames, AreDistinct}
 use Rattle.sx_core.specs.Rows.{sort_row, IsLineOf, NoRow}
@@ -57,45 +55,6 @@ finds_taken old new text r e h c same =
 pub finds_none : (old new : SortTable) (text : List ℕ) → ((r : SortRow) → IsSortLine text r → ⊥) → new ≡ old → FindsSort old new text
 finds_none old new text n same = inr ((λ x k. n x (k.0, k.1)), same)
 
--- ---- how long lines are
-
--- a line has no more bytes than are left at it
-abbrev AreWithin : ℕ → Lines → Type 0
-AreWithin k (over n) = Unit {0}
-AreWithin k (line n text after more) = (length text + length after ≤ k) × AreWithin (length after) more
-
-within_byte : (k b : ℕ) (lines : Lines) → AreWithin k lines → AreWithin (suc k) (with_byte b lines)
-unfolding with_byte
-within_byte k b (over n) h = (omega arith, tt)
-within_byte k b (line n text after more) h = let a = h.0 in (omega arith, h.1)
-
-within_more : (k m : ℕ) (lines : Lines) → k ≤ m → AreWithin k lines → AreWithin m lines
-within_more k m (over n) le h = tt
-within_more k m (line n text after more) le h = let a = h.0 in (omega arith, h.1)
-
-within_step : (n b : ℕ) (bytes : List ℕ) (feed back : Bool) → AreWithin (length bytes) (lines_from n bytes) → AreWithin (length bytes) (lines_from (n + 1) bytes)
-    → AreWithin (suc (length bytes)) (cond feed (line n [] bytes (lines_from (n + 1) bytes)) (cond back (lines_from n bytes) (with_byte b (lines_from n bytes))))
-within_step n b bytes true back h k = (omega arith, k)
-within_step n b bytes false true h k = within_more (length bytes) (suc (length bytes)) (lines_from n bytes) (omega arith) h
-within_step n b bytes false false h k = within_byte (length bytes) b (lines_from n bytes) h
-
-within : (n : ℕ) (bytes : List ℕ) → AreWithin (length bytes) (lines_from n bytes)
-unfolding lines_from
-within n [] = tt
-within n (b ∷ bytes) = within_step n b bytes (b == line_feed) ((b == carriage_return) && ends_here bytes) (within n bytes) (within (n + 1) bytes)
-
-kept_step : (k n : ℕ) (text after : List ℕ) (more : Lines) (skip : Bool) → AreWithin k (line n text after more) → AreWithin (length after) (kept more) → AreWithin k (cond skip (kept more) (line n text after (kept more)))
-kept_step k n text after more true h q = let a = h.0 in within_more (length after) k (kept more) (omega arith) q
-kept_step k n text after more false h q = (h.0, q)
-
-kept_within : (k : ℕ) (lines : Lines) → AreWithin k lines → AreWithin k (kept lines)
-unfolding kept
-kept_within k (over n) h = tt
-kept_within k (line n text after more) h = kept_step k n text after more (is_skipped text) h (kept_within (length after) more h.1)
-
-pub line_within : (m : ℕ) (bytes : List ℕ) (n : ℕ) (text after : List ℕ) (more : Lines) → kept (lines_from m bytes) ≡ line n text after more → length text + length after ≤ length bytes
-line_within m bytes n text after more e = (subst (AreWithin (length bytes)) e (kept_within (length bytes) (lines_from m bytes) (within m bytes))).0
-
 -- ---- the lexical sorts
 
 not_id : IsAmong (codes "id") (codes "num" ∷ codes "str" ∷ []) → ⊥
@@ -139,20 +98,18 @@ lexical_distinct = (
 
 -- ---- the lines so far
 
--- the table is that of the sorts so far, of which each took some bytes, and with those of the lines that are left it has all
-pub record Finding (lines : Lines) (size : ℕ) (t : SortTable) (next : Lines) (left : ℕ) : Type 0 where
+-- the table is that of the sorts so far, and with those of the lines that are left it has all
+pub record Finding (lines : Lines) (t : SortTable) (next : Lines) : Type 0 where
   pub names : t.names ≡ sort_names (rows_in t)
   pub distinct : AreDistinct (sort_names (rows_in t))
   pub named : AreNames (map (λ row. row.name) (rows_in t))
-  pub few : 4 * length (rows_in t) + left ≤ size
   pub rest : (all : List SortRow) → AreSorts (rows_in t) next all → AreSorts [] lines all
 
-pub find_begin : (lines : Lines) (size : ℕ) (t : SortTable) → t.names ≡ sort_names [] → rows_in t ≡ [] → Finding lines size t lines size
-find_begin lines size t e f = record {
+pub find_begin : (lines : Lines) (t : SortTable) → t.names ≡ sort_names [] → rows_in t ≡ [] → Finding lines t lines
+find_begin lines t e f = record {
   names = e ∙ sym (ap sort_names f);
   distinct = subst (λ (z : List SortRow). AreDistinct (sort_names z)) (sym f) lexical_distinct;
   named = subst (λ (z : List SortRow). AreNames (map (λ row. row.name) z)) (sym f) tt;
-  few = let k = ap (λ (z : List SortRow). length z) f in omega arith;
   rest = λ all h. subst (λ (z : List SortRow). AreSorts z lines all) f h;
 }
 
@@ -163,35 +120,32 @@ named_snoc (x ∷ rows) r h n = (h.0, named_snoc rows r h.1 n)
 names_snoc : (rows : List SortRow) (r : SortRow) → sort_names rows ++ r.name ∷ [] ≡ sort_names (rows ++ r ∷ [])
 names_snoc rows r = ap (λ (z : List (List ℕ)). codes "id" ∷ codes "num" ∷ codes "str" ∷ z) (sym (map_last (λ (x : SortRow). x.name) rows r))
 
-sort_length : (text : List ℕ) (r : SortRow) → text ≡ row_text (row Sort r) → 4 ≤ length text
-sort_length text r e = let a = ap length e in let b = length-append (codes "sort") (parts_text Sort r) in omega arith
-
-pub find_more : (lines : Lines) (size : ℕ) (s t : SortTable) (next more : Lines) (n left after : ℕ) (text rest : List ℕ) → Finding lines size s next left → next ≡ line n text rest more → length text + after ≤ left → FindsSort s t text → Finding lines size t more after
-find_more lines size s t next more n left after text rest f e le (inl (r, new, rows, names)) =
-    let long = sort_length text r new.0 in
-    let so_far = f.few in
-    let one_more = ap (λ (z : List SortRow). length z) rows ∙ length-append (rows_in s) (r ∷ []) in
+pub find_more : (lines : Lines) (s t : SortTable) (next more : Lines) (n : ℕ) (text rest : List ℕ) → Finding lines s next → next ≡ line n text rest more → FindsSort s t text → Finding lines t more
+find_more lines s t next more n text rest f e (inl (r, new, rows, names)) =
     record {
       names = names ∙ ap (λ (z : List (List ℕ)). z ++ r.name ∷ []) f.names ∙ names_snoc (rows_in s) r ∙ sym (ap sort_names rows);
       distinct = subst (λ (z : List SortRow). AreDistinct (sort_names z)) (sym rows) (subst AreDistinct (names_snoc (rows_in s) r) (distinct_snoc (sort_names (rows_in s)) r.name f.distinct new.2));
       named = subst (λ (z : List SortRow). AreNames (map (λ row. row.name) z)) (sym rows) (named_snoc (rows_in s) r f.named new.1);
-      few = omega arith;
       rest = λ all h. f.rest all (subst (λ (z : Lines). AreSorts (rows_in s) z all) (sym e) (inl (r, new, subst (λ (z : List SortRow). AreSorts z more all) rows h)));
     }
-find_more lines size s t next more n left after text rest f e le (inr (none, same)) =
-    let so_far = f.few in
-    subst (λ (z : SortTable). Finding lines size z more after) (sym same) (record {
+find_more lines s t next more n text rest f e (inr (none, same)) =
+    subst (λ (z : SortTable). Finding lines z more) (sym same) (record {
       names = f.names;
       distinct = f.distinct;
       named = f.named;
-      few = omega arith;
       rest = λ all h. f.rest all (subst (λ (z : Lines). AreSorts (rows_in s) z all) (sym e) (inr (none, h)));
     })
 
-pub find_end : (lines : Lines) (size : ℕ) (t : SortTable) (next : Lines) (left n : ℕ) → Finding lines size t next left → next ≡ over n → size + 1 < 2 ^ 32 → IsSortTable t × AreNames (map (λ row. row.name) (rows_in t)) × AreSorts [] lines (rows_in t)
-find_end lines size t next left n f e bound =
-    let so_far = f.few in
-    (record { names = f.names; distinct = f.distinct; few = omega arith }, f.named, f.rest (rows_in t) (subst (λ (z : Lines). AreSorts (rows_in t) z (rows_in t)) (sym e) refl))
+-- all lines are read, and each sort has a number
+pub find_end : (lines : Lines) (s t : SortTable) (next : Lines) (n : ℕ) → Finding lines s next → next ≡ over n → t ≡ s → length (rows_in t) + 3 < 2 ^ 32 → IsSortTable t × AreNames (map (λ row. row.name) (rows_in t)) × AreSorts [] lines (rows_in t)
+find_end lines s t next n h e same few =
+    let f : Finding lines t next = subst (λ (z : SortTable). Finding lines z next) (sym same) h in
+    (record { names = f.names; distinct = f.distinct; few = few }, f.named, f.rest (rows_in t) (subst (λ (z : Lines). AreSorts (rows_in t) z (rows_in t)) (sym e) refl))
+
+pub all_found : (lines : Lines) (s : SortTable) (next : Lines) (n : ℕ) (r : Result SortTable NoMemory) → Finding lines s next → next ≡ over n → IfOk r (λ t. (t ≡ s) × (length (rows_in t) + 3 < 2 ^ 32))
+    → IfOk r (λ t. IsSortTable t × AreNames (map (λ row. row.name) (rows_in t)) × AreSorts [] lines (rows_in t))
+all_found lines s next n (Ok t) f e h = find_end lines s t next n f e h.0 h.1
+all_found lines s next n (Err x) f e h = tt
 
 -- ---- what a call answers
 

@@ -1,35 +1,33 @@
 -- Reading all lines of a core file.
-use Rattle.std.proofs.Common.{◌≡◌, ℕ, suc, ◌+◌, ◌<◌, ◌≤◌, List, [], ◌∷◌, ◌++◌, length, map, refl, sym, ap, ◌∙◌, subst, arith}
+use Rattle.std.proofs.Common.{◌≡◌, ℕ, ◌<◌, List, [], ◌∷◌, ◌++◌, length, map, refl, sym, ap, ◌∙◌, subst, arith}
 use Rattle.std.specs.Prelude.{Result, Ok, Err, ◌^◌}
-use Rattle.std.proofs.lemmas.List.{length-append}
 use Rattle.std.specs.Str.{IsUtf8}
 use Rattle.sx_lines.specs.Lines.{Lines, over, line, lines_from}
 use Rattle.sx_lines.specs.Reading.{kept}
 use Rattle.sx_term.specs.Shapes.{shapes}
 use Rattle.sx_rules.specs.Good.{IsRuleSet, IsRefused}
 use Rattle.sx_rules.specs.Deep.{RulesAreShallow}
-use Rattle.sx_rules.specs.Views.{FormData, form, goal, named, rule}
+use Rattle.sx_rules.specs.Views.{goal, named, rule}
 use Rattle.sx_rules.specs.declared.rule.Goal.{Goal as GoalOf}
 use Rattle.sx_rules.specs.declared.error.RuleError.{RuleError}
 use Rattle.sx_rules.specs.declared.error.RuleError.TheVariants.{Memory as NoRules, TooManyRules, TooManyVars, SameRule, SortDiffers, Discipline, NotModed}
-use Rattle.sx_core.specs.File.{SortRow, FormRow}
+use Rattle.sx_core.specs.File.{SortRow}
 use Rattle.sx_core.specs.Problem.{Problem, problem}
 use Rattle.sx_core.specs.Stated.{AreNames, AreDistinct, AreCons, AreForms, AreRules, Says, States}
 use Rattle.sx_core.specs.Resolving.{rows_in, IsSortTable}
 use Rattle.sx_core.specs.Statements.{names_in, known_in}
-use Rattle.sx_core.specs.Table.{Parts, Row}
-use Rattle.sx_core.specs.Fitting.{forms_at, forms_among, AreSorts}
+use Rattle.sx_core.specs.Table.{Row}
+use Rattle.sx_core.specs.Fitting.{AreSorts}
 use Rattle.sx_core.specs.Reading.{context}
 use Rattle.sx_core.specs.Machine.{Steps, NextRead, NextRefused, IsProblem, IsEnded, IsBegun}
 use Rattle.sx_core.specs.CoreRead.{ReadTo, AreRulesRefused, AreLinesRead, IsCoreRead}
-use Rattle.sx_core.specs.declared.keyword.Keyword.{Keyword}
-use Rattle.sx_core.specs.declared.keyword.Keyword.TheVariants.{Head, Sort, Con, Form, Rule, If, Not, Then, End, Goal}
 use Rattle.sx_core.specs.declared.problem.CoreProblem.{CoreProblem}
 use Rattle.sx_core.specs.declared.error.CoreFileError.{CoreFileError}
 use Rattle.sx_core.specs.declared.error.CoreFileError.TheVariants.{Memory, NotUtf8, Notation, TooDeep, Rules}
 use Rattle.sx_core.specs.declared.reader.Reader.{Reader}
 use Rattle.sx_core.specs.declared.found.Found.{Found}
 use Rattle.sx_core.specs.declared.sort_table.SortTable.{SortTable}
+use Rattle.sx_core.specs.declared.form_table.FormTable.{FormTable}
 use Rattle.sx_core.specs.Order.{phase_of}
 use Rattle.sx_core.specs.declared.stage.Stage.TheVariants.{Over}
 use Rattle.sx_core.specs.declared.line_read.LineRead.{LineRead}
@@ -38,40 +36,6 @@ use Rattle.sx_core.proofs.ReaderLaws.{Stands, IsAt}
 use Rattle.sx_core.proofs.FinishLaws.{rules_shallow}
 use Rattle.sx_core.proofs.NextLaws.{next_at, read_to, usual, bad_line, missing}
 use Rattle.sx_core.proofs.EndLaws.{file, lines_are, read_problem, says}
-
--- ---- how many forms there are
-
-forms_length : (all : List SortRow) (rs : List FormRow) (fs : List FormData) → AreForms all rs fs → length fs ≡ length rs
-forms_length all [] [] h = refl
-forms_length all [] (f ∷ fs) h = absurd h
-forms_length all (r ∷ rs) [] h = absurd h
-forms_length all (r ∷ rs) (f ∷ fs) h = ap suc (forms_length all rs fs h.3)
-
-one_at : (k : Keyword) (p : Parts k) → length (forms_at k p) ≤ 1
-one_at Head p = omega arith
-one_at Sort p = omega arith
-one_at Con p = omega arith
-one_at Form p = omega arith
-one_at Rule p = omega arith
-one_at If p = omega arith
-one_at Not p = omega arith
-one_at Then p = omega arith
-one_at End p = omega arith
-one_at Goal p = omega arith
-
-among_length : (rows : List Row) → length (forms_among rows) ≤ length rows
-among_length [] = omega arith
-among_length (r ∷ rows) =
-    let a = among_length rows in
-    let b = one_at r.keyword r.parts in
-    let c = length-append (forms_at r.keyword r.parts) (forms_among rows) in
-    omega arith
-
-pub few_forms : (all : List SortRow) (lines : Lines) (rows : List Row) (r : Reader) (next : Lines) → IsAt all lines rows r next → length (known_in r.found.forms) ≤ length rows
-few_forms all lines rows r next at =
-    let a = forms_length all (forms_among rows) (known_in r.found.forms) at.declare.forms in
-    let b = among_length rows in
-    omega arith
 
 -- ---- refusals
 
@@ -157,48 +121,43 @@ begun_at t lines r h b = record {
   takes = refl;
 }
 
-pub steps_few : (r s : Reader) (n : ℕ) (x : LineRead) → Steps r n x s → length (known_in s.found.forms) ≤ length (known_in r.found.forms) + 1
-steps_few r s n HeadRead h = let e = ap (λ (f : Found). length (known_in f.forms)) h.2.0 in omega arith
-steps_few r s n (SortRead y) h = let e = ap (λ f. length (known_in f)) h.3.forms in omega arith
-steps_few r s n (ConRead y c) h = let e = ap (λ f. length (known_in f)) h.3.forms in omega arith
-steps_few r s n (FormRead f) h = let e = ap length h.3.forms in let k = length-append (known_in r.found.forms) (form f ∷ []) in omega arith
-steps_few r s n (RuleRead name sorts) h = let e = ap (λ (f : Found). length (known_in f.forms)) h.4.0 in omega arith
-steps_few r s n (IfRead j) h = let e = ap (λ (f : Found). length (known_in f.forms)) h.5.0 in omega arith
-steps_few r s n (NotRead l m) h = let e = ap (λ (f : Found). length (known_in f.forms)) h.5.0 in omega arith
-steps_few r s n (ThenRead j) h = let e = ap (λ (f : Found). length (known_in f.forms)) h.3.0 in omega arith
-steps_few r s n EndRead h = let e = ap (λ (f : Found). length (known_in f.forms)) h.4 in omega arith
-steps_few r s n (GoalRead g) h = let e = ap (λ (f : Found). length (known_in f.forms)) h.2.0 in omega arith
+-- each form has a number after a line too
+pub steps_few : (r s : Reader) (n : ℕ) (x : LineRead) → length (known_in r.found.forms) < 2 ^ 32 → Steps r n x s → length (known_in s.found.forms) < 2 ^ 32
+steps_few r s n HeadRead l h = subst (λ (f : Found). length (known_in f.forms) < 2 ^ 32) (sym h.2.0) l
+steps_few r s n (SortRead y) l h = subst (λ (f : FormTable). length (known_in f) < 2 ^ 32) (sym h.3.forms) l
+steps_few r s n (ConRead y c) l h = subst (λ (f : FormTable). length (known_in f) < 2 ^ 32) (sym h.3.forms) l
+steps_few r s n (FormRead f) l h = h.3.few
+steps_few r s n (RuleRead name sorts) l h = subst (λ (f : Found). length (known_in f.forms) < 2 ^ 32) (sym h.4.0) l
+steps_few r s n (IfRead j) l h = subst (λ (f : Found). length (known_in f.forms) < 2 ^ 32) (sym h.5.0) l
+steps_few r s n (NotRead a b) l h = subst (λ (f : Found). length (known_in f.forms) < 2 ^ 32) (sym h.5.0) l
+steps_few r s n (ThenRead j) l h = subst (λ (f : Found). length (known_in f.forms) < 2 ^ 32) (sym h.3.0) l
+steps_few r s n EndRead l h = subst (λ (f : Found). length (known_in f.forms) < 2 ^ 32) (sym h.4) l
+steps_few r s n (GoalRead g) l h = subst (λ (f : Found). length (known_in f.forms) < 2 ^ 32) (sym h.2.0) l
 
 -- ---- the lines so far
 
--- the reader stands after these rows, and each took some of the bytes
-pub record Standing (all : List SortRow) (lines : Lines) (size : ℕ) (r : Reader) (next : Lines) (left : ℕ) : Type 0 where
+-- the reader stands after these rows
+pub record Standing (all : List SortRow) (lines : Lines) (r : Reader) (next : Lines) : Type 0 where
   pub rows : List Row
   pub at : IsAt all lines rows r next
-  pub few : length rows + left ≤ size
 
-pub stand_begin : (t : SortTable) (lines : Lines) (size : ℕ) (r : Reader) → IsSortTable t → IsBegun t r → Standing (rows_in t) lines size r lines size
-stand_begin t lines size r h b = record { rows = []; at = begun_at t lines r h b; few = omega arith }
+pub stand_begin : (t : SortTable) (lines : Lines) (r : Reader) → IsSortTable t → IsBegun t r → Standing (rows_in t) lines r lines
+stand_begin t lines r h b = record { rows = []; at = begun_at t lines r h b }
 
-pub stand_more : (all : List SortRow) (lines : Lines) (size : ℕ) (r s : Reader) (next more : Lines) (n left shorter : ℕ) (text after : List ℕ) → Standing all lines size r next left → next ≡ line n text after more → NextRead r n text s → shorter < left → size + 1 < 2 ^ 32
-    → Standing all lines size s more shorter
-stand_more all lines size r s next more n left shorter text after h e k lt bound =
-    let taken = h.few in
-    let known = few_forms all lines h.rows r next h.at in
-    let one = steps_few r s n k.0 k.2 in
-    let few : length (known_in s.found.forms) < 2 ^ 32 = omega arith in
+pub stand_more : (all : List SortRow) (lines : Lines) (r s : Reader) (next more : Lines) (n : ℕ) (text after : List ℕ) → Standing all lines r next → next ≡ line n text after more → NextRead r n text s → Standing all lines s more
+stand_more all lines r s next more n text after h e k =
+    let few = steps_few r s n k.0 h.at.found.forms.few k.2 in
     let w = next_at all lines h.rows r s next more n text after h.at e few k.0 k.1 k.2 in
-    let long = length-append h.rows (w.0 ∷ []) in
-    record { rows = h.rows ++ w.0 ∷ []; at = w.1; few = omega arith }
+    record { rows = h.rows ++ w.0 ∷ []; at = w.1 }
 
-pub stand_refused : (all : List SortRow) (lines : Lines) (size : ℕ) (r : Reader) (next more : Lines) (n left : ℕ) (text after : List ℕ) (x : CoreFileError) → Standing all lines size r next left → next ≡ line n text after more → AreSorts [] lines all → NextRefused r n text x → AreLinesRead lines (Err x)
-stand_refused all lines size r next more n left text after x h e sorts k = line_result all lines h.rows r next more n text after h.at e sorts x k
+pub stand_refused : (all : List SortRow) (lines : Lines) (r : Reader) (next more : Lines) (n : ℕ) (text after : List ℕ) (x : CoreFileError) → Standing all lines r next → next ≡ line n text after more → AreSorts [] lines all → NextRefused r n text x → AreLinesRead lines (Err x)
+stand_refused all lines r next more n text after x h e sorts k = line_result all lines h.rows r next more n text after h.at e sorts x k
 
-pub stand_end : (all : List SortRow) (lines : Lines) (size : ℕ) (r : Reader) (next : Lines) (n left : ℕ) (result : Result CoreProblem CoreFileError) → Standing all lines size r next left → next ≡ over n → AreSorts [] lines all → AreNames (map (λ row. row.name) all) → IsEnded r r.stage n result → AreLinesRead lines result
-stand_end all lines size r next n left result h e sorts names k = end_result all lines h.rows r next n h.at e sorts names result k
+pub stand_end : (all : List SortRow) (lines : Lines) (r : Reader) (next : Lines) (n : ℕ) (result : Result CoreProblem CoreFileError) → Standing all lines r next → next ≡ over n → AreSorts [] lines all → AreNames (map (λ row. row.name) all) → IsEnded r r.stage n result → AreLinesRead lines result
+stand_end all lines r next n result h e sorts names k = end_result all lines h.rows r next n h.at e sorts names result k
 
-pub stand_shallow : (all : List SortRow) (lines : Lines) (size : ℕ) (r : Reader) (next : Lines) (left : ℕ) → Standing all lines size r next left → RulesAreShallow (map rule r.rules.items)
-stand_shallow all lines size r next left h = rules_shallow all (known_in r.found.forms) h.at.staged.ended r.rules.items h.at.staged.are
+pub stand_shallow : (all : List SortRow) (lines : Lines) (r : Reader) (next : Lines) → Standing all lines r next → RulesAreShallow (map rule r.rules.items)
+stand_shallow all lines r next h = rules_shallow all (known_in r.found.forms) h.at.staged.ended r.rules.items h.at.staged.are
 
 -- ---- the whole file
 

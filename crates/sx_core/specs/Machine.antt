@@ -1,6 +1,6 @@
 -- The steps of the reading of core files.
-use Rattle.std.specs.Prelude.{◌≡◌, ℕ, List, [], ◌∷◌, ◌++◌, ◌⊎◌, None, map, codes, Contains, Result}
-use Rattle.std.specs.Prelude.{Ok, Err}
+use Rattle.std.specs.Prelude.{◌≡◌, ℕ, ◌<◌, ◌^◌, List, [], ◌∷◌, ◌++◌, ◌⊎◌, None, map, length, codes}
+use Rattle.std.specs.Prelude.{Contains, Result, Ok, Err}
 use Rattle.sx_term.specs.Shapes.{shape, shapes}
 use Rattle.sx_term.specs.Term.{tree}
 use Rattle.sx_term.specs.Sorts.{Shape}
@@ -87,7 +87,7 @@ pub record AddsCon (old new : Found) (name : List ℕ) (one : Shape) : Type 0 wh
   pub shapes_are : shapes new.shapes ≡ shapes old.shapes ++ one ∷ []
   pub forms : new.forms ≡ old.forms
 
--- one more form
+-- one more form, and each form has a number
 pub record AddsForm (old new : Found) (one : FormData) : Type 0 where
   pub sorts : new.sorts ≡ old.sorts
   pub taken : new.taken ≡ old.taken
@@ -96,6 +96,7 @@ pub record AddsForm (old new : Found) (one : FormData) : Type 0 where
   pub shapes_are : new.shapes ≡ old.shapes
   pub names : new.forms.names ≡ old.forms.names ++ one.name ∷ []
   pub forms : known_in new.forms ≡ known_in old.forms ++ one ∷ []
+  pub few : length (known_in new.forms) < 2 ^ 32
 
 -- what was found and the rules are as before
 abbrev pub IsKept : Reader → Reader → Type 0

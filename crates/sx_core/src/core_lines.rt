@@ -1,6 +1,6 @@
 //! Reading the lines of a core file.
 
-ghost use Rattle.std.specs.Prelude.{◌≡◌, ℕ, ◌+◌, ◌<◌, ◌^◌, length, [], map, IfOk};
+ghost use Rattle.std.specs.Prelude.{[], map, IfOk};
 ghost use Rattle.sx_lines.specs.Left.{left as left_of};
 ghost use Rattle.sx_lines.specs.Reading.{kept};
 ghost use Rattle.sx_term.specs.Shapes.{shapes};
@@ -64,7 +64,6 @@ pub(crate) fn read_rows(
     requires table { IsSortTable sorts }
     requires named { AreNames (map (λ row. row.name) (rows_in sorts)) }
     requires all { AreSorts [] (kept (left_of rest)) (rows_in sorts) }
-    requires small { length rest.bytes.now + 1 < 2 ^ 32 }
     ensures { AreLinesRead (kept (left_of rest.entry)) result }
 {
     let mut reader = begin(alloc, sorts)?;

@@ -1,5 +1,8 @@
 //! Why a core file is refused.
 
+ghost use Rattle.std.specs.Prelude.{◌≡◌};
+ghost use Rattle.sx_core.specs.declared.error.CoreFileError.TheVariants as errors;
+
 use std::alloc::AllocError;
 use std::fmt;
 use sx_lines::Kind;
@@ -27,6 +30,13 @@ pub enum CoreFileError {
     /// The rules of the file are no rule set.
     #[error("the rules are no rule set")]
     Rules(RuleError),
+}
+
+/// The refusal of a line.
+pub(crate) fn bad_line(number: u32, kind: Kind) -> CoreFileError
+    ensures { result ≡ errors.Notation number kind }
+{
+    CoreFileError::Notation { line: number, kind }
 }
 
 impl fmt::Debug for CoreFileError {

@@ -7,7 +7,7 @@ ghost use Rattle.sx_core.specs.Rows.{sort_row};
 ghost use Rattle.sx_core.specs.Machine as spec;
 ghost use Rattle.sx_core.specs.Machine.{IsMadeOf, IsEnded};
 
-use crate::error::CoreFileError;
+use crate::error::{CoreFileError, bad_line};
 use crate::form_table::FormTable;
 use crate::found::Found;
 use crate::problem::CoreProblem;
@@ -126,36 +126,24 @@ pub(crate) fn finish(
         Stage::Start => {
             drop(found);
             drop(rules);
-            Err(CoreFileError::Notation {
-                line: number,
-                kind: Kind::Head,
-            })
+            Err(bad_line(number, Kind::Head))
         }
         Stage::Declaring => {
             drop(found);
             drop(rules);
-            Err(CoreFileError::Notation {
-                line: number,
-                kind: Kind::Main,
-            })
+            Err(bad_line(number, Kind::Main))
         }
         Stage::Between => {
             drop(found);
             drop(rules);
-            Err(CoreFileError::Notation {
-                line: number,
-                kind: Kind::Main,
-            })
+            Err(bad_line(number, Kind::Main))
         }
         Stage::Premising(open) => {
             drop(found);
             drop(rules);
             let line = open.line;
             drop(open);
-            Err(CoreFileError::Notation {
-                line,
-                kind: Kind::Unfinished,
-            })
+            Err(bad_line(line, Kind::Unfinished))
         }
         Stage::Concluded(open, conclusion) => {
             drop(found);
@@ -163,10 +151,7 @@ pub(crate) fn finish(
             drop(conclusion);
             let line = open.line;
             drop(open);
-            Err(CoreFileError::Notation {
-                line,
-                kind: Kind::Unfinished,
-            })
+            Err(bad_line(line, Kind::Unfinished))
         }
         Stage::Over(goal) => make_problem(alloc, found, rules, goal),
     }

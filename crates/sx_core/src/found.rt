@@ -49,11 +49,18 @@ pub(crate) fn add_con(
     Ok(())
 }
 
+/// The most forms. A `u32` numbers them, and so many do not stand in memory.
+const MOST_FORMS: usize = 4_294_967_295;
+
 /// Adds one more form.
 pub(crate) fn add_form(alloc: Global, found: &mut Found, one: Form) -> Result<(), NoMemory>
     requires { Contains found.old.forms.names one.name → ⊥ }
     ensures { OnOk result (AddsForm found.old found.new (form one)) }
 {
+    if found.forms.forms.len() >= MOST_FORMS {
+        drop(one);
+        return Err(NoMemory::Memory);
+    }
     found.forms.names.push(alloc, one.name.bytes())?;
     found.forms.forms.push(one)?;
     Ok(())

@@ -1,6 +1,5 @@
 //! Reading core files.
 
-ghost use Rattle.std.specs.Prelude.{ℕ, ◌+◌, ◌<◌, ◌^◌, length};
 ghost use Rattle.sx_core.specs.CoreRead.{IsCoreRead};
 
 use crate::core_lines::read_rows;
@@ -10,10 +9,9 @@ use crate::sort_reading::find_sorts;
 use std::alloc::Global;
 use sx_lines::Rest;
 
-/// What a core file states. The file has fewer than 2^32 - 1 bytes, so that the number of a line
-/// fits.
+/// What a core file states. Lines past 4,294,967,294 have all the number 4,294,967,295. Sorts or
+/// forms that a `u32` cannot number are out of memory.
 pub fn read_core_file(alloc: Global, bytes: &[u8]) -> Result<CoreProblem, CoreFileError>
-    requires { length bytes.now + 1 < 2 ^ 32 }
     ensures { IsCoreRead bytes.now result }
 {
     match std::str::from_utf8(bytes) {

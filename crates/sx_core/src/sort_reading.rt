@@ -1,7 +1,6 @@
 //! Finding the sorts of a core file.
 
-ghost use Rattle.std.specs.Prelude.{◌≡◌, ℕ, ◌+◌, ◌<◌, ◌^◌, length, [], map, IfOk, OnOk};
-ghost use Rattle.std.specs.Prelude.{MatchOption};
+ghost use Rattle.std.specs.Prelude.{◌≡◌, ◌+◌, ◌<◌, ◌^◌, length, [], map, IfOk, OnOk, MatchOption};
 ghost use Rattle.sx_lines.specs.Left.{left as left_of};
 ghost use Rattle.sx_lines.specs.Reading.{kept};
 ghost use Rattle.sx_core.specs.File.{SortRow as SortOf};
@@ -80,10 +79,23 @@ fn find_sort(alloc: Global, table: &mut SortTable, text: &[u8]) -> Result<(), No
     }
 }
 
+/// The most sorts besides the lexical ones, which have the numbers 0 to 2.
+const MOST_SORTS: usize = 4_294_967_292;
+
+/// The table, where a `u32` can number each of its sorts. So many do not stand in memory.
+fn numbered(table: SortTable) -> Result<SortTable, NoMemory>
+    ensures { IfOk result (λ t. (t ≡ table) × (length (rows_in t) + 3 < 2 ^ 32)) }
+{
+    if table.rows.len() > MOST_SORTS {
+        drop(table);
+        return Err(NoMemory::Memory);
+    }
+    Ok(table)
+}
+
 /// The sorts of the file: one for each line that is that of a sort whose name is not taken,
 /// wherever it stands.
 pub(crate) fn find_sorts(alloc: Global, rest: Rest) -> Result<SortTable, NoMemory>
-    requires { length rest.bytes.now + 1 < 2 ^ 32 }
     ensures { IfOk result (λ t. IsSortTable t × AreNames (map (λ row. row.name) (rows_in t)) ×
         AreSorts [] (kept (left_of rest.entry)) (rows_in t)) }
 {
@@ -98,7 +110,7 @@ pub(crate) fn find_sorts(alloc: Global, rest: Rest) -> Result<SortTable, NoMemor
                 find_sort(alloc, &mut table, line.text)?;
                 left = more;
             }
-            Err(_) => return Ok(table),
+            Err(_) => return numbered(table),
         }
     }
 }

@@ -6,7 +6,7 @@ use Rattle.sx_core.proofs.LoopLaws.{Standing}
 use Rattle.sx_core.proofs.core_lines.read_rows.Given as goal
 
 abbrev pub invariant-lines : goal.invariant-lines
-invariant-lines l = Standing (rows_in l.fn.sorts) (kept (left_of l.fn.rest)) (length l.fn.rest.bytes.now) l.reader (kept (left_of l.left)) (length l.left.bytes.now)
+invariant-lines l = Standing (rows_in l.fn.sorts) (kept (left_of l.fn.rest)) l.reader (kept (left_of l.left))
 
 abbrev pub decreases-lines : goal.decreases-lines
 decreases-lines l = length l.left.bytes.now

@@ -3,19 +3,19 @@ use Rattle.sx_core.proofs.FinishLaws.{made_ended}
 use Rattle.sx_core.proofs.finish.finish.Goals as goal
 
 pub returns-in-Start : goal.returns-in-Start
-returns-in-Start c = (c.in-Start.is, refl)
+returns-in-Start c = rw c.bad_line.ensures (c.in-Start.is, refl)
 
 pub returns-in-Declaring : goal.returns-in-Declaring
-returns-in-Declaring c = (inl c.in-Declaring.is, refl)
+returns-in-Declaring c = rw c.bad_line-in-Declaring.ensures (inl c.in-Declaring.is, refl)
 
 pub returns-in-Between : goal.returns-in-Between
-returns-in-Between c = (inr c.in-Between.is, refl)
+returns-in-Between c = rw c.bad_line-in-Between.ensures (inr c.in-Between.is, refl)
 
 pub returns-in-Premising : goal.returns-in-Premising
-returns-in-Premising c = (c.in-Premising.open, inl c.in-Premising.is, refl)
+returns-in-Premising c = rw c.bad_line-in-Premising.ensures (c.in-Premising.open, inl c.in-Premising.is, refl)
 
 pub returns-in-Concluded : goal.returns-in-Concluded
-returns-in-Concluded c = (c.in-Concluded.open, inr (_, c.in-Concluded.is), refl)
+returns-in-Concluded c = rw c.bad_line-in-Concluded.ensures (c.in-Concluded.open, inr (_, c.in-Concluded.is), refl)
 
 pub returns-in-Over : goal.returns-in-Over
 returns-in-Over c = made_ended c.args.reader c.args.reader.stage c.args.number c.in-Over.goal c.make_problem.result c.in-Over.is c.make_problem.ensures

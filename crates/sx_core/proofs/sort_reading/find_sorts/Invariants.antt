@@ -5,7 +5,7 @@ use Rattle.sx_core.proofs.FindLaws.{Finding}
 use Rattle.sx_core.proofs.sort_reading.find_sorts.Given as goal
 
 abbrev pub invariant-lines : goal.invariant-lines
-invariant-lines l = Finding (kept (left_of l.fn.rest)) (length l.fn.rest.bytes.now) l.table (kept (left_of l.left)) (length l.left.bytes.now)
+invariant-lines l = Finding (kept (left_of l.fn.rest)) l.table (kept (left_of l.left))
 
 abbrev pub decreases-lines : goal.decreases-lines
 decreases-lines l = length l.left.bytes.now
