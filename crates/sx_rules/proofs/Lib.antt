@@ -4,6 +4,8 @@ pub mod LoopLaws
 pub mod ModeLaws
 pub mod PassLaws
 pub mod SubjectLaws
+pub mod FirstBroken
+pub mod FirstUnbound
 pub mod SubjectTerms
 pub mod SetLaws
 pub mod AdmitLaws

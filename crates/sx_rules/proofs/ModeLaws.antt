@@ -96,7 +96,7 @@ mutual
   stands_in_to v (t ▹ ts) (inl h) = has-left v (holes_of t) (holes_in ts) (stands_to v t h)
   stands_in_to v (t ▹ ts) (inr h) = has-right v (holes_of t) (holes_in ts) (stands_in_to v ts h)
 
-nothing_has : {A : Type 0} (v : ℕ) → Has v [] → A
+pub nothing_has : {A : Type 0} (v : ℕ) → Has v [] → A
 nothing_has v h = absurd (let q : false ≡ true = h in cc)
 
 mutual
@@ -153,7 +153,7 @@ joined-only v (w ∷ vs) bound h = elim (joined-only v vs (put_new w bound) h) [
 ]
 
 -- what is not bound
-unbound-if : (b : Bool) (v : ℕ) (rest : Option ℕ) → (if b then rest else Some v) ≡ None → (b ≡ true) × (rest ≡ None)
+pub unbound-if : (b : Bool) (v : ℕ) (rest : Option ℕ) → (if b then rest else Some v) ≡ None → (b ≡ true) × (rest ≡ None)
 unbound-if true v rest h = (refl, h)
 unbound-if false v rest h = absurd (let q : Some v ≡ None = h in cc)
 
@@ -225,16 +225,16 @@ among_inputs (false ∷ bs) (t ∷ ts) v (inl h) = inl h
 among_inputs (false ∷ bs) (t ∷ ts) v (inr h) = inr (among_inputs bs ts v h)
 
 module _ (F : List FormData) where
-  out_to : (j : Judgement) (v : ℕ) → StandsAmong v (outputs_of (modes_of F) j) → Has v (holes_among (chosen Outputs (places_at F j.form) j.places))
+  pub out_to : (j : Judgement) (v : ℕ) → StandsAmong v (outputs_of (modes_of F) j) → Has v (holes_among (chosen Outputs (places_at F j.form) j.places))
   out_to j v h = subst (λ (x : List Tree). Has v (holes_among x)) (sym (chosen_outputs (places_at F j.form) j.places)) (among_to v _ h)
 
-  to_out : (j : Judgement) (v : ℕ) → Has v (holes_among (chosen Outputs (places_at F j.form) j.places)) → StandsAmong v (outputs_of (modes_of F) j)
+  pub to_out : (j : Judgement) (v : ℕ) → Has v (holes_among (chosen Outputs (places_at F j.form) j.places)) → StandsAmong v (outputs_of (modes_of F) j)
   to_out j v h = to_among v _ (subst (λ (x : List Tree). Has v (holes_among x)) (chosen_outputs (places_at F j.form) j.places) h)
 
-  in_to : (j : Judgement) (v : ℕ) → StandsAmong v (inputs_of (modes_of F) j) → Has v (holes_among (chosen Inputs (places_at F j.form) j.places))
+  pub in_to : (j : Judgement) (v : ℕ) → StandsAmong v (inputs_of (modes_of F) j) → Has v (holes_among (chosen Inputs (places_at F j.form) j.places))
   in_to j v h = subst (λ (x : List Tree). Has v (holes_among x)) (sym (chosen_inputs (places_at F j.form) j.places)) (among_to v _ h)
 
-  to_in : (j : Judgement) (v : ℕ) → Has v (holes_among (chosen Inputs (places_at F j.form) j.places)) → StandsAmong v (inputs_of (modes_of F) j)
+  pub to_in : (j : Judgement) (v : ℕ) → Has v (holes_among (chosen Inputs (places_at F j.form) j.places)) → StandsAmong v (inputs_of (modes_of F) j)
   to_in j v h = to_among v _ (subst (λ (x : List Tree). Has v (holes_among x)) (chosen_inputs (places_at F j.form) j.places) h)
 
   module _ (S : List Shape) (rule : Rule) where
@@ -278,7 +278,7 @@ module _ (F : List FormData) where
         ))
         m.1)
 
-    first_agrees : (v : ℕ) → StandsAmong v (inputs_of (modes_of F) rule.conclusion) ↔ Has v (bound_first F rule.conclusion)
+    pub first_agrees : (v : ℕ) → StandsAmong v (inputs_of (modes_of F) rule.conclusion) ↔ Has v (bound_first F rule.conclusion)
     first_agrees v = (
       λ h. joined-has v _ [] (in_to rule.conclusion v h),
       λ h. elim (joined-only v _ [] h) [ inl b ↦ nothing_has v b | inr s ↦ to_in rule.conclusion v s ],

@@ -52,7 +52,7 @@ all-if : (b : Bool) (x : ℕ × ℕ) → (if b then None else Some x) ≡ None �
 all-if true x e = refl
 all-if false x e = absurd (let q : Some x ≡ None = e in cc)
 
-not-true : {A : Type 0} → true ≡ false → A
+pub not-true : {A : Type 0} → true ≡ false → A
 not-true e = absurd (let q : true ≡ false = e in cc)
 
 -- which subjects stand in a list
@@ -93,7 +93,7 @@ kind-bare v (t ∷ u ∷ ts) e = not-true (sym e)
 bare-kind : (v : ℕ) (ts : List Tree) → ts ≡ hole v ∷ [] → is_bare v (subject_kind ts) ≡ true
 bare-kind v ts e = ap (λ x. is_bare v (subject_kind x)) e ∙ number_same v v refl
 
-and-parts : (a b : Bool) → a && b ≡ true → (a ≡ true) × (b ≡ true)
+pub and-parts : (a b : Bool) → a && b ≡ true → (a ≡ true) × (b ≡ true)
 and-parts true b h = (refl, h)
 and-parts false b h = not-true (sym h)
 
@@ -108,11 +108,11 @@ has-all p [] h = refl
 has-all p (w ∷ ws) h = ap (λ b. b && list_all p ws) (h w (has-first w w ws refl)) ∙ has-all p ws (λ v k. h v (has-later v w ws k))
 
 module _ (F : List FormData) where
-  subject_is : (j : Judgement) → chosen Subjects (places_at F j.form) j.places ≡ subjects_of (subjects_in F) j
+  pub subject_is : (j : Judgement) → chosen Subjects (places_at F j.form) j.places ≡ subjects_of (subjects_in F) j
   subject_is j = chosen_subjects (places_at F j.form) j.places
 
   -- the variable is a subject of the judgements where it is a bare subject of the premises
-  bare-subject : (v : ℕ) (ps : List Premise) → has_bare v (map (premise_subject F) ps) ≡ true → IsSubjectIn (subjects_in F) v (judgements_of ps)
+  pub bare-subject : (v : ℕ) (ps : List Premise) → has_bare v (map (premise_subject F) ps) ≡ true → IsSubjectIn (subjects_in F) v (judgements_of ps)
   bare-subject v [] h = not-true (sym h)
   bare-subject v (apart t u ∷ ps) h = bare-subject v ps h
   bare-subject v (holds j ∷ ps) h = elim (bare-which (is_bare v (premise_subject F (holds j))) v (map (premise_subject F) ps) h) [
@@ -120,7 +120,7 @@ module _ (F : List FormData) where
     | inr k ↦ inr (bare-subject v ps k)
   ]
 
-  subject-bare : (v : ℕ) (ps : List Premise) → IsSubjectIn (subjects_in F) v (judgements_of ps) → has_bare v (map (premise_subject F) ps) ≡ true
+  pub subject-bare : (v : ℕ) (ps : List Premise) → IsSubjectIn (subjects_in F) v (judgements_of ps) → has_bare v (map (premise_subject F) ps) ≡ true
   subject-bare v [] h = absurd h
   subject-bare v (apart t u ∷ ps) h = subject-bare v ps h
   subject-bare v (holds j ∷ ps) (inl e) = bare-first v (premise_subject F (holds j)) (map (premise_subject F) ps) (bare-kind v (chosen Subjects (places_at F j.form) j.places) (subject_is j ∙ e))
@@ -130,10 +130,10 @@ module _ (F : List FormData) where
     abbrev uses : List ℕ
     uses = subject_uses F rule
 
-    once_among : (v : ℕ) → times_among v (subjects_of (subjects_in F) rule.conclusion) ≡ count_in v uses
+    pub once_among : (v : ℕ) → times_among v (subjects_of (subjects_in F) rule.conclusion) ≡ count_in v uses
     once_among v = ap (times_among v) (sym (subject_is rule.conclusion)) ∙ times-count-among v (chosen Subjects (places_at F rule.conclusion.form) rule.conclusion.places)
 
-    once-if : (v : ℕ) (b : Bool) → nat_eq (count_in v uses) 1 ≡ b → negation b ≡ false → count_in v uses ≡ 1
+    pub once-if : (v : ℕ) (b : Bool) → nat_eq (count_in v uses) 1 ≡ b → negation b ≡ false → count_in v uses ≡ 1
     once-if v true e n = same_number (count_in v uses) 1 e
     once-if v false e n = not-true n
 
@@ -196,7 +196,7 @@ module _ (F : List FormData) where
     not-true-false false h = refl
 
     -- what a judgement's bare subject tells of it
-    other_not : (ts : List Tree) → (ts ≡ []) ⊎ ((v : ℕ) × (ts ≡ hole v ∷ [])) → is_other (subject_kind ts) ≡ false
+    pub other_not : (ts : List Tree) → (ts ≡ []) ⊎ ((v : ℕ) × (ts ≡ hole v ∷ [])) → is_other (subject_kind ts) ≡ false
     other_not ts (inl e) = ap (λ x. is_other (subject_kind x)) e
     other_not ts (inr x) = ap (λ y. is_other (subject_kind y)) x.1
 

@@ -1,5 +1,5 @@
 -- Laws of good rules and their breaches.
-use Rattle.std.specs.Prelude.{◌≡◌, ◌≢◌, ℕ, List, ◌↔◌, None, map}
+use Rattle.std.specs.Prelude.{◌≡◌, ◌≢◌, ℕ, List, ◌↔◌, Some, None, map}
 use Rattle.sx_rules.specs.declared.error.RuleError.{RuleError}
 use Rattle.sx_rules.specs.declared.error.RuleError.TheVariants.{Memory}
 use Rattle.sx_rules.specs.Rules.{Rule}
@@ -11,6 +11,7 @@ use Rattle.sx_rules.specs.Views.{FormData, NamedRule, modes_of, subjects_in, sor
 use Rattle.sx_rules.specs.Fits.{RuleFits}
 use Rattle.sx_rules.specs.Subjects.{broken_part}
 use Rattle.sx_rules.specs.Unmoded.{unbound}
+use Rattle.sx_rules.specs.FirstBreach.{IsFirstBroken, IsFirstUnbound}
 use Rattle.sx_rules.specs.Good.{IsGood, IsBreach, AllGood, IsRuleSet, IsRefused}
 
 -- no part is broken exactly where the rule is disciplined
@@ -62,3 +63,14 @@ abbrev pub GoodRulesAreModed : Type 0
 GoodRulesAreModed = (shapes : List Shape) (forms : List FormData) (names : List (List ℕ))
     (rules : List NamedRule) → AllGood shapes forms names rules →
     AllModed (modes_of forms) (map (λ r. r.rule) rules)
+
+-- the part and the premise that a rule is refused for are the first
+abbrev pub BrokenPartIsFirst : Type 0
+BrokenPartIsFirst = (forms : List FormData) (rule : Rule) (part premise : ℕ) →
+    broken_part forms rule ≡ Some (part, premise) →
+    IsFirstBroken (subjects_in forms) rule part premise
+
+-- the variable that a rule is refused for is the first that is not bound
+abbrev pub UnboundIsFirst : Type 0
+UnboundIsFirst = (forms : List FormData) (rule : Rule) (v : ℕ) → unbound forms rule ≡ Some v →
+    IsFirstUnbound (modes_of forms) rule v

@@ -10,6 +10,7 @@ pub mod Chosen
 pub mod Subjects
 pub mod SubjectTerms
 pub mod Unmoded
+pub mod FirstBreach
 pub mod Good
 pub mod Made
 pub mod Admitted

@@ -35,9 +35,9 @@ pub use derivation_laws::{
 pub use entry::Entry;
 pub use error::RuleError;
 pub use laws::{
-    breach_is_unique, fitting_is_sorted, good_has_no_breach, good_rules_are_moded,
-    no_breach_is_good, none_broken_is_disciplined, none_unbound_is_moded, one_refusal_is_due,
-    rule_sets_are_not_refused,
+    breach_is_unique, broken_part_is_first, fitting_is_sorted, good_has_no_breach,
+    good_rules_are_moded, no_breach_is_good, none_broken_is_disciplined, none_unbound_is_moded,
+    one_refusal_is_due, rule_sets_are_not_refused, unbound_is_first,
 };
 pub use list_error::ListError;
 pub use list_reading::{read_list, written_list_is_read};
