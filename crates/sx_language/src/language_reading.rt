@@ -1,6 +1,6 @@
 //! Reading a language.
 
-ghost use Rattle.std.specs.Prelude.{◌≡◌, ◌≤◌, length, map, None, IfOk, IfErr};
+ghost use Rattle.std.specs.Prelude.{◌≡◌, ◌≤◌, ℕ, List, length, map, None, IfOk, IfErr};
 ghost use Rattle.std.specs.List.{AllByRecursion};
 ghost use Rattle.sx_grammar.specs.Told.{shapes_of};
 ghost use Rattle.sx_rules.specs.Deep.{RulesAreShallow};
@@ -12,7 +12,7 @@ ghost use Rattle.sx_language.specs.RuleLine.{CanRead};
 ghost use Rattle.sx_outline.specs.Sized.{HasShortLines};
 ghost use Rattle.sx_language.specs.RuleTexts.{AreBareRules, IsFirstBad, OrMemory};
 ghost use Rattle.sx_language.specs.States.{States, IsRefused};
-ghost use Rattle.sx_language.specs.Prepared.{reader_in};
+ghost use Rattle.sx_language.specs.Prepared.{reader_in, IsPrepared};
 
 use crate::preparing::{Prepared, prepare};
 use crate::rule_naming::rule_error;
@@ -58,30 +58,27 @@ fn rule_set(
     RuleSet::make(alloc, &shapes, forms, rules)
 }
 
-/// The language that the text states, whose name is to be this one, or why it states none: the
-/// refusals of its lines, of its grammars, of the lines of its rules in order, and of its rule set,
-/// in this order.
-pub fn read_language(alloc: Global, name: &Text, bytes: &[u8]) -> Result<Language, NotationError>
-    requires short { length bytes.now ≤ 262144 }
-    ensures stated { IfOk result (States name.now bytes.now) }
-    ensures refused { IfErr result (IsRefused name.now bytes.now) }
-    ensures fit { IfOk result IsLanguage }
+/// The language with these rules, which were read of the lines of a language file with this name.
+/// The one refusal is that of its rule set.
+fn with_rules(
+    alloc: Global,
+    name: Text,
+    prepared: Prepared,
+    read: ReadRules,
+) -> Result<Language, NotationError>
+    requires { AreBareRules (reader_in prepared) (map rule_data prepared.rules.items)
+        read.names.items (map view.named read.rules.items) }
+    ensures stated { (bytes : List ℕ) → IsPrepared name bytes prepared →
+        IfOk result (States name bytes) }
+    ensures refused { (bytes : List ℕ) → IsPrepared name bytes prepared →
+        IfErr result (IsRefused name bytes) }
+    ensures fit { (bytes : List ℕ) → IsPrepared name bytes prepared → IfOk result IsLanguage }
 {
-    let prepared = match prepare(alloc, name, bytes) {
-        Ok(prepared) => prepared,
-        Err(error) => return Err(error),
-    };
     let ReadRules {
         rules,
         bodies,
         names,
-    } = match read_prepared(alloc, &prepared) {
-        Ok(read) => read,
-        Err(error) => {
-            drop(prepared);
-            return Err(error);
-        }
-    };
+    } = read;
     drop(bodies);
     let Prepared {
         grammar,
@@ -95,6 +92,7 @@ pub fn read_language(alloc: Global, name: &Text, bytes: &[u8]) -> Result<Languag
         Ok(rules) => rules,
         Err(error) => {
             let refusal = rule_error(alloc, &lines, &names, error);
+            drop(name);
             drop(names);
             drop(lines);
             drop(metas);
@@ -104,17 +102,6 @@ pub fn read_language(alloc: Global, name: &Text, bytes: &[u8]) -> Result<Languag
         }
     };
     drop(lines);
-    let name = match name.copy(alloc) {
-        Ok(name) => name,
-        Err(_) => {
-            drop(rules);
-            drop(names);
-            drop(metas);
-            drop(rule_grammar);
-            drop(grammar);
-            return Err(NotationError::Memory);
-        }
-    };
     Ok(Language {
         name,
         grammar,
@@ -124,4 +111,31 @@ pub fn read_language(alloc: Global, name: &Text, bytes: &[u8]) -> Result<Languag
         names,
         main,
     })
+}
+
+/// The language that the text states, whose name is to be this one, or why it states none: the
+/// refusals of its lines, of its grammars, of the lines of its rules in order, and of its rule set,
+/// in this order.
+pub fn read_language(alloc: Global, name: &Text, bytes: &[u8]) -> Result<Language, NotationError>
+    requires short { length bytes.now ≤ 262144 }
+    ensures stated { IfOk result (States name.now bytes.now) }
+    ensures refused { IfErr result (IsRefused name.now bytes.now) }
+    ensures fit { IfOk result IsLanguage }
+{
+    let own_name = name.copy(alloc)?;
+    let prepared = match prepare(alloc, name, bytes) {
+        Ok(prepared) => prepared,
+        Err(error) => {
+            drop(own_name);
+            return Err(error);
+        }
+    };
+    match read_prepared(alloc, &prepared) {
+        Ok(read) => with_rules(alloc, own_name, prepared, read),
+        Err(error) => {
+            drop(prepared);
+            drop(own_name);
+            Err(error)
+        }
+    }
 }
