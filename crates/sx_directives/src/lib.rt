@@ -4,7 +4,7 @@
 //! language file or of an extension file, `read_directive` one that declares a production or
 //! metavariables. Each contract is a relation between the line and what it states
 //! (`specs/Rows.antt`): what is read stands in it, and a line is refused exactly where nothing
-//! does. Want of memory may come at any call.
+//! does. Out of memory may come at any call.
 #![tactic(auto)]
 
 mod body;
