@@ -2,7 +2,7 @@
 use Rattle.std.proofs.Common.{◌≡◌, ℕ, ◌+◌, ◌≤◌, Bool, true, false, List, [], ◌∷◌, length, refl, arith}
 use Rattle.std.specs.Prelude.{if◌then◌else◌, ◌==◌, ◌&&◌}
 use Rattle.sx_lines.specs.Bytes.{is_blank, line_feed, carriage_return}
-use Rattle.sx_lines.specs.Lines.{Lines, over, line, lines_from, ends_here}
+use Rattle.sx_lines.specs.Lines.{Lines, over, line, next_number, lines_from, ends_here}
 use Rattle.sx_lines.specs.Lines as lines
 use Rattle.sx_directives.specs.Parts.{parts_of, begun, with_byte}
 use Rattle.sx_directives.specs.declared.row.Row.{Row}
@@ -136,7 +136,7 @@ unfolding lines_from
 lines_few n [] = none_there n
 lines_few n (b ∷ bytes) =
     let h : bytes_in (lines_from n (b ∷ bytes)) ≤ length bytes + 1 =
-    first_test n b bytes (lines_from (n + 1) bytes) (lines_from n bytes) (length bytes) (b == line_feed) (b == carriage_return && ends_here bytes) (lines_few (n + 1) bytes) (lines_few n bytes) in
+    first_test n b bytes (lines_from (next_number n) bytes) (lines_from n bytes) (length bytes) (b == line_feed) (b == carriage_return && ends_here bytes) (lines_few (next_number n) bytes) (lines_few n bytes) in
     omega arith
 
 -- the lines of a text have no more bytes than the text

@@ -1,5 +1,5 @@
 -- The first reading of a file.
-use Rattle.std.proofs.Common.{◌≡◌, ℕ, ◌+◌, ◌<◌, ◌≤◌, ◌^◌, true, false, List, [], length, refl, sym, ap, subst, inl, arith}
+use Rattle.std.proofs.Common.{◌≡◌, ℕ, true, false, List, refl, sym, subst, inl}
 use Rattle.sx_lines.specs.Lines.{Lines, over, line}
 use Rattle.sx_directives.specs.declared.file_kind.FileKind.{FileKind}
 use Rattle.sx_directives.specs.Rows.{IsRow}
@@ -9,69 +9,43 @@ use Rattle.sx_outline.specs.declared.due.Due.{Due}
 use Rattle.sx_outline.specs.declared.due.Due.TheVariants as dues
 use Rattle.sx_outline.specs.Declarations.{Declared, declare}
 use Rattle.sx_outline.specs.Known.{Declares, GoesOn}
-use Rattle.sx_outline.specs.Tables.{AreFew, EndsOrGoesOn, Grows, TakesLine, due_after, lines_after}
+use Rattle.sx_outline.specs.Tables.{EndsOrGoesOn, TakesLine, due_after, lines_after}
 
--- So much is declared where so many bytes are left: what the lines that are left declare is what all lines declare, and there are no more forms
--- and productions than bytes that were read.
-pub record Standing (kind : FileKind) (base : Declared) (all : Lines) (size : ℕ) (d : Declared) (rest : Lines) (bytes_left : ℕ) : Type 0 where
+-- So much is declared where these lines are left: what they declare is what all lines declare.
+pub record Standing (kind : FileKind) (base : Declared) (all : Lines) (d : Declared) (rest : Lines) : Type 0 where
   pub declares : (whole : Declared) → Declares kind false d rest whole → Declares kind false base all whole
-  pub forms_few : length d.forms + bytes_left ≤ size
-  pub productions_few : length d.productions + bytes_left ≤ size
 
-pub stand_begin : (kind : FileKind) (base : Declared) (all : Lines) (size : ℕ) → base.forms ≡ [] → base.productions ≡ [] → Standing kind base all size base all size
-stand_begin kind base all size f p = record {
-  declares = λ whole h. h;
-  forms_few = (let none : length base.forms ≡ 0 = ap length f in omega arith);
-  productions_few = (let none : length base.productions ≡ 0 = ap length p in omega arith);
-}
+pub stand_begin : (kind : FileKind) (base : Declared) (all : Lines) → Standing kind base all base all
+stand_begin kind base all = record { declares = λ whole h. h }
 
 -- where the next line may declare something
-pub stand_row : (kind : FileKind) (base : Declared) (all rest more : Lines) (size n before later : ℕ) (text after : List ℕ) (old new : Declared) (due : Due) → Standing kind base all size old rest before
-    → rest ≡ line n text after more → later < before → TakesLine kind old text due new → Grows old new → due ≡ dues.Row → Standing kind base all size new more later
-stand_row kind base all rest more size n before later text after old new due h e lt t g f = record {
-  declares = λ whole k. h.declares whole (subst (λ x. Declares kind false old x whole) (sym e) (t n after more whole (subst (λ x. EndsOrGoesOn kind x new more whole) (sym f) k)));
-  forms_few = omega (arith, h.forms_few, g.forms_grow);
-  productions_few = omega (arith, h.productions_few, g.productions_grow);
-}
+pub stand_row : (kind : FileKind) (base : Declared) (all rest more : Lines) (n : ℕ) (text after : List ℕ) (old new : Declared) (due : Due) → Standing kind base all old rest
+    → rest ≡ line n text after more → TakesLine kind old text due new → due ≡ dues.Row → Standing kind base all new more
+stand_row kind base all rest more n text after old new due h e t f =
+    record { declares = λ whole k. h.declares whole (subst (λ x. Declares kind false old x whole) (sym e) (t n after more whole (subst (λ x. EndsOrGoesOn kind x new more whole) (sym f) k))) }
 
 skipped : (kind : FileKind) (d : Declared) (lines : Lines) (all : Declared) → Declares kind false d (lines_after lines) all → Declares kind true d lines all
 skipped kind d (over n) all h = h
 skipped kind d (line n text after more) all h = h
 
 -- where the next line is a body
-pub stand_body : (kind : FileKind) (base : Declared) (all rest more next : Lines) (size n before between later : ℕ) (text after : List ℕ) (old new : Declared) (due : Due)
-    → Standing kind base all size old rest before → rest ≡ line n text after more → next ≡ lines_after more → between < before → later ≤ between → TakesLine kind old text due new → Grows old new
-    → due ≡ dues.Body → Standing kind base all size new next later
-stand_body kind base all rest more next size n before between later text after old new due h e x lt le t g f = record {
+pub stand_body : (kind : FileKind) (base : Declared) (all rest more next : Lines) (n : ℕ) (text after : List ℕ) (old new : Declared) (due : Due) → Standing kind base all old rest
+    → rest ≡ line n text after more → next ≡ lines_after more → TakesLine kind old text due new → due ≡ dues.Body → Standing kind base all new next
+stand_body kind base all rest more next n text after old new due h e x t f = record {
   declares = λ whole k.
       h.declares whole (subst (λ y. Declares kind false old y whole) (sym e)
       (t n after more whole (subst (λ y. EndsOrGoesOn kind y new more whole) (sym f) (skipped kind new more whole (subst (λ y. Declares kind false new y whole) x k)))));
-  forms_few = omega (arith, h.forms_few, g.forms_grow);
-  productions_few = omega (arith, h.productions_few, g.productions_grow);
 }
 
 -- where a line ends the declarations
-pub stand_ends : (kind : FileKind) (base : Declared) (all rest more : Lines) (size n before : ℕ) (text after : List ℕ) (old new : Declared) (due : Due) → Standing kind base all size old rest before
+pub stand_ends : (kind : FileKind) (base : Declared) (all rest more : Lines) (n : ℕ) (text after : List ℕ) (old new : Declared) (due : Due) → Standing kind base all old rest
     → rest ≡ line n text after more → TakesLine kind old text due new → due ≡ dues.Nothing → Declares kind false base all new
-stand_ends kind base all rest more size n before text after old new due h e t f =
+stand_ends kind base all rest more n text after old new due h e t f =
     h.declares new (subst (λ x. Declares kind false old x new) (sym e) (t n after more new (subst (λ x. EndsOrGoesOn kind x new more new) (sym f) refl)))
 
-pub ends_few : (kind : FileKind) (base : Declared) (all rest : Lines) (size before later : ℕ) (old new : Declared) → Standing kind base all size old rest before → later < before → Grows old new
-    → size < 2 ^ 32 → AreFew new
-ends_few kind base all rest size before later old new h lt g small = record {
-  few_forms = omega (arith, h.forms_few, g.forms_grow);
-  few_productions = omega (arith, h.productions_few, g.productions_grow);
-}
-
 -- where no line is left
-pub stand_over : (kind : FileKind) (base : Declared) (all rest : Lines) (size n before : ℕ) (d : Declared) → Standing kind base all size d rest before → rest ≡ over n → Declares kind false base all d
-stand_over kind base all rest size n before d h e = h.declares d (subst (λ x. Declares kind false d x d) (sym e) refl)
-
-pub over_few : (kind : FileKind) (base : Declared) (all rest : Lines) (size before : ℕ) (d : Declared) → Standing kind base all size d rest before → size < 2 ^ 32 → AreFew d
-over_few kind base all rest size before d h small = record {
-  few_forms = omega (arith, h.forms_few);
-  few_productions = omega (arith, h.productions_few);
-}
+pub stand_over : (kind : FileKind) (base : Declared) (all rest : Lines) (n : ℕ) (d : Declared) → Standing kind base all d rest → rest ≡ over n → Declares kind false base all d
+stand_over kind base all rest n d h e = h.declares d (subst (λ x. Declares kind false d x d) (sym e) refl)
 
 -- ---- one line
 

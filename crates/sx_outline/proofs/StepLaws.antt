@@ -42,6 +42,19 @@ bar_word kind text e = has_word kind text Bar (bar_row kind text e)
 pub other_head : (kind : FileKind) (name : List ℕ) (number : ℕ) (text : List ℕ) (e : OutlineError) → e ≡ Notation number Head → (IsRow kind text (head_row kind name) → ⊥) → IsHeadRefused kind name number text e
 other_head kind name number text e is n = subst (IsHeadRefused kind name number text) (sym is) (refl, n)
 
+-- a first line that is refused is a bad line
+pub head_refused : (kind : FileKind) (known : Declared) (name : List ℕ) (r : Reader) (s : State) (number : ℕ) (text : List ℕ) (e : OutlineError) → r.stage ≡ stages.Start → IsReader known r s → IsHeadRefused kind name number text e
+    → IsLineRefused kind known name s number text e
+head_refused kind known name r s number text Memory is reader h = tt
+head_refused kind known name r s number text (NotUtf8 place) is reader h = absurd h
+head_refused kind known name r s number text (Notation l Head) is reader h = (h.0, (sym reader.stage_is ∙ ap stage is, h.1))
+head_refused kind known name r s number text (Notation l Directive) is reader h = absurd h
+head_refused kind known name r s number text (Notation l Shape) is reader h = absurd h
+head_refused kind known name r s number text (Notation l Order) is reader h = absurd h
+head_refused kind known name r s number text (Notation l Unfinished) is reader h = absurd h
+head_refused kind known name r s number text (Notation l NoMain) is reader h = absurd h
+head_refused kind known name r s number text (Notation l Variable) is reader h = absurd h
+
 -- ---- what was read
 
 pub row_in : (kind : FileKind) (text : List ℕ) (o : Option Row) (row : Row) → o ≡ Some row → IsRowRead kind text (Ok o) → IsRow kind text row

@@ -170,6 +170,19 @@ IsLineRead kind known name r number text result = (s : State) → IsReader known
     MatchResult result (λ next. (t : State) × Steps kind known name s number text t ×
     IsReader known next t) (λ e. IsLineRefused kind known name s number text e)
 
+-- the answer of a reader that takes this stage and has read these lines then
+abbrev pub staged : Reader → ReadLines → Result StageOf OutlineError → Result Reader OutlineError
+staged r read (Ok next) =
+    Ok (record { stage = next; forms = r.forms; vars = r.vars; main = r.main; read = read })
+staged r read (Err e) = Err e
+
+-- what reading a line where no row is due answers: the stage after it, where these lines are read
+abbrev pub IsStageRead : FileKind → List ℕ → StageOf → (before : ReadLines) → ℕ → List ℕ →
+    (after : ReadLines) → Result StageOf OutlineError → Type 0
+IsStageRead kind name at before number text after result =
+    (known : Declared) (r : Reader) → r.stage ≡ at → r.read ≡ before →
+    IsLineRead kind known name r number text (staged r after result)
+
 -- what is bad about a first line
 abbrev pub IsHeadRefused : FileKind → List ℕ → ℕ → List ℕ → OutlineError → Type 0
 IsHeadRefused kind name number text Memory = Unit {0}

@@ -1,5 +1,5 @@
 -- The tables by which the names that a file declares are found.
-use Rattle.std.specs.Prelude.{◌≡◌, ℕ, ◌+◌, ◌≤◌, ◌<◌, ◌^◌, true, false, List, map, length}
+use Rattle.std.specs.Prelude.{◌≡◌, ℕ, ◌<◌, ◌^◌, true, false, List, map, length}
 use Rattle.std.specs.List.{position}
 use Rattle.std.specs.Str.{bytes_eq}
 use Rattle.std.specs.HashMap.{get_by_text}
@@ -75,8 +75,3 @@ TakesLine kind old text due new =
 abbrev pub lines_after : Lines → Lines
 lines_after (over n) = over n
 lines_after (line n text after more) = more
-
--- there is one form more at most, and one production
-pub record Grows (old new : Declared) : Type 0 where
-  pub forms_grow : length new.forms ≤ length old.forms + 1
-  pub productions_grow : length new.productions ≤ length old.productions + 1

@@ -1,6 +1,6 @@
 //! Reading the outline of an extension file.
 
-ghost use Rattle.std.specs.Prelude.{◌≡◌, ◌+◌, ◌<◌, ◌^◌, length, IfOk};
+ghost use Rattle.std.specs.Prelude.{length, IfOk};
 ghost use Rattle.std.specs.Str.{IsUtf8};
 ghost use Rattle.sx_lines.specs.Left.{left};
 ghost use Rattle.sx_outline.specs.Declarations.{declared_before};
@@ -61,15 +61,14 @@ fn read_after(
 /// is and whether the language has the name that it states is left to the caller. It is refused
 /// where the bytes are not UTF-8, and else at its first bad line: an own stem that the language has
 /// is `Shape`, as is a `plain` line whose names are not those of the parts of a production of the
-/// file with a plain sort. The file has fewer than 2^32 - 1 bytes, so that the number of a line
-/// fits.
+/// file with a plain sort. Lines past 4,294,967,294 have all the number 4,294,967,295. Productions
+/// that a `u32` cannot number are out of memory.
 pub fn read_extension_outline(
     alloc: Global,
     sorts: &[SortLine],
     vars: &[VarLine],
     bytes: &[u8],
 ) -> Result<ExtensionOutline, OutlineError>
-    requires { length bytes.now + 1 < 2 ^ 32 }
     ensures answer { IsExtensionOutlined sorts.now vars.now bytes.now result }
     ensures sized { IfOk result (λ o. IsExtensionSized (length bytes.now) (length vars.now)
         (outline_of o)) }

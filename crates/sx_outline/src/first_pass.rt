@@ -1,9 +1,9 @@
 //! The first reading of a file: what its lines declare.
 
-ghost use Rattle.std.specs.Prelude.{◌≡◌, false, [], ◌+◌, ◌≤◌, ◌<◌, ◌^◌, length, IfOk, OnOk};
+ghost use Rattle.std.specs.Prelude.{◌≡◌, false, ◌≤◌, length, IfOk};
 ghost use Rattle.sx_lines.specs.Left.{left};
 ghost use Rattle.sx_outline.specs.Known.{kept_lines, Declares};
-ghost use Rattle.sx_outline.specs.Tables.{AreFew, Grows, TakesLine, TakesRow, declared_in};
+ghost use Rattle.sx_outline.specs.Tables.{TakesLine, TakesRow, declared_in};
 ghost use Rattle.sx_outline.specs.Tables.{due_after, lines_after};
 ghost use Rattle.sx_outline.specs.View.{known};
 
@@ -30,9 +30,8 @@ fn due_after(row: &Row) -> Due
 
 /// Adds what a row declares, and tells what is due after it.
 fn take_row(rows: &mut DeclaredRows, row: Row) -> Result<Due, NoMemory>
-    ensures taken { IfOk result (λ due. TakesRow (declared_in rows.old) row due
+    ensures { IfOk result (λ due. TakesRow (declared_in rows.old) row due
         (declared_in rows.new)) }
-    ensures grows { OnOk result (Grows (declared_in rows.old) (declared_in rows.new)) }
 {
     let due = due_after(&row);
     rows.declare(row)?;
@@ -46,9 +45,8 @@ fn take_line(
     rows: &mut DeclaredRows,
     text: &[u8],
 ) -> Result<Due, NoMemory>
-    ensures taken { IfOk result (λ due. TakesLine kind (declared_in rows.old) text.now due
+    ensures { IfOk result (λ due. TakesLine kind (declared_in rows.old) text.now due
         (declared_in rows.new)) }
-    ensures grows { OnOk result (Grows (declared_in rows.old) (declared_in rows.new)) }
 {
     match spelled_row(alloc, kind, text)? {
         Some(row) => take_row(rows, row),
@@ -74,11 +72,8 @@ fn read_rows(
     rows: DeclaredRows,
     lines: Rest,
 ) -> Result<DeclaredRows, NoMemory>
-    requires no_forms { (declared_in rows).forms ≡ [] }
-    requires no_productions { (declared_in rows).productions ≡ [] }
-    ensures declared { IfOk result (λ all. Declares kind false (declared_in rows)
+    ensures { IfOk result (λ all. Declares kind false (declared_in rows)
         (kept_lines (left lines.entry)) (declared_in all)) }
-    ensures few { IfOk result (λ all. AreFew (declared_in all)) }
 {
     let mut found = rows;
     let mut left = lines;
@@ -106,8 +101,6 @@ pub(crate) fn read_known(
     rows: DeclaredRows,
     lines: Rest,
 ) -> Result<Known, NoMemory>
-    requires no_forms { (declared_in rows).forms ≡ [] }
-    requires no_productions { (declared_in rows).productions ≡ [] }
     ensures { IfOk result (λ k. Declares kind false (declared_in rows)
         (kept_lines (left lines.entry)) (known k)) }
 {

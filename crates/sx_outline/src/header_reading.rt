@@ -1,6 +1,6 @@
 //! Reading the first lines of an extension file.
 
-ghost use Rattle.std.specs.Prelude.{◌+◌, ◌<◌, ◌^◌, IfOk, length};
+ghost use Rattle.std.specs.Prelude.{IfOk};
 ghost use Rattle.std.specs.Str.{IsUtf8};
 ghost use Rattle.sx_lines.specs.Lines.{lines_from};
 ghost use Rattle.sx_lines.specs.Left.{left};
@@ -112,14 +112,13 @@ pub(crate) fn read_header<'a>(
 /// is not `use`. It is refused where the bytes are not UTF-8, and else at its first bad line:
 /// `Head` for a first line that is not `extension NAME`, for a second that is no `language` line,
 /// and at 1 more than the number of lines where one of the two is missing; `Shape` for a `use` line
-/// that is not as stated or names again what one before it names. The file has fewer than 2^32 - 1
-/// bytes, so that the number of a line fits.
+/// that is not as stated or names again what one before it names. Lines past 4,294,967,294 have all
+/// the number 4,294,967,295.
 pub fn read_extension_header(
     alloc: Global,
     name: &Text,
     bytes: &[u8],
 ) -> Result<ExtensionHeader, OutlineError>
-    requires { length bytes.now + 1 < 2 ^ 32 }
     ensures { IsHeaderRead name.now bytes.now result }
 {
     match std::str::from_utf8(bytes) {

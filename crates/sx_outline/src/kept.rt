@@ -1,8 +1,8 @@
 //! The lines that language files keep.
 
-ghost use Rattle.std.specs.Prelude.{◌≡◌, ◌+◌, ◌<◌, length, MatchResult, IfOk};
+ghost use Rattle.std.specs.Prelude.{◌≡◌, ◌<◌, length, MatchResult, IfOk};
 ghost use Rattle.std.specs.Str.{IsUtf8};
-ghost use Rattle.sx_lines.specs.Lines.{over, line};
+ghost use Rattle.sx_lines.specs.Lines.{over, line, next_number};
 ghost use Rattle.sx_lines.specs.Left.{left};
 ghost use Rattle.sx_directives.specs.Parts.{parts_of};
 ghost use Rattle.sx_outline.specs.Known as spec_of;
@@ -32,7 +32,7 @@ pub(crate) fn next_kept_line<'a>(rest: Rest<'a>) -> Result<(Line<'a>, Rest<'a>),
         (kept_lines (left x.1)))
         (λ e. kept_lines (left rest.entry) ≡ over e.number) }
     ensures shorter { IfOk result (λ x. length x.1.bytes.now < length rest.entry.bytes.now) }
-    ensures numbers { IfOk result (λ x. x.1.number ≡ x.0.number + 1) }
+    ensures numbers { IfOk result (λ x. x.1.number ≡ next_number x.0.number) }
     ensures utf8 { IsUtf8 rest.entry.bytes.now →
         IfOk result (λ x. IsUtf8 x.0.text.now × IsUtf8 x.1.bytes.now) }
 {

@@ -1,6 +1,6 @@
 //! What is known of a file before its lines are judged.
 
-ghost use Rattle.std.specs.Prelude.{◌≡◌, map, IfOk};
+ghost use Rattle.std.specs.Prelude.{◌≡◌, ◌↔◌, IsTrue, map, IfOk};
 ghost use Rattle.sx_grammar.specs.Parts.{line, parts};
 ghost use Rattle.sx_outline.specs.Declarations.{form, parts_of};
 ghost use Rattle.sx_outline.specs.Tables.{AreTables, AreFew, declared_in};
@@ -21,12 +21,26 @@ pub(crate) struct Known {
     ghost few: { AreFew (declared_in rows) },
 }
 
+/// The most forms, and the most productions: a `u32` numbers them.
+const MOST_ROWS: usize = 4_294_967_295;
+
+/// Whether there are so few forms and productions.
+fn are_few(rows: &DeclaredRows) -> bool
+    ensures { IsTrue result ↔ AreFew (declared_in rows.now) }
+{
+    rows.forms.len() <= MOST_ROWS && rows.productions.len() <= MOST_ROWS
+}
+
 impl Known {
-    /// What the rows declare.
+    /// What the rows declare. More forms or productions than a `u32` can number do not stand in
+    /// memory.
     pub(crate) fn make(alloc: Global, rows: DeclaredRows) -> Result<Known, NoMemory>
-        requires { AreFew (declared_in rows) }
         ensures { IfOk result (λ k. declared_in k.rows ≡ declared_in rows) }
     {
+        if !are_few(&rows) {
+            drop(rows);
+            return Err(NoMemory::Memory);
+        }
         match Tables::make(alloc, &rows) {
             Ok(tables) => Ok(Known { rows, tables }),
             Err(e) => {

@@ -6,7 +6,8 @@ ghost use Rattle.sx_directives.specs.declared.row.Row.TheVariants as rows;
 ghost use Rattle.sx_outline.specs.Declarations.{Declared};
 ghost use Rattle.sx_outline.specs.Stages.{IsDue, IsBar, at_end, at_premises, concluded, numbered};
 ghost use Rattle.sx_outline.specs.Stages.{paired, plain_data, with_premise};
-ghost use Rattle.sx_outline.specs.Reading.{IsCounted, GrowsByOne, IsLineRead, AddsPremise};
+ghost use Rattle.sx_outline.specs.Reading.{IsCounted, GrowsByOne, IsLineRead, IsStageRead};
+ghost use Rattle.sx_outline.specs.Reading.{AddsPremise};
 ghost use Rattle.sx_outline.specs.Reading.{begun as begun_of, plain_begun, stage as stage_of};
 ghost use Rattle.sx_outline.specs.View as view;
 
@@ -14,6 +15,7 @@ use crate::head::first_line;
 use crate::known::Known;
 use crate::outline_error::{OutlineError, bad_line};
 use crate::plain_lines::PlainLines;
+use crate::read_lines::ReadLines;
 use crate::reader::Reader;
 use crate::rule_lines::{RuleLine, RuleLines};
 use crate::spelled_row::spelled_row;
@@ -216,6 +218,44 @@ fn row_line(
     }
 }
 
+/// The stage after a line where no row is due. The line may complete a plain pair, which is added.
+fn next_stage(
+    alloc: Global,
+    kind: FileKind,
+    name: &Text,
+    stage: Stage,
+    read: &mut ReadLines,
+    line: Line,
+) -> Result<Stage, OutlineError>
+    requires other { IsDue (stage_of stage) → ⊥ }
+    requires utf8 { IsUtf8 line.text.now }
+    ensures { IsStageRead kind name.now stage read.old line.entry.number line.entry.text.now
+        read.new result }
+{
+    match stage {
+        Stage::Start => match first_line(alloc, kind, name, line.number, line.text) {
+            Ok(()) => Ok(Stage::Declarations),
+            Err(e) => Err(e),
+        },
+        Stage::Body(begun) => match body_line(alloc, begun, line.number, line.text) {
+            Ok(plain) => match read.add_plain(plain) {
+                Ok(()) => Ok(Stage::Plains),
+                Err(_) => Err(OutlineError::Memory),
+            },
+            Err(_) => Err(OutlineError::Memory),
+        },
+        Stage::Premises(begun) => match premise_line(alloc, begun, line.number, line.text) {
+            Ok(next) => Ok(next),
+            Err(_) => Err(OutlineError::Memory),
+        },
+        Stage::Conclusion(begun) => match conclusion_line(alloc, begun, line.number, line.text) {
+            Ok(next) => Ok(next),
+            Err(_) => Err(OutlineError::Memory),
+        },
+        _ => unreachable!(),
+    }
+}
+
 /// Reads a line where no row is due.
 fn other_line(
     alloc: Global,
@@ -237,50 +277,19 @@ fn other_line(
         main,
         mut read,
     } = reader;
-    let stage = match stage {
-        Stage::Start => match first_line(alloc, kind, name, line.number, line.text) {
-            Ok(()) => Stage::Declarations,
-            Err(e) => {
-                drop(read);
-                return Err(e);
-            }
-        },
-        Stage::Body(begun) => match body_line(alloc, begun, line.number, line.text) {
-            Ok(plain) => match read.add_plain(plain) {
-                Ok(()) => Stage::Plains,
-                Err(_) => {
-                    drop(read);
-                    return Err(OutlineError::Memory);
-                }
-            },
-            Err(_) => {
-                drop(read);
-                return Err(OutlineError::Memory);
-            }
-        },
-        Stage::Premises(begun) => match premise_line(alloc, begun, line.number, line.text) {
-            Ok(next) => next,
-            Err(_) => {
-                drop(read);
-                return Err(OutlineError::Memory);
-            }
-        },
-        Stage::Conclusion(begun) => match conclusion_line(alloc, begun, line.number, line.text) {
-            Ok(next) => next,
-            Err(_) => {
-                drop(read);
-                return Err(OutlineError::Memory);
-            }
-        },
-        _ => unreachable!(),
-    };
-    Ok(Reader {
-        stage,
-        forms,
-        vars,
-        main,
-        read,
-    })
+    match next_stage(alloc, kind, name, stage, &mut read, line) {
+        Ok(stage) => Ok(Reader {
+            stage,
+            forms,
+            vars,
+            main,
+            read,
+        }),
+        Err(e) => {
+            drop(read);
+            Err(e)
+        }
+    }
 }
 
 /// Reads the next line.

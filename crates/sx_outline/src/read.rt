@@ -1,6 +1,6 @@
 //! Reading the outline of a language file.
 
-ghost use Rattle.std.specs.Prelude.{false, ◌+◌, ◌<◌, ◌^◌, length, IfOk};
+ghost use Rattle.std.specs.Prelude.{false, length, IfOk};
 ghost use Rattle.std.specs.Str.{IsUtf8};
 ghost use Rattle.sx_lines.specs.Lines.{lines_from};
 ghost use Rattle.sx_directives.specs.declared.file_kind.FileKind.TheVariants as files;
@@ -34,7 +34,6 @@ fn read_language(
     requires declares { Declares files.Language false nothing (kept_lines (lines_from 1 bytes.now))
         (view.known known) }
     requires utf8 { IsUtf8 bytes.now }
-    requires small { length bytes.now + 1 < 2 ^ 32 }
     ensures { IsOutlineRead (view.known known) name.now
         (kept_lines (lines_from 1 bytes.now)) result }
 {
@@ -57,10 +56,10 @@ fn read_language(
 
 /// What a file of the language with this name states line by line: the parts of its grammar, its
 /// stems of metavariables, its forms, its main form, and the lines of its rules, which have no
-/// bodies. It is refused where the bytes are not UTF-8, and else at its first bad line. The file
-/// has fewer than 2^32 - 1 bytes, so that the number of a line fits.
+/// bodies. It is refused where the bytes are not UTF-8, and else at its first bad line. Lines past
+/// 4,294,967,294 have all the number 4,294,967,295. Forms or productions that a `u32` cannot number
+/// are out of memory.
 pub fn read_outline(alloc: Global, name: &Text, bytes: &[u8]) -> Result<Outline, OutlineError>
-    requires { length bytes.now + 1 < 2 ^ 32 }
     ensures answer { IsOutlined name.now bytes.now result }
     ensures sized { IfOk result (λ o. IsSized (length bytes.now) (outline_of o)) }
     ensures fit { IfOk result (λ o. IsFit (outline_of o)) }

@@ -1,4 +1,4 @@
-use Rattle.std.proofs.Common.{ap, false, length, refl}
+use Rattle.std.proofs.Common.{false, length, refl}
 use Rattle.sx_lines.specs.Left.{left}
 use Rattle.sx_directives.specs.declared.file_kind.FileKind.TheVariants as files
 use Rattle.sx_outline.specs.Declarations.{Declared, declared_before}
@@ -37,12 +37,6 @@ returns-in-Err c =
     let declares : Declares files.Extension false base lines k = declares_after base (declared_in c.in_ok-rows.rows) k lines c.in_ok-rows.ensures c.in_ok-known.ensures in
     after_refused sorts vars k (header c.args.header) lines c.in-Err.e declares
     (c.in-Err.ensures (start_after base) (reader_after k sorts vars uses c.after_header-reader.result (length vars) refl c.after_header-reader.ensures) declares)
-
-pub read_known-requires-clause-no_forms : goal.read_known-requires-clause-no_forms
-read_known-requires-clause-no_forms c = ap (λ (x : Declared). x.forms) c.in_ok-rows.ensures
-
-pub read_known-requires-clause-no_productions : goal.read_known-requires-clause-no_productions
-read_known-requires-clause-no_productions c = ap (λ (x : Declared). x.productions) c.in_ok-rows.ensures
 
 pub finish_extension-requires-clause-no_forms : goal.finish_extension-requires-clause-no_forms
 finish_extension-requires-clause-no_forms c =

@@ -7,7 +7,7 @@ use Rattle.sx_outline.proofs.first_pass.read_rows.Given as goal
 
 abbrev pub invariant-lines : goal.invariant-lines
 invariant-lines l =
-    Standing l.kind (declared_in l.fn.rows) (kept_lines (left l.fn.lines)) (length l.fn.lines.bytes.now) (declared_in l.found) (kept_lines (left l.left)) (length l.left.bytes.now)
+    Standing l.kind (declared_in l.fn.rows) (kept_lines (left l.fn.lines)) (declared_in l.found) (kept_lines (left l.left))
 
 abbrev pub decreases-lines : goal.decreases-lines
 decreases-lines l = length l.left.bytes.now
