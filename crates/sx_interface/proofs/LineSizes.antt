@@ -5,7 +5,7 @@ use Rattle.std.specs.Prelude.{codes, if◌then◌else◌}
 use Rattle.std.proofs.lemmas.List.{length-map, length-append}
 use Rattle.hex.specs.Hex.{encode_lower}
 use Rattle.sx_lines.specs.Bytes.{line_feed, carriage_return}
-use Rattle.sx_lines.specs.Lines.{Lines, over, line, ends_here, with_byte, lines_from, texts}
+use Rattle.sx_lines.specs.Lines.{Lines, over, line, next_number, ends_here, with_byte, lines_from, texts}
 use Rattle.sx_interface.specs.declared.version.Version.{Version}
 use Rattle.sx_interface.specs.declared.version.Version.TheVariants.{One, Two}
 use Rattle.sx_interface.specs.Interfaces.{InterfaceParts, Mark, lines_in, mark_lines, mark_text}
@@ -57,8 +57,8 @@ within : (n : ℕ) (bytes : List ℕ) → AreWithin (length bytes) (texts (lines
 unfolding lines_from
 within n [] = record { bytes = omega arith; many = omega arith }
 within n (b ∷ bytes) =
-    chosen (suc (length bytes)) (b == line_feed) (line n [] bytes (lines_from (n + 1) bytes)) _
-    (an_end (length bytes) (texts (lines_from (n + 1) bytes)) (within (n + 1) bytes))
+    chosen (suc (length bytes)) (b == line_feed) (line n [] bytes (lines_from (next_number n) bytes)) _
+    (an_end (length bytes) (texts (lines_from (next_number n) bytes)) (within (next_number n) bytes))
     (chosen (suc (length bytes)) (b == carriage_return && ends_here bytes) (lines_from n bytes)
     (with_byte b (lines_from n bytes))
     (one_more (length bytes) (texts (lines_from n bytes)) (within n bytes))

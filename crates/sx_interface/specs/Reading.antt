@@ -7,7 +7,7 @@ use Rattle.sx_interface.specs.declared.error.HeaderError.{HeaderError}
 use Rattle.sx_interface.specs.declared.error.HeaderError.TheVariants.{Memory, NotUtf8, Header}
 use Rattle.sx_interface.specs.declared.error.HeaderError.TheVariants.{Version}
 
--- an error for want of memory, or at the line that reading refuses
+-- an error where memory runs out, or at the line that reading refuses
 abbrev pub Refuses : {Y : Type 0} → HeaderError → Result Y ℕ → Type 0
 Refuses Memory read = Unit {0}
 Refuses (NotUtf8 place) read = ⊥

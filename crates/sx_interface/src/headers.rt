@@ -1,7 +1,6 @@
 //! Headers of module files.
 
-ghost use Rattle.std.specs.Prelude.{◌≡◌, [], ◌+◌, ◌-◌, ◌^◌, ◌<◌, ◌≤◌, length, drop, IfOk, Ok};
-ghost use Rattle.std.specs.Prelude.{IfErr, IfSome, true, false};
+ghost use Rattle.std.specs.Prelude.{◌≡◌, [], ◌≤◌, length, IfOk, Ok, IfErr, IfSome, true, false};
 ghost use Rattle.sx_lines.specs.FirstBad.{IsFirstBad};
 ghost use Rattle.sx_interface.specs.Headers.{HeaderParts};
 ghost use Rattle.sx_interface.specs.StatedHeader.{StatesHeader};
@@ -56,7 +55,6 @@ fn read_rows<'a>(
     uses: &mut Vec<Text>,
     imports: &mut Vec<Text>,
 ) -> Result<(&'a [u8], Rest<'a>), HeaderError>
-    requires numbered { length bytes.now + 1 < 2 ^ 32 }
     requires uses { uses.old.items ≡ [] }
     requires imports { imports.old.items ≡ [] }
     ensures rows { Gives (λ x. rows_view name.now x.0.now uses.new.items imports.new.items
@@ -74,7 +72,6 @@ fn read_rows<'a>(
 
 /// The header that the lines of a module's file state.
 fn header_parts<'a>(alloc: Global, name: &Text, bytes: &'a [u8]) -> Result<Parts<'a>, HeaderError>
-    requires { length bytes.now + 1 < 2 ^ 32 }
     ensures { Gives (parts_view name.now) Refuses result
         (spec.header_of name.now (kept (lines_from 1 bytes.entry.now))) }
 {
@@ -104,7 +101,6 @@ fn header_parts<'a>(alloc: Global, name: &Text, bytes: &'a [u8]) -> Result<Parts
 
 /// The header of a module's file, of which nothing else is known.
 fn checked_header(alloc: Global, name: &Text, bytes: &[u8]) -> Result<Header, HeaderError>
-    requires { length bytes.now + 1 < 2 ^ 32 }
     ensures text { IsText bytes.now result }
     ensures exact { Gives (header_view bytes.now) (RefusesText bytes.now) result
         (spec.header_of name.now (kept (lines_from 1 bytes.now))) }
@@ -134,8 +130,8 @@ fn checked_header(alloc: Global, name: &Text, bytes: &[u8]) -> Result<Header, He
     }
 }
 
-/// The header of the module file with these bytes, of a module of this name. The file has fewer
-/// than 2^32 - 1 bytes, so that the number of a line fits.
+/// The header of the module file with these bytes, of a module of this name. Lines past
+/// 4,294,967,294 have all the number 4,294,967,295.
 ///
 /// Blank lines and lines that begin with `//` are skipped. The lines are `module` and the name,
 /// `language` and a name, then `use` lines, then `import` lines, then `---`; the body is what
@@ -144,7 +140,6 @@ fn checked_header(alloc: Global, name: &Text, bytes: &[u8]) -> Result<Header, He
 /// `NotUtf8` comes exactly where the bytes are not UTF-8, and else `Header` exactly where they have
 /// no header.
 pub fn read_header(alloc: Global, name: &Text, bytes: &[u8]) -> Result<Header, HeaderError>
-    requires { length bytes.now + 1 < 2 ^ 32 }
     ensures text { IsText bytes.now result }
     // What is read is stated.
     ensures found { IfOk result (λ h. StatesHeader name.now (kept (lines_from 1 bytes.now))

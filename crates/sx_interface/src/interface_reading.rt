@@ -1,7 +1,7 @@
 //! Reading interfaces.
 
-ghost use Rattle.std.specs.Prelude.{◌≡◌, ℕ, ◌+◌, ◌^◌, ◌<◌, [], ◌++◌, length, codes, option_map};
-ghost use Rattle.std.specs.Prelude.{true, false, Ok, None, IfOk, IfErr, IfSome};
+ghost use Rattle.std.specs.Prelude.{◌≡◌, [], ◌++◌, codes, option_map, true, false, Ok, None};
+ghost use Rattle.std.specs.Prelude.{IfOk, IfErr, IfSome};
 ghost use Rattle.std.specs.Str.{IsUtf8};
 ghost use Rattle.sx_lines.specs.FirstBad.{IsFirstBad};
 ghost use Rattle.sx_lines.specs.Words.{is_name};
@@ -201,7 +201,6 @@ fn read_rows<'a>(
     uses: &mut Vec<ImportMark>,
     imports: &mut Vec<ImportMark>,
 ) -> Result<Rows<'a>, HeaderError>
-    requires numbered { length bytes.now + 1 < 2 ^ 32 }
     requires utf8 { IsUtf8 bytes.now }
     requires uses { uses.old.items ≡ [] }
     requires imports { imports.old.items ≡ [] }
@@ -283,7 +282,6 @@ fn interface_with(
 
 /// The interface that lines state.
 fn interface(alloc: Global, name: &Text, bytes: &[u8]) -> Result<Interface, HeaderError>
-    requires numbered { length bytes.now + 1 < 2 ^ 32 }
     requires utf8 { IsUtf8 bytes.now }
     ensures { Gives interface_view Refuses result
         (spec.interface_of name.now (lines_from 1 bytes.now)) }
@@ -304,7 +302,6 @@ fn interface(alloc: Global, name: &Text, bytes: &[u8]) -> Result<Interface, Head
 /// The number of another version.
 #[tactic(auto, unfolding(crate::specs::Interfaces::other_version))]
 fn other_version(bytes: &[u8]) -> Option<u64>
-    requires { length bytes.now + 1 < 2 ^ 32 }
     ensures { result ≡ spec.other_version (lines_from 1 bytes.now) }
 {
     match Rest::all(bytes).next() {
@@ -322,7 +319,6 @@ fn other_version(bytes: &[u8]) -> Option<u64>
 
 /// The interface of a module, or the version.
 fn checked(alloc: Global, name: &Text, bytes: &[u8]) -> Result<Interface, HeaderError>
-    requires { length bytes.now + 1 < 2 ^ 32 }
     ensures text { IsText bytes.now result }
     ensures exact { AnswersVersion bytes.now (spec.other_version
         (lines_from 1 bytes.now)) interface_view result
@@ -337,8 +333,8 @@ fn checked(alloc: Global, name: &Text, bytes: &[u8]) -> Result<Interface, Header
     }
 }
 
-/// The interface that the file with these bytes states, of a module of this name. The file has
-/// fewer than 2^32 - 1 bytes, so that the number of a line fits.
+/// The interface that the file with these bytes states, of a module of this name. Lines past
+/// 4,294,967,294 have all the number 4,294,967,295.
 ///
 /// The lines are `sxint 2`, `module` and the name, `language` with a name and a digest, a `use`
 /// line with a name and a digest for each extension, `base` with a digest, an `import` line with
@@ -350,7 +346,6 @@ fn checked(alloc: Global, name: &Text, bytes: &[u8]) -> Result<Interface, Header
 /// line is `sxint` and a number other than 1 and 2, and else `Header` exactly where they state no
 /// interface.
 pub fn read_interface(alloc: Global, name: &Text, bytes: &[u8]) -> Result<Interface, HeaderError>
-    requires { length bytes.now + 1 < 2 ^ 32 }
     ensures text { IsText bytes.now result }
     // What is read is stated.
     ensures found { IfOk result (λ it. StatesInterface name.now (texts (lines_from 1 bytes.now))

@@ -131,7 +131,7 @@ fn put_lines(alloc: Global, it: &Interface, into: &mut Vec<u8>) -> Result<(), No
     put_signatures(it, into)
 }
 
-/// Appends the text of the interface in version 2. After want of memory `into` is as before.
+/// Appends the text of the interface in version 2. After out of memory `into` is as before.
 pub fn write_interface(alloc: Global, it: &Interface, into: &mut Vec<u8>) -> Result<(), NoMemory>
     ensures ok { OnOk result (into.new.items ≡ into.old.items ++ written
         (interface_lines (interface_view it.now))) }

@@ -24,7 +24,7 @@ fn digits(digest: &Digest) -> [u8; 64]
     digits
 }
 
-/// Appends the 64 lower-case hexadecimal digits of the digest. After want of memory `into` is as
+/// Appends the 64 lower-case hexadecimal digits of the digest. After out of memory `into` is as
 /// before.
 pub fn write_digest(_alloc: Global, digest: &Digest, into: &mut Vec<u8>) -> Result<(), NoMemory>
     ensures ok { OnOk result (into.new.items ≡ into.old.items ++ encode_lower digest.now.bytes) }
