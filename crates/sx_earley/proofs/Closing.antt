@@ -71,27 +71,21 @@ module _ (g : Grammar) (tokens : List Token) (start : ℕ) where
       let inside : items.Item g tokens start filling.head filling.dot before.end filling.end = subst (λ o. items.Item g tokens start filling.head filling.dot o filling.end) (sym j.meets) k in
       simp add-one (completed h next inside (makes_is g filling.head j.sort j.least j.fits) (ends_there g (production_of g filling.head) filling.dot j.complete))
 
-  only_one : (x y : Item) → Contains (y ∷ []) x → x ≡ y
-  only_one x y there = ⊎_elim (λ none. absurd (nothing x none)) (λ e. sym e) (Contains-push_cases [] y x there)
-    where
-      nothing : (x : Item) → Contains [] x → ⊥
-      nothing x h = let low = h.1 in omega arith
-
   -- what follows from items that hold holds
-  pub follows_hold : (befores fillings : List Item) (item : Item) → Holds g tokens start item → ((x : Item) → Contains befores x → Holds g tokens start x) →
-      ((x : Item) → Contains fillings x → Holds g tokens start x) → (i : Item) → Follows g tokens befores fillings item i → Holds g tokens start i
-  follows_hold befores fillings item h all every i (by_prediction f) = prediction_holds item i h f
-  follows_hold befores fillings item h all every i (by_scanning r e) = subst (Holds g tokens start) (sym e) (scan_holds item h r)
-  follows_hold befores fillings item h all every i (by_filling j) =
-      subst (Holds g tokens start) (sym j.5) (join_holds j.0 j.1 (all j.0 j.2) (subst (Holds g tokens start) (sym (only_one j.1 item j.3)) h) j.4)
-  follows_hold befores fillings item h all every i (by_waiting j) =
-      subst (Holds g tokens start) (sym j.5) (join_holds j.0 j.1 (subst (Holds g tokens start) (sym (only_one j.0 item j.2)) h) (every j.1 j.3) j.4)
+  pub follows_hold : (IsBefore IsFilling : Item → Type 0) (item : Item) → Holds g tokens start item → ((x : Item) → IsBefore x → Holds g tokens start x) →
+      ((x : Item) → IsFilling x → Holds g tokens start x) → (i : Item) → Follows g tokens IsBefore IsFilling item i → Holds g tokens start i
+  follows_hold IsBefore IsFilling item h all every i (by_prediction f) = prediction_holds item i h f
+  follows_hold IsBefore IsFilling item h all every i (by_scanning r e) = subst (Holds g tokens start) (sym e) (scan_holds item h r)
+  follows_hold IsBefore IsFilling item h all every i (by_filling j) =
+      subst (Holds g tokens start) (sym j.5) (join_holds j.0 j.1 (all j.0 j.2) (subst (Holds g tokens start) (sym j.3) h) j.4)
+  follows_hold IsBefore IsFilling item h all every i (by_waiting j) =
+      subst (Holds g tokens start) (sym j.5) (join_holds j.0 j.1 (subst (Holds g tokens start) (sym j.2) h) (every j.1 j.3) j.4)
 
   -- one more item has been treated
-  pub treated_more : (done : List Item) (item : Item) (keys more befores fillings : List Item) → Extends keys more → Treated g tokens done keys →
-      AllFollow g tokens befores fillings item more → ((x : Item) → Contains (done ++ item ∷ []) x → Joins g x item → Contains befores x) →
-      ((x : Item) → Contains (done ++ item ∷ []) x → Joins g item x → Contains fillings x) → Treated g tokens (done ++ item ∷ []) more
-  treated_more done item keys more befores fillings grown t f has_before has_filling = record {
+  pub treated_more : (done : List Item) (item : Item) (keys more : List Item) (IsBefore IsFilling : Item → Type 0) → Extends keys more → Treated g tokens done keys →
+      AllFollow g tokens IsBefore IsFilling item more → ((x : Item) → Contains (done ++ item ∷ []) x → Joins g x item → IsBefore x) →
+      ((x : Item) → Contains (done ++ item ∷ []) x → Joins g item x → IsFilling x) → Treated g tokens (done ++ item ∷ []) more
+  treated_more done item keys more IsBefore IsFilling grown t f has_before has_filling = record {
     predictions = λ x there sort least head waits fits. by_prediction_of x (Contains-push_cases done item x there) sort least head waits fits;
     scanned = λ x there reads. by_scan_of x (Contains-push_cases done item x there) reads;
     joined = λ before filling there there' joins. by_join_of before filling there there' (Contains-push_cases done item before there) (Contains-push_cases done item filling there') joins;
@@ -156,10 +150,10 @@ module _ (g : Grammar) (tokens : List Token) (start : ℕ) where
       empty : Contains old i → ⊥
       empty was = let h : Contains [] i = subst (λ l. Contains l i) none was in let low = h.1 in omega arith
 
-  pub more_hold : (old keys befores fillings : List Item) (item : Item) → ((i : Item) → Contains old i → Holds g tokens start i) → Holds g tokens start item →
-      ((x : Item) → Contains befores x → Holds g tokens start x) → ((x : Item) → Contains fillings x → Holds g tokens start x) →
-      Only old keys (Follows g tokens befores fillings item) → (i : Item) → Contains keys i → Holds g tokens start i
-  more_hold old keys befores fillings item sound h all every only i there = ⊎_elim (λ was. sound i was) (λ f. follows_hold befores fillings item h all every i f) (only i there)
+  pub more_hold : (old keys : List Item) (IsBefore IsFilling : Item → Type 0) (item : Item) → ((i : Item) → Contains old i → Holds g tokens start i) → Holds g tokens start item →
+      ((x : Item) → IsBefore x → Holds g tokens start x) → ((x : Item) → IsFilling x → Holds g tokens start x) →
+      Only old keys (Follows g tokens IsBefore IsFilling item) → (i : Item) → Contains keys i → Holds g tokens start i
+  more_hold old keys IsBefore IsFilling item sound h all every only i there = ⊎_elim (λ was. sound i was) (λ f. follows_hold IsBefore IsFilling item h all every i f) (only i there)
 
 -- the element at a place is in the list
 pub there_at : (xs : List Item) (n : ℕ) (x : Item) → slice_get xs n ≡ Some x → Contains xs x
@@ -180,7 +174,7 @@ front_more keys new n x grown e = rw (add-one, grown.1) (front_on keys grown.0 n
 pub ended : (xs : List Item) (n : ℕ) → None ≡ slice_get xs n → length xs ≤ n
 ended xs n e = ⊎_elim (λ low. absurd (none-some (get_or xs n no_item) (e ∙ slice_get-get_or xs n no_item low))) (λ long. long) (cases_lt n (length xs))
 
-pub nothing_in : (l : List Item) (x : Item) → l ≡ [] → Contains l x → ⊥
+pub nothing_in : {X : Type 0} (l : List X) (x : X) → l ≡ [] → Contains l x → ⊥
 nothing_in l x none there = let h : Contains [] x = subst (λ m. Contains m x) none there in let low = h.1 in omega arith
 
 pub empty_front : (keys : List Item) → take 0 keys ≡ []

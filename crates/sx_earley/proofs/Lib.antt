@@ -5,6 +5,7 @@ pub mod Growth
 pub mod Asking
 pub mod Predicting
 pub mod Scanning
+pub mod Numbering
 pub mod Joining
 pub mod Treating
 pub mod Closing

@@ -1,5 +1,5 @@
 -- What follows from items.
-use Rattle.std.specs.Prelude.{◌≡◌, ◌≤◌, ℕ, ◌+◌, List, [], ◌∷◌, Option, None, Some, length, Contains}
+use Rattle.std.specs.Prelude.{◌≡◌, ◌≤◌, ◌<◌, ℕ, ◌+◌, List, Option, None, Some, length, Contains}
 use Rattle.std.specs.List.{slice_get}
 use Rattle.sx_grammar.specs.declared.head.Head.{Head}
 use Rattle.sx_grammar.specs.declared.item.Item.{Item}
@@ -76,10 +76,14 @@ moved before end = record {
   end = end;
 }
 
+-- one of the numbers is that of the item in the list
+abbrev pub IsNumbered : List Item → List ℕ → Item → Type 0
+IsNumbered keys numbers x = (n : ℕ) × Contains numbers n × (slice_get keys n ≡ Some x)
+
 -- the item is one of the first, moved over one of the second that it waits for
-abbrev pub IsJoined : Grammar → List Item → List Item → Item → Type 0
-IsJoined g befores fillings i =
-    (before : Item) × (filling : Item) × Contains befores before × Contains fillings filling ×
+abbrev pub IsJoined : Grammar → (IsBefore IsFilling : Item → Type 0) → Item → Type 0
+IsJoined g IsBefore IsFilling i =
+    (before : Item) × (filling : Item) × IsBefore before × IsFilling filling ×
     Joins g before filling × (i ≡ moved before filling.end)
 
 -- the item waits for a part, and the other begins a production for it
@@ -91,27 +95,27 @@ pub record Foresees (g : Grammar) (item other : Item) : Type 0 where
 
 -- the item follows from this one, from those that may wait for it, and from those for which it may
 -- wait
-pub data Follows (g : Grammar) (tokens : List Token) (befores fillings : List Item)
+pub data Follows (g : Grammar) (tokens : List Token) (IsBefore IsFilling : Item → Type 0)
     (item : Item) : Item → Type 0 where
-  by_prediction : {i : Item} → Foresees g item i → Follows g tokens befores fillings item i
+  by_prediction : {i : Item} → Foresees g item i → Follows g tokens IsBefore IsFilling item i
   by_scanning : {i : Item} → ReadsNext tokens (next_symbol g item.head item.dot) item.end →
-      i ≡ moved item (item.end + 1) → Follows g tokens befores fillings item i
-  by_filling : {i : Item} → IsJoined g befores (item ∷ []) i →
-      Follows g tokens befores fillings item i
-  by_waiting : {i : Item} → IsJoined g (item ∷ []) fillings i →
-      Follows g tokens befores fillings item i
+      i ≡ moved item (item.end + 1) → Follows g tokens IsBefore IsFilling item i
+  by_filling : {i : Item} → IsJoined g IsBefore (λ x. x ≡ item) i →
+      Follows g tokens IsBefore IsFilling item i
+  by_waiting : {i : Item} → IsJoined g (λ x. x ≡ item) IsFilling i →
+      Follows g tokens IsBefore IsFilling item i
 
 -- all that follows so is there
-pub record AllFollow (g : Grammar) (tokens : List Token) (befores fillings : List Item)
+pub record AllFollow (g : Grammar) (tokens : List Token) (IsBefore IsFilling : Item → Type 0)
     (item : Item) (keys : List Item) : Type 0 where
   pub predictions : (sort least : ℕ) (head : Head) →
       as_part (next_symbol g item.head item.dot) ≡ Some (sort, least) →
       IsOfSort (production_of g head) sort least → Contains keys (beginning head item.end)
   pub scanned : ReadsNext tokens (next_symbol g item.head item.dot) item.end →
       Contains keys (moved item (item.end + 1))
-  pub filled : (before : Item) → Contains befores before → Joins g before item →
+  pub filled : (before : Item) → IsBefore before → Joins g before item →
       Contains keys (moved before item.end)
-  pub filling : (other : Item) → Contains fillings other → Joins g item other →
+  pub filling : (other : Item) → IsFilling other → Joins g item other →
       Contains keys (moved item other.end)
 
 -- what follows from these items is there
@@ -135,7 +139,7 @@ HasOpenings g sort row = (head : Head) (least : ℕ) → IsOfSort (production_of
     Contains row (beginning head 0)
 
 -- the rows of place 0 have the items that begin each production
-abbrev pub HasAllOpenings : Grammar → Table → Type 0
+abbrev pub HasAllOpenings : Grammar → Table Item → Type 0
 HasAllOpenings g t = (sort : ℕ) → HasOpenings g sort (row_at t (record { place = 0; sort = sort }))
 
 -- what has been asked for begins where it was asked for
@@ -143,17 +147,17 @@ abbrev pub AllAsked : Grammar → List Ask → List Item → Type 0
 AllAsked g asked keys = (ask : Ask) → Contains asked ask → (head : Head) →
     IsOfSort (production_of g head) ask.sort ask.least → Contains keys (beginning head ask.place)
 
--- where the item waits for a part, it is in the row of its end and the part's sort
-abbrev pub IsFiledWaiting : Grammar → Table → Item → Type 0
-IsFiledWaiting g t x = (sort least : ℕ) → as_part (next_symbol g x.head x.dot)
-    ≡ Some (sort, least) → Contains (row_at t (record { place = x.end; sort = sort })) x
+-- where the item waits for a part, its number is in the row of its end and the part's sort
+abbrev pub IsFiledWaiting : Grammar → List Item → Table ℕ → Item → Type 0
+IsFiledWaiting g keys t x = (sort least : ℕ) → as_part (next_symbol g x.head x.dot)
+    ≡ Some (sort, least) → IsNumbered keys (row_at t (record { place = x.end; sort = sort })) x
 
--- where the item is complete, it is in the row of its origin and its sort
-abbrev pub IsFiledComplete : Grammar → Table → Item → Type 0
-IsFiledComplete g t x = (sort : ℕ) → EndsAt (production_of g x.head) x.dot →
+-- where the item is complete, its number is in the row of its origin and its sort
+abbrev pub IsFiledComplete : Grammar → List Item → Table ℕ → Item → Type 0
+IsFiledComplete g keys t x = (sort : ℕ) → EndsAt (production_of g x.head) x.dot →
     sort_made (production_of g x.head) ≡ Some sort →
-    Contains (row_at t (record { place = x.origin; sort = sort })) x
+    IsNumbered keys (row_at t (record { place = x.origin; sort = sort })) x
 
--- the rows have only items of the list
-abbrev pub HasOnly : Table → List Item → Type 0
-HasOnly t keys = (s : Slot) (x : Item) → Contains (row_at t s) x → Contains keys x
+-- the rows have only numbers below the bound
+abbrev pub HasBelow : Table ℕ → ℕ → Type 0
+HasBelow t bound = (s : Slot) (n : ℕ) → Contains (row_at t s) n → n < bound

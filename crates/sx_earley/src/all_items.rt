@@ -64,8 +64,8 @@ fn collect(
     }
     let mut next = 0;
     while let Some(item) = item_at(found, next) {
-        file_waiting(alloc, grammar, &mut notes.waiting, item)?;
-        file_complete(alloc, grammar, &mut notes.complete, item)?;
+        file_waiting(alloc, grammar, &mut notes.waiting, item, next as u32)?;
+        file_complete(alloc, grammar, &mut notes.complete, item, next as u32)?;
         let before = befores(grammar, &notes.waiting, item);
         let filling = fillings(grammar, &notes.complete, item);
         let given = Given {
@@ -90,7 +90,7 @@ fn collect(
 pub(crate) fn all_items(
     alloc: Global,
     grammar: &Grammar,
-    openings: &Table,
+    openings: &Table<Item>,
     start: u32,
     shown: &[Shown],
 ) -> Result<IndexSet<Item>, ChartError>

@@ -4,7 +4,7 @@ use std::alloc::{AllocError, AllocFailed};
 use sx_term::NoMemory;
 use thiserror::Error;
 
-/// Want of memory, or too many items.
+/// Out of memory, or too many items.
 #[derive(Debug, Drop, Error)]
 pub enum ChartError {
     #[error("out of memory")]

@@ -19,7 +19,7 @@ use crate::spanned::{complete_spans, reach};
 use crate::stems::show_all;
 use crate::table::Table;
 use std::alloc::Global;
-use sx_grammar::Grammar;
+use sx_grammar::{Grammar, Item};
 use sx_term::Sort;
 use sx_token::Token;
 
@@ -39,7 +39,7 @@ pub fn number_of(sort: Sort) -> u32
 fn chart_by(
     alloc: Global,
     grammar: &Grammar,
-    openings: &Table,
+    openings: &Table<Item>,
     start: u32,
     shown: &[Shown],
 ) -> Result<Chart, ChartError>

@@ -1,13 +1,14 @@
 //! What follows from one item.
 
-ghost use Rattle.std.specs.Prelude.{◌≡◌, ◌+◌, ◌≤◌, ◌<◌, ℕ, OnOk, Contains, [], ◌∷◌, Some, Err};
+ghost use Rattle.std.specs.Prelude.{◌≡◌, ◌+◌, ◌≤◌, ◌<◌, ℕ, OnOk, Contains, Some, Err};
 ghost use Rattle.std.specs.Prelude.{length, IsTrue};
 ghost use Rattle.sx_grammar.specs.Grammar.{production_of};
 ghost use Rattle.sx_earley.specs.Growth.{Extends, Only};
 ghost use Rattle.sx_earley.specs.Shown.{plain, texts, tokens_of, AreBelow};
 ghost use Rattle.sx_earley.specs.Table.{row_at};
 ghost use Rattle.sx_earley.specs.Chart.{HasOpenings, HasAllOpenings, AllAsked, Foresees, Follows};
-ghost use Rattle.sx_earley.specs.Chart.{AllFollow, Joins, IsJoined, moved, IsPredicted, beginning};
+ghost use Rattle.sx_earley.specs.Chart.{AllFollow, Joins, IsNumbered, IsJoined, moved};
+ghost use Rattle.sx_earley.specs.Chart.{IsPredicted, beginning};
 ghost use Rattle.sx_earley.specs.Chart.{next_symbol, as_part, ReadsNext, IsOfSort};
 
 use crate::ask::Ask;
@@ -17,6 +18,7 @@ use crate::hints::Hints;
 use crate::neighbours::Neighbours;
 use crate::shown::Shown;
 use crate::slot::Slot;
+use crate::spanned::item_within;
 use crate::symbols::{ends_at, makes, next_part, reads_next};
 use crate::table::Table;
 use indexmap::IndexSet;
@@ -138,7 +140,7 @@ fn predict(
 /// Predicts what is asked for, if it was not asked for before.
 pub(crate) fn predict_once(
     grammar: &Grammar,
-    openings: &Table,
+    openings: &Table<Item>,
     found: &mut IndexSet<Item>,
     asked: &mut IndexSet<Ask>,
     ask: Ask,
@@ -171,7 +173,7 @@ pub(crate) fn predict_once(
 /// Predicts for the part after the dot.
 fn predict_next(
     grammar: &Grammar,
-    openings: &Table,
+    openings: &Table<Item>,
     found: &mut IndexSet<Item>,
     asked: &mut IndexSet<Ask>,
     item: Item,
@@ -246,56 +248,62 @@ fn join(
     }
 }
 
-/// Moves the dot of each of the first items over the second, if it waits for it.
+/// Moves the dot of each of the items with the numbers over the other, if it waits for it.
 fn join_each(
     grammar: &Grammar,
     found: &mut IndexSet<Item>,
     hints: &mut Hints,
-    befores: &[Item],
+    befores: &[u32],
     filling: Item,
 ) -> Result<(), ChartError>
-    requires { length found.old.keys ≤ 2000000 }
+    requires few { length found.old.keys ≤ 2000000 }
+    requires within { (n : ℕ) → Contains befores.now n → n < length found.old.keys }
     ensures extends { Extends found.old.keys found.new.keys }
     ensures only { Only found.old.keys found.new.keys
-        (IsJoined (plain grammar.now) befores.now (filling ∷ [])) }
-    ensures every { OnOk result ((before : Item) → Contains befores.now before →
+        (IsJoined (plain grammar.now) (IsNumbered found.old.keys befores.now)
+        (λ x. x ≡ filling)) }
+    ensures every { OnOk result ((before : Item) → IsNumbered found.old.keys befores.now before →
         Joins (plain grammar.now) before filling →
         Contains found.new.keys (moved before filling.end)) }
     ensures few { OnOk result (length found.new.keys ≤ 2000000) }
     ensures hard { result ≡ Err ChartError.TooHard → 2000000 < length found.new.keys }
 {
-    for before in befores {
-        if is_known(found, hints, *before, filling) {
+    for number in befores {
+        let before = item_within(found, *number as usize);
+        if is_known(found, hints, before, filling) {
             continue;
         }
-        join(grammar, found, hints, *before, filling)?;
+        join(grammar, found, hints, before, filling)?;
     }
     Ok(())
 }
 
-/// Moves the dot of the first item over each of the second, if it waits for it.
+/// Moves the dot of the item over each of those with the numbers, if it waits for it.
 fn join_over(
     grammar: &Grammar,
     found: &mut IndexSet<Item>,
     hints: &mut Hints,
     before: Item,
-    fillings: &[Item],
+    fillings: &[u32],
 ) -> Result<(), ChartError>
-    requires { length found.old.keys ≤ 2000000 }
+    requires few { length found.old.keys ≤ 2000000 }
+    requires within { (n : ℕ) → Contains fillings.now n → n < length found.old.keys }
     ensures extends { Extends found.old.keys found.new.keys }
     ensures only { Only found.old.keys found.new.keys
-        (IsJoined (plain grammar.now) (before ∷ []) fillings.now) }
-    ensures every { OnOk result ((filling : Item) → Contains fillings.now filling →
+        (IsJoined (plain grammar.now) (λ x. x ≡ before)
+        (IsNumbered found.old.keys fillings.now)) }
+    ensures every { OnOk result ((filling : Item) → IsNumbered found.old.keys fillings.now filling →
         Joins (plain grammar.now) before filling →
         Contains found.new.keys (moved before filling.end)) }
     ensures few { OnOk result (length found.new.keys ≤ 2000000) }
     ensures hard { result ≡ Err ChartError.TooHard → 2000000 < length found.new.keys }
 {
-    for filling in fillings {
-        if is_known(found, hints, before, *filling) {
+    for number in fillings {
+        let filling = item_within(found, *number as usize);
+        if is_known(found, hints, before, filling) {
             continue;
         }
-        join(grammar, found, hints, before, *filling)?;
+        join(grammar, found, hints, before, filling)?;
     }
     Ok(())
 }
@@ -336,7 +344,7 @@ fn scan(
     }
 }
 
-/// Adds all that follows from the item, where these are the items that it may meet.
+/// Adds all that follows from the item, where these are the numbers of the items that it may meet.
 pub(crate) fn treat(
     given: Given,
     found: &mut IndexSet<Item>,
@@ -350,14 +358,18 @@ pub(crate) fn treat(
     requires below { AreBelow (length (texts given.grammar.now)) given.shown.now }
     requires openings { HasAllOpenings (plain given.grammar.now) given.openings.now }
     requires asked { AllAsked (plain given.grammar.now) asked.old.keys found.old.keys }
+    requires befores { (n : ℕ) → Contains near.befores.now n → n < length found.old.keys }
+    requires fillings { (n : ℕ) → Contains near.fillings.now n → n < length found.old.keys }
     ensures extends { Extends found.old.keys found.new.keys }
     ensures only { Only found.old.keys found.new.keys
         (Follows (plain given.entry.grammar.now)
         (tokens_of given.entry.grammar.now given.entry.shown.now)
-        near.entry.befores.now near.entry.fillings.now item) }
+        (IsNumbered found.old.keys near.entry.befores.now)
+        (IsNumbered found.old.keys near.entry.fillings.now) item) }
     ensures every { OnOk result (AllFollow (plain given.entry.grammar.now)
         (tokens_of given.entry.grammar.now given.entry.shown.now)
-        near.entry.befores.now near.entry.fillings.now item found.new.keys) }
+        (IsNumbered found.old.keys near.entry.befores.now)
+        (IsNumbered found.old.keys near.entry.fillings.now) item found.new.keys) }
     ensures few { OnOk result (length found.new.keys ≤ 2000000) }
     ensures hard { result ≡ Err ChartError.TooHard → 2000000 < length found.new.keys }
     ensures asked { OnOk result

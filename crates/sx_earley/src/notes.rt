@@ -9,16 +9,17 @@ use crate::hints::Hints;
 use crate::table::Table;
 use indexmap::IndexSet;
 use std::alloc::{AllocError, Global};
+use sx_grammar::Item;
 
-/// The items that begin productions, where items were found, what was asked for, and the items by
-/// what they wait for and complete.
+/// The items that begin productions, where items were found, what was asked for, and the numbers of
+/// the items by what they wait for and complete.
 #[derive(Drop)]
 pub(crate) struct Notes<'a> {
-    pub(crate) openings: &'a Table,
+    pub(crate) openings: &'a Table<Item>,
     pub(crate) hints: Hints,
     pub(crate) asked: IndexSet<Ask>,
-    pub(crate) waiting: Table,
-    pub(crate) complete: Table,
+    pub(crate) waiting: Table<u32>,
+    pub(crate) complete: Table<u32>,
 }
 
 impl<'a> Notes<'a> {
@@ -26,7 +27,7 @@ impl<'a> Notes<'a> {
     /// so many.
     pub(crate) fn new(
         alloc: Global,
-        openings: &'a Table,
+        openings: &'a Table<Item>,
         origins: usize,
     ) -> Result<Notes<'a>, AllocError>
         requires { origins ≤ 10001 }

@@ -21,7 +21,7 @@ use sx_term::NoMemory;
 fn file_opening(
     alloc: Global,
     grammar: &Grammar,
-    table: &mut Table,
+    table: &mut Table<Item>,
     head: Head,
 ) -> Result<(), NoMemory>
     ensures there { OnOk result ((sort least : ℕ) →
@@ -43,7 +43,7 @@ fn file_opening(
 }
 
 /// Files the openings of the labelled productions.
-fn file_labelled(alloc: Global, grammar: &Grammar, table: &mut Table) -> Result<(), NoMemory>
+fn file_labelled(alloc: Global, grammar: &Grammar, table: &mut Table<Item>) -> Result<(), NoMemory>
     ensures { OnOk result ((label sort least : ℕ) →
         IsOfSort (production_of (plain grammar.now) (Labelled label)) sort least →
         Contains (row_at table.new (record { place = 0; sort = sort }))
@@ -58,7 +58,7 @@ fn file_labelled(alloc: Global, grammar: &Grammar, table: &mut Table) -> Result<
 }
 
 /// Files the openings of the bracket pairs.
-fn file_bracketed(alloc: Global, grammar: &Grammar, table: &mut Table) -> Result<(), NoMemory>
+fn file_bracketed(alloc: Global, grammar: &Grammar, table: &mut Table<Item>) -> Result<(), NoMemory>
     ensures there { OnOk result ((own sort least : ℕ) →
         IsOfSort (production_of (plain grammar.now) (Bracketed own)) sort least →
         Contains (row_at table.new (record { place = 0; sort = sort }))
@@ -74,7 +74,7 @@ fn file_bracketed(alloc: Global, grammar: &Grammar, table: &mut Table) -> Result
 }
 
 /// The items that begin each production at place 0, by their sort.
-pub(crate) fn openings(alloc: Global, grammar: &Grammar) -> Result<Table, NoMemory>
+pub(crate) fn openings(alloc: Global, grammar: &Grammar) -> Result<Table<Item>, NoMemory>
     ensures { IfOk result (λ t. HasAllOpenings (plain grammar.now) t) }
 {
     let mut table = Table::new(alloc);

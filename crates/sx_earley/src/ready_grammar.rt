@@ -6,7 +6,7 @@ use crate::openings::openings;
 use crate::table::Table;
 use std::alloc::Global;
 use std::marker::Model;
-use sx_grammar::Grammar;
+use sx_grammar::{Grammar, Item};
 use sx_term::NoMemory;
 
 /// A grammar with the items that begin its productions, for the charts of any number of token
@@ -14,7 +14,7 @@ use sx_term::NoMemory;
 #[derive(Drop)]
 pub struct ReadyGrammar<'a> {
     pub(crate) grammar: &'a Grammar,
-    pub(crate) openings: Table,
+    pub(crate) openings: Table<Item>,
 }
 
 impl<'a> Model for ReadyGrammar<'a> {

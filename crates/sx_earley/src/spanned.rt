@@ -11,7 +11,8 @@ use std::alloc::{AllocError, Global};
 use sx_grammar::{Grammar, Head, Item};
 
 /// The item at a place of the set.
-fn item_within(found: &IndexSet<Item>, place: usize) -> Item
+#[inline(always)]
+pub(crate) fn item_within(found: &IndexSet<Item>, place: usize) -> Item
     requires { place < length found.now.keys }
     ensures { slice_get found.now.keys place ≡ Some result }
 {

@@ -1,25 +1,23 @@
-//! Items by place and sort.
+//! Rows by place and sort.
 
 ghost use Rattle.std.specs.Prelude.{◌≡◌, ◌⊎◌, OnOk, Contains, []};
 ghost use Rattle.sx_earley.specs.Table.{row_at};
 ghost use Rattle.sx_earley.specs.declared.slot.Slot.{Slot};
-ghost use Rattle.sx_grammar.specs.declared.item.Item.{Item};
 
 use crate::slot::Slot;
 use std::alloc::Global;
 use std::collections::HashMap;
-use sx_grammar::Item;
 use sx_term::NoMemory;
 
-/// Rows of items, by place and sort.
+/// Rows by place and sort.
 #[derive(Drop)]
-pub(crate) struct Table {
-    pub rows: HashMap<Slot, Vec<Item>>,
+pub(crate) struct Table<T> {
+    pub rows: HashMap<Slot, Vec<T>>,
 }
 
-impl Table {
-    /// Rows without items. It takes no memory.
-    pub(crate) fn new(alloc: Global) -> Table
+impl<T: Copy> Table<T> {
+    /// No rows. It takes no memory.
+    pub(crate) fn new(alloc: Global) -> Table<T>
         ensures { (s : Slot) → row_at result s ≡ [] }
     {
         Table {
@@ -27,26 +25,26 @@ impl Table {
         }
     }
 
-    /// Adds the item to the row of the slot.
-    pub(crate) fn file(&mut self, alloc: Global, slot: Slot, item: Item) -> Result<(), NoMemory>
-        ensures there { OnOk result (Contains (row_at self.new slot) item) }
-        ensures kept { OnOk result ((s : Slot) (x : Item) → Contains (row_at self.old s) x →
+    /// Adds the element to the row of the slot.
+    pub(crate) fn file(&mut self, alloc: Global, slot: Slot, element: T) -> Result<(), NoMemory>
+        ensures there { OnOk result (Contains (row_at self.new slot) element) }
+        ensures kept { OnOk result ((s : Slot) (x : T) → Contains (row_at self.old s) x →
             Contains (row_at self.new s) x) }
-        ensures only { OnOk result ((s : Slot) (x : Item) → Contains (row_at self.new s) x →
-            Contains (row_at self.old s) x ⊎ (x ≡ item)) }
+        ensures only { OnOk result ((s : Slot) (x : T) → Contains (row_at self.new s) x →
+            Contains (row_at self.old s) x ⊎ (x ≡ element)) }
     {
         if let Some(row) = self.rows.get_mut(&slot) {
-            row.push(item)?;
+            row.push(element)?;
             return Ok(());
         }
         let mut row = Vec::new(alloc);
-        row.push(item)?;
+        row.push(element)?;
         self.rows.insert(slot, row)?;
         Ok(())
     }
 
     /// The row of the slot.
-    pub(crate) fn row(&self, slot: Slot) -> &[Item]
+    pub(crate) fn row(&self, slot: Slot) -> &[T]
         ensures { result.now ≡ row_at self.now slot }
     {
         match self.rows.get(&slot) {

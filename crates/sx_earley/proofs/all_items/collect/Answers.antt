@@ -1,4 +1,4 @@
-use Rattle.std.proofs.Common.{◌≡◌, ◌∙◌, sym, subst, ap, take, Some, Err, slice_get, arith}
+use Rattle.std.proofs.Common.{◌≡◌, ◌∙◌, sym, subst, ap, length, take, Some, Err, slice_get, arith}
 use Rattle.std.proofs.lemmas.Option.{slice_get_within}
 use Rattle.std.proofs.lemmas.List.{take_all}
 use Rattle.sx_earley.specs.declared.chart_error.ChartError.TheVariants.{TooHard}
@@ -9,6 +9,7 @@ use Rattle.sx_earley.proofs.Counting.{no_more_hold}
 use Rattle.sx_earley.proofs.Growth.{still_there, longer}
 use Rattle.sx_earley.proofs.Asking.{asked_none}
 use Rattle.sx_earley.proofs.Turning.{Turn, turn_holds, turn_closed, turn_waiting, turn_complete, turn_waiting_only, turn_complete_only}
+use Rattle.sx_earley.proofs.Rows.{below_rows}
 use Rattle.sx_earley.proofs.Closing.{treated_none, starts_hold, ended, closed_has, empty_front, nothing_in}
 use Rattle.sx_earley.proofs.all_items.collect.Goals as goal
 
@@ -28,9 +29,9 @@ loop-item-init c =
       closed = treated_none g ts c.args.start (take 0 keys) keys (empty_front keys);
       asked = c.in_default.ensures.asked;
       waiting_all = λ x there. absurd (nothing_in (take 0 keys) x (empty_front keys) there);
-      waiting_only = λ s x there. absurd (nothing_in _ x (c.requires.waiting s) there);
+      waiting_only = λ s n there. absurd (nothing_in _ n (c.requires.waiting s) there);
       complete_all = λ x there. absurd (nothing_in (take 0 keys) x (empty_front keys) there);
-      complete_only = λ s x there. absurd (nothing_in _ x (c.requires.complete s) there);
+      complete_only = λ s n there. absurd (nothing_in _ n (c.requires.complete s) there);
     }
 
 pub loop-item-preserved : goal.loop-item-preserved
@@ -49,16 +50,14 @@ loop-item-preserved c =
       waiting_only = inv.waiting_only;
       complete_all = inv.complete_all;
       complete_only = inv.complete_only;
-      waits = c.in_ok-file_waiting.ensures.filed;
+      waits = c.in_ok-file_waiting.ensures.filed old at;
       waiting_kept = c.in_ok-file_waiting.ensures.kept;
       waiting_new = c.in_ok-file_waiting.ensures.only;
-      ends = c.in_ok-file_complete.ensures.filed;
+      ends = c.in_ok-file_complete.ensures.filed old at;
       complete_kept = c.in_ok-file_complete.ensures.kept;
       complete_new = c.in_ok-file_complete.ensures.only;
-      befores_only = c.befores-before.ensures.only;
-      befores_all = c.befores-before.ensures.every;
-      fillings_only = c.fillings-filling.ensures.only;
-      fillings_all = c.fillings-filling.ensures.every;
+      befores_all = c.befores-before.ensures.every old;
+      fillings_all = c.fillings-filling.ensures.every old;
     } in
     let grown = c.treat.ensures.extends in
     record {
@@ -107,26 +106,25 @@ returns-in-Err-treat-clause-hard c = λ e.
     let g = plain c.args.grammar.now in let ts = tokens_of c.args.grammar.now c.args.shown.now in
     let old = c.loop-item.found.keys in let new = c.treat.new.found.keys in let item = c.in-Some.item in
     let inv = c.loop-item.invariant in
+    let at : slice_get old c.loop-item.next ≡ Some item = sym c.in-Some.ensures in
     let w = c.loop-item.notes.waiting in let w' = c.file_waiting.new.waiting in
     let k = c.loop-item.notes.complete in let k' = c.file_complete.new.complete in
     let bs = c.befores-before.result.now in let fs = c.fillings-filling.result.now in
     let turn : Turn g ts c.args.start old c.loop-item.next item w w' k k' bs fs = record {
-      at = sym c.in-Some.ensures;
+      at = at;
       sound = inv.sound;
       waiting_all = inv.waiting_all;
       waiting_only = inv.waiting_only;
       complete_all = inv.complete_all;
       complete_only = inv.complete_only;
-      waits = c.in_ok-file_waiting.ensures.filed;
+      waits = c.in_ok-file_waiting.ensures.filed old at;
       waiting_kept = c.in_ok-file_waiting.ensures.kept;
       waiting_new = c.in_ok-file_waiting.ensures.only;
-      ends = c.in_ok-file_complete.ensures.filed;
+      ends = c.in_ok-file_complete.ensures.filed old at;
       complete_kept = c.in_ok-file_complete.ensures.kept;
       complete_new = c.in_ok-file_complete.ensures.only;
-      befores_only = c.befores-before.ensures.only;
-      befores_all = c.befores-before.ensures.every;
-      fillings_only = c.fillings-filling.ensures.only;
-      fillings_all = c.fillings-filling.ensures.every;
+      befores_all = c.befores-before.ensures.every old;
+      fillings_all = c.fillings-filling.ensures.every old;
     } in
     let hard : c.treat.result ≡ Err TooHard = let same : c.in-Err-treat.error ≡ TooHard = cc in c.in-Err-treat.is ∙ ap Err same in (
       new,
@@ -134,3 +132,20 @@ returns-in-Err-treat-clause-hard c = λ e.
       each_once new c.len-count-in-Err-treat.ensures.unique,
       turn_holds g ts c.args.start old c.loop-item.next item w w' k k' bs fs turn new c.treat.ensures.only,
     )
+
+-- the numbers are those of items that are found
+pub treat-requires-clause-befores : goal.treat-requires-clause-befores
+treat-requires-clause-befores c =
+    let keys = c.loop-item.found.keys in let inv = c.loop-item.invariant in
+    λ n there.
+    let row = c.befores-before.ensures.only n there in
+    below_rows c.loop-item.notes.waiting c.file_waiting.new.waiting (length keys) c.loop-item.next inv.waiting_only
+    (slice_get_within keys c.loop-item.next c.in-Some.item (sym c.in-Some.ensures)) c.in_ok-file_waiting.ensures.only row.0 n row.1
+
+pub treat-requires-clause-fillings : goal.treat-requires-clause-fillings
+treat-requires-clause-fillings c =
+    let keys = c.loop-item.found.keys in let inv = c.loop-item.invariant in
+    λ n there.
+    let row = c.fillings-filling.ensures.only n there in
+    below_rows c.loop-item.notes.complete c.file_complete.new.complete (length keys) c.loop-item.next inv.complete_only
+    (slice_get_within keys c.loop-item.next c.in-Some.item (sym c.in-Some.ensures)) c.in_ok-file_complete.ensures.only row.0 n row.1

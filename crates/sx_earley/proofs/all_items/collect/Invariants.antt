@@ -3,7 +3,7 @@ use Rattle.sx_grammar.specs.Grammar.{production_of}
 use Rattle.sx_grammar.specs.declared.head.Head.{Head}
 use Rattle.sx_grammar.specs.declared.item.Item.{Item}
 use Rattle.sx_earley.specs.Shown.{plain, tokens_of}
-use Rattle.sx_earley.specs.Chart.{Treated, IsOfSort, beginning, AllHold, AllAsked, HasAllOpenings, IsFiledWaiting, IsFiledComplete, HasOnly}
+use Rattle.sx_earley.specs.Chart.{Treated, IsOfSort, beginning, AllHold, AllAsked, HasAllOpenings, IsFiledWaiting, IsFiledComplete, HasBelow}
 use Rattle.sx_earley.proofs.all_items.collect.Given as goal
 
 abbrev pub invariant-loop-item : goal.invariant-loop-item
@@ -15,10 +15,10 @@ invariant-loop-item l = record {
   starts : (head : Head) → IsOfSort (production_of (plain l.grammar) head) l.start 0 → Contains l.found.keys (beginning head 0);
   closed : Treated (plain l.grammar) (tokens_of l.grammar l.shown) (take l.next l.found.keys) l.found.keys;
   asked : AllAsked (plain l.grammar) l.notes.asked.keys l.found.keys;
-  waiting_all : (x : Item) → Contains (take l.next l.found.keys) x → IsFiledWaiting (plain l.grammar) l.notes.waiting x;
-  waiting_only : HasOnly l.notes.waiting l.found.keys;
-  complete_all : (x : Item) → Contains (take l.next l.found.keys) x → IsFiledComplete (plain l.grammar) l.notes.complete x;
-  complete_only : HasOnly l.notes.complete l.found.keys;
+  waiting_all : (x : Item) → Contains (take l.next l.found.keys) x → IsFiledWaiting (plain l.grammar) l.found.keys l.notes.waiting x;
+  waiting_only : HasBelow l.notes.waiting (length l.found.keys);
+  complete_all : (x : Item) → Contains (take l.next l.found.keys) x → IsFiledComplete (plain l.grammar) l.found.keys l.notes.complete x;
+  complete_only : HasBelow l.notes.complete (length l.found.keys);
 }
 
 abbrev pub decreases-loop-item : goal.decreases-loop-item

@@ -1,42 +1,63 @@
-use Rattle.std.proofs.Common.{◌<◌, length, Contains, arith}
+use Rattle.std.proofs.Common.{◌≡◌, ◌∙◌, ◌<◌, Some, sym, subst, length, get_or, Contains, arith}
+use Rattle.std.specs.List.{slice_get}
+use Rattle.std.proofs.lemmas.Option.{same_Some}
+use Rattle.std.proofs.lemmas.List.Elements.{Contains-get_or}
+use Rattle.sx_grammar.specs.declared.item.Item.{Item}
 use Rattle.sx_earley.specs.Shown.{plain}
 use Rattle.sx_earley.specs.Chart.{Joins, moved}
-use Rattle.sx_earley.proofs.Growth.{extends_on, still_there}
+use Rattle.sx_earley.proofs.Growth.{extends_on, longer, still_there}
+use Rattle.sx_earley.proofs.Numbering.{got_earlier}
 use Rattle.sx_earley.proofs.Joining.{one_more_done, all_done, each_only}
 use Rattle.sx_earley.proofs.growing.join_each.Goals as goal
 
-pub loop-before-preserved : goal.loop-before-preserved
-loop-before-preserved c =
+-- the number is that of an item that is found
+pub item_within-before-requires : goal.item_within-before-requires
+item_within-before-requires c =
+    let low : c.loop-number.number-index < length c.args.befores.now = omega arith in
+    let within = c.requires.within (get_or c.args.befores.now c.loop-number.number-index 0) (Contains-get_or c.args.befores.now c.loop-number.number-index 0 low) in
+    omega (arith, within, longer c.args.found.now.keys c.loop-number.found.keys c.loop-number.invariant.extends)
+
+pub loop-number-preserved : goal.loop-number-preserved
+loop-number-preserved c =
     let g = plain c.args.grammar.now in
-    let old = c.args.found.now.keys in let mid = c.loop-before.found.keys in let new = c.join.new.found.keys in
-    let low : c.loop-before.before-index < length c.args.befores.now = omega arith in
+    let old = c.args.found.now.keys in let mid = c.loop-number.found.keys in let new = c.join.new.found.keys in
+    let ns = c.args.befores.now in let i = c.loop-number.number-index in let here = c.item_within-before.result in
+    let low : i < length ns = omega arith in
+    let at : slice_get old (get_or ns i 0) ≡ Some here = got_earlier old mid (get_or ns i 0) here c.loop-number.invariant.extends (c.requires.within (get_or ns i 0) (Contains-get_or ns i 0 low)) c.item_within-before.ensures in
     record {
       few = c.in_ok-join.ensures.few;
-      extends = extends_on old mid new c.loop-before.invariant.extends c.join.ensures.extends;
-      only = each_only g c.args.befores.now c.args.filling c.loop-before.before-index old mid new low c.loop-before.invariant.only c.join.ensures.only;
-      every = one_more_done c.args.befores.now c.loop-before.before-index (λ b. Joins g b c.args.filling → Contains new (moved b c.args.filling.end)) low
-          (λ b there joins. still_there mid new (moved b c.args.filling.end) c.join.ensures.extends (c.loop-before.invariant.every b there joins)) c.in_ok-join.ensures.every;
+      extends = extends_on old mid new c.loop-number.invariant.extends c.join.ensures.extends;
+      only = each_only g c.args.befores.now c.args.filling here i old mid new low at c.loop-number.invariant.only c.join.ensures.only;
+      every = one_more_done 0 ns i (λ n. (x : Item) → slice_get old n ≡ Some x → Joins g x c.args.filling → Contains new (moved x c.args.filling.end)) low
+          (λ n there x is joins. still_there mid new (moved x c.args.filling.end) c.join.ensures.extends (c.loop-number.invariant.every n there x is joins))
+          (λ x is. subst (λ y. Joins g y c.args.filling → Contains new (moved y c.args.filling.end)) (same_Some here x (sym at ∙ is)) c.in_ok-join.ensures.every);
     }
 
 -- where the hints know, the item is there
-pub loop-before-preserved-then-is_known : goal.loop-before-preserved-then-is_known
-loop-before-preserved-then-is_known c =
-    let g = plain c.args.grammar.now in let keys = c.loop-before.found.keys in
-    let low : c.loop-before.before-index < length c.args.befores.now = omega arith in
+pub loop-number-preserved-then-is_known : goal.loop-number-preserved-then-is_known
+loop-number-preserved-then-is_known c =
+    let g = plain c.args.grammar.now in let old = c.args.found.now.keys in let keys = c.loop-number.found.keys in
+    let ns = c.args.befores.now in let i = c.loop-number.number-index in let here = c.item_within-before.result in
+    let low : i < length ns = omega arith in
+    let at : slice_get old (get_or ns i 0) ≡ Some here = got_earlier old keys (get_or ns i 0) here c.loop-number.invariant.extends (c.requires.within (get_or ns i 0) (Contains-get_or ns i 0 low)) c.item_within-before.ensures in
     record {
-      few = c.loop-before.invariant.few;
-      extends = c.loop-before.invariant.extends;
-      only = c.loop-before.invariant.only;
-      every = one_more_done c.args.befores.now c.loop-before.before-index (λ b. Joins g b c.args.filling → Contains keys (moved b c.args.filling.end)) low
-          c.loop-before.invariant.every (λ _. c.is_known.ensures c.if-is_known.true);
+      few = c.loop-number.invariant.few;
+      extends = c.loop-number.invariant.extends;
+      only = c.loop-number.invariant.only;
+      every = one_more_done 0 ns i (λ n. (x : Item) → slice_get old n ≡ Some x → Joins g x c.args.filling → Contains keys (moved x c.args.filling.end)) low c.loop-number.invariant.every
+          (λ x is. subst (λ y. Joins g y c.args.filling → Contains keys (moved y c.args.filling.end)) (same_Some here x (sym at ∙ is)) (λ _. c.is_known.ensures c.if-is_known.true));
     }
 
 pub returns-in_err-join-clause-only : goal.returns-in_err-join-clause-only
 returns-in_err-join-clause-only c =
-    let g = plain c.args.grammar.now in
-    each_only g c.args.befores.now c.args.filling c.loop-before.before-index c.args.found.now.keys c.loop-before.found.keys c.join.new.found.keys (omega arith) c.loop-before.invariant.only c.join.ensures.only
+    let g = plain c.args.grammar.now in let old = c.args.found.now.keys in let mid = c.loop-number.found.keys in
+    let ns = c.args.befores.now in let i = c.loop-number.number-index in let here = c.item_within-before.result in
+    let low : i < length ns = omega arith in
+    let at : slice_get old (get_or ns i 0) ≡ Some here = got_earlier old mid (get_or ns i 0) here c.loop-number.invariant.extends (c.requires.within (get_or ns i 0) (Contains-get_or ns i 0 low)) c.item_within-before.ensures in
+    each_only g c.args.befores.now c.args.filling here i old mid c.join.new.found.keys low at c.loop-number.invariant.only c.join.ensures.only
 
 pub returns-clause-every : goal.returns-clause-every
 returns-clause-every c =
     let g = plain c.args.grammar.now in
-    all_done c.args.befores.now c.loop-before.before-index (λ b. Joins g b c.args.filling → Contains c.loop-before.found.keys (moved b c.args.filling.end)) (omega arith) c.loop-before.invariant.every
+    let all = all_done c.args.befores.now c.loop-number.number-index (λ n. (x : Item) → slice_get c.args.found.now.keys n ≡ Some x → Joins g x c.args.filling → Contains c.loop-number.found.keys (moved x c.args.filling.end)) (omega arith) c.loop-number.invariant.every in
+    λ x is. all is.0 is.1 x is.2

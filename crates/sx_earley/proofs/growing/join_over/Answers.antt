@@ -1,42 +1,63 @@
-use Rattle.std.proofs.Common.{◌<◌, length, Contains, arith}
+use Rattle.std.proofs.Common.{◌≡◌, ◌∙◌, ◌<◌, Some, sym, subst, length, get_or, Contains, arith}
+use Rattle.std.specs.List.{slice_get}
+use Rattle.std.proofs.lemmas.Option.{same_Some}
+use Rattle.std.proofs.lemmas.List.Elements.{Contains-get_or}
+use Rattle.sx_grammar.specs.declared.item.Item.{Item}
 use Rattle.sx_earley.specs.Shown.{plain}
 use Rattle.sx_earley.specs.Chart.{Joins, moved}
-use Rattle.sx_earley.proofs.Growth.{extends_on, still_there}
+use Rattle.sx_earley.proofs.Growth.{extends_on, longer, still_there}
+use Rattle.sx_earley.proofs.Numbering.{got_earlier}
 use Rattle.sx_earley.proofs.Joining.{one_more_done, all_done, over_only}
 use Rattle.sx_earley.proofs.growing.join_over.Goals as goal
 
-pub loop-filling-preserved : goal.loop-filling-preserved
-loop-filling-preserved c =
+-- the number is that of an item that is found
+pub item_within-filling-requires : goal.item_within-filling-requires
+item_within-filling-requires c =
+    let low : c.loop-number.number-index < length c.args.fillings.now = omega arith in
+    let within = c.requires.within (get_or c.args.fillings.now c.loop-number.number-index 0) (Contains-get_or c.args.fillings.now c.loop-number.number-index 0 low) in
+    omega (arith, within, longer c.args.found.now.keys c.loop-number.found.keys c.loop-number.invariant.extends)
+
+pub loop-number-preserved : goal.loop-number-preserved
+loop-number-preserved c =
     let g = plain c.args.grammar.now in
-    let old = c.args.found.now.keys in let mid = c.loop-filling.found.keys in let new = c.join.new.found.keys in
-    let low : c.loop-filling.filling-index < length c.args.fillings.now = omega arith in
+    let old = c.args.found.now.keys in let mid = c.loop-number.found.keys in let new = c.join.new.found.keys in
+    let ns = c.args.fillings.now in let i = c.loop-number.number-index in let here = c.item_within-filling.result in
+    let low : i < length ns = omega arith in
+    let at : slice_get old (get_or ns i 0) ≡ Some here = got_earlier old mid (get_or ns i 0) here c.loop-number.invariant.extends (c.requires.within (get_or ns i 0) (Contains-get_or ns i 0 low)) c.item_within-filling.ensures in
     record {
       few = c.in_ok-join.ensures.few;
-      extends = extends_on old mid new c.loop-filling.invariant.extends c.join.ensures.extends;
-      only = over_only g c.args.before c.args.fillings.now c.loop-filling.filling-index old mid new low c.loop-filling.invariant.only c.join.ensures.only;
-      every = one_more_done c.args.fillings.now c.loop-filling.filling-index (λ b. Joins g c.args.before b → Contains new (moved c.args.before b.end)) low
-          (λ b there joins. still_there mid new (moved c.args.before b.end) c.join.ensures.extends (c.loop-filling.invariant.every b there joins)) c.in_ok-join.ensures.every;
+      extends = extends_on old mid new c.loop-number.invariant.extends c.join.ensures.extends;
+      only = over_only g c.args.before here c.args.fillings.now i old mid new low at c.loop-number.invariant.only c.join.ensures.only;
+      every = one_more_done 0 ns i (λ n. (x : Item) → slice_get old n ≡ Some x → Joins g c.args.before x → Contains new (moved c.args.before x.end)) low
+          (λ n there x is joins. still_there mid new (moved c.args.before x.end) c.join.ensures.extends (c.loop-number.invariant.every n there x is joins))
+          (λ x is. subst (λ y. Joins g c.args.before y → Contains new (moved c.args.before y.end)) (same_Some here x (sym at ∙ is)) c.in_ok-join.ensures.every);
     }
 
 -- where the hints know, the item is there
-pub loop-filling-preserved-then-is_known : goal.loop-filling-preserved-then-is_known
-loop-filling-preserved-then-is_known c =
-    let g = plain c.args.grammar.now in let keys = c.loop-filling.found.keys in
-    let low : c.loop-filling.filling-index < length c.args.fillings.now = omega arith in
+pub loop-number-preserved-then-is_known : goal.loop-number-preserved-then-is_known
+loop-number-preserved-then-is_known c =
+    let g = plain c.args.grammar.now in let old = c.args.found.now.keys in let keys = c.loop-number.found.keys in
+    let ns = c.args.fillings.now in let i = c.loop-number.number-index in let here = c.item_within-filling.result in
+    let low : i < length ns = omega arith in
+    let at : slice_get old (get_or ns i 0) ≡ Some here = got_earlier old keys (get_or ns i 0) here c.loop-number.invariant.extends (c.requires.within (get_or ns i 0) (Contains-get_or ns i 0 low)) c.item_within-filling.ensures in
     record {
-      few = c.loop-filling.invariant.few;
-      extends = c.loop-filling.invariant.extends;
-      only = c.loop-filling.invariant.only;
-      every = one_more_done c.args.fillings.now c.loop-filling.filling-index (λ b. Joins g c.args.before b → Contains keys (moved c.args.before b.end)) low
-          c.loop-filling.invariant.every (λ _. c.is_known.ensures c.if-is_known.true);
+      few = c.loop-number.invariant.few;
+      extends = c.loop-number.invariant.extends;
+      only = c.loop-number.invariant.only;
+      every = one_more_done 0 ns i (λ n. (x : Item) → slice_get old n ≡ Some x → Joins g c.args.before x → Contains keys (moved c.args.before x.end)) low c.loop-number.invariant.every
+          (λ x is. subst (λ y. Joins g c.args.before y → Contains keys (moved c.args.before y.end)) (same_Some here x (sym at ∙ is)) (λ _. c.is_known.ensures c.if-is_known.true));
     }
 
 pub returns-in_err-join-clause-only : goal.returns-in_err-join-clause-only
 returns-in_err-join-clause-only c =
-    let g = plain c.args.grammar.now in
-    over_only g c.args.before c.args.fillings.now c.loop-filling.filling-index c.args.found.now.keys c.loop-filling.found.keys c.join.new.found.keys (omega arith) c.loop-filling.invariant.only c.join.ensures.only
+    let g = plain c.args.grammar.now in let old = c.args.found.now.keys in let mid = c.loop-number.found.keys in
+    let ns = c.args.fillings.now in let i = c.loop-number.number-index in let here = c.item_within-filling.result in
+    let low : i < length ns = omega arith in
+    let at : slice_get old (get_or ns i 0) ≡ Some here = got_earlier old mid (get_or ns i 0) here c.loop-number.invariant.extends (c.requires.within (get_or ns i 0) (Contains-get_or ns i 0 low)) c.item_within-filling.ensures in
+    over_only g c.args.before here c.args.fillings.now i old mid c.join.new.found.keys low at c.loop-number.invariant.only c.join.ensures.only
 
 pub returns-clause-every : goal.returns-clause-every
 returns-clause-every c =
     let g = plain c.args.grammar.now in
-    all_done c.args.fillings.now c.loop-filling.filling-index (λ b. Joins g c.args.before b → Contains c.loop-filling.found.keys (moved c.args.before b.end)) (omega arith) c.loop-filling.invariant.every
+    let all = all_done c.args.fillings.now c.loop-number.number-index (λ n. (x : Item) → slice_get c.args.found.now.keys n ≡ Some x → Joins g c.args.before x → Contains c.loop-number.found.keys (moved c.args.before x.end)) (omega arith) c.loop-number.invariant.every in
+    λ x is. all is.0 is.1 x is.2

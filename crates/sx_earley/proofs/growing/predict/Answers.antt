@@ -3,7 +3,7 @@ use Rattle.sx_grammar.specs.Grammar.{production_of}
 use Rattle.sx_earley.specs.Shown.{plain}
 use Rattle.sx_earley.specs.Chart.{IsPredicted, IsOfSort, beginning}
 use Rattle.sx_earley.proofs.Growth.{extends_on, only_on, still_there}
-use Rattle.sx_earley.proofs.Joining.{one_more_done, all_done}
+use Rattle.sx_earley.proofs.Joining.{no_item, one_more_done, all_done}
 use Rattle.sx_earley.proofs.growing.predict.Goals as goal
 
 pub loop-opening-preserved : goal.loop-opening-preserved
@@ -16,7 +16,7 @@ loop-opening-preserved c =
       few = c.in_ok-predict_head.ensures.few;
       extends = extends_on old mid new c.loop-opening.invariant.extends c.predict_head.ensures.extends;
       only = only_on old mid new (IsPredicted g ask.sort ask.least ask.place) c.loop-opening.invariant.only c.predict_head.ensures.only;
-      every = one_more_done c.args.openings.now c.loop-opening.opening-index (λ o. IsOfSort (production_of g o.head) ask.sort ask.least → Contains new (beginning o.head ask.place)) low
+      every = one_more_done no_item c.args.openings.now c.loop-opening.opening-index (λ o. IsOfSort (production_of g o.head) ask.sort ask.least → Contains new (beginning o.head ask.place)) low
           (λ o there is. still_there mid new (beginning o.head ask.place) c.predict_head.ensures.extends (c.loop-opening.invariant.every o there is)) c.in_ok-predict_head.ensures.every;
     }
 

@@ -1,7 +1,8 @@
-use Rattle.std.proofs.Common.{◌+◌}
+use Rattle.std.proofs.Common.{◌+◌, arith}
 use Rattle.sx_earley.specs.Shown.{plain, tokens_of}
-use Rattle.sx_earley.specs.Chart.{AllFollow, AllAsked, moved, beginning}
-use Rattle.sx_earley.proofs.Growth.{extends_on, still_there, ok_then}
+use Rattle.sx_earley.specs.Chart.{AllFollow, IsNumbered, AllAsked, moved, beginning}
+use Rattle.sx_earley.proofs.Growth.{extends_on, longer, still_there, ok_then}
+use Rattle.sx_earley.proofs.Numbering.{numbered_later}
 use Rattle.sx_earley.proofs.Asking.{asked_on}
 use Rattle.sx_earley.proofs.Treating.{after_prediction, after_scan, after_each, after_over}
 use Rattle.sx_earley.proofs.growing.treat.Goals as goal
@@ -25,7 +26,8 @@ returns-in_err-join_each-clause-only c =
     let g = plain c.args.given.grammar.now in let ts = tokens_of c.args.given.grammar.now c.args.given.shown.now in
     let k0 = c.args.found.now.keys in let k1 = c.predict_next.new.found.keys in let k2 = c.scan.new.found.keys in let k3 = c.join_each.new.found.keys in
     let bs = c.args.near.befores.now in let fs = c.args.near.fillings.now in
-    after_each g ts bs fs c.args.item k0 k2 k3
+    let e02 = extends_on k0 k1 k2 c.predict_next.ensures.extends c.scan.ensures.extends in
+    after_each g ts bs fs c.args.item k0 k2 k3 e02 c.requires.befores
     (after_scan g ts bs fs c.args.item k0 k1 k2
     (after_prediction g ts bs fs c.args.item k0 k0 k1 c.predict_next.ensures.only) c.scan.ensures.only) c.join_each.ensures.only
 
@@ -34,8 +36,9 @@ returns-clause-only c =
     let g = plain c.args.given.grammar.now in let ts = tokens_of c.args.given.grammar.now c.args.given.shown.now in
     let k0 = c.args.found.now.keys in let k1 = c.predict_next.new.found.keys in let k2 = c.scan.new.found.keys in let k3 = c.join_each.new.found.keys in let k4 = c.join_over.new.found.keys in
     let bs = c.args.near.befores.now in let fs = c.args.near.fillings.now in
-    after_over g ts bs fs c.args.item k0 k3 k4
-    (after_each g ts bs fs c.args.item k0 k2 k3
+    let e02 = extends_on k0 k1 k2 c.predict_next.ensures.extends c.scan.ensures.extends in
+    after_over g ts bs fs c.args.item k0 k3 k4 (extends_on k0 k2 k3 e02 c.join_each.ensures.extends) c.requires.fillings
+    (after_each g ts bs fs c.args.item k0 k2 k3 e02 c.requires.befores
     (after_scan g ts bs fs c.args.item k0 k1 k2
     (after_prediction g ts bs fs c.args.item k0 k0 k1 c.predict_next.ensures.only) c.scan.ensures.only) c.join_each.ensures.only)
     c.join_over.ensures.only
@@ -43,17 +46,20 @@ returns-clause-only c =
 pub returns-clause-every : goal.returns-clause-every
 returns-clause-every c =
     let g = plain c.args.given.grammar.now in let ts = tokens_of c.args.given.grammar.now c.args.given.shown.now in
+    let k0 = c.args.found.now.keys in let bs = c.args.near.befores.now in let fs = c.args.near.fillings.now in
     let k1 = c.predict_next.new.found.keys in let k2 = c.scan.new.found.keys in let k3 = c.join_each.new.found.keys in let k4 = c.join_over.new.found.keys in
+    let e02 = extends_on k0 k1 k2 c.predict_next.ensures.extends c.scan.ensures.extends in
+    let e03 = extends_on k0 k2 k3 e02 c.join_each.ensures.extends in
     let e34 = c.join_over.ensures.extends in
     let e24 = extends_on k2 k3 k4 c.join_each.ensures.extends e34 in
     let e14 = extends_on k1 k2 k4 c.scan.ensures.extends e24 in
     let item = c.args.item in
-    ok_then c.join_over.result _ (AllFollow g ts c.args.near.befores.now c.args.near.fillings.now item k4) c.join_over.ensures.every
+    ok_then c.join_over.result _ (AllFollow g ts (IsNumbered k0 bs) (IsNumbered k0 fs) item k4) c.join_over.ensures.every
     (λ filling. record {
       predictions = λ sort least head waits fits. still_there k1 k4 (beginning head item.end) e14 (c.in_ok-predict_next.ensures.every sort least head waits fits);
       scanned = λ reads. still_there k2 k4 (moved item (item.end + 1)) e24 (c.in_ok-scan.ensures.every reads);
-      filled = λ before there joins. still_there k3 k4 (moved before item.end) e34 (c.in_ok-join_each.ensures.every before there joins);
-      filling = filling;
+      filled = λ before there joins. still_there k3 k4 (moved before item.end) e34 (c.in_ok-join_each.ensures.every before (numbered_later k0 k2 bs before e02 there) joins);
+      filling = λ other there joins. filling other (numbered_later k0 k3 fs other e03 there) joins;
     })
 
 pub returns-clause-asked : goal.returns-clause-asked
@@ -73,3 +79,12 @@ returns-in_err-join_each-clause-extends c = extends_on _ _ _ c.predict_next.ensu
 pub returns-clause-extends : goal.returns-clause-extends
 returns-clause-extends c =
     extends_on _ _ _ c.predict_next.ensures.extends (extends_on _ _ _ c.scan.ensures.extends (extends_on _ _ _ c.join_each.ensures.extends c.join_over.ensures.extends))
+
+-- the numbers stay those of items that are found
+pub join_each-requires-clause-within : goal.join_each-requires-clause-within
+join_each-requires-clause-within c = λ n there.
+    omega (arith, c.requires.befores n there, longer _ _ (extends_on _ _ _ c.predict_next.ensures.extends c.scan.ensures.extends))
+
+pub join_over-requires-clause-within : goal.join_over-requires-clause-within
+join_over-requires-clause-within c = λ n there.
+    omega (arith, c.requires.fillings n there, longer _ _ (extends_on _ _ _ c.predict_next.ensures.extends (extends_on _ _ _ c.scan.ensures.extends c.join_each.ensures.extends)))

@@ -1,35 +1,32 @@
-use Rattle.std.proofs.Common.{◌≡◌, ◌∙◌, refl, ap, sym, subst, cond, Some, None, ◌++◌, ◌∷◌, []}
+use Rattle.std.proofs.Common.{◌≡◌, ◌∙◌, refl, ap, sym, subst, cond, Some, ◌++◌, ◌∷◌, []}
 use Rattle.std.specs.Option.{option_copied_mut, IsSome}
 use Rattle.std.specs.HashMap.{get_by}
-use Rattle.sx_earley.specs.Table.{same_slot, items_of}
+use Rattle.sx_earley.specs.Table.{same_slot, row_in}
 use Rattle.sx_earley.proofs.Filing.{filed_kept, filed_only}
 use Rattle.sx_earley.proofs.table.Table.file.Goals as goal
 
 pub returns-in-Some-clause-kept : goal.returns-in-Some-clause-kept
-returns-in-Some-clause-kept c =
+returns-in-Some-clause-kept g c =
     let at : get_by (same_slot c.args.slot) c.args.self.now.rows ≡ Some c.in-Some.row.now = sym c.in-Some.ensures.value in
-    filed_kept (λ s. get_by (same_slot s) c.args.self.now.rows) (λ s. get_by (same_slot s) (c.get_mut.follows.lender c.push.new.self)) c.args.slot c.push.new.self c.args.item
-    (c.in_ok-push.ensures.items ∙ ap (λ o. items_of o ++ c.args.item ∷ []) (sym at))
+    filed_kept (λ s. get_by (same_slot s) c.args.self.now.rows) (λ s. get_by (same_slot s) (c.get_mut.follows.lender c.push.new.self)) c.args.slot c.push.new.self c.args.element
+    (c.in_ok-push.ensures.items ∙ ap (λ o. row_in o ++ c.args.element ∷ []) (sym at))
     ((c.get_mut.follows.holds c.push.new.self).3 (subst IsSome (sym at) refl)).0
 
 pub returns-in-Some-clause-only : goal.returns-in-Some-clause-only
-returns-in-Some-clause-only c =
+returns-in-Some-clause-only g c =
     let at : get_by (same_slot c.args.slot) c.args.self.now.rows ≡ Some c.in-Some.row.now = sym c.in-Some.ensures.value in
-    filed_only (λ s. get_by (same_slot s) c.args.self.now.rows) (λ s. get_by (same_slot s) (c.get_mut.follows.lender c.push.new.self)) c.args.slot c.push.new.self c.args.item
-    (c.in_ok-push.ensures.items ∙ ap (λ o. items_of o ++ c.args.item ∷ []) (sym at))
+    filed_only (λ s. get_by (same_slot s) c.args.self.now.rows) (λ s. get_by (same_slot s) (c.get_mut.follows.lender c.push.new.self)) c.args.slot c.push.new.self c.args.element
+    (c.in_ok-push.ensures.items ∙ ap (λ o. row_in o ++ c.args.element ∷ []) (sym at))
     ((c.get_mut.follows.holds c.push.new.self).3 (subst IsSome (sym at) refl)).0
 
-none_is : (c : goal.Joined-branch-4) → get_by (same_slot c.args.slot) c.args.self.now.rows ≡ None
-none_is c = sym c.get_mut.ensures.value ∙ ap (λ o. option_copied_mut o) c.in_default.is
-
 pub returns-clause-kept : goal.returns-clause-kept
-returns-clause-kept c =
-    filed_kept (λ s. get_by (same_slot s) c.args.self.now.rows) (λ s. get_by (same_slot s) c.insert.new.self) c.args.slot c.push-2.new.self c.args.item
-    (c.in_ok-push-2.ensures.items ∙ ap (λ l. l ++ c.args.item ∷ []) (c.new-row.ensures.items ∙ sym (ap items_of (none_is c))))
+returns-clause-kept g c =
+    filed_kept (λ s. get_by (same_slot s) c.args.self.now.rows) (λ s. get_by (same_slot s) c.insert.new.self) c.args.slot c.push-2.new.self c.args.element
+    (c.in_ok-push-2.ensures.items ∙ ap (λ l. l ++ c.args.element ∷ []) (c.new-row.ensures.items ∙ sym (ap row_in (sym c.get_mut.ensures.value ∙ ap (λ o. option_copied_mut o) c.in_default.is))))
     (λ q. c.in_ok-insert.ensures.updates.0 q ∙ ap (λ m. cond (same_slot c.args.slot q) (Some c.push-2.new.self) (get_by (same_slot q) m)) c.get_mut.follows.holds-at-none)
 
 pub returns-clause-only : goal.returns-clause-only
-returns-clause-only c =
-    filed_only (λ s. get_by (same_slot s) c.args.self.now.rows) (λ s. get_by (same_slot s) c.insert.new.self) c.args.slot c.push-2.new.self c.args.item
-    (c.in_ok-push-2.ensures.items ∙ ap (λ l. l ++ c.args.item ∷ []) (c.new-row.ensures.items ∙ sym (ap items_of (none_is c))))
+returns-clause-only g c =
+    filed_only (λ s. get_by (same_slot s) c.args.self.now.rows) (λ s. get_by (same_slot s) c.insert.new.self) c.args.slot c.push-2.new.self c.args.element
+    (c.in_ok-push-2.ensures.items ∙ ap (λ l. l ++ c.args.element ∷ []) (c.new-row.ensures.items ∙ sym (ap row_in (sym c.get_mut.ensures.value ∙ ap (λ o. option_copied_mut o) c.in_default.is))))
     (λ q. c.in_ok-insert.ensures.updates.0 q ∙ ap (λ m. cond (same_slot c.args.slot q) (Some c.push-2.new.self) (get_by (same_slot q) m)) c.get_mut.follows.holds-at-none)
