@@ -17,6 +17,7 @@ use Rattle.sx_arena.specs.declared.binds.Binds.{Binds}
 use Rattle.sx_arena.specs.Grown.{Extends}
 use Rattle.sx_arena.specs.Arena.{SmallVec, trees, tree_at, shape_tree, IsArena, IsHeld, AreBelow, KidsBelow}
 use Rattle.sx_arena.specs.Binds.{envs, env_at, IsBinds, BindsGrow, IsFit}
+use Rattle.sx_arena.specs.Places.{AreHeld}
 use Rattle.sx_arena.proofs.Growing.{extends-same, extends-then, extends-length}
 use Rattle.sx_arena.proofs.Arenas.{maps_same, below_more}
 use Rattle.sx_arena.proofs.BindChains.{envs_stay, binds_then}
@@ -100,15 +101,22 @@ held_after old mid new i t u x e h = record {
   is = h.is ∙ e;
 }
 
-pub making_end : (old mid new : Arena) (b : Binds) (env label : ℕ) (parts : List ℕ) (pattern : Term) (kids : Vec Term Global) (ts : List Term) (i : ℕ) →
-    Making (trees old) mid b env parts ts i → length ts ≤ i → ts ≡ kids.items → pattern ≡ Node label kids → (j : ℕ) →
-    IsHeld mid new j (node label (forest (map (tree_at (trees mid)) parts))) → IsHeld old new j (instance (filled (env_at (envs (trees old) b) env)) (tree pattern))
-making_end old mid new b env label parts pattern kids ts i m l e p j h =
-    let F = instance (filled (env_at (envs (trees old) b) env)) in
-    let a : map (tree_at (trees mid)) parts ≡ map F (map tree kids.items) = m.are ∙ ap (λ xs. map F (map tree xs)) (take_all i ts l ∙ e) in
-    held_after old mid new j (node label (forest (map (tree_at (trees mid)) parts))) (F (tree pattern)) m.extends
-    (ap (λ xs. node label (forest xs)) a ∙ ap (node label) (sym (instances_forest (filled (env_at (envs (trees old) b) env)) (map tree kids.items))) ∙ sym (ap F (tree-at_node pattern label kids p)))
-    h
+-- all of them are made
+pub making_all : (old mid : Arena) (b : Binds) (env : ℕ) (parts : List ℕ) (ts : List Term) (i : ℕ) → Making (trees old) mid b env parts ts i → length ts ≤ i →
+    AreHeld old mid parts (map (instance (filled (env_at (envs (trees old) b) env))) (map tree ts))
+making_all old mid b env parts ts i m l = record {
+  arena = m.arena;
+  extends = m.extends;
+  within = m.below;
+  are = m.are ∙ ap (λ xs. map (instance (filled (env_at (envs (trees old) b) env))) (map tree xs)) (take_all i ts l);
+}
+
+-- and then their node
+pub node_made : (old mid new : Arena) (s : ℕ → Tree) (label : ℕ) (parts : List ℕ) (ts : List Tree) → AreHeld old mid parts (map (instance s) ts) → (j : ℕ) →
+    IsHeld mid new j (node label (forest (map (tree_at (trees mid)) parts))) → IsHeld old new j (instance s (node label (forest ts)))
+node_made old mid new s label parts ts m j h =
+    held_after old mid new j (node label (forest (map (tree_at (trees mid)) parts))) (instance s (node label (forest ts))) m.extends
+    (ap (λ xs. node label (forest xs)) m.are ∙ ap (node label) (sym (instances_forest s ts))) h
 
 -- a node against a node
 pub match_nodes : (p t : Tree) (l m : ℕ) (ps ts : Trees) (env : Assignment) → p ≡ node l ps → t ≡ node m ts → l ≡ m → match p t env ≡ match_kids ps ts env

@@ -5,9 +5,10 @@ ghost use Rattle.std.specs.Prelude.{take, None};
 ghost use Rattle.sx_term.specs.Tree.{node, lexeme, hole, forest, greatest_depth, total_size};
 ghost use Rattle.sx_arena.specs.Arena.{trees, tree_at, cell_tree, IsArena, IsCell, AreBelow};
 ghost use Rattle.sx_arena.specs.Arena.{IsNewCell, IsPlace, IsRead, IsHeld};
+ghost use Rattle.sx_arena.specs.Hashed.{mixed, hash_of};
 
 use crate::cells::Cells;
-use crate::shape::{Kids, Shape};
+use crate::shape::{Kids, Shape, hash, node_hash};
 use std::alloc::Global;
 use sx_term::{LexKind, NoMemory, Text};
 
@@ -18,6 +19,14 @@ pub struct Cell {
     pub shape: Shape,
     pub depth: u64,
     pub size: u64,
+}
+
+/// The greatest depth of some terms, and their sizes together, or the greatest number where it is
+/// more.
+#[derive(Clone, Copy)]
+pub(crate) struct Extent {
+    pub(crate) depth: u64,
+    pub(crate) size: u64,
 }
 
 /// The terms.
@@ -52,33 +61,40 @@ impl Arena {
         self.cells.truncate(length);
     }
 
-    /// The number of the term with this cell, or None where it is none of the terms.
-    fn found(&self, cell: &Cell) -> Option<usize>
+    /// The number of the term with this cell, whose shape has this hash, or None where it is none
+    /// of the terms.
+    fn found(&self, cell: &Cell, hash: u64) -> Option<usize>
         requires arena { IsArena self.now }
         requires cell { IsCell (trees self.now) cell.now }
+        requires hash { hash ≡ hash_of cell.now.shape }
         ensures { IsPlace (trees self.now) (cell_tree (trees self.now) cell.now) result }
     {
-        self.cells.find(&cell.shape)
+        self.cells.find(&cell.shape, hash)
     }
 
-    /// The number of the node with these kids, or None where it is none of the terms.
-    fn found_node(&self, label: u32, kids: &[usize]) -> Option<usize>
+    /// The number of the node with these kids, of which this is the hash, or None where it is none
+    /// of the terms.
+    #[inline(always)]
+    fn found_node(&self, label: u32, kids: &[usize], hash: u64) -> Option<usize>
         requires arena { IsArena self.now }
         requires kids { AreBelow (length (trees self.now)) kids.now }
+        requires hash { hash ≡ mixed label kids.now }
         ensures { IsPlace (trees self.now)
             (node label (forest (map (tree_at (trees self.now)) kids.now))) result }
     {
-        self.cells.find_node(label, kids)
+        self.cells.find_node(label, kids, hash)
     }
 
-    /// The number of a new term, of which this is the cell.
-    fn add(&mut self, cell: Cell) -> Result<usize, NoMemory>
+    /// The number of a new term, of which this is the cell, whose shape has this hash.
+    #[inline(always)]
+    fn add(&mut self, cell: Cell, hash: u64) -> Result<usize, NoMemory>
         requires arena { IsArena self.old }
         requires cell { IsNewCell (trees self.old) cell }
+        requires hash { hash ≡ hash_of cell.shape }
         ensures { IfOk result (λ i. IsHeld self.old self.new i (cell_tree (trees self.old) cell)) }
     {
         let index = self.cells.len();
-        self.cells.push(cell)?;
+        self.cells.push(cell, hash)?;
         Ok(index)
     }
 
@@ -88,13 +104,15 @@ impl Arena {
         requires cell { IsCell (trees self.old) cell }
         ensures { IfOk result (λ i. IsHeld self.old self.new i (cell_tree (trees self.old) cell)) }
     {
-        match self.found(&cell) {
+        let hash = hash(&cell.shape);
+        match self.found(&cell, hash) {
             Some(index) => Ok(index),
-            None => self.add(cell),
+            None => self.add(cell, hash),
         }
     }
 
     /// The cell at this number.
+    #[inline(always)]
     pub fn cell(&self, index: usize) -> &Cell
         requires arena { IsArena self.now }
         requires within { index < length (trees self.now) }
@@ -103,50 +121,47 @@ impl Arena {
         self.cells.get(index)
     }
 
-    /// The greatest depth of the terms.
-    fn depth_over(&self, kids: &[usize]) -> u64
+    /// The greatest depth of the terms, and their sizes together.
+    #[inline(always)]
+    pub(crate) fn extent_of(&self, kids: &[usize]) -> Extent
         requires arena { IsArena self.now }
         requires kids { AreBelow (length (trees self.now)) kids.now }
-        ensures { result ≡ min (greatest_depth (forest (map (tree_at (trees self.now)) kids.now)))
-            (2 ^ 64 - 1) }
+        ensures depth { result.depth
+            ≡ min (greatest_depth (forest (map (tree_at (trees self.now)) kids.now))) (2 ^ 64 - 1) }
+        ensures size { result.size
+            ≡ min (total_size (forest (map (tree_at (trees self.now)) kids.now))) (2 ^ 64 - 1) }
     {
         let mut most: u64 = 0;
-        for kid in kids {
-            most = most.max(self.cell(*kid).depth);
-        }
-        most
-    }
-
-    /// The sizes of the terms together.
-    pub(crate) fn size_over(&self, kids: &[usize]) -> u64
-        requires arena { IsArena self.now }
-        requires kids { AreBelow (length (trees self.now)) kids.now }
-        ensures { result ≡ min (total_size (forest (map (tree_at (trees self.now)) kids.now)))
-            (2 ^ 64 - 1) }
-    {
         let mut total: u64 = 0;
         for kid in kids {
-            total = total.saturating_add(self.cell(*kid).size);
+            let cell = self.cell(*kid);
+            most = most.max(cell.depth);
+            total = total.saturating_add(cell.size);
         }
-        total
+        Extent {
+            depth: most,
+            size: total,
+        }
     }
 
-    /// The number of a new node with these kids.
-    fn add_node(&mut self, label: u32, kids: Kids) -> Result<usize, NoMemory>
+    /// The number of a new node with these kids, of which this is the hash.
+    #[inline(always)]
+    fn add_node(&mut self, label: u32, kids: Kids, hash: u64) -> Result<usize, NoMemory>
         requires arena { IsArena self.old }
         requires kids { AreBelow (length (trees self.old)) kids.items }
+        requires hash { hash ≡ mixed label kids.items }
         requires new { IsPlace (trees self.old)
             (node label (forest (map (tree_at (trees self.old)) kids.items))) None }
         ensures { IfOk result (λ i. IsHeld self.old self.new i
             (node label (forest (map (tree_at (trees self.old)) kids.items)))) }
     {
-        let depth = self.depth_over(kids.as_slice()).saturating_add(1);
-        let size = self.size_over(kids.as_slice()).saturating_add(1);
-        self.add(Cell {
+        let below = self.extent_of(kids.as_slice());
+        let cell = Cell {
             shape: Shape::Node { label, kids },
-            depth,
-            size,
-        })
+            depth: below.depth.saturating_add(1),
+            size: below.size.saturating_add(1),
+        };
+        self.add(cell, hash)
     }
 
     /// The number of the node with these kids.
@@ -156,13 +171,35 @@ impl Arena {
         ensures { IfOk result (λ i. IsHeld self.old self.new i
             (node label (forest (map (tree_at (trees self.old)) kids.items)))) }
     {
-        match self.found_node(label, kids.as_slice()) {
+        let hash = node_hash(label, kids.as_slice());
+        match self.found_node(label, kids.as_slice(), hash) {
             Some(index) => Ok(index),
-            None => self.add_node(label, Kids::from_vec(kids)),
+            None => self.add_node(label, Kids::from_vec(kids), hash),
         }
     }
 
+    /// The number of a new node with a copy of these kids, of which this is the hash.
+    #[inline(never)]
+    fn add_node_of(
+        &mut self,
+        alloc: Global,
+        label: u32,
+        kids: &[usize],
+        hash: u64,
+    ) -> Result<usize, NoMemory>
+        requires arena { IsArena self.old }
+        requires kids { AreBelow (length (trees self.old)) kids.now }
+        requires hash { hash ≡ mixed label kids.now }
+        requires new { IsPlace (trees self.old)
+            (node label (forest (map (tree_at (trees self.old)) kids.now))) None }
+        ensures { IfOk result (λ i. IsHeld self.old self.new i
+            (node label (forest (map (tree_at (trees self.old)) kids.now)))) }
+    {
+        self.add_node(label, Kids::from_slice(alloc, kids)?, hash)
+    }
+
     /// The number of the node with these kids, which are copied where the node is new.
+    #[inline(always)]
     pub(crate) fn node_of(
         &mut self,
         alloc: Global,
@@ -174,9 +211,10 @@ impl Arena {
         ensures { IfOk result (λ i. IsHeld self.old self.new i
             (node label (forest (map (tree_at (trees self.old)) kids.now)))) }
     {
-        match self.found_node(label, kids) {
+        let hash = node_hash(label, kids);
+        match self.found_node(label, kids, hash) {
             Some(index) => Ok(index),
-            None => self.add_node(label, Kids::from_slice(alloc, kids)?),
+            None => self.add_node_of(alloc, label, kids, hash),
         }
     }
 

@@ -36,7 +36,7 @@ fn is_worth(arena: &Arena, first: usize, numbers: &[usize]) -> bool
         Some(_) => false,
         None => {
             let dropped = arena.len().saturating_sub(first) as u64;
-            arena.size_over(numbers) <= dropped / 2
+            arena.extent_of(numbers).size <= dropped / 2
         }
     }
 }

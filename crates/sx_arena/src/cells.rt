@@ -3,11 +3,11 @@
 ghost use Rattle.std.specs.Prelude.{◌≡◌, ◌+◌, ◌<◌, ◌≤◌, [], ◌∷◌, ◌++◌, OnOk};
 ghost use Rattle.std.specs.Prelude.{length, take, min, get_or};
 ghost use Rattle.sx_arena.specs.Slots.{slot_of, AreLinked, IsFind};
-ghost use Rattle.sx_arena.specs.Hashed.{is_node_of};
+ghost use Rattle.sx_arena.specs.Hashed.{mixed, hash_of, is_node_of};
 ghost use Rattle.sx_arena.specs.contracts.shape.ShapePartialEq.TheImpl.{eq-value as shape_eq};
 
 use crate::arena::Cell;
-use crate::shape::{Shape, hash, is_node, mix, node_hash};
+use crate::shape::{Shape, is_node, mix};
 use std::alloc::Global;
 use std::marker::Model;
 use sx_term::NoMemory;
@@ -19,11 +19,12 @@ const FIRST_SLOTS: usize = 64;
 const HALF: u64 = 0x1_0000_0000;
 
 /// Cells in the order in which they were put. The hash of a cell names its slot. Of each slot the
-/// last cell in it is known, and of each cell the one before it in its slot: by the numbers of the
-/// cells plus one, and 0 where there is none.
+/// last cell in it is known, and of each cell its hash and the one before it in its slot: by the
+/// numbers of the cells plus one, and 0 where there is none.
 #[derive(Drop)]
 pub struct Cells {
     cells: Vec<Cell>,
+    hashes: Vec<u64>,
     links: Vec<usize>,
     lasts: Vec<usize>,
 }
@@ -37,10 +38,11 @@ impl Model for Cells {
 
     ghost view = { λ c. c.cells.items };
 
-    ghost invariant = { λ c. IsTable c.cells.items c.links.items c.lasts.items };
+    ghost invariant = { λ c. IsTable c.cells.items c.hashes.items c.links.items c.lasts.items };
 }
 
 /// The slot of a hash, of so many.
+#[inline(always)]
 fn slot(hash: u64, slots: usize) -> usize
     requires { 0 < slots }
     ensures value { result ≡ slot_of slots hash }
@@ -50,60 +52,63 @@ fn slot(hash: u64, slots: usize) -> usize
 }
 
 /// The cell with this number is put into its slot.
-fn link(cells: &[Cell], links: &mut [usize], lasts: &mut [usize], number: usize)
-    requires number { number < length cells.now }
+#[inline(always)]
+fn link(hashes: &[u64], links: &mut [usize], lasts: &mut [usize], number: usize)
+    requires number { number < length hashes.now }
     requires room { 0 < length lasts.old }
-    requires links { length links.old ≡ length cells.now }
-    requires linked { AreLinked (length lasts.old) cells.now links.old lasts.old number }
-    ensures linked { AreLinked (length lasts.old) cells.now links.new lasts.new (number + 1) }
+    requires links { length links.old ≡ length hashes.now }
+    requires linked { AreLinked (length lasts.old) hashes.now links.old lasts.old number }
+    ensures linked { AreLinked (length lasts.old) hashes.now links.new lasts.new (number + 1) }
     ensures links { length links.new ≡ length links.old }
     ensures lasts { length lasts.new ≡ length lasts.old }
 {
-    let slot = slot(hash(&cells[number].shape), lasts.len());
+    let slot = slot(hashes[number], lasts.len());
     links[number] = lasts[slot];
     lasts[slot] = number + 1;
 }
 
 /// All cells are put into more slots.
+#[cold]
+#[inline(never)]
 fn grow(
     alloc: Global,
-    cells: &[Cell],
+    hashes: &[u64],
     links: &mut [usize],
     lasts: &mut Vec<usize>,
 ) -> Result<(), NoMemory>
-    requires links { length links.old ≡ length cells.now }
-    requires full { length lasts.old.items ≡ length cells.now }
-    requires linked { AreLinked (length lasts.old.items) cells.now links.old lasts.old.items
-        (length cells.now) }
-    ensures linked { AreLinked (length lasts.new.items) cells.now links.new lasts.new.items
-        (length cells.now) }
+    requires links { length links.old ≡ length hashes.now }
+    requires full { length lasts.old.items ≡ length hashes.now }
+    requires linked { AreLinked (length lasts.old.items) hashes.now links.old lasts.old.items
+        (length hashes.now) }
+    ensures linked { AreLinked (length lasts.new.items) hashes.now links.new lasts.new.items
+        (length hashes.now) }
     ensures links { length links.new ≡ length links.old }
     ensures grows { length lasts.old.items ≤ length lasts.new.items }
-    ensures room { OnOk result (length cells.now < length lasts.new.items) }
+    ensures room { OnOk result (length hashes.now < length lasts.new.items) }
 {
     let slots = (lasts.len() * 2).max(FIRST_SLOTS);
     let mut wider = Vec::from_elem(alloc, 0, slots)?;
-    for number in 0..cells.len() {
-        link(cells, links, wider.as_mut_slice(), number);
+    for number in 0..hashes.len() {
+        link(hashes, links, wider.as_mut_slice(), number);
     }
     *lasts = wider;
     Ok(())
 }
 
 /// The cells past the first so many are taken out of their slots.
-fn unlink(cells: &[Cell], links: &[usize], lasts: &mut [usize], many: usize)
-    requires room { length cells.now ≤ length lasts.old }
-    requires links { length links.now ≡ length cells.now }
-    requires linked { AreLinked (length lasts.old) cells.now links.now lasts.old
-        (length cells.now) }
-    ensures linked { AreLinked (length lasts.old) cells.now links.now lasts.new
-        (min many (length cells.now)) }
+fn unlink(hashes: &[u64], links: &[usize], lasts: &mut [usize], many: usize)
+    requires room { length hashes.now ≤ length lasts.old }
+    requires links { length links.now ≡ length hashes.now }
+    requires linked { AreLinked (length lasts.old) hashes.now links.now lasts.old
+        (length hashes.now) }
+    ensures linked { AreLinked (length lasts.old) hashes.now links.now lasts.new
+        (min many (length hashes.now)) }
     ensures lasts { length lasts.new ≡ length lasts.old }
 {
-    let mut number = cells.len();
+    let mut number = hashes.len();
     while number > many {
         number -= 1;
-        let slot = slot(hash(&cells[number].shape), lasts.len());
+        let slot = slot(hashes[number], lasts.len());
         lasts[slot] = links[number];
     }
 }
@@ -115,6 +120,7 @@ impl Cells {
     {
         Cells {
             cells: Vec::new(alloc),
+            hashes: Vec::new(alloc),
             links: Vec::new(alloc),
             lasts: Vec::new(alloc),
         }
@@ -128,6 +134,7 @@ impl Cells {
     }
 
     /// The cell with this number.
+    #[inline(always)]
     pub(crate) fn get(&self, number: usize) -> &Cell
         requires { number < length self.now }
         ensures { result.now ≡ get_or self.now number result.now }
@@ -135,14 +142,15 @@ impl Cells {
         &self.cells[number]
     }
 
-    /// The number of the cell with this shape.
-    pub(crate) fn find(&self, shape: &Shape) -> Option<usize>
+    /// The number of the cell with this shape, of which this is the hash.
+    pub(crate) fn find(&self, shape: &Shape, hash: u64) -> Option<usize>
+        requires hash { hash ≡ hash_of shape.now }
         ensures { IsFind (shape_eq.it shape.now) self.now result }
     {
         if self.lasts.is_empty() {
             return None;
         }
-        let mut here = self.lasts[slot(hash(shape), self.lasts.len())];
+        let mut here = self.lasts[slot(hash, self.lasts.len())];
         while here > 0 {
             if *shape == self.cells[here - 1].shape {
                 return Some(here - 1);
@@ -152,16 +160,19 @@ impl Cells {
         None
     }
 
-    /// The number of the cell that is a node with this label and these kids.
-    pub(crate) fn find_node(&self, label: u32, kids: &[usize]) -> Option<usize>
+    /// The number of the cell that is a node with this label and these kids, of which this is the
+    /// hash.
+    #[inline(always)]
+    pub(crate) fn find_node(&self, label: u32, kids: &[usize], hash: u64) -> Option<usize>
+        requires hash { hash ≡ mixed label kids.now }
         ensures { IsFind (is_node_of label kids.now) self.now result }
     {
         if self.lasts.is_empty() {
             return None;
         }
-        let mut here = self.lasts[slot(node_hash(label, kids), self.lasts.len())];
+        let mut here = self.lasts[slot(hash, self.lasts.len())];
         while here > 0 {
-            if is_node(&self.cells[here - 1].shape, label, kids) {
+            if self.hashes[here - 1] == hash && is_node(&self.cells[here - 1].shape, label, kids) {
                 return Some(here - 1);
             }
             here = self.links[here - 1];
@@ -169,25 +180,29 @@ impl Cells {
         None
     }
 
-    /// One more cell, the last.
-    pub(crate) fn push(&mut self, cell: Cell) -> Result<(), NoMemory>
+    /// One more cell, the last, whose shape has this hash.
+    #[inline(always)]
+    pub(crate) fn push(&mut self, cell: Cell, hash: u64) -> Result<(), NoMemory>
+        requires hash { hash ≡ hash_of cell.shape }
         ensures { OnOk result (self.new ≡ self.old ++ cell ∷ []) }
     {
-        let number = self.cells.len();
+        let number = self.hashes.len();
         if number == self.lasts.len() {
             let alloc = *self.cells.allocator();
             grow(
                 alloc,
-                self.cells.as_slice(),
+                self.hashes.as_slice(),
                 self.links.as_mut_slice(),
                 &mut self.lasts,
             )?;
         }
         self.links.reserve(1)?;
+        self.hashes.reserve(1)?;
         self.cells.push(cell)?;
+        self.hashes.push_reserved(hash);
         self.links.push_reserved(0);
         link(
-            self.cells.as_slice(),
+            self.hashes.as_slice(),
             self.links.as_mut_slice(),
             self.lasts.as_mut_slice(),
             number,
@@ -200,12 +215,13 @@ impl Cells {
         ensures { self.new ≡ take many self.old }
     {
         unlink(
-            self.cells.as_slice(),
+            self.hashes.as_slice(),
             self.links.as_slice(),
             self.lasts.as_mut_slice(),
             many,
         );
         self.cells.truncate(many);
+        self.hashes.truncate(many);
         self.links.truncate(many);
     }
 }

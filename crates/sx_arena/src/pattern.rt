@@ -1,20 +1,104 @@
 //! Patterns: their instances, and matching.
 
-ghost use Rattle.std.specs.Prelude.{◌≡◌, ℕ, ◌≤◌, ◌<◌, IfOk, OnOk, length};
-ghost use Rattle.sx_term.specs.Tree.{depth_of};
+ghost use Rattle.std.specs.Prelude.{◌≡◌, ℕ, ◌≤◌, ◌<◌, IfOk, OnOk, length, map};
+ghost use Rattle.sx_term.specs.Tree.{node, lexeme, hole, forest, depth_of, greatest_depth};
 ghost use Rattle.sx_term.specs.Term.{tree};
 ghost use Rattle.sx_rules.specs.Instances.{instance};
-ghost use Rattle.sx_arena.specs.Matching.{match as matched, filled};
+ghost use Rattle.sx_arena.specs.Matching.{match as matched, same, filled};
 ghost use Rattle.sx_arena.specs.Arena.{trees, tree_at, IsArena, IsHeld};
 ghost use Rattle.sx_arena.specs.Binds.{envs, env_at, IsBinds, BindsGrow, IsFit};
+ghost use Rattle.sx_arena.specs.Places.{AreHeld};
 
 use crate::arena::Arena;
 use crate::binds::Binds;
 use crate::shape::Shape;
 use std::alloc::Global;
-use sx_term::{NoMemory, Term};
+use sx_term::{LexKind, NoMemory, Term, Text};
+
+/// The number of the term that the chain of bindings gives the variable; what is not bound has the
+/// node 0 without kids.
+#[inline(always)]
+fn bound(
+    alloc: Global,
+    arena: &mut Arena,
+    binds: &Binds,
+    env: usize,
+    variable: u32,
+) -> Result<usize, NoMemory>
+    requires arena { IsArena arena.old }
+    requires binds { IsBinds (trees arena.old) binds.now }
+    requires env { env ≤ length binds.now.cells.items }
+    ensures { IfOk result (λ i. IsHeld arena.old arena.new i
+        (filled (env_at (envs (trees arena.old) binds.now) env) variable)) }
+{
+    match binds.find(env, variable as usize) {
+        Some(term) => Ok(term),
+        None => arena.node_of(alloc, 0, &[]),
+    }
+}
+
+/// The numbers of the patterns' instances.
+#[cycle(making)]
+fn made_each(
+    alloc: Global,
+    arena: &mut Arena,
+    binds: &Binds,
+    env: usize,
+    patterns: &[Term],
+) -> Result<Vec<usize>, NoMemory>
+    requires depth { greatest_depth (forest (map tree patterns.now)) < 1000 }
+    requires arena { IsArena arena.old }
+    requires binds { IsBinds (trees arena.old) binds.now }
+    requires env { env ≤ length binds.now.cells.items }
+    ensures { IfOk result (λ r. AreHeld arena.old arena.new r.items
+        (map (instance (filled (env_at (envs (trees arena.old) binds.now) env)))
+        (map tree patterns.now))) }
+{
+    let mut parts = Vec::with_capacity(alloc, patterns.len())?;
+    for pattern in patterns {
+        parts.push(made(alloc, arena, binds, env, pattern)?)?;
+    }
+    Ok(parts)
+}
+
+/// The number of the node whose kids are the patterns' instances.
+#[cycle(making)]
+fn made_node(
+    alloc: Global,
+    arena: &mut Arena,
+    binds: &Binds,
+    env: usize,
+    label: u32,
+    kids: &[Term],
+) -> Result<usize, NoMemory>
+    requires depth { greatest_depth (forest (map tree kids.now)) < 1000 }
+    requires arena { IsArena arena.old }
+    requires binds { IsBinds (trees arena.old) binds.now }
+    requires env { env ≤ length binds.now.cells.items }
+    ensures { IfOk result (λ i. IsHeld arena.old arena.new i
+        (instance (filled (env_at (envs (trees arena.old) binds.now) env))
+        (node label (forest (map tree kids.now))))) }
+{
+    match kids {
+        [only] => {
+            let part = made(alloc, arena, binds, env, only)?;
+            arena.node_of(alloc, label, &[part])
+        }
+        [left, right] => {
+            let first = made(alloc, arena, binds, env, left)?;
+            let second = made(alloc, arena, binds, env, right)?;
+            arena.node_of(alloc, label, &[first, second])
+        }
+        others => {
+            let parts = made_each(alloc, arena, binds, env, others)?;
+            arena.node(label, parts)
+        }
+    }
+}
 
 /// The number of the pattern's instance.
+#[cycle(making)]
+#[inline(always)]
 pub fn made(
     alloc: Global,
     arena: &mut Arena,
@@ -30,29 +114,53 @@ pub fn made(
         (instance (filled (env_at (envs (trees arena.old) binds.now) env)) (tree pattern.now))) }
 {
     match pattern {
-        Term::Node { label, kids } => match kids.as_slice() {
-            [only] => {
-                let part = made(alloc, arena, binds, env, only)?;
-                arena.node_of(alloc, *label, &[part])
-            }
-            [left, right] => {
-                let first = made(alloc, arena, binds, env, left)?;
-                let second = made(alloc, arena, binds, env, right)?;
-                arena.node_of(alloc, *label, &[first, second])
-            }
-            others => {
-                let mut parts = Vec::with_capacity(alloc, others.len())?;
-                for kid in others {
-                    parts.push(made(alloc, arena, binds, env, kid)?)?;
-                }
-                arena.node(*label, parts)
-            }
-        },
+        Term::Node { label, kids } => made_node(alloc, arena, binds, env, *label, kids.as_slice()),
         Term::Lex { kind, text } => arena.lexeme(alloc, *kind, text),
-        Term::Var(variable) => match binds.find(env, *variable as usize) {
-            Some(term) => Ok(term),
-            None => arena.node(0, Vec::new(alloc)),
-        },
+        Term::Var(variable) => bound(alloc, arena, binds, env, *variable),
+    }
+}
+
+/// Whether the term is the lexeme.
+fn is_lexeme(arena: &Arena, term: usize, kind: LexKind, text: &Text) -> bool
+    requires arena { IsArena arena.now }
+    requires within { term < length (trees arena.now) }
+    ensures { result ≡ same (lexeme kind text.now) (tree_at (trees arena.now) term) }
+{
+    match &arena.cell(term).shape {
+        Shape::Lex {
+            kind: other_kind,
+            text: other_text,
+        } => kind == *other_kind && text.as_str() == other_text.as_str(),
+        _ => false,
+    }
+}
+
+/// The chain under which the variable stands for the term, or None where there is none.
+fn fit_variable(
+    arena: &Arena,
+    binds: &mut Binds,
+    env: usize,
+    variable: u32,
+    term: usize,
+) -> Result<Option<usize>, NoMemory>
+    requires arena { IsArena arena.now }
+    requires binds { IsBinds (trees arena.now) binds.old }
+    requires env { env ≤ length binds.old.cells.items }
+    requires within { term < length (trees arena.now) }
+    ensures grows { OnOk result (BindsGrow (trees arena.now) binds.old binds.new) }
+    ensures fit { IfOk result (λ r. IsFit (trees arena.now) binds.new
+        (matched (hole variable) (tree_at (trees arena.now) term)
+        (env_at (envs (trees arena.now) binds.old) env)) r) }
+{
+    match binds.find(env, variable as usize) {
+        Some(bound) => {
+            if bound == term {
+                Ok(Some(env))
+            } else {
+                Ok(None)
+            }
+        }
+        None => Ok(Some(binds.push(env, variable, term)?)),
     }
 }
 
@@ -97,28 +205,13 @@ pub fn fit(
             }
             _ => Ok(None),
         },
-        Term::Lex { kind, text } => match &arena.cell(term).shape {
-            Shape::Lex {
-                kind: other_kind,
-                text: other_text,
-            } => {
-                if *kind == *other_kind && text.as_str() == other_text.as_str() {
-                    Ok(Some(env))
-                } else {
-                    Ok(None)
-                }
+        Term::Lex { kind, text } => {
+            if is_lexeme(arena, term, *kind, text) {
+                Ok(Some(env))
+            } else {
+                Ok(None)
             }
-            _ => Ok(None),
-        },
-        Term::Var(variable) => match binds.find(env, *variable as usize) {
-            Some(bound) => {
-                if bound == term {
-                    Ok(Some(env))
-                } else {
-                    Ok(None)
-                }
-            }
-            None => Ok(Some(binds.push(env, *variable, term)?)),
-        },
+        }
+        Term::Var(variable) => fit_variable(arena, binds, env, *variable, term),
     }
 }

@@ -21,6 +21,7 @@ pub enum Shape {
 const SPREAD: u64 = 0x9e37_79b9_7f4a_7c15;
 
 /// One number of what was mixed before and one more.
+#[inline(always)]
 #[tactic(auto, unfolding(crate::specs::Hashed::mixed_with))]
 pub(crate) fn mix(before: u64, number: usize) -> u64
     ensures { result ≡ mixed_with before number }
@@ -29,6 +30,7 @@ pub(crate) fn mix(before: u64, number: usize) -> u64
 }
 
 /// One number of a node's label and the numbers of its kids.
+#[inline(always)]
 pub(crate) fn node_hash(label: u32, kids: &[usize]) -> u64
     ensures { result ≡ mixed label kids.now }
 {
@@ -62,6 +64,7 @@ pub(crate) fn hash(shape: &Shape) -> u64
 }
 
 /// Whether the shape is a node with this label and these kids.
+#[inline(always)]
 pub(crate) fn is_node(shape: &Shape, label: u32, kids: &[usize]) -> bool
     ensures { result ≡ is_node_of label kids.now shape.now }
 {

@@ -4,8 +4,8 @@ use Rattle.sx_arena.proofs.cells.grow.Given as goal
 
 abbrev pub invariant-loop-number : goal.invariant-loop-number
 invariant-loop-number l = record {
-  within : l.number ≤ length l.cells;
-  many : length l.links ≡ length l.cells;
+  within : l.number ≤ length l.hashes;
+  many : length l.links ≡ length l.hashes;
   slots : length l.wider.items ≡ l.slots;
-  linked : AreLinked l.slots l.cells l.links l.wider.items l.number;
+  linked : AreLinked l.slots l.hashes l.links l.wider.items l.number;
 }

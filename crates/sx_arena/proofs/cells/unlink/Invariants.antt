@@ -4,10 +4,10 @@ use Rattle.sx_arena.proofs.cells.unlink.Given as goal
 
 abbrev pub invariant-loop-number : goal.invariant-loop-number
 invariant-loop-number l = record {
-  least : min l.many (length l.cells) ≤ l.number;
-  within : l.number ≤ length l.cells;
+  least : min l.many (length l.hashes) ≤ l.number;
+  within : l.number ≤ length l.hashes;
   slots : length l.lasts ≡ length l.initial.lasts;
-  linked : AreLinked (length l.initial.lasts) l.cells l.links l.lasts l.number;
+  linked : AreLinked (length l.initial.lasts) l.hashes l.links l.lasts l.number;
 }
 
 abbrev pub decreases-loop-number : goal.decreases-loop-number

@@ -1,11 +1,14 @@
-use Rattle.std.proofs.Common.{rules, arith, refl, sym, ap, ◌∙◌, length, ◌<◌, Some}
+use Rattle.std.proofs.Common.{rules, arith, refl, sym, ◌∙◌, length, ◌<◌, subst, IfOk}
+use Rattle.sx_term.specs.declared.term.Term.{Term}
 use Rattle.sx_term.specs.declared.term.Term.TheViews.{the_lemmas}
+use Rattle.sx_term.specs.Term.{tree}
 use Rattle.sx_term.proofs.Kids.{depth_of-kid}
 use Rattle.sx_arena.specs.Arena.{trees, tree_at}
-use Rattle.sx_arena.specs.Binds.{envs, env_at}
-use Rattle.sx_arena.proofs.Arenas.{below_at, distinct}
-use Rattle.sx_arena.proofs.BindChains.{binds_same, binds_then, binds_one}
-use Rattle.sx_arena.proofs.Patterns.{nodes_fit, kids_of_branch, lengths_fit, fitting_more, fitting_none, fitting_end, variable_bound, variable_other, variable_new, same_lengths, other_lengths, other_is}
+use Rattle.sx_arena.specs.Matching.{match}
+use Rattle.sx_arena.specs.Binds.{envs, env_at, IsFit}
+use Rattle.sx_arena.proofs.Arenas.{below_at}
+use Rattle.sx_arena.proofs.BindChains.{binds_same, binds_then}
+use Rattle.sx_arena.proofs.Patterns.{nodes_fit, kids_of_branch, lengths_fit, fitting_more, fitting_none, fitting_end, same_lengths, other_lengths, other_is}
 use Rattle.sx_arena.proofs.pattern.+fit.Goals as goal
 
 pub loop-i-init : goal.loop-i-init
@@ -51,30 +54,12 @@ returns-after-loop-i-clause-fit t c =
           ∙ fitting_end _ _ _ _ _ _ _ _ c.loop-i.invariant (let a = c.loop-i-test.false in let b = c.len-i-end.ensures in let k = c.in-Node.kids.ok in omega arith) e,
     )
 
-pub returns-then-bound-term-clause-fit : goal.returns-then-bound-term-clause-fit
-returns-then-bound-term-clause-fit t c =
-    let f = c.in-Some-find.ensures (trees c.args.arena.now) c.requires.binds in
-    (c.requires.env, variable_bound _ _ _ _ _ c.in-Var.is f.1 (ap (tree_at (trees c.args.arena.now)) c.if-bound-term.true))
-
-pub returns-else-bound-term-clause-fit : goal.returns-else-bound-term-clause-fit
-returns-else-bound-term-clause-fit t c =
-    let f = c.in-Some-find.ensures (trees c.args.arena.now) c.requires.binds in
-    variable_other _ _ _ _ _ c.in-Var.is f.1 (λ q. c.if-bound-term.false (distinct _ c.requires.arena _ _ f.0 c.requires.within q))
-
-pub returns-in_ok-push-in-None-find-clause-grows : goal.returns-in_ok-push-in-None-find-clause-grows
-returns-in_ok-push-in-None-find-clause-grows t c =
-    let o = binds_one _ _ _ _ c.requires.binds c.requires.within c.requires.env c.in_ok-push-in-None-find.ensures.items in
-    o.0
-
-pub returns-in_ok-push-in-None-find-clause-fit : goal.returns-in_ok-push-in-None-find-clause-fit
-returns-in_ok-push-in-None-find-clause-fit t c =
-    let f = c.in-None-find.ensures (trees c.args.arena.now) c.requires.binds in
-    let o = binds_one (trees c.args.arena.now) c.args.binds.now c.push.new.self (record { variable = c.in-Var.variable; term = c.args.term; before = c.args.env }) c.requires.binds c.requires.within c.requires.env c.in_ok-push-in-None-find.ensures.items in
-    let z = c.in_ok-push-in-None-find.ensures.chain in
-    let y = o.2 in
-    ((omega arith), variable_new _ _ _ _ c.in-Var.is f ∙ ap Some (sym (ap (env_at (envs (trees c.args.arena.now) c.push.new.self)) z ∙ o.1)))
-
 pub returns-then-len-clause-fit : goal.returns-then-len-clause-fit
 returns-then-len-clause-fit t c =
     nodes_fit _ _ _ _ _ _ _ _ _ c.in-Node.is c.cell.ensures.tree c.in-Node-shape.is c.if-label-other_label.false
     ∙ lengths_fit (trees c.args.arena.now) c.in-Node.kids.items c.in-Node-shape.others.items _ (other_lengths c.in-Node.kids c.in-Node-shape.others _ _ c.len.ensures c.len-in-Node-shape.ensures.value c.if-len.true)
+
+pub returns-in-Var-clause-fit : goal.returns-in-Var-clause-fit
+returns-in-Var-clause-fit t c =
+    subst (λ (p : Term). IfOk c.fit_variable.result (λ r. IsFit (trees c.args.arena.now) c.fit_variable.new.binds (match (tree p) (tree_at (trees c.args.arena.now) c.args.term) (env_at (envs (trees c.args.arena.now) c.args.binds.now) c.args.env)) r))
+    (sym c.in-Var.is) c.fit_variable.ensures.fit
