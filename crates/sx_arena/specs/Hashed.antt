@@ -1,5 +1,6 @@
 -- Numbers of shapes, by which cells are found.
-use Rattle.std.specs.Prelude.{ℕ, ◌+◌, ◌*◌, ◌%◌, ◌^◌, ◌&&◌, Bool, false, List, [], ◌∷◌, nat_eq, string_bytes}
+use Rattle.std.specs.Prelude.{ℕ, ◌+◌, ◌*◌, ◌%◌, ◌^◌, ◌&&◌, Bool, false, List, [], ◌∷◌, nat_eq}
+use Rattle.std.specs.Prelude.{string_bytes}
 use Rattle.std.specs.Cmp.Lexicographic.{pointwise}
 use Rattle.sx_arena.specs.declared.shape.Shape.{Shape}
 use Rattle.sx_arena.specs.declared.shape.Shape.TheVariants.{Node, Lex, Var}

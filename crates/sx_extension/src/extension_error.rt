@@ -41,9 +41,9 @@ impl fmt::Debug for ExtensionError {
 
 impl From<NoMemory> for ExtensionError {
     ghost use Rattle.std.specs.Prelude.{◌≡◌};
-    ghost use Rattle.sx_extension.specs.declared.extension_error.ExtensionError.TheVariants as errors;
+    ghost use Rattle.sx_extension.specs.declared.extension_error.ExtensionError.TheVariants as why;
 
-    ghost from_gives = { λ _ e. e ≡ errors.Memory };
+    ghost from_gives = { λ _ e. e ≡ why.Memory };
 
     fn from(_: NoMemory) -> ExtensionError {
         ExtensionError::Memory

@@ -50,7 +50,7 @@ given_view (given.Tries n) = tries n
 given_view (given.Nodes n) = nodes n
 given_view (given.Audit kind setting) = audit kind.now setting.now
 
--- an error for want of memory, or at the word that reading refuses
+-- an error where memory runs out, or at the word that reading refuses
 abbrev pub Refuses : {Y : Type 0} → WordsError → Result Y ℕ → Type 0
 Refuses Memory read = Unit {0}
 Refuses (Words n) read = read ≡ Err n

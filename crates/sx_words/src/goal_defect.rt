@@ -8,8 +8,8 @@ use std::alloc::Global;
 use sx_term::{NoMemory, Text};
 
 /// Why a goal has no derivation: the goal where the walk is stuck, as it is printed. At
-/// `Position::Spot` in a module file, at `Position::Rule` in accepting a rule, and at `Position::Nowhere` in
-/// a core file.
+/// `Position::Spot` in a module file, at `Position::Rule` in accepting a rule, and at
+/// `Position::Nowhere` in a core file.
 #[derive(Drop)]
 pub enum GoalDefect {
     /// No rule concludes the goal.

@@ -16,7 +16,7 @@ fn put_line(file: &Text, text: &[u8], into: &mut Vec<u8>) -> Result<(), NoMemory
     put(&[b"soundx: ", file.bytes(), b": ", text, b"\n"], into)
 }
 
-/// Appends the line of these bytes about the file. After want of memory `into` is as before.
+/// Appends the line of these bytes about the file. After out of memory `into` is as before.
 pub(crate) fn append_line(file: &Text, text: &[u8], into: &mut Vec<u8>) -> Result<(), NoMemory>
     ensures ok { OnOk result (into.new.items ≡ into.old.items ++ line_text file.now text.now) }
     ensures err { OnErr result (into.new.items ≡ into.old.items) }
@@ -31,7 +31,7 @@ pub(crate) fn append_line(file: &Text, text: &[u8], into: &mut Vec<u8>) -> Resul
     }
 }
 
-/// Appends `soundx: `, the file, `: `, the text and a line feed. After want of memory `into` is as
+/// Appends `soundx: `, the file, `: `, the text and a line feed. After out of memory `into` is as
 /// before.
 pub fn write_line(
     _alloc: Global,

@@ -130,7 +130,7 @@ fn text_of(alloc: Global, refusal: &Refusal) -> Result<Vec<u8>, NoMemory>
 }
 
 /// Appends the one line that names the refusal: `soundx: `, the file in which the thing stands, `:
-/// `, the text of the refusal and a line feed. After want of memory `into` is as before.
+/// `, the text of the refusal and a line feed. After out of memory `into` is as before.
 pub fn write_refusal(
     alloc: Global,
     file: &Text,

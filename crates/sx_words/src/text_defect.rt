@@ -20,10 +20,11 @@ pub enum TextDefect {
     TooManyTokens,
     /// At `Position::Line` in a language or extension file.
     TooHard,
-    /// The depth of a reading or a term. At `Position::Line` of a line that is read, at `Position::Rule`
-    /// in accepting a rule, at `Position::Plain` of a plain body.
+    /// The depth of a reading or a term. At `Position::Line` of a line that is read, at
+    /// `Position::Rule` in accepting a rule, at `Position::Plain` of a plain body.
     TooDeep(u64),
-    /// The size of a term. At `Position::Rule` in accepting a rule, at `Position::Plain` of a plain body.
+    /// The size of a term. At `Position::Rule` in accepting a rule, at `Position::Plain` of a plain
+    /// body.
     TooBig(u64),
     /// Two readings. At `Position::Line` of a line that is read by a grammar.
     Ambiguous { one: Text, other: Text },
