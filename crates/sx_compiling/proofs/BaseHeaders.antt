@@ -1,10 +1,10 @@
 -- The header of a base file is read back.
-use Rattle.std.proofs.Common.{◌≡◌, ℕ, ◌+◌, false, true, List, [], ◌∷◌, ◌++◌, codes, refl, sym, ap}
+use Rattle.std.proofs.Common.{◌≡◌, ℕ, false, true, List, [], ◌∷◌, ◌++◌, codes, refl, sym, ap}
 use Rattle.std.proofs.Common.{◌∙◌, subst, append_assoc}
 use Rattle.std.specs.List.{AllByRecursion}
 use Rattle.std.proofs.lemmas.Grind.{flat_map-append}
 use Rattle.sx_lines.specs.Bytes.{is_skipped}
-use Rattle.sx_lines.specs.Lines.{Lines, line, lines_from, IsLineText}
+use Rattle.sx_lines.specs.Lines.{Lines, line, next_number, lines_from, IsLineText}
 use Rattle.sx_lines.specs.Reading.{kept, written}
 use Rattle.sx_lines.specs.Takes.{Takes, EndsWith}
 use Rattle.sx_lines.specs.Words.{is_name}
@@ -25,13 +25,13 @@ record StandsOnLine (text : List ℕ) : Type 0 where
 
 first_kept : (n : ℕ) (text more : List ℕ) → StandsOnLine text →
     kept (lines_from n ((text ++ 10 ∷ []) ++ more)) ≡
-    line n text more (kept (lines_from (n + 1) more))
+    line n text more (kept (lines_from (next_number n) more))
 first_kept n text more h =
     let bytes = (text ++ 10 ∷ []) ++ more in
-    let first : lines_from n bytes ≡ line n text more (lines_from (n + 1) more) =
+    let first : lines_from n bytes ≡ line n text more (lines_from (next_number n) more) =
     ap (lines_from n) (append_assoc text (10 ∷ []) more) ∙ first_line n text more h.line.feed
-    ∙ ap (λ (t : List ℕ). line n t more (lines_from (n + 1) more)) h.line.end in
-    kept-line n text more (lines_from (n + 1) more) (lines_from n bytes) (lines_from n bytes) refl
+    ∙ ap (λ (t : List ℕ). line n t more (lines_from (next_number n) more)) h.line.end in
+    kept-line n text more (lines_from (next_number n) more) (lines_from n bytes) (lines_from n bytes) refl
     first h.told
 
 takes_written : (n : ℕ) (front : List (List ℕ)) (more : List ℕ) →
@@ -39,10 +39,10 @@ takes_written : (n : ℕ) (front : List (List ℕ)) (more : List ℕ) →
     Takes front (kept (lines_from n (written front ++ more))) (kept (lines_from m more))
 takes_written n [] more h = (n, refl)
 takes_written n (text ∷ front) more h =
-    let rest = takes_written (n + 1) front more h.1 in
+    let rest = takes_written (next_number n) front more h.1 in
     let behind = written front ++ more in
     let first : kept (lines_from n (written (text ∷ front) ++ more)) ≡
-    line n text behind (kept (lines_from (n + 1) behind)) =
+    line n text behind (kept (lines_from (next_number n) behind)) =
     ap (λ (b : List ℕ). kept (lines_from n b)) (append_assoc (text ++ 10 ∷ []) (written front) more)
     ∙ first_kept n text behind h.0 in (
       rest.0,
@@ -118,13 +118,13 @@ base_states name lines h shown is_a_name states =
     ap (λ (b : List ℕ). b ++ body)
     (flat_map-append (λ (text : List ℕ). text ++ 10 ∷ []) front (codes "---" ∷ []))
     ∙ append_assoc (written front) (codes "---" ++ 10 ∷ []) body in (
-      taken.0 + 1,
+      next_number taken.0,
       record {
         same = states.same;
         middle = kept (lines_from taken.0 ended);
         takes = subst (λ (b : List ℕ). Takes front (kept (lines_from 1 b))
             (kept (lines_from taken.0 ended))) (sym parts) taken.1;
-        end = subst (λ (l : Lines). EndsWith (codes "---") (taken.0 + 1) body l)
+        end = subst (λ (l : Lines). EndsWith (codes "---") (next_number taken.0) body l)
             (sym (first_kept taken.0 (codes "---") body end_line)) (refl, refl, refl);
         language = states.language;
         uses = tt;

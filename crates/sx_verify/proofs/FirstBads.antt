@@ -1,7 +1,8 @@
 -- A text has one first bad line, and none where it states a value.
-use Rattle.std.proofs.Common.{◌≡◌, ℕ, zero, suc, ◌+◌, ◌<◌, ◌⊎◌, inl, inr, List, [], ◌∷◌, ◌++◌}
+use Rattle.std.proofs.Common.{◌≡◌, ℕ, zero, suc, ◌<◌, ◌⊎◌, inl, inr, List, [], ◌∷◌, ◌++◌}
 use Rattle.std.proofs.Common.{length, refl, sym, ap, ◌∙◌, subst, append_assoc, arith}
 use Rattle.std.proofs.lemmas.List.{append-nil}
+use Rattle.sx_lines.specs.Lines.{next_number}
 use Rattle.sx_rules.specs.BadLine.{NoneStates, IsFirstBad}
 
 pub three_ways : (m n : ℕ) → (m < n) ⊎ ((m ≡ n) ⊎ (n < m))
@@ -64,7 +65,7 @@ module _ {V : Type 0} (States : List (List ℕ) → V → Type 0) (lines : List 
       elim (three_ways (length a.front) (length b.front)) [
         | inl l ↦ absurd (no_later n m a b l)
         | inr h ↦ elim h [
-          | inl e ↦ a.place ∙ ap (λ (k : ℕ). k + 1) e ∙ sym b.place
+          | inl e ↦ a.place ∙ ap next_number e ∙ sym b.place
           | inr l ↦ absurd (no_later m n b a l)
         ]
       ]

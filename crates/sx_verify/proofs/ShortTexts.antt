@@ -3,7 +3,8 @@ use Rattle.std.proofs.Common.{ℕ, ◌+◌, ◌≤◌, ◌&&◌, ◌==◌, Bool,
 use Rattle.std.proofs.Common.{arith}
 use Rattle.std.specs.Prelude.{if◌then◌else◌}
 use Rattle.sx_lines.specs.Bytes.{line_feed, carriage_return, is_skipped}
-use Rattle.sx_lines.specs.Lines.{Lines, over, line, ends_here, with_byte, lines_from, texts}
+use Rattle.sx_lines.specs.Lines.{Lines, over, line, next_number, ends_here, with_byte}
+use Rattle.sx_lines.specs.Lines.{lines_from, texts}
 use Rattle.sx_lines.specs.Reading.{kept}
 
 -- each text has at most so many bytes
@@ -35,12 +36,12 @@ unfolding lines_from
 lines_short k [] = tt
 lines_short k (b ∷ bytes) =
     let n = length (b ∷ bytes) in
-    short_when n (b == line_feed) (line k [] bytes (lines_from (k + 1) bytes))
+    short_when n (b == line_feed) (line k [] bytes (lines_from (next_number k) bytes))
     (if b == carriage_return && ends_here bytes then lines_from k bytes else with_byte b
     (lines_from k bytes)) (
       omega arith,
-      short_more (length bytes) n (texts (lines_from (k + 1) bytes)) (omega arith)
-          (lines_short (k + 1) bytes),
+      short_more (length bytes) n (texts (lines_from (next_number k) bytes)) (omega arith)
+          (lines_short (next_number k) bytes),
     )
     (short_when n (b == carriage_return && ends_here bytes) (lines_from k bytes)
     (with_byte b (lines_from k bytes))
@@ -64,9 +65,9 @@ unfolding lines_from
 lines_few k [] = omega arith
 lines_few k (b ∷ bytes) =
     let n = length (b ∷ bytes) in
-    let next = lines_few (k + 1) bytes in
+    let next = lines_few (next_number k) bytes in
     let here = lines_few k bytes in
-    few_when n (b == line_feed) (line k [] bytes (lines_from (k + 1) bytes))
+    few_when n (b == line_feed) (line k [] bytes (lines_from (next_number k) bytes))
     (if b == carriage_return && ends_here bytes then lines_from k bytes else with_byte b
     (lines_from k bytes))
     (omega arith)

@@ -1,13 +1,9 @@
 //! The lines of a text, and those that are kept.
 
-ghost use Rattle.std.specs.Prelude.{◌+◌, ◌^◌, ◌<◌, length};
-
 use sx_lines::{Line, NoLine, Rest};
 
 /// The line behind so many others, or what stands there in its place.
-fn line_behind(bytes: &[u8], before: u32) -> Result<Line, NoLine>
-    requires { length bytes.now + 1 < 2 ^ 32 }
-{
+fn line_behind(bytes: &[u8], before: u32) -> Result<Line, NoLine> {
     let mut rest = Rest::all(bytes);
     for _ in 0..before {
         match rest.next() {
@@ -51,9 +47,7 @@ fn lines_of_a_text(rt: HostRuntime) {
 }
 
 /// The kept line behind so many others, or what stands there in its place.
-fn kept_behind(bytes: &[u8], before: u32) -> Result<Line, NoLine>
-    requires { length bytes.now + 1 < 2 ^ 32 }
-{
+fn kept_behind(bytes: &[u8], before: u32) -> Result<Line, NoLine> {
     let mut rest = Rest::all(bytes);
     for _ in 0..before {
         match rest.next_kept() {
