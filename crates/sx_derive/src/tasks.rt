@@ -43,6 +43,34 @@ pub struct Task {
     pub(crate) mark: Mark,
 }
 
+/// The task of a goal that was come to where the store ended at the mark, no candidate of which is
+/// tried.
+pub(crate) fn new_task(
+    form: u32,
+    terms: Vec<usize>,
+    levels: usize,
+    frames: usize,
+    mark: Mark,
+) -> Task
+    ensures { result ≡ record {
+      next = 0;
+      form = form;
+      terms = terms;
+      levels = levels;
+      frames = frames;
+      mark = mark;
+    } }
+{
+    Task {
+        next: 0,
+        form,
+        terms,
+        levels,
+        frames,
+        mark,
+    }
+}
+
 /// How a walk ends: with an answer, at a limit, with the tries spent, or at the end of the events.
 #[derive(Drop)]
 pub enum Ending {

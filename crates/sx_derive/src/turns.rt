@@ -28,7 +28,7 @@ ghost use Rattle.sx_derive.specs.declared.store.Store.{Store as StoreOf};
 use crate::given::Given;
 use crate::step::Step;
 use crate::store::Store;
-use crate::tasks::{Ending, Task, is_candidate, try_next};
+use crate::tasks::{Ending, Task, is_candidate, new_task, try_next};
 use sx_arena::same_numbers;
 use sx_term::NoMemory;
 
@@ -112,10 +112,8 @@ pub(crate) fn turn(
     ensures { IfOk result (λ o. (js : List Judgement) →
         AreFacts (modes_of given.now.rules.now) (store_trees store.old) js given.now.facts.now →
         IsTurn (modes_of given.now.rules.now) (rules_of given.now.rules.now) given.now.pairs.now js
-        wanted.now
-        (length given.now.facts.now + length (rules_of given.now.rules.now)) store.old store.new
-        task tasks.old.items
-        tasks.new.items o) }
+        wanted.now (length given.now.facts.now + length (rules_of given.now.rules.now)) store.old
+        store.new task tasks.old.items tasks.new.items o) }
 {
     let step = try_task(given, store, &task)?;
     tasks.push(Task {
@@ -137,14 +135,7 @@ pub(crate) fn turn(
             frames,
         } => {
             let mark = store.mark();
-            tasks.push(Task {
-                next: 0,
-                form,
-                terms,
-                levels,
-                frames,
-                mark,
-            })?;
+            tasks.push(new_task(form, terms, levels, frames, mark))?;
             Ok(None)
         }
         Step::Done { head, outputs } => {

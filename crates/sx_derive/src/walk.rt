@@ -13,7 +13,7 @@ ghost use Rattle.sx_arena.specs.Views.{rules_of, modes_of};
 use crate::given::Given;
 use crate::numbered_goal::NumberedGoal;
 use crate::store::{Mark, Store};
-use crate::tasks::{Ending, Task};
+use crate::tasks::{Ending, Task, new_task};
 use crate::turns::{next_task, turn};
 use std::alloc::Global;
 use std::sync::ledger::Ledger;
@@ -128,14 +128,7 @@ pub(crate) fn first_task(
         levels,
     } = goal;
     let mut tasks = Vec::new(alloc);
-    tasks.push(Task {
-        next: 0,
-        form,
-        terms,
-        levels,
-        frames: 0,
-        mark,
-    })?;
+    tasks.push(new_task(form, terms, levels, 0, mark))?;
     Ok(tasks)
 }
 

@@ -60,9 +60,9 @@ returns-in_ok-push-in-Goes c = λ js a.
     let t = c.args.task in
     let after : Task = record { next = t.next + 1; form = t.form; terms = t.terms; levels = t.levels; frames = t.frames; mark = t.mark } in
     let x = c.in_ok-step.ensures js a in
-    let more : Task = record { next = 0; form = c.in-Goes.form; terms = c.in-Goes.terms; levels = c.in-Goes.levels; frames = c.in-Goes.frames; mark = c.mark-mark.result } in
+    let more = c.new_task.result in
     subst (λ (ts : List Task). IsTurn m rs c.args.given.now.pairs.now js c.args.wanted.now n s w t c.args.tasks.now.items ts None) (sym (c.in_ok-push-in-Goes.ensures.items ∙ ap (λ (ts : List Task). ts ++ more ∷ []) c.in_ok-push.ensures.items))
-    (turn_goes m rs c.args.given.now.pairs.now js c.args.wanted.now n s w t after c.args.tasks.now.items c.in_ok-step.step c.requires.store c.requires.pairs c.requires.wanted c.requires.task c.requires.tasks c.requires.next x refl refl refl refl refl refl c.in-Goes.form c.in-Goes.terms c.in-Goes.levels c.in-Goes.frames c.mark-mark.result more c.mark-mark.ensures c.in-Goes.is refl)
+    (turn_goes m rs c.args.given.now.pairs.now js c.args.wanted.now n s w t after c.args.tasks.now.items c.in_ok-step.step c.requires.store c.requires.pairs c.requires.wanted c.requires.task c.requires.tasks c.requires.next x refl refl refl refl refl refl c.in-Goes.form c.in-Goes.terms c.in-Goes.levels c.in-Goes.frames c.mark-mark.result more c.mark-mark.ensures c.in-Goes.is c.new_task.ensures)
 
 pub returns-then-is_wanted : goal.returns-then-is_wanted
 returns-then-is_wanted c = λ js a.
