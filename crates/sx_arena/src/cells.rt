@@ -198,9 +198,10 @@ impl Cells {
         }
         self.links.reserve(1)?;
         self.hashes.reserve(1)?;
-        self.cells.push(cell)?;
+        self.cells.reserve(1)?;
         self.hashes.push_reserved(hash);
         self.links.push_reserved(0);
+        self.cells.push_reserved(cell);
         link(
             self.hashes.as_slice(),
             self.links.as_mut_slice(),
