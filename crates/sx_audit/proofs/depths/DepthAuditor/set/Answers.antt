@@ -1,0 +1,7 @@
+use Rattle.std.proofs.Common.{ℕ, refl, sym, ap, ◌∙◌}
+use Rattle.std.specs.Prelude.{option_map}
+use Rattle.sx_audit.specs.Kinds.{of_limit}
+use Rattle.sx_audit.proofs.depths.DepthAuditor.set.Goals as goal
+
+pub returns-in-None : goal.returns-in-None
+returns-in-None c = (refl, ap (option_map (λ (n : ℕ). of_limit n 0)) (sym c.limit.ensures ∙ c.in-None.is))
