@@ -55,7 +55,8 @@ pub(crate) fn ask(
         store.new) }
     ensures answered { IfOk result (λ r. (js : List JudgementOf) →
         AreFacts (modes_of given.now.rules.now) (store_trees store.old) js given.now.facts.now →
-        IsAnswered (modes_of given.now.rules.now) store.old store.new env (judgement_of judgement.now)
+        IsAnswered (modes_of given.now.rules.now) store.old store.new env
+        (judgement_of judgement.now)
         (first_given (asked_events (modes_of given.now.rules.now) (rules_of given.now.rules.now)
         given.now.pairs.now js store.old env bounds.levels (judgement_of judgement.now))) r) }
 {
