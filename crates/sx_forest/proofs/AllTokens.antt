@@ -1,5 +1,5 @@
 -- The entries by which all tokens are read.
-use Rattle.std.proofs.Common.{◌≡◌, ℕ, ◌-◌, ◌<◌, ◌≤◌, List, ◌⊎◌, inl, inr, Some, refl, sym, subst, ap, ◌∙◌, length, arith}
+use Rattle.std.proofs.Common.{◌≡◌, ℕ, ◌<◌, ◌≤◌, List, ◌⊎◌, inl, inr, Some, refl, sym, subst, ap, ◌∙◌, length, arith}
 use Rattle.std.specs.Prelude.{None}
 use Rattle.std.specs.Global.{Vec}
 use Rattle.std.specs.List.{slice_get}
@@ -8,17 +8,15 @@ use Rattle.std.proofs.lemmas.Option.{same_Some}
 use Rattle.sx_grammar.specs.Grammar.{Grammar, Token, HasLevels}
 use Rattle.sx_grammar.specs.Reading.{Reading, ReadsWhole, reading_depth}
 use Rattle.sx_grammar.specs.Tally.{Tally, no_way, one_way, more_ways, times, IsTally}
-use Rattle.sx_forest.specs.declared.ways.Ways.{Ways}
 use Rattle.sx_forest.specs.declared.entry.Entry.{Entry}
 use Rattle.sx_forest.specs.declared.fork.Fork.{Fork}
 use Rattle.sx_forest.specs.declared.fork.Fork.TheVariants.{Apart, Inside}
-use Rattle.sx_forest.specs.Tallies.{tally_of, ways_at, IsLastRow}
+use Rattle.sx_forest.specs.Tallies.{tally_of, IsLastRow}
 use Rattle.sx_forest.specs.Rows.{list_at}
 use Rattle.sx_forest.specs.Table.{IsFull}
 use Rattle.sx_forest.specs.Forests.{depth_in, IsMore, IsBy, IsShallow, IsUsable, IsFirstUsable, IsForkOf, IsParting, one_of, other_of}
 use Rattle.sx_forest.proofs.Counting.{KidOf, kid_reads, kid_fits, kid_tally}
 use Rattle.sx_forest.proofs.Using.{useful_at_end}
-use Rattle.sx_forest.proofs.Rows.{past_row}
 use Rattle.sx_forest.proofs.Whole.{covered}
 use Rattle.sx_forest.proofs.Usable.{none_or, deepest_of, times_none, only_usable}
 use Rattle.sx_forest.proofs.Stepwise.{is_kid}
@@ -34,9 +32,9 @@ one_at_most P depth (one_way d) h few a b p q = h.3 a p ∙ sym (h.3 b q)
 one_at_most P depth (more_ways d) h few a b p q = absurd (few tt)
 
 module _ (g : Grammar) (tokens : List Token) (start : ℕ) (levels : HasLevels g) (lists : List (Vec Entry)) (full : IsFull g tokens start lists)
-    (row : List Ways) (last : IsLastRow 0 (length tokens) row) where
+    (row : ℕ → Tally) (last : IsLastRow (length tokens) row) where
   abbrev Used : Entry → Type 0
-  Used e = IsUsable g start 0 row 0 e
+  Used e = IsUsable g start 0 row e
 
   abbrev Kid : Entry → Reading → Type 0
   Kid e r = KidOf g tokens e.maker start 0 0 e.to r
@@ -45,12 +43,12 @@ module _ (g : Grammar) (tokens : List Token) (start : ℕ) (levels : HasLevels g
   ends_last : (e : Entry) → Used e → e.to ≡ length tokens
   ends_last e used = by_order (cases_lt e.to (length tokens)) (cases_lt (length tokens) e.to)
     where
-      gone : ways_at row (e.to - 0) ≡ no_way → ⊥
+      gone : row e.to ≡ no_way → ⊥
       gone none = used.1 (ap (times (tally_of e.ways)) none ∙ times_none (tally_of e.ways))
 
       by_order : (e.to < length tokens) ⊎ (length tokens ≤ e.to) → (length tokens < e.to) ⊎ (e.to ≤ length tokens) → e.to ≡ length tokens
-      by_order (inl low) h = absurd (gone (last.before (e.to - 0) (omega arith)))
-      by_order (inr high) (inl beyond) = let long = last.long in absurd (gone (past_row row (e.to - 0) (omega arith)))
+      by_order (inl low) h = absurd (gone (last.elsewhere e.to (λ same. omega arith)))
+      by_order (inr high) (inl beyond) = absurd (gone (last.elsewhere e.to (λ same. omega arith)))
       by_order (inr high) (inr low) = omega arith
 
   kid_whole : (e : Entry) → Used e → (r : Reading) → Kid e r → ReadsWhole g tokens start r
@@ -70,7 +68,7 @@ module _ (g : Grammar) (tokens : List Token) (start : ℕ) (levels : HasLevels g
       let e = c.1 in
       let kid : Kid e r = subst (λ t. KidOf g tokens e.maker start 0 0 t r) (sym c.4) c.3 in
       let fits = kid_fits g tokens e.maker start 0 0 e.to r kid in
-      let end : ways_at row (e.to - 0) ≡ one_way 0 = ap (λ t. ways_at row (t - 0)) c.4 ∙ last.end in
+      let end : row e.to ≡ one_way 0 = ap row c.4 ∙ last.end in
       let tally : IsTally (Kid e) reading_depth (tally_of e.ways) = kid_tally g tokens start e.maker start 0 0 e.to (tally_of e.ways) (full.table.sound 0 c.0 e c.2) fits in (
         c.0,
         e,
@@ -101,7 +99,7 @@ module _ (g : Grammar) (tokens : List Token) (start : ℕ) (levels : HasLevels g
           omega (arith, d.2)
 
   -- where the entries do not part, all readings are the same
-  pub not_parted : (i : ℕ) (e : Entry) → IsFirstUsable g start 0 row 0 (list_at lists 0) 0 (Some (i, e)) → IsForkOf g start 0 row 0 (list_at lists 0) i e None →
+  pub not_parted : (i : ℕ) (e : Entry) → IsFirstUsable g start 0 row (list_at lists 0) 0 (Some (i, e)) → IsForkOf g start 0 row (list_at lists 0) i e None →
       (one other : Reading) → ReadsWhole g tokens start one → ReadsWhole g tokens start other → one ≡ other
   not_parted i e first fork one other reads reads' =
       one_at_most (Kid e) reading_depth (tally_of e.ways) (counted i e first.1 first.2) fork.0 one other (here one reads) (here other reads')
@@ -109,13 +107,13 @@ module _ (g : Grammar) (tokens : List Token) (start : ℕ) (levels : HasLevels g
       here : (r : Reading) → ReadsWhole g tokens start r → Kid e r
       here r reads =
           let u = of_used r reads in
-          let same : u.0 ≡ i = only_usable g start 0 row 0 (list_at lists 0) i e first fork u.0 u.1 u.2 u.3 in
+          let same : u.0 ≡ i = only_usable g start 0 row (list_at lists 0) i e first fork u.0 u.1 u.2 u.3 in
           let is : u.1 ≡ e = same_Some u.1 e (sym (subst (λ k. slice_get (list_at lists 0) k ≡ Some u.1) same u.2) ∙ first.1) in
           subst (λ x. Kid x r) is u.4
 
   -- the entries of a fork are shallow, and what reads by them differs
-  pub parted : ((r : Reading) → ReadsWhole g tokens start r → reading_depth r ≤ 1000) → (i : ℕ) (e : Entry) → IsFirstUsable g start 0 row 0 (list_at lists 0) 0 (Some (i, e)) →
-      (fork : Fork) → IsForkOf g start 0 row 0 (list_at lists 0) i e (Some fork) → IsParting g tokens start 0 fork
+  pub parted : ((r : Reading) → ReadsWhole g tokens start r → reading_depth r ≤ 1000) → (i : ℕ) (e : Entry) → IsFirstUsable g start 0 row (list_at lists 0) 0 (Some (i, e)) →
+      (fork : Fork) → IsForkOf g start 0 row (list_at lists 0) i e (Some fork) → IsParting g tokens start 0 fork
   parted bound i e first (Apart one other) fork =
       let j = fork.1 in
       let at : slice_get (list_at lists 0) i ≡ Some one = first.1 ∙ ap Some (sym fork.0) in
@@ -144,7 +142,7 @@ module _ (g : Grammar) (tokens : List Token) (start : ℕ) (levels : HasLevels g
       }
 
   -- both entries of a fork are usable
-  pub both_used : (i : ℕ) (e : Entry) → IsFirstUsable g start 0 row 0 (list_at lists 0) 0 (Some (i, e)) →
-      (fork : Fork) → IsForkOf g start 0 row 0 (list_at lists 0) i e (Some fork) → Used (one_of fork) × Used (other_of fork)
+  pub both_used : (i : ℕ) (e : Entry) → IsFirstUsable g start 0 row (list_at lists 0) 0 (Some (i, e)) →
+      (fork : Fork) → IsForkOf g start 0 row (list_at lists 0) i e (Some fork) → Used (one_of fork) × Used (other_of fork)
   both_used i e first (Apart one other) fork = (subst Used (sym fork.0) first.2, fork.1.3)
   both_used i e first (Inside entry) fork = (subst Used (sym fork.0) first.2, subst Used (sym fork.0) first.2)

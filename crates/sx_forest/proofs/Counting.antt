@@ -1,4 +1,4 @@
-use Rattle.std.proofs.Common.{◌≡◌, ℕ, suc, ◌-◌, ◌<◌, ◌≤◌, List, ◌∷◌, ◌⊎◌, inl, inr, Some, refl, sym, subst, ap, ◌∙◌, length, arith}
+use Rattle.std.proofs.Common.{◌≡◌, ℕ, suc, ◌<◌, ◌≤◌, List, ◌∷◌, ◌⊎◌, inl, inr, Some, refl, sym, subst, ap, ◌∙◌, length, arith}
 use Rattle.std.specs.List.{slice_get}
 use Rattle.std.proofs.lemmas.Bool.{cases_lt}
 use Rattle.std.proofs.lemmas.Option.{slice_get_within, same_Some}
@@ -12,11 +12,10 @@ use Rattle.sx_grammar.proofs.Tallies.{tally_same, plus_is, times_is, Either}
 use Rattle.sx_grammar.proofs.Deciding.{ends, raised, one_head, part_read}
 use Rattle.sx_earley.specs.Chart.{IsOfSort}
 use Rattle.sx_earley.proofs.Predicting.{there_is}
-use Rattle.sx_forest.specs.declared.ways.Ways.{Ways}
 use Rattle.sx_forest.specs.declared.entry.Maker.{Maker}
 use Rattle.sx_forest.specs.declared.entry.Maker.TheVariants.{Variable, By}
 use Rattle.sx_forest.specs.declared.entry.Entry.{Entry}
-use Rattle.sx_forest.specs.Tallies.{tally_of, ways_at}
+use Rattle.sx_forest.specs.Tallies.{tally_of}
 use Rattle.sx_forest.specs.Rows.{FitsPart, IsEntryTally, SumTo, sum_none, sum_more}
 use Rattle.sx_forest.specs.Table.{IsSoundBy}
 
@@ -72,18 +71,18 @@ module _ (g : Grammar) (tokens : List Token) where
       tally_same (ReadsBy g tokens head sort place to) (ReadsAt g tokens sort least place to head) reading_depth t
       (λ r k. (makes, k)) (λ r k. k.1) (s.1 sort (makes_low g head sort least makes))
 
-module _ (g : Grammar) (tokens : List Token) (start sort least place from to : ℕ) (rest : List Symbol) (next : List Ways) (entries : List Entry) where
+module _ (g : Grammar) (tokens : List Token) (start sort least place to : ℕ) (rest : List Symbol) (next : ℕ → Tally) (entries : List Entry) where
   -- the first of the readings is by the entry
   abbrev pub Via : Entry → Readings → Type 0
   Via e = Joined (KidOf g tokens e.maker sort least place e.to) (ReadsAll g tokens rest e.to to) ◌▸◌
 
   entry_tally : (e : Entry) (t : Tally) → IsSoundBy g tokens start e.maker place e.to (tally_of e.ways) →
-      (FitsPart g e.maker sort least → IsTally (ReadsAll g tokens rest e.to to) readings_depth (ways_at next (e.to - from))) →
-      IsEntryTally g sort least next from e t → IsTally (Via e) readings_depth t
+      (FitsPart g e.maker sort least → IsTally (ReadsAll g tokens rest e.to to) readings_depth (next e.to)) →
+      IsEntryTally g sort least next e t → IsTally (Via e) readings_depth t
   entry_tally e t sound right (inl h) =
       rw h.1
       (times_is (KidOf g tokens e.maker sort least place e.to) (ReadsAll g tokens rest e.to to) reading_depth readings_depth readings_depth ◌▸◌
-      (λ a a' b b' e. cc) (λ a a' b b' e. cc) (λ a b. refl) (tally_of e.ways) (ways_at next (e.to - from))
+      (λ a a' b b' e. cc) (λ a a' b b' e. cc) (λ a b. refl) (tally_of e.ways) (next e.to)
       (kid_tally g tokens start e.maker sort least place e.to (tally_of e.ways) sound h.0) (right h.0))
   entry_tally e t sound right (inr h) = rw h.1 (λ ks via. h.0 (kid_fits g tokens e.maker sort least place e.to via.0 via.2))
 
@@ -93,7 +92,7 @@ module _ (g : Grammar) (tokens : List Token) (start sort least place from to : �
 
   module _ (sound : (i : ℕ) (e : Entry) → slice_get entries i ≡ Some e → IsSoundBy g tokens start e.maker place e.to (tally_of e.ways))
       (once : (i j : ℕ) (a b : Entry) → slice_get entries i ≡ Some a → slice_get entries j ≡ Some b → a.maker ≡ b.maker → a.to ≡ b.to → i ≡ j)
-      (right : (i : ℕ) (e : Entry) → slice_get entries i ≡ Some e → FitsPart g e.maker sort least → IsTally (ReadsAll g tokens rest e.to to) readings_depth (ways_at next (e.to - from))) where
+      (right : (i : ℕ) (e : Entry) → slice_get entries i ≡ Some e → FitsPart g e.maker sort least → IsTally (ReadsAll g tokens rest e.to to) readings_depth (next e.to)) where
     apart_first : (n : ℕ) (e : Entry) → slice_get entries n ≡ Some e → (ks : Readings) → ViaFirst n ks → Via e ks → ⊥
     apart_first n e at ks first via =
         let same : first.4.0 ≡ via.0 = ap first_kid (sym first.4.4 ∙ via.4) in
@@ -116,14 +115,14 @@ module _ (g : Grammar) (tokens : List Token) (start sort least place from to : �
     more_first n e at ks (inl first) = (first.0, first.1, omega (arith, first.2), first.3, first.4)
     more_first n e at ks (inr via) = (n, e, omega arith, at, via)
 
-    sum_tally : {n : ℕ} {t : Tally} → SumTo g sort least next from entries n t → IsTally (ViaFirst n) readings_depth t
+    sum_tally : {n : ℕ} {t : Tally} → SumTo g sort least next entries n t → IsTally (ViaFirst n) readings_depth t
     sum_tally sum_none = λ ks first. let low = first.2 in absurd (omega arith)
     sum_tally (sum_more {n = n} {t = t} {u = u} e sum at one) =
         tally_same (Either (ViaFirst n) (Via e)) (ViaFirst (suc n)) readings_depth (plus t u) (more_first n e at) (first_cases n e at)
         (plus_is (ViaFirst n) (Via e) readings_depth (apart_first n e at) t u (sum_tally sum) (entry_tally e u (sound n e at) (right n e at) one))
 
     -- the readings of a part and the symbols after it, where each kid has an entry
-    pub part_counted : (t : Tally) → SumTo g sort least next from entries (length entries) t →
+    pub part_counted : (t : Tally) → SumTo g sort least next entries (length entries) t →
         ((middle : ℕ) (kid : Reading) (ks : Readings) → Reads g tokens sort least place middle kid → ReadsAll g tokens rest middle to ks →
         (i : ℕ) × (e : Entry) × (slice_get entries i ≡ Some e) × KidOf g tokens e.maker sort least place middle kid × (e.to ≡ middle)) →
         IsTally (ReadsAll g tokens (part sort least ∷ rest) place to) readings_depth t

@@ -23,11 +23,11 @@ use Rattle.sx_forest.specs.Table.{IsFirstList}
 use Rattle.sx_forest.proofs.Pushing.{got_before, got_last, longer_pushed}
 
 -- one more row
-pub rows_on : (g : Grammar) (tokens : List Token) (lists : List (Vec Entry)) (head : Head) (count n from to : ℕ) (stretches : List Stretch) (rows new : List Row) (r : Row) →
-    AreRows g tokens lists head count n from to stretches rows → new ≡ rows ++ r ∷ [] →
-    IsRow g tokens lists (next_symbol g head (count - n - 1)) from to (stretch_at stretches (count - n - 1)) (row_at rows n) (ways_of r) →
-    AreRows g tokens lists head count (n + 1) from to stretches new
-rows_on g tokens lists head count n from to stretches rows new r so e made = record {
+pub rows_on : (g : Grammar) (tokens : List Token) (lists : List (Vec Entry)) (head : Head) (count n to : ℕ) (stretches : List Stretch) (rows new : List Row) (r : Row) →
+    AreRows g tokens lists head count n to stretches rows → new ≡ rows ++ r ∷ [] →
+    IsRow g tokens lists (next_symbol g head (count - n - 1)) to (stretch_at stretches (count - n - 1)) (row_at rows n) (ways_of r) →
+    AreRows g tokens lists head count (n + 1) to stretches new
+rows_on g tokens lists head count n to stretches rows new r so e made = record {
   long = omega (arith, longer_pushed rows new r e, so.long);
   last = rw (old 0 (omega (arith, so.long))) so.last;
   each = λ k low. by_place k (cases_lt k n) low;
@@ -40,7 +40,7 @@ rows_on g tokens lists head count n from to stretches rows new r so e made = rec
     newest = ap (λ l. row_at l (n + 1)) e ∙ (ap (λ k. row_at (rows ++ r ∷ []) k) (sym so.long) ∙ ap row_in (got_last rows r))
 
     Made : ℕ → Type 0
-    Made k = IsRow g tokens lists (next_symbol g head (count - k - 1)) from to (stretch_at stretches (count - k - 1)) (row_at new k) (row_at new (k + 1))
+    Made k = IsRow g tokens lists (next_symbol g head (count - k - 1)) to (stretch_at stretches (count - k - 1)) (row_at new k) (row_at new (k + 1))
 
     by_place : (k : ℕ) → (k < n) ⊎ (n ≤ k) → k < n + 1 → Made k
     by_place k (inl h) low = rw (old k (omega (arith, so.long)), old (k + 1) (omega (arith, so.long))) (so.each k h)

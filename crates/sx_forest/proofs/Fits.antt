@@ -1,5 +1,5 @@
 -- What reads the tokens, by induction on how it reads them.
-use Rattle.std.proofs.Common.{◌≡◌, ℕ, zero, suc, ◌+◌, ◌≤◌, List, [], ◌∷◌, Option, Some, None, option_map, length, map, length-append, refl, ap, ◌∙◌, sym, subst, arith}
+use Rattle.std.proofs.Common.{◌≡◌, ℕ, suc, ◌+◌, ◌≤◌, List, Option, Some, None, option_map, length, map, length-append, refl, ap, ◌∙◌, sym, subst, arith}
 use Rattle.std.specs.List.{slice_get}
 use Rattle.std.proofs.lemmas.List.{length-map}
 use Rattle.std.proofs.lemmas.Option.{slice_get_within, slice_get-map}
@@ -8,7 +8,7 @@ use Rattle.sx_term.specs.declared.mark.Mark.{Mark}
 use Rattle.sx_term.specs.declared.mark.Mark.TheVariants as marks
 use Rattle.sx_token.specs.declared.token.Token.{Token}
 use Rattle.sx_grammar.specs.Grammar as plain
-use Rattle.sx_grammar.specs.Grammar.{Text, Symbol, Grammar, Stem, is_literal, is_lexeme, is_variable}
+use Rattle.sx_grammar.specs.Grammar.{Text, Symbol, Grammar, Stem, is_lexeme, is_variable}
 use Rattle.sx_grammar.specs.Parts.{numbered, numbered_line, names}
 use Rattle.sx_grammar.specs.Reading.{Reading, Readings, Marked, Reads, by_production, by_brackets, by_variable, ReadsAll, all_read, by_literal, by_lexeme, by_lexical_variable, by_part}
 use Rattle.sx_earley.specs.Tokens.{Stems, shown, plain_tokens}

@@ -9,6 +9,8 @@ pub mod Summing
 pub mod Counting
 pub mod Using
 pub mod Sifting
+pub mod RowWays
+pub mod Keeping
 pub mod Rows
 pub mod Skipping
 pub mod Covering

@@ -12,14 +12,13 @@ use Rattle.sx_forest.specs.declared.entry.Maker.TheVariants.{Variable}
 use Rattle.sx_forest.specs.declared.entry.Entry.{Entry}
 use Rattle.sx_forest.specs.declared.reach.Reach.{Reach}
 use Rattle.sx_forest.specs.declared.stretch.Stretch.{Stretch}
-use Rattle.sx_forest.specs.declared.ways.Ways.{Ways}
-use Rattle.sx_forest.specs.Tallies.{ways_at, after_none}
+use Rattle.sx_forest.specs.Tallies.{ways_at, ways_of}
 use Rattle.sx_forest.specs.Rows.{FitsPart, IsIn, list_at}
 use Rattle.sx_forest.specs.Reached.{HasReach, reaches_in, reaches_at, AreReached}
 use Rattle.sx_forest.specs.Table.{IsPut}
 use Rattle.sx_forest.proofs.Pushing.{got_before, got_last}
-use Rattle.sx_forest.proofs.Rows.{past_row}
-use Rattle.sx_forest.proofs.Skipping.{before_ways, ways_after}
+use Rattle.sx_forest.specs.declared.row.Row.{Row}
+use Rattle.sx_forest.proofs.RowWays.{none_after, none_before, way_there}
 use Rattle.sx_forest.proofs.Summing.{same_or_not}
 use Rattle.sx_forest.proofs.Putting.{got_either}
 use Rattle.sx_forest.proofs.Usable.{none_or}
@@ -147,22 +146,20 @@ ends_within g lists ends starts reached sort least stretch grown each place i e 
     in_by grown e.to (λ out. unrefuted reached (λ r. out (each place e.maker e.to is (r.onward place i e at) fits)))
 
 -- an entry from another place than those that reach where the row has ways ends where it has none
-pub none_after : (g : Grammar) (lists : List (Vec Entry)) (ends starts : List (Vec Reach)) → ∥ AreReached lists ends starts ∥₁ → (sort least from skipped : ℕ) (ways : List Ways) (grown : Stretch) →
-    ((n : ℕ) (m : Maker) (p : ℕ) → n < length ways → (ways_at ways n ≡ no_way → ⊥) → HasReach (reaches_at starts (from + skipped + n)) m p → FitsPart g m sort least → IsIn grown p) →
-    (place i : ℕ) (e : Entry) → slice_get (list_at lists place) i ≡ Some e → FitsPart g e.maker sort least → from ≤ e.to → (IsIn grown place → ⊥) →
-    ways_at (after_none skipped ways) (e.to - from) ≡ no_way
-none_after g lists ends starts reached sort least from skipped ways grown each place i e at fits high out = by_order (cases_lt (e.to - from) skipped) (cases_lt (e.to - from - skipped) (length ways))
+pub none_beside : (g : Grammar) (lists : List (Vec Entry)) (ends starts : List (Vec Reach)) → ∥ AreReached lists ends starts ∥₁ → (sort least : ℕ) (row : Row) (grown : Stretch) →
+    ((n : ℕ) (m : Maker) (p : ℕ) → n < length row.ways.items → (ways_at row.ways.items n ≡ no_way → ⊥) → HasReach (reaches_at starts (row.end - (n + 1))) m p → FitsPart g m sort least → IsIn grown p) →
+    (place i : ℕ) (e : Entry) → slice_get (list_at lists place) i ≡ Some e → FitsPart g e.maker sort least → (IsIn grown place → ⊥) → ways_of row e.to ≡ no_way
+none_beside g lists ends starts reached sort least row grown each place i e at fits out = by_order (cases_lt e.to row.end) (cases_lt (row.end - 1 - e.to) (length row.ways.items))
   where
-    by_order : (e.to - from < skipped) ⊎ (skipped ≤ e.to - from) → (e.to - from - skipped < length ways) ⊎ (length ways ≤ e.to - from - skipped) →
-        ways_at (after_none skipped ways) (e.to - from) ≡ no_way
-    by_order (inl early) h = before_ways skipped (e.to - from) ways early
-    by_order (inr after) (inr past) = ways_after skipped (e.to - from) ways after ∙ past_row ways (e.to - from - skipped) past
-    by_order (inr after) (inl low) =
-        let n = e.to - from - skipped in
-        let same : e.to ≡ from + skipped + n = omega arith in
-        let value : ways_at (after_none skipped ways) (e.to - from) ≡ ways_at ways n = ways_after skipped (e.to - from) ways after in
-        none_by (ways_at (after_none skipped ways) (e.to - from)) (λ some. unrefuted reached
-        (λ r. out (each n e.maker place low (λ none. some (value ∙ none)) (subst (λ t. HasReach (reaches_at starts t) e.maker place) same (r.back place i e at)) fits)))
+    by_order : (e.to < row.end) ⊎ (row.end ≤ e.to) → (row.end - 1 - e.to < length row.ways.items) ⊎ (length row.ways.items ≤ row.end - 1 - e.to) → ways_of row e.to ≡ no_way
+    by_order (inr past) h = none_after row e.to past
+    by_order (inl low) (inr before) = none_before row e.to (omega arith)
+    by_order (inl low) (inl there) =
+        let n = row.end - 1 - e.to in
+        let same : e.to ≡ row.end - (n + 1) = omega arith in
+        let value : ways_of row e.to ≡ ways_at row.ways.items n = way_there row e.to low in
+        none_by (ways_of row e.to) (λ some. unrefuted reached
+        (λ r. out (each n e.maker place there (λ none. some (value ∙ none)) (subst (λ t. HasReach (reaches_at starts t) e.maker place) same (r.back place i e at)) fits)))
 
 abbrev pub no_reach : Reach
 no_reach = record { maker = Variable 0; places = record { first = 0; end = 0 } }

@@ -1,4 +1,4 @@
-use Rattle.std.proofs.Common.{◌≡◌, ℕ, zero, suc, ◌-◌, ◌<◌, ◌≤◌, List, [], ◌∷◌, ◌++◌, ◌⊎◌, inl, inr, Option, Some, None, refl, sym, subst, ap, ◌∙◌, length, take, arith}
+use Rattle.std.proofs.Common.{◌≡◌, ℕ, zero, suc, ◌-◌, ◌<◌, ◌≤◌, List, [], ◌∷◌, ◌++◌, ◌⊎◌, inl, inr, Option, Some, refl, sym, subst, ap, ◌∙◌, length, take, arith}
 use Rattle.std.specs.Global.{Vec}
 use Rattle.std.specs.List.{slice_get}
 use Rattle.std.proofs.lemmas.Bool.{cases_lt}
@@ -17,38 +17,27 @@ use Rattle.sx_grammar.proofs.Ordering.{kids_before}
 use Rattle.sx_grammar.proofs.Soundness.{items_read, bracket_head}
 use Rattle.sx_grammar.proofs.Completeness.{Left, from_start, later, left_first, found, part_low}
 use Rattle.sx_forest.specs.declared.stretch.Stretch.{Stretch}
-use Rattle.sx_forest.specs.declared.ways.Ways.{Ways}
 use Rattle.sx_forest.specs.declared.entry.Maker.{Maker}
 use Rattle.sx_forest.specs.declared.entry.Maker.TheVariants.{Variable, By}
 use Rattle.sx_forest.specs.declared.entry.Entry.{Entry}
-use Rattle.sx_forest.specs.Tallies.{tally_of, tally_in, ways_at, IsLastRow}
+use Rattle.sx_forest.specs.Tallies.{tally_of, IsLastRow}
 use Rattle.sx_forest.specs.Rows.{FitsPart, IsPlace, IsNext, IsIn, IsRow, list_at}
 use Rattle.sx_forest.specs.Table.{IsSoundBy, IsTable, HasBefore, IsRight}
 use Rattle.sx_forest.proofs.Counting.{makes_is, of_sort_is, KidOf, part_counted}
 use Rattle.sx_forest.proofs.Using.{kid_end}
 
-none_past : {X : Type 0} (xs : List X) (k : ℕ) → length xs ≤ k → slice_get xs k ≡ None
-none_past [] k long = refl
-none_past (x ∷ xs) zero long = absurd (omega arith)
-none_past (x ∷ xs) (suc k) long = none_past xs k (omega arith)
-
--- nothing is read beyond the end of a row
-pub past_row : (row : List Ways) (k : ℕ) → length row ≤ k → ways_at row k ≡ no_way
-past_row row k long = ap tally_in (none_past row k long)
-
 -- where a row has a way, it is made there
-pub row_there : (g : Grammar) (tokens : List Token) (lists : List (Vec Entry)) (symbol : Option Symbol) (from to place : ℕ) (stretch : Stretch) (next row : List Ways) →
-    IsRow g tokens lists symbol from to stretch next row → from ≤ place → (ways_at row (place - from) ≡ no_way → ⊥) →
-    IsNext g tokens (list_at lists place) symbol from place next (ways_at row (place - from))
-row_there g tokens lists symbol from to place stretch next row made ahead some =
+pub row_there : (g : Grammar) (tokens : List Token) (lists : List (Vec Entry)) (symbol : Option Symbol) (to place : ℕ) (stretch : Stretch) (next row : ℕ → Tally) →
+    IsRow g tokens lists symbol to stretch next row → (row place ≡ no_way → ⊥) → IsNext g tokens (list_at lists place) symbol place next (row place)
+row_there g tokens lists symbol to place stretch next row made some =
     by_order (cases_lt place stretch.first) (cases_lt place stretch.end) (cases_lt to place)
   where
     by_order : (place < stretch.first) ⊎ (stretch.first ≤ place) → (place < stretch.end) ⊎ (stretch.end ≤ place) → (to < place) ⊎ (place ≤ to) →
-        IsNext g tokens (list_at lists place) symbol from place next (ways_at row (place - from))
-    by_order (inl before) h k = absurd (some (made.outside place ahead (λ low is. let first = is.0 in omega arith)))
-    by_order (inr after) (inr past) k = absurd (some (made.outside place ahead (λ low is. let last = is.1 in omega arith)))
-    by_order (inr after) (inl under) (inl beyond) = absurd (some (made.outside place ahead (λ low is. omega arith)))
-    by_order (inr after) (inl under) (inr low) = made.each place ahead low (after, under)
+        IsNext g tokens (list_at lists place) symbol place next (row place)
+    by_order (inl before) h k = absurd (some (made.outside place (λ low is. let first = is.0 in omega arith)))
+    by_order (inr after) (inr past) k = absurd (some (made.outside place (λ low is. let last = is.1 in omega arith)))
+    by_order (inr after) (inl under) (inl beyond) = absurd (some (made.outside place (λ low is. omega arith)))
+    by_order (inr after) (inl under) (inr low) = made.each place low (after, under)
 
 module _ (g : Grammar) (tokens : List Token) (start : ℕ) where
   -- a symbol that reads a token reads one that is there
@@ -78,21 +67,19 @@ module _ (g : Grammar) (tokens : List Token) (start : ℕ) where
   span_within head from to span = item_within span.2
 
   -- the row after all symbols is right
-  pub last_at : (from to place : ℕ) (row : List Ways) → from ≤ to → IsLastRow from to row → from ≤ place → IsTally (ReadsAll g tokens [] place to) readings_depth (ways_at row (place - from))
-  last_at from to place row along last ahead = by_order (cases_lt place to) (cases_lt to place)
+  pub last_at : (to place : ℕ) (row : ℕ → Tally) → IsLastRow to row → IsTally (ReadsAll g tokens [] place to) readings_depth (row place)
+  last_at to place row last = by_order (cases_lt place to) (cases_lt to place)
     where
-      by_order : (place < to) ⊎ (to ≤ place) → (to < place) ⊎ (place ≤ to) → IsTally (ReadsAll g tokens [] place to) readings_depth (ways_at row (place - from))
-      by_order (inl low) h = rw (last.before (place - from) (omega arith)) (none_elsewhere g tokens place to (λ same. omega arith))
-      by_order (inr high) (inl beyond) =
-          let long = last.long in
-          rw (past_row row (place - from) (omega arith)) (none_elsewhere g tokens place to (λ same. omega arith))
+      by_order : (place < to) ⊎ (to ≤ place) → (to < place) ⊎ (place ≤ to) → IsTally (ReadsAll g tokens [] place to) readings_depth (row place)
+      by_order (inl low) h = rw (last.elsewhere place (λ same. omega arith)) (none_elsewhere g tokens place to (λ same. omega arith))
+      by_order (inr high) (inl beyond) = rw (last.elsewhere place (λ same. omega arith)) (none_elsewhere g tokens place to (λ same. omega arith))
       by_order (inr high) (inr low) =
           let same : to ≡ place = omega arith in
-          let P : ℕ → Type 0 = λ p. IsTally (ReadsAll g tokens [] p to) readings_depth (ways_at row (p - from)) in
+          let P : ℕ → Type 0 = λ p. IsTally (ReadsAll g tokens [] p to) readings_depth (row p) in
           subst P same (rw last.end (none_tally g tokens to))
 
-  pub last_right : (head : Head) (dot from to : ℕ) (row : List Ways) → from ≤ to → IsLastRow from to row → IsRight g tokens start head dot from to [] row
-  last_right head dot from to row along last place item = last_at from to place row along last (item_forward item)
+  pub last_right : (head : Head) (dot from to : ℕ) (row : ℕ → Tally) → IsLastRow to row → IsRight g tokens start head dot from to [] row
+  last_right head dot from to row last place item = last_at to place row last
 
   leaf_tally : (kind : LexKind) (place : ℕ) → ReadsToken tokens (lexical kind) place → IsTally (IsLeafAt tokens kind place) reading_depth (one_way 1)
   leaf_tally kind place (inl h) = (leaf place, inl (h, refl), refl, λ r. elim [ inl k ↦ k.1 | inr k ↦ absurd (not_both h k.0) ])
@@ -176,20 +163,20 @@ module _ (g : Grammar) (tokens : List Token) (start : ℕ) where
             (entry.0, entry.1, entry.2, subst (λ m. KidOf g tokens m sort least place middle kid) (sym entry.3) h.1, entry.4)
 
     -- the ways at a place are those of the symbol's readings
-    place_right : (dot place : ℕ) (symbol : Symbol) (rest : List Symbol) (next row : List Ways) (t : Tally) → Left p.symbols dot (symbol ∷ rest) →
-        IsRight g tokens start head (suc dot) from to rest next → Item g tokens start head dot from place → IsPlace g tokens (list_at lists place) symbol from place next t →
+    place_right : (dot place : ℕ) (symbol : Symbol) (rest : List Symbol) (next row : ℕ → Tally) (t : Tally) → Left p.symbols dot (symbol ∷ rest) →
+        IsRight g tokens start head (suc dot) from to rest next → Item g tokens start head dot from place → IsPlace g tokens (list_at lists place) symbol place next t →
         IsTally (ReadsAll g tokens (symbol ∷ rest) place to) readings_depth t
     place_right dot place (literal text) rest next row t left right item (inl h) =
-        rw h.1 (literal_tally g tokens text rest place to (ways_at next (suc place - from)) h.0
+        rw h.1 (literal_tally g tokens text rest place to (next (suc place)) h.0
         (right (suc place) (scanned item (p, is, left_first (literal text) rest left) h.0)))
     place_right dot place (literal text) rest next row t left right item (inr h) = rw h.1 (literal_elsewhere g tokens text rest place to h.0)
     place_right dot place (lexical kind) rest next row t left right item (inl h) =
-        rw h.1 (lexical_tally g tokens kind rest place to (one_way 1) (ways_at next (suc place - from)) (leaf_tally kind place h.0)
+        rw h.1 (lexical_tally g tokens kind rest place to (one_way 1) (next (suc place)) (leaf_tally kind place h.0)
         (right (suc place) (scanned item (p, is, left_first (lexical kind) rest left) h.0)))
     place_right dot place (lexical kind) rest next row t left right item (inr h) =
         rw h.1 (λ ks all. let l = lexical_read g tokens all in h.0 (no_leaf kind place l.0 l.2))
     place_right dot place (part sort least) rest next row t left right item sum =
-        part_counted g tokens start sort least place from to rest next (list_at lists place) (table.sound place) (table.once place)
+        part_counted g tokens start sort least place to rest next (list_at lists place) (table.sound place) (table.once place)
         (λ i e at fits. right e.to (over e.maker e.to (tally_of e.ways) (table.sound place i e at) fits))
         t sum (covered dot place sort least rest left item)
       where
@@ -201,21 +188,18 @@ module _ (g : Grammar) (tokens : List Token) (start : ℕ) where
             completed item (p, is, left_first (part sort least) rest left) s.0.2 (makes_is g h sort least fits) s.0.1
 
     -- a row before a right row is right, where the stretch has each place from which the rest is read
-    pub row_right : (dot : ℕ) (symbol : Symbol) (rest : List Symbol) (stretch : Stretch) (next row : List Ways) → Left p.symbols dot (symbol ∷ rest) →
+    pub row_right : (dot : ℕ) (symbol : Symbol) (rest : List Symbol) (stretch : Stretch) (next row : ℕ → Tally) → Left p.symbols dot (symbol ∷ rest) →
         ((place : ℕ) (ks : Readings) → Item g tokens start head dot from place → ReadsAll g tokens (symbol ∷ rest) place to ks → IsIn stretch place) →
-        IsRight g tokens start head (suc dot) from to rest next → IsRow g tokens lists (Some symbol) from to stretch next row → IsRight g tokens start head dot from to (symbol ∷ rest) row
+        IsRight g tokens start head (suc dot) from to rest next → IsRow g tokens lists (Some symbol) to stretch next row → IsRight g tokens start head dot from to (symbol ∷ rest) row
     row_right dot symbol rest stretch next row left there right made place item = by_order (cases_lt place stretch.first) (cases_lt place stretch.end) (cases_lt to place)
       where
-        ahead : from ≤ place
-        ahead = item_forward item
-
-        none : (place ≤ to → IsIn stretch place → ⊥) → IsTally (ReadsAll g tokens (symbol ∷ rest) place to) readings_depth (ways_at row (place - from))
-        none out = rw (made.outside place ahead out) (λ ks all. out (forward_all g tokens all) (there place ks item all))
+        none : (place ≤ to → IsIn stretch place → ⊥) → IsTally (ReadsAll g tokens (symbol ∷ rest) place to) readings_depth (row place)
+        none out = rw (made.outside place out) (λ ks all. out (forward_all g tokens all) (there place ks item all))
 
         by_order : (place < stretch.first) ⊎ (stretch.first ≤ place) → (place < stretch.end) ⊎ (stretch.end ≤ place) → (to < place) ⊎ (place ≤ to) →
-            IsTally (ReadsAll g tokens (symbol ∷ rest) place to) readings_depth (ways_at row (place - from))
+            IsTally (ReadsAll g tokens (symbol ∷ rest) place to) readings_depth (row place)
         by_order (inl before) h k = none (λ low is. let first = is.0 in omega arith)
         by_order (inr after) (inr past) k = none (λ low is. let last = is.1 in omega arith)
         by_order (inr after) (inl under) (inl beyond) = none (λ low is. omega arith)
         by_order (inr after) (inl under) (inr low) =
-            place_right dot place symbol rest next row (ways_at row (place - from)) left right item (made.each place ahead low (after, under))
+            place_right dot place symbol rest next row (row place) left right item (made.each place low (after, under))

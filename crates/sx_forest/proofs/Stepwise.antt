@@ -15,7 +15,6 @@ use Rattle.sx_grammar.specs.Tally.{Tally, no_way, one_way, times, IsTally, IsLea
 use Rattle.sx_grammar.proofs.Completeness.{Left, from_start, later, past, begins}
 use Rattle.sx_grammar.proofs.Soundness.{items_read, whole_of}
 use Rattle.sx_earley.specs.Chart.{next_symbol, symbol_after}
-use Rattle.sx_forest.specs.declared.ways.Ways.{Ways}
 use Rattle.sx_forest.specs.declared.entry.Maker.{Maker}
 use Rattle.sx_forest.specs.declared.entry.Maker.TheVariants.{Variable, By}
 use Rattle.sx_forest.specs.declared.entry.Entry.{Entry}
@@ -23,14 +22,14 @@ use Rattle.sx_forest.specs.declared.opened.Opened.{Opened}
 use Rattle.sx_forest.specs.declared.stretch.Stretch.{Stretch}
 use Rattle.sx_forest.specs.declared.step.Step.{Step}
 use Rattle.sx_forest.specs.declared.step.Step.TheVariants as steps
-use Rattle.sx_forest.specs.Tallies.{tally_of, ways_at}
+use Rattle.sx_forest.specs.Tallies.{tally_of}
 use Rattle.sx_forest.specs.Rows.{FitsPart, IsPlace, stretch_at, AreStretches, IsRow, AreRows, count_of, row_at, list_at}
 use Rattle.sx_forest.specs.Useful.{IsUsefulBy, useful_kid}
 use Rattle.sx_forest.specs.Table.{IsSoundBy, IsFull, IsRight}
 use Rattle.sx_forest.specs.Forests.{symbols_in, symbols_of, depth_in, IsMore, IsBy, IsShallow, IsOpened, row_from, IsAt, IsReadTo, IsUsable, IsFirstUsable, IsOver, IsStep, followed}
 use Rattle.sx_forest.proofs.Counting.{makes_is, KidOf, kid_reads, kid_tally, makes_low}
 use Rattle.sx_forest.proofs.Using.{kid_end}
-use Rattle.sx_forest.proofs.Rows.{past_row, row_there, item_forward, span_forward}
+use Rattle.sx_forest.proofs.Rows.{row_there, item_forward, span_forward}
 use Rattle.sx_forest.proofs.Spans.{rows_right}
 use Rattle.sx_forest.proofs.Tabling.{all_later}
 use Rattle.sx_forest.proofs.Usable.{deepest_of, bounded_by, times_none, sum_usable}
@@ -73,7 +72,7 @@ count_long None = refl
 count_long (Some q) = refl
 
 -- the row after the symbol at the dot
-pub next_row : (g : Grammar) (o : Opened) (dot count : ℕ) (row : List Ways) → count ≡ count_of (production_of g o.head) → row ≡ row_at o.rows.items (count - dot - 1) → row ≡ row_from g o (suc dot)
+pub next_row : (g : Grammar) (o : Opened) (dot count : ℕ) (row : ℕ → Tally) → count ≡ count_of (production_of g o.head) → row ≡ row_at o.rows.items (count - dot - 1) → row ≡ row_from g o (suc dot)
 next_row g o dot count row long e =
     let same : count - dot - 1 ≡ length (symbols_of g o.head) - suc dot = omega (arith, long, count_long (production_of g o.head)) in
     e ∙ ap (λ k. row_at o.rows.items k) same
@@ -82,12 +81,12 @@ pub no_symbol : (xs : List Symbol) (dot : ℕ) → dot < length xs → slice_get
 no_symbol xs dot low e = none-some (get_or xs dot (literal [])) (sym e ∙ slice_get-get_or xs dot (literal []) low)
 
 -- the same of equal rows, lists and results
-pub usable_as : (g : Grammar) (sort least : ℕ) {next next' : List Ways} (from : ℕ) {entries entries' : List Entry} (first : ℕ) {r r' : Option (ℕ × Entry)} → next ≡ next' → entries ≡ entries' → r ≡ r' →
-    IsFirstUsable g sort least next from entries first r → IsFirstUsable g sort least next' from entries' first r'
-usable_as g sort least {next = next} {next' = next'} from {entries = entries} {entries' = entries'} first {r = r} {r' = r'} a b c h =
-    let one : IsFirstUsable g sort least next' from entries first r = subst (λ x. IsFirstUsable g sort least x from entries first r) a h in
-    let two : IsFirstUsable g sort least next' from entries' first r = subst (λ x. IsFirstUsable g sort least next' from x first r) b one in
-    subst (λ x. IsFirstUsable g sort least next' from entries' first x) c two
+pub usable_as : (g : Grammar) (sort least : ℕ) {next next' : ℕ → Tally} {entries entries' : List Entry} (first : ℕ) {r r' : Option (ℕ × Entry)} → next ≡ next' → entries ≡ entries' → r ≡ r' →
+    IsFirstUsable g sort least next entries first r → IsFirstUsable g sort least next' entries' first r'
+usable_as g sort least {next = next} {next' = next'} {entries = entries} {entries' = entries'} first {r = r} {r' = r'} a b c h =
+    let one : IsFirstUsable g sort least next' entries first r = subst (λ x. IsFirstUsable g sort least x entries first r) a h in
+    let two : IsFirstUsable g sort least next' entries' first r = subst (λ x. IsFirstUsable g sort least next' x first r) b one in
+    subst (λ x. IsFirstUsable g sort least next' entries' first x) c two
 
 module _ (g : Grammar) (tokens : List Token) (start : ℕ) (levels : HasLevels g) (rank : ℕ → ℕ) (ranking : IsRanking g rank) (lists : List (Vec Entry)) (full : IsFull g tokens start lists)
     (o : Opened) (opened : IsOpened g tokens start lists o) where
@@ -112,8 +111,8 @@ module _ (g : Grammar) (tokens : List Token) (start : ℕ) (levels : HasLevels g
   spread : AreStretches g tokens lists o.head (length p.symbols) o.from o.to stretches
   spread = subst (λ c. AreStretches g tokens lists o.head c o.from o.to stretches) (ap count_of is) opened.rows.spread
 
-  are : AreRows g tokens lists o.head (length p.symbols) (length p.symbols) o.from o.to stretches o.rows.items
-  are = subst (λ c. AreRows g tokens lists o.head c c o.from o.to stretches o.rows.items) (ap count_of is) opened.rows.are
+  are : AreRows g tokens lists o.head (length p.symbols) (length p.symbols) o.to stretches o.rows.items
+  are = subst (λ c. AreRows g tokens lists o.head c c o.to stretches o.rows.items) (ap count_of is) opened.rows.are
 
   makes : Makes g o.head p.sort 0
   makes = record { production = p; is = is; same_sort = refl; reaches = omega arith }
@@ -127,7 +126,7 @@ module _ (g : Grammar) (tokens : List Token) (start : ℕ) (levels : HasLevels g
 
   -- the ways from a place by the symbol after the dot
   pub place_is : (dot place : ℕ) (x : Symbol) → slice_get (symbols_of g o.head) dot ≡ Some x → IsAt g tokens start o dot place →
-      IsPlace g tokens (list_at lists place) x o.from place (row_from g o (suc dot)) (ways_at (row_from g o dot) (place - o.from))
+      IsPlace g tokens (list_at lists place) x place (row_from g o (suc dot)) ((row_from g o dot) place)
   place_is dot place x e at =
       let low : dot < n = slice_get_within (symbols_of g o.head) dot x e in
       let long : n ≡ length p.symbols = ap length symbols in
@@ -139,11 +138,11 @@ module _ (g : Grammar) (tokens : List Token) (start : ℕ) (levels : HasLevels g
       let up : m + 1 ≡ n - dot = omega arith in
       let symbol : next_symbol g o.head dot ≡ Some x = ap (λ q. symbol_after q dot) is ∙ subst (λ xs. slice_get xs dot ≡ Some x) symbols e in
       let made = are.each m (omega arith) in
-      let made' : IsRow g tokens lists (Some x) o.from o.to (stretch_at stretches dot) next row =
-      subst (λ k. IsRow g tokens lists (Some x) o.from o.to (stretch_at stretches dot) next (row_at o.rows.items k)) up
-      (subst (λ s. IsRow g tokens lists s o.from o.to (stretch_at stretches dot) next (row_at o.rows.items (m + 1))) symbol
-      (subst (λ d. IsRow g tokens lists (next_symbol g o.head d) o.from o.to (stretch_at stretches d) next (row_at o.rows.items (m + 1))) there made)) in
-      row_there g tokens lists (Some x) o.from o.to place (stretch_at stretches dot) next row made' ahead at.some
+      let made' : IsRow g tokens lists (Some x) o.to (stretch_at stretches dot) next row =
+      subst (λ k. IsRow g tokens lists (Some x) o.to (stretch_at stretches dot) next (row_at o.rows.items k)) up
+      (subst (λ s. IsRow g tokens lists s o.to (stretch_at stretches dot) next (row_at o.rows.items (m + 1))) symbol
+      (subst (λ d. IsRow g tokens lists (next_symbol g o.head d) o.to (stretch_at stretches d) next (row_at o.rows.items (m + 1))) there made)) in
+      row_there g tokens lists (Some x) o.to place (stretch_at stretches dot) next row made' at.some
 
   next_is : (dot : ℕ) (x : Symbol) → slice_get (symbols_of g o.head) dot ≡ Some x → NextIs g o.head dot x
   next_is dot x e = (p, is, subst (λ xs. slice_get xs dot ≡ Some x) symbols e)
@@ -157,7 +156,7 @@ module _ (g : Grammar) (tokens : List Token) (start : ℕ) (levels : HasLevels g
   pub step_literal : (dot place : ℕ) (text : List ℕ) → slice_get (symbols_of g o.head) dot ≡ Some (literal text) → IsAt g tokens start o dot place → IsStep g tokens start lists o dot place steps.Literal
   step_literal dot place text e at = by_case (place_is dot place (literal text) e at)
     where
-      by_case : IsPlace g tokens (list_at lists place) (literal text) o.from place (row_from g o (suc dot)) (ways_at (row_from g o dot) (place - o.from)) → IsStep g tokens start lists o dot place steps.Literal
+      by_case : IsPlace g tokens (list_at lists place) (literal text) place (row_from g o (suc dot)) ((row_from g o dot) place) → IsStep g tokens start lists o dot place steps.Literal
       by_case (inl h) = record {
         symbol = literal text;
         is = e;
@@ -170,7 +169,7 @@ module _ (g : Grammar) (tokens : List Token) (start : ℕ) (levels : HasLevels g
   pub step_token : (dot place : ℕ) (kind : LexKind) → slice_get (symbols_of g o.head) dot ≡ Some (lexical kind) → IsAt g tokens start o dot place → IsStep g tokens start lists o dot place steps.Token
   step_token dot place kind e at = by_case (place_is dot place (lexical kind) e at)
     where
-      by_case : IsPlace g tokens (list_at lists place) (lexical kind) o.from place (row_from g o (suc dot)) (ways_at (row_from g o dot) (place - o.from)) → IsStep g tokens start lists o dot place steps.Token
+      by_case : IsPlace g tokens (list_at lists place) (lexical kind) place (row_from g o (suc dot)) ((row_from g o dot) place) → IsStep g tokens start lists o dot place steps.Token
       by_case (inl h) = record {
         symbol = lexical kind;
         is = e;
@@ -189,7 +188,7 @@ module _ (g : Grammar) (tokens : List Token) (start : ℕ) (levels : HasLevels g
 
   -- an item goes over a part by a usable entry, and the rest can be read
   pub after_part : (dot place sort least index : ℕ) (e : Entry) → slice_get (symbols_of g o.head) dot ≡ Some (part sort least) → IsAt g tokens start o dot place →
-      slice_get (list_at lists place) index ≡ Some e → IsUsable g sort least (row_from g o (suc dot)) o.from e → IsAt g tokens start o (suc dot) e.to
+      slice_get (list_at lists place) index ≡ Some e → IsUsable g sort least (row_from g o (suc dot)) e → IsAt g tokens start o (suc dot) e.to
   after_part dot place sort least index e symbol at there used = record {
     item = over dot place sort least e.maker e.to (tally_of e.ways) (next_is dot (part sort least) symbol) at.item (full.table.sound place index e there) used.0;
     some = λ z. used.1 (ap (λ u. times (tally_of e.ways) u) z ∙ times_none (tally_of e.ways));
@@ -197,7 +196,7 @@ module _ (g : Grammar) (tokens : List Token) (start : ℕ) (levels : HasLevels g
 
   -- the step over a part
   pub step_part : (dot place sort least index : ℕ) (e : Entry) → slice_get (symbols_of g o.head) dot ≡ Some (part sort least) → IsAt g tokens start o dot place →
-      IsFirstUsable g sort least (row_from g o (suc dot)) o.from (list_at lists place) 0 (Some (index, e)) → IsStep g tokens start lists o dot place (steps.Part index e)
+      IsFirstUsable g sort least (row_from g o (suc dot)) (list_at lists place) 0 (Some (index, e)) → IsStep g tokens start lists o dot place (steps.Part index e)
   step_part dot place sort least index e symbol at first = record {
     symbol = part sort least;
     is = symbol;
@@ -207,23 +206,23 @@ module _ (g : Grammar) (tokens : List Token) (start : ℕ) (levels : HasLevels g
 
   -- some entry is usable
   pub some_usable : (dot place sort least : ℕ) → slice_get (symbols_of g o.head) dot ≡ Some (part sort least) → IsAt g tokens start o dot place →
-      IsFirstUsable g sort least (row_from g o (suc dot)) o.from (list_at lists place) 0 None → ⊥
+      IsFirstUsable g sort least (row_from g o (suc dot)) (list_at lists place) 0 None → ⊥
   some_usable dot place sort least symbol at none =
-      let u = sum_usable g sort least (row_from g o (suc dot)) o.from (list_at lists place) (place_is dot place (part sort least) symbol at) at.some in
+      let u = sum_usable g sort least (row_from g o (suc dot)) (list_at lists place) (place_is dot place (part sort least) symbol at) at.some in
       none u.0 u.1 (omega arith) u.2 u.3
 
   -- what an entry reads is less deep than what the span does
   pub kid_depth : (dot place sort least index : ℕ) (e : Entry) (kids : Readings) → slice_get (symbols_of g o.head) dot ≡ Some (part sort least) → IsReadTo g tokens start o dot place kids →
-      slice_get (list_at lists place) index ≡ Some e → IsUsable g sort least (row_from g o (suc dot)) o.from e → depth_in (tally_of e.ways) < depth_in (tally_of o.ways)
+      slice_get (list_at lists place) index ≡ Some e → IsUsable g sort least (row_from g o (suc dot)) e → depth_in (tally_of e.ways) < depth_in (tally_of o.ways)
   kid_depth dot place sort least index e kids symbol so there used =
       let low : dot < n = slice_get_within (symbols_of g o.head) dot (part sort least) symbol in
       let left = left_at (symbols_of g o.head) dot (part sort least) symbol in
       let rest = left.0 in
       let sound = full.table.sound place index e there in
       let kid = deepest_of (KidOf g tokens e.maker sort least place e.to) reading_depth (tally_of e.ways) (kid_tally g tokens start e.maker sort least place e.to (tally_of e.ways) sound used.0)
-      (λ none. used.1 (ap (λ t. times t (ways_at (row_from g o (suc dot)) (e.to - o.from))) none)) in
+      (λ none. used.1 (ap (λ t. times t ((row_from g o (suc dot)) e.to)) none)) in
       let after = after_part dot place sort least index e symbol so.at there used in
-      let more = deepest_of (ReadsAll g tokens rest e.to o.to) readings_depth (ways_at (row_from g o (suc dot)) (e.to - o.from))
+      let more = deepest_of (ReadsAll g tokens rest e.to o.to) readings_depth ((row_from g o (suc dot)) e.to)
       (right (suc dot) rest (omega arith) (past (part sort least) rest left.1) e.to after.item) after.some in
       let reads : ReadsAll g tokens (part sort least ∷ rest) place o.to (kid.0 ▸ more.0) = by_part (kid_reads g tokens e.maker sort least place e.to kid.0 kid.1) more.1 in
       let ks = followed kids (kid.0 ▸ more.0) in
@@ -237,7 +236,7 @@ module _ (g : Grammar) (tokens : List Token) (start : ℕ) (levels : HasLevels g
       omega arith
 
   pub kid_shallow : (dot place sort least index : ℕ) (e : Entry) (kids : Readings) → slice_get (symbols_of g o.head) dot ≡ Some (part sort least) → IsReadTo g tokens start o dot place kids →
-      slice_get (list_at lists place) index ≡ Some e → IsUsable g sort least (row_from g o (suc dot)) o.from e → IsShallow g tokens start place e
+      slice_get (list_at lists place) index ≡ Some e → IsUsable g sort least (row_from g o (suc dot)) e → IsShallow g tokens start place e
   kid_shallow dot place sort least index e kids symbol so there used =
       let less = kid_depth dot place sort least index e kids symbol so there used in let low = opened.low in
       record { sound = full.table.sound place index e there; low = omega arith; useful = by_maker e.maker used.0 }
@@ -248,7 +247,7 @@ module _ (g : Grammar) (tokens : List Token) (start : ℕ) (levels : HasLevels g
           let low : dot < n = slice_get_within (symbols_of g o.head) dot (part sort least) symbol in
           let left = left_at (symbols_of g o.head) dot (part sort least) symbol in
           let after = after_part dot place sort least index e symbol so.at there used in
-          let more = deepest_of (ReadsAll g tokens left.0 e.to o.to) readings_depth (ways_at (row_from g o (suc dot)) (e.to - o.from))
+          let more = deepest_of (ReadsAll g tokens left.0 e.to o.to) readings_depth ((row_from g o (suc dot)) e.to)
           (right (suc dot) left.0 (omega arith) (past (part sort least) left.0 left.1) e.to after.item) after.some in
           let own : Left p.symbols dot (part sort least ∷ left.0) = subst (λ xs. Left xs dot (part sort least ∷ left.0)) symbols left.1 in
           useful_kid opened.useful (kid_end g tokens o.head p is dot sort least left.0 own o.to e.to more.0 more.1 head fits)
@@ -264,7 +263,7 @@ module _ (g : Grammar) (tokens : List Token) (start : ℕ) (levels : HasLevels g
   pub read_literal : (dot place : ℕ) (kids : Readings) → IsReadTo g tokens start o dot place kids → IsStep g tokens start lists o dot place steps.Literal → IsReadTo g tokens start o (suc dot) (suc place) kids
   read_literal dot place kids so step = by_symbol step.symbol step.is step.over
     where
-      by_symbol : (x : Symbol) → slice_get (symbols_of g o.head) dot ≡ Some x → IsOver g tokens lists o.from (row_from g o (suc dot)) place x steps.Literal → IsReadTo g tokens start o (suc dot) (suc place) kids
+      by_symbol : (x : Symbol) → slice_get (symbols_of g o.head) dot ≡ Some x → IsOver g tokens lists (row_from g o (suc dot)) place x steps.Literal → IsReadTo g tokens start o (suc dot) (suc place) kids
       by_symbol (literal text) e h =
           subst (λ ks. IsReadTo g tokens start o (suc dot) (suc place) ks) (followed_none kids) (read_symbol dot place (suc place) (literal text) kids done e so step.after (by_literal h.1 all_read))
       by_symbol (lexical kind) e h = let clash : steps.Literal ≡ steps.Token = h.0 in cc
@@ -274,7 +273,7 @@ module _ (g : Grammar) (tokens : List Token) (start : ℕ) (levels : HasLevels g
       ((kind : LexKind) → ReadsToken tokens (lexical kind) place → IsLeafAt tokens kind place r) → new ≡ followed kids (r ▸ done) → IsReadTo g tokens start o (suc dot) (suc place) new
   read_token dot place kids new r so step leaf same = rw same (by_symbol step.symbol step.is step.over)
     where
-      by_symbol : (x : Symbol) → slice_get (symbols_of g o.head) dot ≡ Some x → IsOver g tokens lists o.from (row_from g o (suc dot)) place x steps.Token →
+      by_symbol : (x : Symbol) → slice_get (symbols_of g o.head) dot ≡ Some x → IsOver g tokens lists (row_from g o (suc dot)) place x steps.Token →
           IsReadTo g tokens start o (suc dot) (suc place) (followed kids (r ▸ done))
       by_symbol (literal text) e h = let clash : steps.Token ≡ steps.Literal = h.0 in cc
       by_symbol (lexical kind) e h = read_symbol dot place (suc place) (lexical kind) kids (r ▸ done) e so step.after (leaf_read g tokens kind place r (leaf kind h.1))
@@ -285,12 +284,12 @@ module _ (g : Grammar) (tokens : List Token) (start : ℕ) (levels : HasLevels g
     pub sort : ℕ
     pub least : ℕ
     pub symbol : slice_get (symbols_of g o.head) dot ≡ Some (part sort least)
-    pub first : IsFirstUsable g sort least (row_from g o (suc dot)) o.from (list_at lists place) 0 (Some (index, e))
+    pub first : IsFirstUsable g sort least (row_from g o (suc dot)) (list_at lists place) 0 (Some (index, e))
 
   pub part_of : (dot place index : ℕ) (e : Entry) → IsStep g tokens start lists o dot place (steps.Part index e) → IsPartAt dot place index e
   part_of dot place index e step = by_symbol step.symbol step.is step.over
     where
-      by_symbol : (x : Symbol) → slice_get (symbols_of g o.head) dot ≡ Some x → IsOver g tokens lists o.from (row_from g o (suc dot)) place x (steps.Part index e) → IsPartAt dot place index e
+      by_symbol : (x : Symbol) → slice_get (symbols_of g o.head) dot ≡ Some x → IsOver g tokens lists (row_from g o (suc dot)) place x (steps.Part index e) → IsPartAt dot place index e
       by_symbol (literal text) s h = let clash : steps.Part index e ≡ steps.Literal = h.0 in cc
       by_symbol (lexical kind) s h = let clash : steps.Part index e ≡ steps.Token = h.0 in cc
       by_symbol (part sort least) s h =
@@ -300,8 +299,8 @@ module _ (g : Grammar) (tokens : List Token) (start : ℕ) (levels : HasLevels g
             sort = sort;
             least = least;
             symbol = s;
-            first = subst (λ j. IsFirstUsable g sort least (row_from g o (suc dot)) o.from (list_at lists place) 0 (Some (j, e))) (sym i)
-                (subst (λ y. IsFirstUsable g sort least (row_from g o (suc dot)) o.from (list_at lists place) 0 (Some (h.0, y))) (sym x) h.3);
+            first = subst (λ j. IsFirstUsable g sort least (row_from g o (suc dot)) (list_at lists place) 0 (Some (j, e))) (sym i)
+                (subst (λ y. IsFirstUsable g sort least (row_from g o (suc dot)) (list_at lists place) 0 (Some (h.0, y))) (sym x) h.3);
           }
         where
           index_in : Step → ℕ
@@ -316,7 +315,7 @@ module _ (g : Grammar) (tokens : List Token) (start : ℕ) (levels : HasLevels g
 
   -- one part more is read, by a usable entry
   pub read_part : (dot place sort least index : ℕ) (e : Entry) (kids new : Readings) (r : Reading) → slice_get (symbols_of g o.head) dot ≡ Some (part sort least) →
-      IsReadTo g tokens start o dot place kids → slice_get (list_at lists place) index ≡ Some e → IsUsable g sort least (row_from g o (suc dot)) o.from e →
+      IsReadTo g tokens start o dot place kids → slice_get (list_at lists place) index ≡ Some e → IsUsable g sort least (row_from g o (suc dot)) e →
       IsBy g tokens e.maker place e.to r → new ≡ followed kids (r ▸ done) → IsReadTo g tokens start o (suc dot) e.to new
   read_part dot place sort least index e kids new r symbol so there used by same =
       rw same
@@ -342,30 +341,28 @@ module _ (g : Grammar) (tokens : List Token) (start : ℕ) (levels : HasLevels g
   pub all_is_read : (place : ℕ) (kids : Readings) → IsReadTo g tokens start o n place kids → ReadsAll g tokens (symbols_of g o.head) o.from o.to kids
   all_is_read place kids so =
       let first : n - n ≡ 0 = omega arith in
-      let some : ways_at (row_at o.rows.items 0) (place - o.from) ≡ no_way → ⊥ = subst (λ k. ways_at (row_at o.rows.items k) (place - o.from) ≡ no_way → ⊥) first so.at.some in
-      let ahead : o.from ≤ place = item_forward g tokens start so.at.item in
-      let here : place ≡ o.to = at_end ahead some (cases_lt place o.to) (cases_lt o.to place) in
+      let some : (row_at o.rows.items 0) place ≡ no_way → ⊥ = subst (λ k. (row_at o.rows.items k) place ≡ no_way → ⊥) first so.at.some in
+      let here : place ≡ o.to = at_end some (cases_lt place o.to) (cases_lt o.to place) in
       subst (λ xs. ReadsAll g tokens xs o.from o.to kids) (take_all n (symbols_of g o.head) (omega arith)) (subst (λ q. ReadsAll g tokens (take n (symbols_of g o.head)) o.from q kids) here so.read)
     where
-      at_end : o.from ≤ place → (ways_at (row_at o.rows.items 0) (place - o.from) ≡ no_way → ⊥) → (place < o.to) ⊎ (o.to ≤ place) → (o.to < place) ⊎ (place ≤ o.to) → place ≡ o.to
-      at_end ahead some (inl low) h = absurd (some (are.last.before (place - o.from) (omega arith)))
-      at_end ahead some (inr high) (inl beyond) =
-          let long = are.last.long in let a = along in absurd (some (past_row (row_at o.rows.items 0) (place - o.from) (omega arith)))
-      at_end ahead some (inr high) (inr low) = omega arith
+      at_end : (row_at o.rows.items 0 place ≡ no_way → ⊥) → (place < o.to) ⊎ (o.to ≤ place) → (o.to < place) ⊎ (place ≤ o.to) → place ≡ o.to
+      at_end some (inl low) h = absurd (some (are.last.elsewhere place (λ same. omega arith)))
+      at_end some (inr high) (inl beyond) = absurd (some (are.last.elsewhere place (λ same. omega arith)))
+      at_end some (inr high) (inr low) = omega arith
 
   -- after all symbols there is not more than one way
-  pub at_the_end : (place : ℕ) → IsMore (ways_at (row_from g o n) (place - o.from)) → IsAt g tokens start o n place → ⊥
-  at_the_end place more at = by_order (cases_lt (place - o.from) (o.to - o.from)) (cases_lt (o.to - o.from) (place - o.from))
+  pub at_the_end : (place : ℕ) → IsMore ((row_from g o n) place) → IsAt g tokens start o n place → ⊥
+  at_the_end place more at = by_order (cases_lt place o.to) (cases_lt o.to place)
     where
-      more' : IsMore (ways_at (row_at o.rows.items 0) (place - o.from))
-      more' = let first : n - n ≡ 0 = omega arith in subst (λ k. IsMore (ways_at (row_at o.rows.items k) (place - o.from))) first more
+      more' : IsMore ((row_at o.rows.items 0) place)
+      more' = let first : n - n ≡ 0 = omega arith in subst (λ k. IsMore ((row_at o.rows.items k) place)) first more
 
-      by_order : (place - o.from < o.to - o.from) ⊎ (o.to - o.from ≤ place - o.from) → (o.to - o.from < place - o.from) ⊎ (place - o.from ≤ o.to - o.from) → ⊥
-      by_order (inl low) h = subst IsMore (are.last.before (place - o.from) low) more'
-      by_order (inr high) (inl beyond) = let long = are.last.long in subst IsMore (past_row (row_at o.rows.items 0) (place - o.from) (omega arith)) more'
+      by_order : (place < o.to) ⊎ (o.to ≤ place) → (o.to < place) ⊎ (place ≤ o.to) → ⊥
+      by_order (inl low) h = subst IsMore (are.last.elsewhere place (λ same. omega arith)) more'
+      by_order (inr high) (inl beyond) = subst IsMore (are.last.elsewhere place (λ same. omega arith)) more'
       by_order (inr high) (inr low) =
-          let same : place - o.from ≡ o.to - o.from = omega arith in
-          subst IsMore (ap (λ k. ways_at (row_at o.rows.items 0) k) same ∙ are.last.end) more'
+          let same : place ≡ o.to = omega arith in
+          subst IsMore (ap (λ k. row_at o.rows.items 0 k) same ∙ are.last.end) more'
 
   pub kids_of_all : (kids : Readings) → ReadsAll g tokens (symbols_of g o.head) o.from o.to kids → ReadsAll g tokens p.symbols o.from o.to kids
   kids_of_all kids all = subst (λ xs. ReadsAll g tokens xs o.from o.to kids) symbols all

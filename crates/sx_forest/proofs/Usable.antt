@@ -1,14 +1,13 @@
 -- Entries by which readings go over a part.
-use Rattle.std.proofs.Common.{◌≡◌, ℕ, suc, ◌-◌, ◌<◌, ◌≤◌, List, ◌⊎◌, inl, inr, Some, refl, sym, subst, ap, ◌∙◌, length, arith}
+use Rattle.std.proofs.Common.{◌≡◌, ℕ, suc, ◌<◌, ◌≤◌, List, ◌⊎◌, inl, inr, Some, refl, sym, subst, ap, ◌∙◌, length, arith}
 use Rattle.std.specs.Prelude.{None}
 use Rattle.std.specs.List.{slice_get}
 use Rattle.std.proofs.lemmas.Bool.{cases_lt}
 use Rattle.std.proofs.lemmas.Option.{slice_get_within, same_Some}
 use Rattle.sx_grammar.specs.Grammar.{Grammar}
 use Rattle.sx_grammar.specs.Tally.{Tally, no_way, one_way, more_ways, plus, times, IsTally}
-use Rattle.sx_forest.specs.declared.ways.Ways.{Ways}
 use Rattle.sx_forest.specs.declared.entry.Entry.{Entry}
-use Rattle.sx_forest.specs.Tallies.{tally_of, ways_at}
+use Rattle.sx_forest.specs.Tallies.{tally_of}
 use Rattle.sx_forest.specs.Rows.{IsEntryTally, SumTo, sum_none, sum_more}
 use Rattle.sx_forest.specs.Forests.{depth_in, IsMore, IsUsable, IsFirstUsable, IsForkOf}
 
@@ -53,15 +52,15 @@ more_times (one_way d) (one_way e) h = absurd h
 more_times (one_way d) (more_ways e) h = inr tt
 more_times (more_ways d) u h = inl tt
 
-module _ (g : Grammar) (sort least : ℕ) (next : List Ways) (from : ℕ) (entries : List Entry) where
+module _ (g : Grammar) (sort least : ℕ) (next : ℕ → Tally) (entries : List Entry) where
   abbrev Used : Entry → Type 0
-  Used e = IsUsable g sort least next from e
+  Used e = IsUsable g sort least next e
 
   abbrev tally : Entry → Tally
-  tally e = times (tally_of e.ways) (ways_at next (e.to - from))
+  tally e = times (tally_of e.ways) (next e.to)
 
   -- a usable entry has its tally, and another has none
-  used_or : (e : Entry) (u : Tally) → IsEntryTally g sort least next from e u → (Used e × (u ≡ tally e)) ⊎ ((Used e → ⊥) × (u ≡ no_way))
+  used_or : (e : Entry) (u : Tally) → IsEntryTally g sort least next e u → (Used e × (u ≡ tally e)) ⊎ ((Used e → ⊥) × (u ≡ no_way))
   used_or e u (inl h) = by_tally (none_or (tally e))
     where
       by_tally : (tally e ≡ no_way) ⊎ (tally e ≡ no_way → ⊥) → (Used e × (u ≡ tally e)) ⊎ ((Used e → ⊥) × (u ≡ no_way))
@@ -70,7 +69,7 @@ module _ (g : Grammar) (sort least : ℕ) (next : List Ways) (from : ℕ) (entri
   used_or e u (inr h) = inr ((λ used. h.0 used.0), h.1)
 
   -- where a sum is not none, one of the entries is usable
-  pub sum_usable : {n : ℕ} {t : Tally} → SumTo g sort least next from entries n t → (t ≡ no_way → ⊥) → (i : ℕ) × (e : Entry) × (slice_get entries i ≡ Some e) × Used e
+  pub sum_usable : {n : ℕ} {t : Tally} → SumTo g sort least next entries n t → (t ≡ no_way → ⊥) → (i : ℕ) × (e : Entry) × (slice_get entries i ≡ Some e) × Used e
   sum_usable sum_none some = absurd (some refl)
   sum_usable (sum_more {n = n} {t = t} {u = u} e sum at one) some = by_case (used_or e u one) (λ before. sum_usable sum before)
     where
@@ -82,7 +81,7 @@ module _ (g : Grammar) (sort least : ℕ) (next : List Ways) (from : ℕ) (entri
   module _ (i : ℕ) (e : Entry) (at : slice_get entries i ≡ Some e) (used : Used e)
       (only : (j : ℕ) (x : Entry) → slice_get entries j ≡ Some x → Used x → j ≡ i) where
     -- where no other entry is usable, the sum is its tally
-    pub alone : {n : ℕ} {t : Tally} → SumTo g sort least next from entries n t → (n ≤ i → t ≡ no_way) × (i < n → t ≡ tally e)
+    pub alone : {n : ℕ} {t : Tally} → SumTo g sort least next entries n t → (n ≤ i → t ≡ no_way) × (i < n → t ≡ tally e)
     alone sum_none = ((λ low. refl), λ low. absurd (omega arith))
     alone (sum_more {n = n} {t = t} {u = u} x sum there one) = by_case (alone sum) (used_or x u one)
       where
@@ -105,7 +104,7 @@ module _ (g : Grammar) (sort least : ℕ) (next : List Ways) (from : ℕ) (entri
                 absurd (h.0 (subst Used (sym is) used))
 
   -- where readings do not part at a part, no other entry is usable
-  pub only_usable : (i : ℕ) (e : Entry) → IsFirstUsable g sort least next from entries 0 (Some (i, e)) → IsForkOf g sort least next from entries i e None →
+  pub only_usable : (i : ℕ) (e : Entry) → IsFirstUsable g sort least next entries 0 (Some (i, e)) → IsForkOf g sort least next entries i e None →
       (j : ℕ) (x : Entry) → slice_get entries j ≡ Some x → Used x → j ≡ i
   only_usable i e first fork j x there used = by_order (cases_lt j i) (cases_lt i j)
     where
@@ -115,13 +114,13 @@ module _ (g : Grammar) (sort least : ℕ) (next : List Ways) (from : ℕ) (entri
       by_order (inr high) (inr low) = omega arith
 
   -- and where there is more than one reading, there is more than one of the rest
-  pub goes_on : (t : Tally) (i : ℕ) (e : Entry) → SumTo g sort least next from entries (length entries) t → IsMore t →
-      IsFirstUsable g sort least next from entries 0 (Some (i, e)) → IsForkOf g sort least next from entries i e None → IsMore (ways_at next (e.to - from))
-  goes_on t i e sum more first fork = by_part (more_times (tally_of e.ways) (ways_at next (e.to - from)) (subst IsMore is more))
+  pub goes_on : (t : Tally) (i : ℕ) (e : Entry) → SumTo g sort least next entries (length entries) t → IsMore t →
+      IsFirstUsable g sort least next entries 0 (Some (i, e)) → IsForkOf g sort least next entries i e None → IsMore (next e.to)
+  goes_on t i e sum more first fork = by_part (more_times (tally_of e.ways) (next e.to) (subst IsMore is more))
     where
       is : t ≡ tally e
       is = (alone i e first.1 first.2 (only_usable i e first fork) sum).1 (slice_get_within entries i e first.1)
 
-      by_part : IsMore (tally_of e.ways) ⊎ IsMore (ways_at next (e.to - from)) → IsMore (ways_at next (e.to - from))
+      by_part : IsMore (tally_of e.ways) ⊎ IsMore (next e.to) → IsMore (next e.to)
       by_part (inl h) = absurd (fork.0 h)
       by_part (inr h) = h

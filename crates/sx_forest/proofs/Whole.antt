@@ -39,8 +39,8 @@ module _ (g : Grammar) (tokens : List Token) (start : ℕ) (levels : HasLevels g
       let n = length tokens in
       let Q = ReadsAll g tokens (part start 0 ∷ []) 0 n in
       let all : IsTally Q readings_depth t =
-      part_counted g tokens start start 0 0 0 n [] w.row (list_at lists 0) (full.table.sound 0) (full.table.once 0)
-      (λ i e at fits. last_at g tokens start 0 n e.to w.row (omega arith) w.last (omega arith)) t w.sum (λ middle kid ks reads more. covered middle kid (sym (nothing_read g tokens more).0) reads) in
+      part_counted g tokens start start 0 0 n [] w.row (list_at lists 0) (full.table.sound 0) (full.table.once 0)
+      (λ i e at fits. last_at g tokens start n e.to w.row w.last) t w.sum (λ middle kid ks reads more. covered middle kid (sym (nothing_read g tokens more).0) reads) in
       tally_same (λ r. Q (r ▸ done)) (ReadsWhole g tokens start) reading_depth t (λ r q. alone r q) (λ r reads. by_part reads all_read)
       (single_tally Q (λ ks q. one_kid ks q) t all)
     where

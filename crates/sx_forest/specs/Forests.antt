@@ -87,7 +87,7 @@ pub record IsOpened (g : Grammar) (tokens : List Token) (start : ℕ) (lists : L
   pub rows : AreSpanRows g tokens lists o.head o.from o.to o.rows.items
 
 -- the row of the symbols from the dot on
-abbrev pub row_from : Grammar → Opened → ℕ → List Ways
+abbrev pub row_from : Grammar → Opened → ℕ → ℕ → Tally
 row_from g o dot = row_at o.rows.items (length (symbols_of g o.head) - dot)
 
 -- an item has the symbols before the dot read up to the place, and those from it on can be read up
@@ -95,7 +95,7 @@ row_from g o dot = row_at o.rows.items (length (symbols_of g o.head) - dot)
 pub record IsAt (g : Grammar) (tokens : List Token) (start : ℕ) (o : Opened)
     (dot place : ℕ) : Type 0 where
   pub item : Item g tokens start o.head dot o.from place
-  pub some : ways_at (row_from g o dot) (place - o.from) ≢ no_way
+  pub some : row_from g o dot place ≢ no_way
 
 -- and the readings are those of the symbols before the dot
 pub record IsReadTo (g : Grammar) (tokens : List Token) (start : ℕ) (o : Opened) (dot place : ℕ)
@@ -109,20 +109,20 @@ followed done others = others
 followed (kid ▸ kids) others = kid ▸ followed kids others
 
 -- the entry reads the part, and the row the rest
-abbrev pub IsUsable : Grammar → (sort least : ℕ) → List Ways → (from : ℕ) → Entry → Type 0
-IsUsable g sort least next from e = FitsPart g e.maker sort least ×
-    (times (tally_of e.ways) (ways_at next (e.to - from)) ≢ no_way)
+abbrev pub IsUsable : Grammar → (sort least : ℕ) → (ℕ → Tally) → Entry → Type 0
+IsUsable g sort least next e = FitsPart g e.maker sort least ×
+    (times (tally_of e.ways) (next e.to) ≢ no_way)
 
 -- the first usable entry from an index on, with its index
-abbrev pub IsFirstUsable : Grammar → (sort least : ℕ) → List Ways → (from : ℕ) → List Entry →
+abbrev pub IsFirstUsable : Grammar → (sort least : ℕ) → (ℕ → Tally) → List Entry →
     (first : ℕ) → Option (ℕ × Entry) → Type 0
-IsFirstUsable g sort least next from entries first None = (i : ℕ) (e : Entry) → first ≤ i →
-    slice_get entries i ≡ Some e → ¬ (IsUsable g sort least next from e)
-IsFirstUsable g sort least next from entries first (Some found) =
+IsFirstUsable g sort least next entries first None = (i : ℕ) (e : Entry) → first ≤ i →
+    slice_get entries i ≡ Some e → ¬ (IsUsable g sort least next e)
+IsFirstUsable g sort least next entries first (Some found) =
     (first ≤ found.0) × (slice_get entries found.0 ≡ Some found.1) ×
-    IsUsable g sort least next from found.1 ×
+    IsUsable g sort least next found.1 ×
     ((i : ℕ) (e : Entry) → first ≤ i → i < found.0 → slice_get entries i ≡ Some e →
-    ¬ (IsUsable g sort least next from e))
+    ¬ (IsUsable g sort least next e))
 
 -- the place after the step
 abbrev pub end_of : Step → ℕ → ℕ
@@ -131,36 +131,36 @@ end_of steps.Token place = suc place
 end_of (steps.Part index e) place = e.to
 
 -- the step goes over the symbol at the place; over a part it goes by the first usable entry
-abbrev pub IsOver : Grammar → List Token → List (Vec Entry) → (from : ℕ) → List Ways → (place : ℕ) →
+abbrev pub IsOver : Grammar → List Token → List (Vec Entry) → (ℕ → Tally) → (place : ℕ) →
     Symbol → Step → Type 0
-IsOver g tokens lists from next place (literal text) step =
+IsOver g tokens lists next place (literal text) step =
     (step ≡ steps.Literal) × IsLiteral tokens place text
-IsOver g tokens lists from next place (lexical kind) step =
+IsOver g tokens lists next place (lexical kind) step =
     (step ≡ steps.Token) × ReadsToken tokens (lexical kind) place
-IsOver g tokens lists from next place (part sort least) step =
+IsOver g tokens lists next place (part sort least) step =
     (index : ℕ) × (e : Entry) × (step ≡ steps.Part index e) ×
-    IsFirstUsable g sort least next from (list_at lists place) 0 (Some (index, e))
+    IsFirstUsable g sort least next (list_at lists place) 0 (Some (index, e))
 
 -- the step goes over the symbol after the dot, and leaves the rest to be read
 pub record IsStep (g : Grammar) (tokens : List Token) (start : ℕ) (lists : List (Vec Entry))
     (o : Opened) (dot place : ℕ) (step : Step) : Type 0 where
   pub symbol : Symbol
   pub is : slice_get (symbols_of g o.head) dot ≡ Some symbol
-  pub over : IsOver g tokens lists o.from (row_from g o (suc dot)) place symbol step
+  pub over : IsOver g tokens lists (row_from g o (suc dot)) place symbol step
   pub after : IsAt g tokens start o (suc dot) (end_of step place)
 
 -- how two readings part at a part, where this entry is the first usable one and has this index, or
 -- that they do not
-abbrev pub IsForkOf : Grammar → (sort least : ℕ) → List Ways → (from : ℕ) → List Entry →
+abbrev pub IsForkOf : Grammar → (sort least : ℕ) → (ℕ → Tally) → List Entry →
     (index : ℕ) → Entry → Option Fork → Type 0
-IsForkOf g sort least next from entries index e (Some (Apart one other)) =
+IsForkOf g sort least next entries index e (Some (Apart one other)) =
     (one ≡ e) × ((i : ℕ) × (index < i) × (slice_get entries i ≡ Some other) ×
-    IsUsable g sort least next from other)
-IsForkOf g sort least next from entries index e (Some (Inside entry)) =
+    IsUsable g sort least next other)
+IsForkOf g sort least next entries index e (Some (Inside entry)) =
     (entry ≡ e) × IsMore (tally_of e.ways)
-IsForkOf g sort least next from entries index e None =
+IsForkOf g sort least next entries index e None =
     ¬ (IsMore (tally_of e.ways)) × ((i : ℕ) (x : Entry) → index < i → slice_get entries i ≡ Some x →
-    ¬ (IsUsable g sort least next from x))
+    ¬ (IsUsable g sort least next x))
 
 -- the entries by which the two readings go
 abbrev pub one_of : Fork → Entry
@@ -193,7 +193,7 @@ pub record IsThere (g : Grammar) (lists : List (Vec Entry)) (o : Opened) (dot pl
     (e : Entry) : Type 0 where
   pub index : ℕ
   pub at : slice_get (list_at lists place) index ≡ Some e
-  pub used : IsUsable g sort least (row_from g o (suc dot)) o.from e
+  pub used : IsUsable g sort least (row_from g o (suc dot)) e
 
 -- the readings part at the part at the dot
 pub record IsForkAt (g : Grammar) (lists : List (Vec Entry)) (o : Opened) (dot place : ℕ)
@@ -208,7 +208,7 @@ pub record IsForkAt (g : Grammar) (lists : List (Vec Entry)) (o : Opened) (dot p
 -- the symbols from the dot on can be read in more ways than one, from the place up to the end of
 -- the span
 abbrev pub IsMoreAt : Grammar → Opened → (dot place : ℕ) → Type 0
-IsMoreAt g o dot place = IsMore (ways_at (row_from g o dot) (place - o.from))
+IsMoreAt g o dot place = IsMore (row_from g o dot place)
 
 -- the reading is by the head, with these kids
 abbrev pub IsMadeOf : Head → Readings → (from to : ℕ) → Reading → Type 0

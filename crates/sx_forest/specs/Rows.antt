@@ -28,37 +28,36 @@ abbrev pub IsWhere : Type 0 → Tally → Tally → Type 0
 IsWhere P u t = (P × (t ≡ u)) ⊎ ((P → ⊥) × (t ≡ no_way))
 
 -- the ways by one entry, and then those of the row
-abbrev pub IsEntryTally : Grammar → (sort least : ℕ) → List Ways → (from : ℕ) → Entry → Tally →
-    Type 0
-IsEntryTally g sort least next from e t = IsWhere (FitsPart g e.maker sort least)
-    (times (tally_of e.ways) (ways_at next (e.to - from))) t
+abbrev pub IsEntryTally : Grammar → (sort least : ℕ) → (ℕ → Tally) → Entry → Tally → Type 0
+IsEntryTally g sort least next e t = IsWhere (FitsPart g e.maker sort least)
+    (times (tally_of e.ways) (next e.to)) t
 
 -- the sum of those of the first n entries
-pub data SumTo (g : Grammar) (sort least : ℕ) (next : List Ways) (from : ℕ)
+pub data SumTo (g : Grammar) (sort least : ℕ) (next : ℕ → Tally)
     (entries : List Entry) : ℕ → Tally → Type 0 where
-  sum_none : SumTo g sort least next from entries 0 no_way
-  sum_more : {n : ℕ} {t u : Tally} (e : Entry) → SumTo g sort least next from entries n t →
+  sum_none : SumTo g sort least next entries 0 no_way
+  sum_more : {n : ℕ} {t u : Tally} (e : Entry) → SumTo g sort least next entries n t →
       slice_get entries n ≡ Some e →
-      IsEntryTally g sort least next from e u →
-      SumTo g sort least next from entries (suc n) (plus t u)
+      IsEntryTally g sort least next e u →
+      SumTo g sort least next entries (suc n) (plus t u)
 
 -- the ways to read the symbol from the place, and then those of the row
-abbrev pub IsPlace : Grammar → List Token → List Entry → Symbol → (from place : ℕ) → List Ways →
+abbrev pub IsPlace : Grammar → List Token → List Entry → Symbol → (place : ℕ) → (ℕ → Tally) →
     Tally → Type 0
-IsPlace g tokens entries (literal text) from place next t =
-    IsWhere (IsLiteral tokens place text) (ways_at next (suc place - from)) t
-IsPlace g tokens entries (lexical kind) from place next t =
+IsPlace g tokens entries (literal text) place next t =
+    IsWhere (IsLiteral tokens place text) (next (suc place)) t
+IsPlace g tokens entries (lexical kind) place next t =
     IsWhere (ReadsToken tokens (lexical kind) place)
-    (times (one_way 1) (ways_at next (suc place - from))) t
-IsPlace g tokens entries (part sort least) from place next t =
-    SumTo g sort least next from entries (length entries) t
+    (times (one_way 1) (next (suc place))) t
+IsPlace g tokens entries (part sort least) place next t =
+    SumTo g sort least next entries (length entries) t
 
 -- the same of a symbol that may be there
-abbrev pub IsNext : Grammar → List Token → List Entry → Option Symbol → (from place : ℕ) →
-    List Ways → Tally → Type 0
-IsNext g tokens entries None from place next t = t ≡ no_way
-IsNext g tokens entries (Some symbol) from place next t =
-    IsPlace g tokens entries symbol from place next t
+abbrev pub IsNext : Grammar → List Token → List Entry → Option Symbol → (place : ℕ) →
+    (ℕ → Tally) → Tally → Type 0
+IsNext g tokens entries None place next t = t ≡ no_way
+IsNext g tokens entries (Some symbol) place next t =
+    IsPlace g tokens entries symbol place next t
 
 -- the entries of the list at this place
 abbrev pub list_in : Option (Vec Entry) → List Entry
@@ -127,11 +126,18 @@ pub record AreStretches (g : Grammar) (tokens : List Token) (lists : List (Vec E
 -- the ways from each place of the stretch by the symbol, and then those of the next row; none from
 -- other places
 pub record IsRow (g : Grammar) (tokens : List Token) (lists : List (Vec Entry))
-    (symbol : Option Symbol) (from to : ℕ) (stretch : Stretch) (next row : List Ways) : Type 0 where
-  pub each : (place : ℕ) → from ≤ place → place ≤ to → IsIn stretch place →
-      IsNext g tokens (list_at lists place) symbol from place next (ways_at row (place - from))
-  pub outside : (place : ℕ) → from ≤ place → (place ≤ to → IsIn stretch place → ⊥) →
-      ways_at row (place - from) ≡ no_way
+    (symbol : Option Symbol) (to : ℕ) (stretch : Stretch) (next row : ℕ → Tally) : Type 0 where
+  pub each : (place : ℕ) → place ≤ to → IsIn stretch place →
+      IsNext g tokens (list_at lists place) symbol place next (row place)
+  pub outside : (place : ℕ) → (place ≤ to → IsIn stretch place → ⊥) → row place ≡ no_way
+
+-- the new row has the ways from each place of the stretch too, and begins there
+pub record IsExtended (g : Grammar) (tokens : List Token) (lists : List (Vec Entry))
+    (symbol : Option Symbol) (next : ℕ → Tally) (places : Stretch) (old new : Row) : Type 0 where
+  pub each : (place : ℕ) → IsIn places place →
+      IsNext g tokens (list_at lists place) symbol place next (ways_of new place)
+  pub kept : (place : ℕ) → (IsIn places place → ⊥) → ways_of new place ≡ ways_of old place
+  pub first : places.first ≤ places.end → new.end ≡ places.first + length new.ways.items
 
 -- how many symbols a production has
 abbrev pub count_of : Option Production → ℕ
@@ -139,19 +145,19 @@ count_of None = 0
 count_of (Some p) = length p.symbols
 
 -- the row at this place of a list of rows
-abbrev pub row_in : Option Row → List Ways
-row_in None = []
+abbrev pub row_in : Option Row → ℕ → Tally
+row_in None = λ place. no_way
 row_in (Some row) = ways_of row
 
-abbrev pub row_at : List Row → ℕ → List Ways
+abbrev pub row_at : List Row → ℕ → ℕ → Tally
 row_at rows place = row_in (slice_get rows place)
 
 -- the row after all symbols, and the n rows before it, from the last symbol of the head on
 pub record AreRows (g : Grammar) (tokens : List Token) (lists : List (Vec Entry)) (head : Head)
-    (count n from to : ℕ) (stretches : List Stretch) (rows : List Row) : Type 0 where
+    (count n to : ℕ) (stretches : List Stretch) (rows : List Row) : Type 0 where
   pub long : length rows ≡ n + 1
-  pub last : IsLastRow from to (row_at rows 0)
-  pub each : (k : ℕ) → k < n → IsRow g tokens lists (next_symbol g head (count - k - 1)) from to
+  pub last : IsLastRow to (row_at rows 0)
+  pub each : (k : ℕ) → k < n → IsRow g tokens lists (next_symbol g head (count - k - 1)) to
       (stretch_at stretches (count - k - 1)) (row_at rows k) (row_at rows (k + 1))
 
 -- the rows of a span, from that after all symbols to that before all
@@ -160,19 +166,19 @@ pub record AreSpanRows (g : Grammar) (tokens : List Token) (lists : List (Vec En
   pub stretches : List Stretch
   pub spread : AreStretches g tokens lists head (count_of (production_of g head)) from to stretches
   pub are : AreRows g tokens lists head (count_of (production_of g head))
-      (count_of (production_of g head)) from to stretches rows
+      (count_of (production_of g head)) to stretches rows
 
 -- the tally is that of the head's rows, one deeper
 pub record IsSpanWays (g : Grammar) (tokens : List Token) (lists : List (Vec Entry)) (head : Head)
     (from to : ℕ) (t : Tally) : Type 0 where
   pub rows : List Row
   pub are : AreSpanRows g tokens lists head from to rows
-  pub is : IsSmall (ways_at (row_at rows (count_of (production_of g head))) 0) →
-      t ≡ deeper (ways_at (row_at rows (count_of (production_of g head))) 0)
+  pub is : IsSmall (row_at rows (count_of (production_of g head)) from) →
+      t ≡ deeper (row_at rows (count_of (production_of g head)) from)
 
 -- the tally is the sum over the entries of all tokens
 pub record IsWholeWays (g : Grammar) (start n : ℕ) (lists : List (Vec Entry))
     (t : Tally) : Type 0 where
-  pub row : List Ways
-  pub last : IsLastRow 0 n row
-  pub sum : SumTo g start 0 row 0 (list_at lists 0) (length (list_at lists 0)) t
+  pub row : ℕ → Tally
+  pub last : IsLastRow n row
+  pub sum : SumTo g start 0 row (list_at lists 0) (length (list_at lists 0)) t

@@ -71,10 +71,10 @@ HasBefore g tokens start rank lists head from to sort_rank =
 
 -- the row has the tally of the readings of the symbols from each place that the items reach
 abbrev pub IsRight : Grammar → List Token → (start : ℕ) → Head → (dot from to : ℕ) → List Symbol →
-    List Ways → Type 0
+    (ℕ → Tally) → Type 0
 IsRight g tokens start head dot from to rest row =
     (place : ℕ) → Item g tokens start head dot from place →
-    IsTally (ReadsAll g tokens rest place to) readings_depth (ways_at row (place - from))
+    IsTally (ReadsAll g tokens rest place to) readings_depth (row place)
 
 -- at most one entry, of the metavariable that stands at the place
 pub record IsFirstList (tokens : List Token) (place : ℕ) (entries : List Entry) : Type 0 where

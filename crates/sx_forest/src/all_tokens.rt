@@ -13,7 +13,6 @@ use crate::choosing::{first_usable, fork_of};
 use crate::forest::Forest;
 use crate::forking::pair_at;
 use crate::reading::Reading;
-use crate::rest::Rest;
 use crate::row::Row;
 use std::alloc::Global;
 use sx_term::NoMemory;
@@ -21,7 +20,7 @@ use sx_term::NoMemory;
 /// A reading of all tokens, where there is one. The row is that of no symbols, up to the end.
 pub(crate) fn first_reading(alloc: Global, forest: Forest, row: &Row) -> Result<Reading, NoMemory>
     requires forest { IsForest forest }
-    requires row { IsLastRow 0 (length forest.shown.now) (ways_of row.now) }
+    requires row { IsLastRow (length forest.shown.now) (ways_of row.now) }
     requires low { (r : plain.Reading) → ReadsWhole (grammar_in forest)
         (tokens_in forest) forest.start r → reading_depth r ≤ 1000 }
     requires some { (r : plain.Reading) × ReadsWhole (grammar_in forest)
@@ -36,7 +35,7 @@ pub(crate) fn first_reading(alloc: Global, forest: Forest, row: &Row) -> Result<
         entries,
         sort: forest.start,
         least: 0,
-        rest: Rest { row, from: 0 },
+        rest: row,
     };
     match first_usable(choice, 0) {
         Some((_, entry)) => build(alloc, forest, entry, 0),
@@ -52,7 +51,7 @@ pub(crate) fn two_readings(
     row: &Row,
 ) -> Result<(Reading, Reading), NoMemory>
     requires forest { IsForest forest }
-    requires row { IsLastRow 0 (length forest.shown.now) (ways_of row.now) }
+    requires row { IsLastRow (length forest.shown.now) (ways_of row.now) }
     requires low { (r : plain.Reading) → ReadsWhole (grammar_in forest)
         (tokens_in forest) forest.start r → reading_depth r ≤ 1000 }
     requires two { (one : plain.Reading) × (other : plain.Reading) ×
@@ -71,7 +70,7 @@ pub(crate) fn two_readings(
         entries,
         sort: forest.start,
         least: 0,
-        rest: Rest { row, from: 0 },
+        rest: row,
     };
     match first_usable(choice, 0) {
         Some((index, entry)) => match fork_of(choice, index, entry) {

@@ -1,7 +1,7 @@
 //! From what an entry over a part is chosen.
 
 use crate::entry::Entry;
-use crate::rest::Rest;
+use crate::row::Row;
 use sx_grammar::Grammar;
 
 /// From what an entry over a part is chosen: the entries from a place by a grammar, the sort and
@@ -12,5 +12,5 @@ pub(crate) struct Choice<'a> {
     pub(crate) entries: &'a [Entry],
     pub(crate) sort: u32,
     pub(crate) least: u8,
-    pub(crate) rest: Rest<'a>,
+    pub(crate) rest: &'a Row,
 }

@@ -21,22 +21,18 @@ pub(crate) fn is_more(ways: Ways) -> bool
 
 /// Whether the entry reads the part, and the row the rest.
 fn is_usable(choice: Choice, entry: Entry) -> bool
-    requires { choice.rest.from ≤ entry.to }
     ensures { IsTrue result ↔ IsUsable (plain choice.entry.grammar.now) choice.entry.sort
-        choice.entry.least (ways_of choice.entry.rest.row.now) choice.entry.rest.from entry }
+        choice.entry.least (ways_of choice.entry.rest.now) entry }
 {
-    let rest = choice.rest;
     fits(choice.grammar, entry.maker, choice.sort, choice.least)
-        && is_some(both(entry.ways, at(rest.row, rest.from, entry.to)))
+        && is_some(both(entry.ways, at(choice.rest, entry.to)))
 }
 
 /// The first entry from an index on that reads the part where the row reads the rest, with its
 /// index.
 pub(crate) fn first_usable(choice: Choice, first: usize) -> Option<(usize, Entry)>
-    requires { (i : ℕ) (e : Entry) → slice_get choice.entries.now i ≡ Some e →
-        choice.rest.from ≤ e.to }
     ensures { IsFirstUsable (plain choice.entry.grammar.now) choice.entry.sort choice.entry.least
-        (ways_of choice.entry.rest.row.now) choice.entry.rest.from choice.entry.entries.now first
+        (ways_of choice.entry.rest.now) choice.entry.entries.now first
         result }
 {
     let entries = choice.entries;
@@ -51,11 +47,9 @@ pub(crate) fn first_usable(choice: Choice, first: usize) -> Option<(usize, Entry
 /// How two readings part at a part, where this entry is the first usable one and has this index, or
 /// None where they do not.
 pub(crate) fn fork_of(choice: Choice, index: usize, entry: Entry) -> Option<Fork>
-    requires later { (i : ℕ) (e : Entry) → slice_get choice.entries.now i ≡ Some e →
-        choice.rest.from ≤ e.to }
-    requires index { slice_get choice.entries.now index ≡ Some entry }
+    requires { slice_get choice.entries.now index ≡ Some entry }
     ensures { IsForkOf (plain choice.entry.grammar.now) choice.entry.sort choice.entry.least
-        (ways_of choice.entry.rest.row.now) choice.entry.rest.from choice.entry.entries.now index
+        (ways_of choice.entry.rest.now) choice.entry.entries.now index
         entry result }
 {
     match first_usable(choice, index + 1) {

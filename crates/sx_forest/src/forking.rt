@@ -17,7 +17,6 @@ use crate::forest::Forest;
 use crate::fork::Fork;
 use crate::opened::{Opened, open};
 use crate::reading::Reading;
-use crate::rest::Rest;
 use crate::span_rows::{row_of, symbol_count};
 use crate::standing::Standing;
 use crate::step::Step;
@@ -53,10 +52,7 @@ fn fork_at(forest: Forest, opened: &Opened, dot: usize, place: u32, step: Step) 
                     entries,
                     sort,
                     least,
-                    rest: Rest {
-                        row: next,
-                        from: opened.from,
-                    },
+                    rest: next,
                 };
                 fork_of(choice, index, entry)
             }

@@ -5,7 +5,7 @@ ghost use Rattle.sx_grammar.specs.Order.{IsRanking, rank_at};
 ghost use Rattle.sx_grammar.specs.Tally.{EachOnce};
 ghost use Rattle.sx_earley.specs.Shown.{plain, texts, tokens_of, AreBelow};
 ghost use Rattle.sx_earley.specs.Completed.{IsChart};
-ghost use Rattle.sx_forest.specs.Rows.{AllLater, AllSorted};
+ghost use Rattle.sx_forest.specs.Rows.{AllSorted};
 ghost use Rattle.sx_forest.specs.Table.{IsAdded, IsFull};
 
 use crate::basis::Basis;
@@ -32,7 +32,6 @@ fn add_span(
     requires along { span.from ≤ span.to }
     requires inside { span.to < length table.old.lists.items }
     requires shown { AreBelow (length (texts grammar.now)) shown.now }
-    requires later { AllLater table.old.lists.items }
     requires sorted { AllSorted table.old.lists.items }
     ensures { OnOk result (IsAdded (plain grammar.now)
         (tokens_of grammar.now shown.now) table.old.lists.items table.new.lists.items span) }

@@ -33,8 +33,8 @@ pub(crate) fn whole_ways(
     ensures { IfOk result (λ w. IsWholeWays (plain grammar.now) start count table.now.lists.items
         (tally_of w)) }
 {
-    let row = last_row(alloc, 0, count)?;
-    Ok(part_ways(grammar, table.from(0), start, 0, &row, 0))
+    let row = last_row(alloc, count)?;
+    Ok(part_ways(grammar, table.from(0), start, 0, &row))
 }
 
 /// How deep a reading may be.

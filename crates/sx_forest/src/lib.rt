@@ -43,7 +43,6 @@ mod reaches;
 mod read_error;
 mod read_shown;
 mod reading;
-mod rest;
 mod row;
 mod span_rows;
 mod spreading;

@@ -6,13 +6,12 @@ ghost use Rattle.sx_grammar.specs.Grammar.{Token};
 ghost use Rattle.sx_grammar.specs.Numbered.{symbol};
 ghost use Rattle.sx_grammar.specs.Tally.{no_way};
 ghost use Rattle.sx_earley.specs.Shown.{plain, texts};
-ghost use Rattle.sx_forest.specs.Tallies.{ways_at, ways_of};
-ghost use Rattle.sx_forest.specs.Rows.{AllLater, FitsPart, IsIn, IsNext, list_at};
+ghost use Rattle.sx_forest.specs.Tallies.{ways_of};
+ghost use Rattle.sx_forest.specs.Rows.{FitsPart, IsIn, IsNext, list_at};
 
 use crate::entries::Entries;
 use crate::entry::Entry;
 use crate::part_ways::is_some;
-use crate::rest::Rest;
 use crate::row::Row;
 use crate::spreading::over_reaches;
 use crate::stretch::{NOWHERE, Stretch, common};
@@ -31,38 +30,31 @@ fn limited(number: usize, to: u32) -> u32
 }
 
 /// The places, up to the end, from which a token leads to where the row may have ways.
-fn before_token(next: &Row, from: u32, to: u32) -> Stretch
+fn before_token(next: &Row, to: u32) -> Stretch
     requires { to ≤ 10000 }
-    ensures { (place : ℕ) → from ≤ place → place ≤ to → (IsIn result place → ⊥) →
-        ways_at (ways_of next.now) (suc place - from) ≡ no_way }
+    ensures { (place : ℕ) → place ≤ to → (IsIn result place → ⊥) →
+        ways_of next.now (suc place) ≡ no_way }
 {
-    let first = from as usize + next.skipped as usize;
-    let end = first + next.ways.len();
+    let first = (next.end as usize).saturating_sub(next.ways.len());
     Stretch {
         first: limited(first.saturating_sub(1), to),
-        end: limited(end.saturating_sub(1), to),
+        end: limited((next.end as usize).saturating_sub(1), to),
     }
 }
 
 /// The places from which fitting makers reach where the row has ways.
-fn before_part(
-    grammar: &Grammar,
-    table: &Entries,
-    sort: u32,
-    least: u8,
-    next: &Row,
-    from: u32,
-) -> Stretch
+fn before_part(grammar: &Grammar, table: &Entries, sort: u32, least: u8, next: &Row) -> Stretch
     ensures { (place i : ℕ) (e : Entry) →
         slice_get (list_at table.now.lists.items place) i ≡ Some e →
-        FitsPart (plain grammar.now) e.maker sort least → from ≤ e.to →
-        (IsIn result place → ⊥) → ways_at (ways_of next.now) (e.to - from) ≡ no_way }
+        FitsPart (plain grammar.now) e.maker sort least → (IsIn result place → ⊥) →
+        ways_of next.now e.to ≡ no_way }
 {
-    let first = from as usize + next.skipped as usize;
     let mut grown = NOWHERE;
     for number in 0..next.ways.len() {
         if is_some(next.ways[number]) {
-            let reaches = table.starts.at(first + number);
+            let reaches = table
+                .starts
+                .at((next.end as usize).saturating_sub(number + 1));
             grown = over_reaches(grammar, reaches, sort, least, grown);
         }
     }
@@ -75,23 +67,20 @@ fn sources(
     table: &Entries,
     expected: Option<NumberedSymbol>,
     next: &Row,
-    from: u32,
     to: u32,
 ) -> Stretch
     requires short { to ≤ 10000 }
-    requires later { AllLater table.now.lists.items }
-    ensures { (tokens : List Token) (place : ℕ) → from ≤ place → place ≤ to →
-        (IsIn result place → ⊥) →
+    ensures { (tokens : List Token) (place : ℕ) → place ≤ to → (IsIn result place → ⊥) →
         IsNext (plain grammar.now) tokens (list_at table.now.lists.items place)
-        (option_map (symbol (texts grammar.now)) expected) from place (ways_of next.now) no_way }
+        (option_map (symbol (texts grammar.now)) expected) place (ways_of next.now) no_way }
 {
     match expected {
         None => NOWHERE,
         Some(NumberedSymbol::Part { sort, least }) => {
-            before_part(grammar, table, sort, least, next, from)
+            before_part(grammar, table, sort, least, next)
         }
-        Some(NumberedSymbol::Lit(_)) => before_token(next, from, to),
-        Some(NumberedSymbol::Lex(_)) => before_token(next, from, to),
+        Some(NumberedSymbol::Lit(_)) => before_token(next, to),
+        Some(NumberedSymbol::Lex(_)) => before_token(next, to),
     }
 }
 
@@ -101,22 +90,20 @@ pub(crate) fn narrowed(
     grammar: &Grammar,
     table: &Entries,
     expected: Option<NumberedSymbol>,
-    rest: Rest,
+    rest: &Row,
     to: u32,
     stretch: Stretch,
 ) -> Stretch
     requires short { to ≤ 10000 }
-    requires later { AllLater table.now.lists.items }
     ensures kept { (place : ℕ) → IsIn result place → IsIn stretch place }
-    ensures none { (tokens : List Token) (place : ℕ) → rest.entry.from ≤ place → place ≤ to →
-        IsIn stretch place → (IsIn result place → ⊥) →
+    ensures none { (tokens : List Token) (place : ℕ) → place ≤ to → IsIn stretch place →
+        (IsIn result place → ⊥) →
         IsNext (plain grammar.now) tokens (list_at table.now.lists.items place)
-        (option_map (symbol (texts grammar.now)) expected) rest.entry.from place
-        (ways_of rest.entry.row.now) no_way }
+        (option_map (symbol (texts grammar.now)) expected) place (ways_of rest.now) no_way }
 {
-    if stretch.end as usize <= stretch.first as usize + rest.row.ways.len() {
+    if stretch.end as usize <= stretch.first as usize + rest.ways.len() {
         return stretch;
     }
-    let own = sources(grammar, table, expected, rest.row, rest.from, to);
+    let own = sources(grammar, table, expected, rest, to);
     common(stretch, own)
 }

@@ -1,10 +1,10 @@
 //! The ways to read a part, and then the symbols after it.
 
-ghost use Rattle.std.specs.Prelude.{◌≡◌, ◌≢◌, ◌≤◌, ◌<◌, ◌-◌, ◌↔◌, ℕ, IsTrue, Some, length};
+ghost use Rattle.std.specs.Prelude.{◌≡◌, ◌≢◌, ◌≤◌, ◌<◌, ◌↔◌, ℕ, IsTrue, Some, length};
 ghost use Rattle.std.specs.Prelude.{slice_get};
 ghost use Rattle.sx_grammar.specs.Tally.{Tally, no_way, plus};
 ghost use Rattle.sx_earley.specs.Shown.{plain};
-ghost use Rattle.sx_forest.specs.Tallies.{tally_of, ways_at, ways_of};
+ghost use Rattle.sx_forest.specs.Tallies.{tally_of, ways_of};
 ghost use Rattle.sx_forest.specs.Rows.{FitsPart, IsEntryTally, SumTo, AreSorted};
 
 use crate::entry::{Entry, Maker};
@@ -38,12 +38,11 @@ pub(crate) fn fits(grammar: &Grammar, maker: Maker, sort: u32, least: u8) -> boo
 }
 
 /// The ways by one entry, and then those of the row.
-fn entry_ways(grammar: &Grammar, entry: Entry, sort: u32, least: u8, next: &Row, from: u32) -> Ways
-    requires { from ≤ entry.to }
-    ensures { IsEntryTally (plain grammar.now) sort least (ways_of next.now) from entry
+fn entry_ways(grammar: &Grammar, entry: Entry, sort: u32, least: u8, next: &Row) -> Ways
+    ensures { IsEntryTally (plain grammar.now) sort least (ways_of next.now) entry
         (tally_of result) }
 {
-    let rest = at(next, from, entry.to);
+    let rest = at(next, entry.to);
     if is_nothing(rest) {
         return Ways::Nothing;
     }
@@ -56,23 +55,22 @@ fn entry_ways(grammar: &Grammar, entry: Entry, sort: u32, least: u8, next: &Row,
 
 /// An index such that the entries from it on end after the row has ways; the entries from the
 /// second on are in the order of their ends.
-fn past_index(entries: &[Entry], next: &Row, from: u32) -> usize
+fn past_index(entries: &[Entry], next: &Row) -> usize
     requires sorted { AreSorted entries.now }
-    requires later { (i : ℕ) (e : Entry) → slice_get entries.now i ≡ Some e → from ≤ e.to }
     requires some { 1 ≤ length entries.now }
     ensures low { 1 ≤ result }
     ensures high { result ≤ length entries.now }
     ensures past { (i : ℕ) (e : Entry) → result ≤ i → slice_get entries.now i ≡ Some e →
-        ways_at (ways_of next.now) (e.to - from) ≡ no_way }
+        ways_of next.now e.to ≡ no_way }
 {
     let mut low = 1;
     let mut high = entries.len();
-    if !is_past(next, from, entries[high - 1].to) {
+    if !is_past(next, entries[high - 1].to) {
         return high;
     }
     while low < high {
         let middle = low + (high - low) / 2;
-        if is_past(next, from, entries[middle].to) {
+        if is_past(next, entries[middle].to) {
             high = middle;
         } else {
             low = middle + 1;
@@ -83,30 +81,22 @@ fn past_index(entries: &[Entry], next: &Row, from: u32) -> usize
 
 /// The ways by the entries after the first, and then those of the row. It goes from the last entry
 /// that ends where the row has ways back to one that ends before them.
-fn later_ways(
-    grammar: &Grammar,
-    entries: &[Entry],
-    sort: u32,
-    least: u8,
-    next: &Row,
-    from: u32,
-) -> Ways
+fn later_ways(grammar: &Grammar, entries: &[Entry], sort: u32, least: u8, next: &Row) -> Ways
     requires sorted { AreSorted entries.now }
-    requires later { (i : ℕ) (e : Entry) → slice_get entries.now i ≡ Some e → from ≤ e.to }
     requires some { 1 ≤ length entries.now }
     ensures { (t : Tally) → SumTo (plain grammar.now) sort least
-        (ways_of next.now) from entries.now 1 t →
-        SumTo (plain grammar.now) sort least (ways_of next.now) from entries.now
+        (ways_of next.now) entries.now 1 t →
+        SumTo (plain grammar.now) sort least (ways_of next.now) entries.now
         (length entries.now) (plus t (tally_of result)) }
 {
     let mut all = Ways::Nothing;
-    let mut left = past_index(entries, next, from);
+    let mut left = past_index(entries, next);
     while left > 1 {
         let entry = entries[left - 1];
-        if is_ahead(next, from, entry.to) {
+        if is_ahead(next, entry.to) {
             return all;
         }
-        let here = entry_ways(grammar, entry, sort, least, next, from);
+        let here = entry_ways(grammar, entry, sort, least, next);
         all = either(here, all);
         left -= 1;
     }
@@ -120,17 +110,15 @@ pub(crate) fn part_ways(
     sort: u32,
     least: u8,
     next: &Row,
-    from: u32,
 ) -> Ways
     requires sorted { AreSorted entries.now }
-    requires later { (i : ℕ) (e : Entry) → slice_get entries.now i ≡ Some e → from ≤ e.to }
-    ensures { SumTo (plain grammar.now) sort least (ways_of next.now) from entries.now
+    ensures { SumTo (plain grammar.now) sort least (ways_of next.now) entries.now
         (length entries.now) (tally_of result) }
 {
     if entries.is_empty() {
         return Ways::Nothing;
     }
-    let first = entry_ways(grammar, entries[0], sort, least, next, from);
-    let others = later_ways(grammar, entries, sort, least, next, from);
+    let first = entry_ways(grammar, entries[0], sort, least, next);
+    let others = later_ways(grammar, entries, sort, least, next);
     either(first, others)
 }

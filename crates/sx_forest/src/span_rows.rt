@@ -1,18 +1,18 @@
 //! The rows of a span.
 
-ghost use Rattle.std.specs.Prelude.{◌≡◌, ◌≤◌, ◌<◌, [], IsTrue, IfOk, IfSome, length, option_map};
+ghost use Rattle.std.specs.Prelude.{◌≡◌, ◌≤◌, ◌<◌, ◌+◌, [], IsTrue, OnOk, IfOk, IfSome, length};
+ghost use Rattle.std.specs.Prelude.{option_map};
 ghost use Rattle.sx_grammar.specs.Numbered.{symbol};
 ghost use Rattle.sx_grammar.specs.Grammar.{production_of};
 ghost use Rattle.sx_grammar.specs.Tally.{no_way};
 ghost use Rattle.sx_earley.specs.Shown.{plain, texts, tokens_of, IsBelow, AreBelow};
 ghost use Rattle.sx_forest.specs.Tallies.{tally_of, ways_of};
-ghost use Rattle.sx_forest.specs.Rows.{AllLater, AllSorted, IsRow, count_of, row_at, AreSpanRows};
+ghost use Rattle.sx_forest.specs.Rows.{AllSorted, IsRow, IsExtended, count_of, row_at, AreSpanRows};
 ghost use Rattle.sx_forest.specs.Rows.{IsSpanWays};
 
 use crate::basis::Basis;
 use crate::narrowing::narrowed;
 use crate::part_ways::is_nothing;
-use crate::rest::Rest;
 use crate::row::{Row, at, last_row};
 use crate::spreading::{stretch_of, stretches};
 use crate::stretch::{Stretch, clipped};
@@ -30,65 +30,67 @@ fn is_idle(ways: &[Ways], here: Ways) -> bool
     ways.is_empty() && is_nothing(here)
 }
 
-/// The ways from the places of the stretch, from the first that has any on, where the rest is what
-/// comes after the symbol.
-fn row_from(
-    alloc: Global,
+/// Adds the ways from the places of the stretch to a row whose places come after them.
+fn extend(
     basis: Basis,
     expected: Option<NumberedSymbol>,
-    rest: Rest,
-    to: u32,
-    stretch: Stretch,
-) -> Result<Row, NoMemory>
-    requires short { to ≤ 10000 }
+    next: &Row,
+    row: &mut Row,
+    places: Stretch,
+) -> Result<(), NoMemory>
+    requires short { places.end ≤ 10001 }
     requires below { IfSome expected (IsBelow (length (texts basis.grammar.now))) }
     requires shown { AreBelow (length (texts basis.grammar.now)) basis.shown.now }
-    requires later { AllLater basis.table.now.lists.items }
     requires sorted { AllSorted basis.table.now.lists.items }
-    ensures { IfOk result (λ r. IsRow (plain basis.entry.grammar.now)
+    requires joins { row.old.end ≡ places.end + length row.old.ways.items }
+    ensures { OnOk result (IsExtended (plain basis.entry.grammar.now)
         (tokens_of basis.entry.grammar.now basis.entry.shown.now)
         basis.entry.table.now.lists.items
-        (option_map (symbol (texts basis.entry.grammar.now)) expected) rest.entry.from to stretch
-        (ways_of rest.entry.row.now) (ways_of r)) }
+        (option_map (symbol (texts basis.entry.grammar.now)) expected) (ways_of next.now) places
+        row.old row.new) }
 {
-    let places = clipped(stretch, rest.from, to);
-    let mut skipped = places.first - rest.from;
-    let mut ways = Vec::new(alloc);
-    for place in places.first..places.end {
+    let mut place = places.end;
+    while place > places.first {
+        place -= 1;
         let entries = basis.table.from(place);
-        let here = next_ways(basis.grammar, basis.shown, entries, expected, rest, place);
-        if is_idle(&ways, here) {
-            skipped += 1;
+        let here = next_ways(basis.grammar, basis.shown, entries, expected, next, place);
+        if is_idle(&row.ways, here) {
+            row.end = place;
         } else {
-            ways.push(here)?;
+            row.ways.push(here)?;
         }
     }
-    Ok(Row { skipped, ways })
+    Ok(())
 }
 
-/// The row before the symbol, where the rest is what comes after it: the ways from those places of
-/// the stretch from which the symbol leads to where the row after it has any.
+/// The row before the symbol, where the next is what comes after it: the ways from those places of
+/// the stretch from which the symbol leads to where the next row has any.
 fn row_before(
     alloc: Global,
     basis: Basis,
     expected: Option<NumberedSymbol>,
-    rest: Rest,
+    next: &Row,
     to: u32,
     stretch: Stretch,
 ) -> Result<Row, NoMemory>
     requires short { to ≤ 10000 }
     requires below { IfSome expected (IsBelow (length (texts basis.grammar.now))) }
     requires shown { AreBelow (length (texts basis.grammar.now)) basis.shown.now }
-    requires later { AllLater basis.table.now.lists.items }
     requires sorted { AllSorted basis.table.now.lists.items }
     ensures { IfOk result (λ r. IsRow (plain basis.entry.grammar.now)
         (tokens_of basis.entry.grammar.now basis.entry.shown.now)
         basis.entry.table.now.lists.items
-        (option_map (symbol (texts basis.entry.grammar.now)) expected) rest.entry.from to stretch
-        (ways_of rest.entry.row.now) (ways_of r)) }
+        (option_map (symbol (texts basis.entry.grammar.now)) expected) to stretch
+        (ways_of next.entry.now) (ways_of r)) }
 {
-    let places = narrowed(basis.grammar, basis.table, expected, rest, to, stretch);
-    row_from(alloc, basis, expected, rest, to, places)
+    let some = narrowed(basis.grammar, basis.table, expected, next, to, stretch);
+    let places = clipped(some, 0, to);
+    let mut row = Row {
+        end: places.end,
+        ways: Vec::new(alloc),
+    };
+    extend(basis, expected, next, &mut row, places)?;
+    Ok(row)
 }
 
 /// How many symbols the head's production has.
@@ -126,7 +128,6 @@ pub(crate) fn all_rows(
     requires short { to ≤ 10000 }
     requires along { from ≤ to }
     requires shown { AreBelow (length (texts basis.grammar.now)) basis.shown.now }
-    requires later { AllLater basis.table.now.lists.items }
     requires sorted { AllSorted basis.table.now.lists.items }
     ensures { IfOk result (λ v. AreSpanRows (plain basis.entry.grammar.now)
         (tokens_of basis.entry.grammar.now basis.entry.shown.now)
@@ -135,14 +136,13 @@ pub(crate) fn all_rows(
     let count = symbol_count(basis.grammar, head);
     let stretches = stretches(alloc, basis, head, count, from, to)?;
     let mut rows = Vec::new(alloc);
-    rows.push(last_row(alloc, from, to)?)?;
+    rows.push(last_row(alloc, to)?)?;
     for done in 0..count {
         let dot = count - done - 1;
         let expected = symbol_of(basis.grammar, head, dot);
         let stretch = stretch_of(&stretches, dot);
         let next = row_of(&rows, done);
-        let rest = Rest { row: next, from };
-        let row = row_before(alloc, basis, expected, rest, to, stretch)?;
+        let row = row_before(alloc, basis, expected, next, to, stretch)?;
         rows.push(row)?;
     }
     Ok(rows)
@@ -159,7 +159,6 @@ pub(crate) fn span_ways(
     requires short { to ≤ 10000 }
     requires along { from ≤ to }
     requires shown { AreBelow (length (texts basis.grammar.now)) basis.shown.now }
-    requires later { AllLater basis.table.now.lists.items }
     requires sorted { AllSorted basis.table.now.lists.items }
     ensures { IfOk result (λ w. IsSpanWays (plain basis.entry.grammar.now)
         (tokens_of basis.entry.grammar.now basis.entry.shown.now)
@@ -167,5 +166,5 @@ pub(crate) fn span_ways(
 {
     let rows = all_rows(alloc, basis, head, from, to)?;
     let count = symbol_count(basis.grammar, head);
-    Ok(inside(at(row_of(&rows, count), from, from)))
+    Ok(inside(at(row_of(&rows, count), from)))
 }

@@ -55,7 +55,7 @@ fn over_part(grammar: &Grammar, table: &Entries, sort: u32, least: u8, stretch: 
 }
 
 /// A stretch with the places, up to the end, to which the symbol leads from those of a stretch.
-fn spread(
+pub(crate) fn spread(
     grammar: &Grammar,
     table: &Entries,
     expected: Option<NumberedSymbol>,

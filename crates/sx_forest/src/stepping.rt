@@ -8,7 +8,6 @@ use crate::choice::Choice;
 use crate::choosing::first_usable;
 use crate::forest::Forest;
 use crate::opened::Opened;
-use crate::rest::Rest;
 use crate::span_rows::{row_of, symbol_count};
 use crate::step::Step;
 use sx_earley::symbol_of;
@@ -37,10 +36,7 @@ pub(crate) fn step_at(forest: Forest, opened: &Opened, dot: usize, place: u32) -
                 entries,
                 sort,
                 least,
-                rest: Rest {
-                    row: next,
-                    from: opened.from,
-                },
+                rest: next,
             };
             match first_usable(choice, 0) {
                 Some((index, entry)) => Step::Part(index, entry),

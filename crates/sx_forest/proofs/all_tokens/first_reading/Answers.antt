@@ -15,21 +15,21 @@ pub build-requires-clause-entry : goal.build-requires-clause-entry
 build-requires-clause-entry c =
     let f = c.args.forest in let g = grammar_in f in let ts = tokens_in f in let lists = lists_in f in let row = ways_of c.args.row.now in
     let long : length ts ≡ length f.shown.now = length-map f.shown.now (token_of (texts f.grammar.now)) in
-    let last : IsLastRow 0 (length ts) row = subst (λ n. IsLastRow 0 n row) (sym long) c.requires.row in
+    let last : IsLastRow (length ts) row = subst (λ n. IsLastRow n row) (sym long) c.requires.row in
     let levels = c.facts.ensures.levels in let full = c.requires.forest.full in
     let i = c.in-Some.field-0-0 in let e = c.in-Some.entry in
-    let first : IsFirstUsable g f.start 0 row 0 (list_at lists 0) 0 (Some (i, e)) =
-    subst (λ l. IsFirstUsable g f.start 0 row 0 l 0 (Some (i, e))) c.from-entries.ensures c.in-Some.ensures in
+    let first : IsFirstUsable g f.start 0 row (list_at lists 0) 0 (Some (i, e)) =
+    subst (λ l. IsFirstUsable g f.start 0 row l 0 (Some (i, e))) c.from-entries.ensures c.in-Some.ensures in
     used_shallow g ts f.start levels lists full row last c.requires.low i e first.1 first.2
 
 pub unreachable-requires : goal.unreachable-requires
 unreachable-requires c =
     let f = c.args.forest in let g = grammar_in f in let ts = tokens_in f in let lists = lists_in f in let row = ways_of c.args.row.now in
     let long : length ts ≡ length f.shown.now = length-map f.shown.now (token_of (texts f.grammar.now)) in
-    let last : IsLastRow 0 (length ts) row = subst (λ n. IsLastRow 0 n row) (sym long) c.requires.row in
+    let last : IsLastRow (length ts) row = subst (λ n. IsLastRow n row) (sym long) c.requires.row in
     let levels = c.facts.ensures.levels in let full = c.requires.forest.full in
-    let none : IsFirstUsable g f.start 0 row 0 (list_at lists 0) 0 None =
-    subst (λ l. IsFirstUsable g f.start 0 row 0 l 0 None) c.from-entries.ensures c.in-None.ensures in
+    let none : IsFirstUsable g f.start 0 row (list_at lists 0) 0 None =
+    subst (λ l. IsFirstUsable g f.start 0 row l 0 None) c.from-entries.ensures c.in-None.ensures in
     let u = of_used g ts f.start levels lists full row last c.requires.some.0 c.requires.some.1 in
     none u.0 u.1 (omega arith) u.2 u.3
 
@@ -37,10 +37,10 @@ pub returns : goal.returns
 returns c =
     let f = c.args.forest in let g = grammar_in f in let ts = tokens_in f in let lists = lists_in f in let row = ways_of c.args.row.now in
     let long : length ts ≡ length f.shown.now = length-map f.shown.now (token_of (texts f.grammar.now)) in
-    let last : IsLastRow 0 (length ts) row = subst (λ n. IsLastRow 0 n row) (sym long) c.requires.row in
+    let last : IsLastRow (length ts) row = subst (λ n. IsLastRow n row) (sym long) c.requires.row in
     let levels = c.facts.ensures.levels in let full = c.requires.forest.full in
     let i = c.in-Some.field-0-0 in let e = c.in-Some.entry in
-    let first : IsFirstUsable g f.start 0 row 0 (list_at lists 0) 0 (Some (i, e)) =
-    subst (λ l. IsFirstUsable g f.start 0 row 0 l 0 (Some (i, e))) c.from-entries.ensures c.in-Some.ensures in
+    let first : IsFirstUsable g f.start 0 row (list_at lists 0) 0 (Some (i, e)) =
+    subst (λ l. IsFirstUsable g f.start 0 row l 0 (Some (i, e))) c.from-entries.ensures c.in-Some.ensures in
     ok_if c.build.result (λ r. IsBy g ts e.maker 0 e.to (plain_reading r)) (λ r. ReadsWhole g ts f.start (plain_reading r))
     (λ r by. by_used g ts f.start levels lists full row last e first.2 (plain_reading r) by) c.build.ensures

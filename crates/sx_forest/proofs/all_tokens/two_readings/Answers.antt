@@ -15,27 +15,27 @@ pub pair_at-requires-clause-parting : goal.pair_at-requires-clause-parting
 pair_at-requires-clause-parting c =
     let f = c.args.forest in let g = grammar_in f in let ts = tokens_in f in let lists = lists_in f in let row = ways_of c.args.row.now in
     let long : length ts ≡ length f.shown.now = length-map f.shown.now (token_of (texts f.grammar.now)) in
-    let last : IsLastRow 0 (length ts) row = subst (λ n. IsLastRow 0 n row) (sym long) c.requires.row in
+    let last : IsLastRow (length ts) row = subst (λ n. IsLastRow n row) (sym long) c.requires.row in
     let levels = c.facts.ensures.levels in let full = c.requires.forest.full in
     let i = c.in-Some.index in let e = c.in-Some.entry in
-    let first : IsFirstUsable g f.start 0 row 0 (list_at lists 0) 0 (Some (i, e)) =
-    subst (λ l. IsFirstUsable g f.start 0 row 0 l 0 (Some (i, e))) c.from-entries.ensures c.in-Some.ensures in
+    let first : IsFirstUsable g f.start 0 row (list_at lists 0) 0 (Some (i, e)) =
+    subst (λ l. IsFirstUsable g f.start 0 row l 0 (Some (i, e))) c.from-entries.ensures c.in-Some.ensures in
     let fork = c.in-Some-fork_of.fork in
-    let is : IsForkOf g f.start 0 row 0 (list_at lists 0) i e (Some fork) =
-    subst (λ l. IsForkOf g f.start 0 row 0 l i e (Some fork)) c.from-entries.ensures c.in-Some-fork_of.ensures in
+    let is : IsForkOf g f.start 0 row (list_at lists 0) i e (Some fork) =
+    subst (λ l. IsForkOf g f.start 0 row l i e (Some fork)) c.from-entries.ensures c.in-Some-fork_of.ensures in
     parted g ts f.start levels lists full row last c.requires.low i e first fork is
 
 pub unreachable-requires : goal.unreachable-requires
 unreachable-requires c =
     let f = c.args.forest in let g = grammar_in f in let ts = tokens_in f in let lists = lists_in f in let row = ways_of c.args.row.now in
     let long : length ts ≡ length f.shown.now = length-map f.shown.now (token_of (texts f.grammar.now)) in
-    let last : IsLastRow 0 (length ts) row = subst (λ n. IsLastRow 0 n row) (sym long) c.requires.row in
+    let last : IsLastRow (length ts) row = subst (λ n. IsLastRow n row) (sym long) c.requires.row in
     let levels = c.facts.ensures.levels in let full = c.requires.forest.full in
     let i = c.in-Some.index in let e = c.in-Some.entry in
-    let first : IsFirstUsable g f.start 0 row 0 (list_at lists 0) 0 (Some (i, e)) =
-    subst (λ l. IsFirstUsable g f.start 0 row 0 l 0 (Some (i, e))) c.from-entries.ensures c.in-Some.ensures in
-    let is : IsForkOf g f.start 0 row 0 (list_at lists 0) i e None =
-    subst (λ l. IsForkOf g f.start 0 row 0 l i e None) c.from-entries.ensures c.in-None-fork_of.ensures in
+    let first : IsFirstUsable g f.start 0 row (list_at lists 0) 0 (Some (i, e)) =
+    subst (λ l. IsFirstUsable g f.start 0 row l 0 (Some (i, e))) c.from-entries.ensures c.in-Some.ensures in
+    let is : IsForkOf g f.start 0 row (list_at lists 0) i e None =
+    subst (λ l. IsForkOf g f.start 0 row l i e None) c.from-entries.ensures c.in-None-fork_of.ensures in
     let two = c.requires.two in
     two.4 (not_parted g ts f.start levels lists full row last i e first is two.0 two.1 two.2 two.3)
 
@@ -43,10 +43,10 @@ pub unreachable-requires-in-None : goal.unreachable-requires-in-None
 unreachable-requires-in-None c =
     let f = c.args.forest in let g = grammar_in f in let ts = tokens_in f in let lists = lists_in f in let row = ways_of c.args.row.now in
     let long : length ts ≡ length f.shown.now = length-map f.shown.now (token_of (texts f.grammar.now)) in
-    let last : IsLastRow 0 (length ts) row = subst (λ n. IsLastRow 0 n row) (sym long) c.requires.row in
+    let last : IsLastRow (length ts) row = subst (λ n. IsLastRow n row) (sym long) c.requires.row in
     let levels = c.facts.ensures.levels in let full = c.requires.forest.full in
-    let none : IsFirstUsable g f.start 0 row 0 (list_at lists 0) 0 None =
-    subst (λ l. IsFirstUsable g f.start 0 row 0 l 0 None) c.from-entries.ensures c.in-None.ensures in
+    let none : IsFirstUsable g f.start 0 row (list_at lists 0) 0 None =
+    subst (λ l. IsFirstUsable g f.start 0 row l 0 None) c.from-entries.ensures c.in-None.ensures in
     let u = of_used g ts f.start levels lists full row last c.requires.two.0 c.requires.two.2 in
     none u.0 u.1 (omega arith) u.2 u.3
 
@@ -54,14 +54,14 @@ pub returns-clause-one : goal.returns-clause-one
 returns-clause-one c =
     let f = c.args.forest in let g = grammar_in f in let ts = tokens_in f in let lists = lists_in f in let row = ways_of c.args.row.now in
     let long : length ts ≡ length f.shown.now = length-map f.shown.now (token_of (texts f.grammar.now)) in
-    let last : IsLastRow 0 (length ts) row = subst (λ n. IsLastRow 0 n row) (sym long) c.requires.row in
+    let last : IsLastRow (length ts) row = subst (λ n. IsLastRow n row) (sym long) c.requires.row in
     let levels = c.facts.ensures.levels in let full = c.requires.forest.full in
     let i = c.in-Some.index in let e = c.in-Some.entry in
-    let first : IsFirstUsable g f.start 0 row 0 (list_at lists 0) 0 (Some (i, e)) =
-    subst (λ l. IsFirstUsable g f.start 0 row 0 l 0 (Some (i, e))) c.from-entries.ensures c.in-Some.ensures in
+    let first : IsFirstUsable g f.start 0 row (list_at lists 0) 0 (Some (i, e)) =
+    subst (λ l. IsFirstUsable g f.start 0 row l 0 (Some (i, e))) c.from-entries.ensures c.in-Some.ensures in
     let fork = c.in-Some-fork_of.fork in
-    let is : IsForkOf g f.start 0 row 0 (list_at lists 0) i e (Some fork) =
-    subst (λ l. IsForkOf g f.start 0 row 0 l i e (Some fork)) c.from-entries.ensures c.in-Some-fork_of.ensures in
+    let is : IsForkOf g f.start 0 row (list_at lists 0) i e (Some fork) =
+    subst (λ l. IsForkOf g f.start 0 row l i e (Some fork)) c.from-entries.ensures c.in-Some-fork_of.ensures in
     let used = both_used g ts f.start levels lists full row last i e first fork is in
     ok_if c.pair_at.result (λ r. IsBy g ts (one_of fork).maker 0 (one_of fork).to (plain_reading r.0)) (λ r. ReadsWhole g ts f.start (plain_reading r.0))
     (λ r by. by_used g ts f.start levels lists full row last (one_of fork) used.0 (plain_reading r.0) by) c.pair_at.ensures.one
@@ -70,14 +70,14 @@ pub returns-clause-other : goal.returns-clause-other
 returns-clause-other c =
     let f = c.args.forest in let g = grammar_in f in let ts = tokens_in f in let lists = lists_in f in let row = ways_of c.args.row.now in
     let long : length ts ≡ length f.shown.now = length-map f.shown.now (token_of (texts f.grammar.now)) in
-    let last : IsLastRow 0 (length ts) row = subst (λ n. IsLastRow 0 n row) (sym long) c.requires.row in
+    let last : IsLastRow (length ts) row = subst (λ n. IsLastRow n row) (sym long) c.requires.row in
     let levels = c.facts.ensures.levels in let full = c.requires.forest.full in
     let i = c.in-Some.index in let e = c.in-Some.entry in
-    let first : IsFirstUsable g f.start 0 row 0 (list_at lists 0) 0 (Some (i, e)) =
-    subst (λ l. IsFirstUsable g f.start 0 row 0 l 0 (Some (i, e))) c.from-entries.ensures c.in-Some.ensures in
+    let first : IsFirstUsable g f.start 0 row (list_at lists 0) 0 (Some (i, e)) =
+    subst (λ l. IsFirstUsable g f.start 0 row l 0 (Some (i, e))) c.from-entries.ensures c.in-Some.ensures in
     let fork = c.in-Some-fork_of.fork in
-    let is : IsForkOf g f.start 0 row 0 (list_at lists 0) i e (Some fork) =
-    subst (λ l. IsForkOf g f.start 0 row 0 l i e (Some fork)) c.from-entries.ensures c.in-Some-fork_of.ensures in
+    let is : IsForkOf g f.start 0 row (list_at lists 0) i e (Some fork) =
+    subst (λ l. IsForkOf g f.start 0 row l i e (Some fork)) c.from-entries.ensures c.in-Some-fork_of.ensures in
     let used = both_used g ts f.start levels lists full row last i e first fork is in
     ok_if c.pair_at.result (λ r. IsBy g ts (other_of fork).maker 0 (other_of fork).to (plain_reading r.1)) (λ r. ReadsWhole g ts f.start (plain_reading r.1))
     (λ r by. by_used g ts f.start levels lists full row last (other_of fork) used.1 (plain_reading r.1) by) c.pair_at.ensures.other

@@ -22,7 +22,7 @@ loop-index-preserved c = λ i e after low at used.
     by_place i e after at used within low (cases_lt i n)
   where
     by_place : (i : ℕ) (e : Entry) → c.args.first ≤ i → slice_get c.args.choice.entries.now i ≡ Some e →
-        IsUsable (plain c.args.choice.grammar.now) c.args.choice.sort c.args.choice.least (ways_of c.args.choice.rest.row.now) c.args.choice.rest.from e → c.loop-index.index < length c.args.choice.entries.now →
+        IsUsable (plain c.args.choice.grammar.now) c.args.choice.sort c.args.choice.least (ways_of c.args.choice.rest.now) e → c.loop-index.index < length c.args.choice.entries.now →
         i < c.loop-index.index + 1 → (i < c.loop-index.index) ⊎ (c.loop-index.index ≤ i) → ⊥
     by_place i e after at used within low (inl h) = c.loop-index.invariant i e after h at used
     by_place i e after at used within low (inr h) =
@@ -30,8 +30,8 @@ loop-index-preserved c = λ i e after low at used.
         let same : i ≡ n = omega arith in
         let here : slice_get entries n ≡ Some e = subst (λ k. slice_get entries k ≡ Some e) same at in
         let is : e ≡ get_or entries n no_entry = same_Some e (get_or entries n no_entry) (sym here ∙ slice_get-get_or entries n no_entry within) in
-        let it : IsUsable (plain c.args.choice.grammar.now) c.args.choice.sort c.args.choice.least (ways_of c.args.choice.rest.row.now) c.args.choice.rest.from (get_or entries n no_entry) =
-        subst (λ x. IsUsable (plain c.args.choice.grammar.now) c.args.choice.sort c.args.choice.least (ways_of c.args.choice.rest.row.now) c.args.choice.rest.from x) is used in
+        let it : IsUsable (plain c.args.choice.grammar.now) c.args.choice.sort c.args.choice.least (ways_of c.args.choice.rest.now) (get_or entries n no_entry) =
+        subst (λ x. IsUsable (plain c.args.choice.grammar.now) c.args.choice.sort c.args.choice.least (ways_of c.args.choice.rest.now) x) is used in
         true≢false (sym (c.is_usable.ensures.1 it) ∙ c.if-is_usable.false)
 
 pub returns : goal.returns

@@ -7,4 +7,4 @@ use Rattle.sx_forest.specs.Forests.{IsUsable}
 use Rattle.sx_forest.proofs.choosing.first_usable.Given as goal
 
 abbrev pub invariant-loop-index : goal.invariant-loop-index
-invariant-loop-index l = (i : ℕ) (e : Entry) → l.first ≤ i → i < l.index → slice_get l.choice.entries.now i ≡ Some e → IsUsable (plain l.choice.grammar.now) l.choice.sort l.choice.least (ways_of l.choice.rest.row.now) l.choice.rest.from e → ⊥
+invariant-loop-index l = (i : ℕ) (e : Entry) → l.first ≤ i → i < l.index → slice_get l.choice.entries.now i ≡ Some e → IsUsable (plain l.choice.grammar.now) l.choice.sort l.choice.least (ways_of l.choice.rest.now) e → ⊥

@@ -1,21 +1,14 @@
-use Rattle.std.proofs.Common.{◌≡◌, ◌-◌, Some, sym, subst, ap, ◌∙◌, length, arith}
-use Rattle.std.specs.List.{slice_get}
+use Rattle.std.proofs.Common.{◌-◌, Some, sym, ap, ◌∙◌, length, arith}
 use Rattle.std.specs.Option.{option_map}
 use Rattle.sx_grammar.specs.Grammar.{production_of}
 use Rattle.sx_grammar.specs.Numbered.{symbol}
 use Rattle.sx_earley.specs.Shown.{texts}
 use Rattle.sx_forest.specs.Tallies.{ways_of}
 use Rattle.sx_forest.specs.Rows.{row_at}
-use Rattle.sx_forest.specs.Forests.{grammar_in, tokens_in, lists_in}
-use Rattle.sx_forest.proofs.Stepwise.{symbol_there, next_row, later_there}
+use Rattle.sx_forest.specs.Forests.{grammar_in}
+use Rattle.sx_forest.proofs.Stepwise.{symbol_there, next_row}
 use Rattle.sx_forest.proofs.Branching.{more_over_literal, more_over_token, fork_found, goes_over}
 use Rattle.sx_forest.proofs.forking.fork_at.Goals as goal
-
-pub fork_of-requires-clause-later : goal.fork_of-requires-clause-later
-fork_of-requires-clause-later c = λ i e at.
-    let F = c.args.forest in let f = c.requires.forest in
-    later_there (grammar_in F) (tokens_in F) F.start f.levels f.ranked.0 f.ranked.1 (lists_in F) f.full c.args.opened.now c.requires.opened c.args.dot c.args.place c.requires.at
-    i e (subst (λ l. slice_get l i ≡ Some e) c.from-entries.ensures at)
 
 pub returns-in-Literal-clause-on : goal.returns-in-Literal-clause-on
 returns-in-Literal-clause-on c = λ none more.

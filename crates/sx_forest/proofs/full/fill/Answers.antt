@@ -10,7 +10,7 @@ use Rattle.sx_forest.specs.Table.{IsFirstTable}
 use Rattle.sx_forest.specs.Ordering.{AreOrdered}
 use Rattle.sx_grammar.specs.Order.{rank_at}
 use Rattle.sx_forest.proofs.Rows.{span_forward, span_within}
-use Rattle.sx_forest.proofs.Tabling.{no_ordered, useful_forward, span_at, so_far_on, so_far_first, full_is, all_later}
+use Rattle.sx_forest.proofs.Tabling.{no_ordered, useful_forward, span_at, so_far_on, so_far_first, full_is}
 use Rattle.sx_forest.proofs.full.fill.Goals as goal
 
 pub in_order-requires-clause-along : goal.in_order-requires-clause-along
@@ -59,10 +59,6 @@ add_span-requires-clause-inside c =
     let h = within_here c in let a = along_here c in let l = c.loop-item.invariant.long in
     let long : length (tokens_of c.args.grammar.now c.args.shown.now) ≡ length c.args.shown.now = length-map c.args.shown.now (token_of (texts c.args.grammar.now)) in
     omega arith
-
-pub add_span-requires-clause-later : goal.add_span-requires-clause-later
-add_span-requires-clause-later c =
-    all_later (plain c.args.grammar.now) (tokens_of c.args.grammar.now c.args.shown.now) c.args._start c.loop-item.table.lists.items c.loop-item.invariant.table
 
 pub add_span-requires-clause-sorted : goal.add_span-requires-clause-sorted
 add_span-requires-clause-sorted c = c.loop-item.invariant.table.sorted

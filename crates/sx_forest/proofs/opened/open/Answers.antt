@@ -3,9 +3,8 @@ use Rattle.std.proofs.lemmas.List.{length-map}
 use Rattle.sx_earley.specs.Shown.{texts, token_of}
 use Rattle.sx_forest.specs.Tallies.{tally_of}
 use Rattle.sx_forest.specs.Table.{IsSoundBy}
-use Rattle.sx_forest.specs.Forests.{grammar_in, tokens_in, lists_in}
+use Rattle.sx_forest.specs.Forests.{grammar_in, tokens_in}
 use Rattle.sx_forest.proofs.Rows.{span_forward, span_within}
-use Rattle.sx_forest.proofs.Tabling.{all_later}
 use Rattle.sx_forest.proofs.opened.open.Goals as goal
 
 pub all_rows-requires-clause-short : goal.all_rows-requires-clause-short
@@ -22,10 +21,6 @@ all_rows-requires-clause-along c =
     let F = c.args.forest in
     let s = subst (λ m. IsSoundBy (grammar_in F) (tokens_in F) F.start m c.args.from c.args.entry.to (tally_of c.args.entry.ways)) c.requires.by c.requires.entry.sound in
     span_forward (grammar_in F) (tokens_in F) F.start c.args.head c.args.from c.args.entry.to s.0
-
-pub all_rows-requires-clause-later : goal.all_rows-requires-clause-later
-all_rows-requires-clause-later c =
-    let F = c.args.forest in all_later (grammar_in F) (tokens_in F) F.start (lists_in F) c.requires.forest.full.table
 
 pub all_rows-requires-clause-sorted : goal.all_rows-requires-clause-sorted
 all_rows-requires-clause-sorted c = c.requires.forest.full.table.sorted

@@ -12,8 +12,8 @@ pub loop-left-init : goal.loop-left-init
 loop-left-init c = let left = c.past_index-left.ensures in let entries = c.args.entries.now in record {
   low = left.low;
   high = left.high;
-  on = λ t sum. subst (λ u. SumTo (plain c.args.grammar.now) c.args.sort c.args.least (ways_of c.args.next.now) c.args.from entries (length entries) u) (sym (nothing_more t))
-      (skip_to (plain c.args.grammar.now) c.args.sort c.args.least (ways_of c.args.next.now) c.args.from entries c.past_index-left.result t sum (length entries) left.high (omega arith)
+  on = λ t sum. subst (λ u. SumTo (plain c.args.grammar.now) c.args.sort c.args.least (ways_of c.args.next.now) entries (length entries) u) (sym (nothing_more t))
+      (skip_to (plain c.args.grammar.now) c.args.sort c.args.least (ways_of c.args.next.now) entries c.past_index-left.result t sum (length entries) left.high (omega arith)
       (λ i e after under at. left.past i e after at));
 }
 
@@ -28,10 +28,10 @@ loop-left-preserved c =
       low = omega arith;
       high = omega arith;
       on = λ t sum.
-          let more : SumTo g c.args.sort c.args.least next c.args.from entries c.loop-left.left (plus t u) =
-          subst (λ k. SumTo g c.args.sort c.args.least next c.args.from entries k (plus t u)) same
-          (sum_on g c.args.sort c.args.least next c.args.from entries n t u (plus t u) (omega arith) sum c.entry_ways-here.ensures refl) in
-          subst (λ v. SumTo g c.args.sort c.args.least next c.args.from entries (length entries) v) (sum_again t u all ∙ ap (plus t) (sym c.either-all.ensures))
+          let more : SumTo g c.args.sort c.args.least next entries c.loop-left.left (plus t u) =
+          subst (λ k. SumTo g c.args.sort c.args.least next entries k (plus t u)) same
+          (sum_on g c.args.sort c.args.least next entries n t u (plus t u) (omega arith) sum c.entry_ways-here.ensures refl) in
+          subst (λ v. SumTo g c.args.sort c.args.least next entries (length entries) v) (sum_again t u all ∙ ap (plus t) (sym c.either-all.ensures))
           (c.loop-left.invariant.on (plus t u) more);
     }
 
@@ -41,13 +41,13 @@ returns-then-is_ahead c = λ t sum.
     let low = c.loop-left.invariant.low in let high = c.loop-left.invariant.high in
     let n = c.loop-left.left - 1 in let x = get_or entries n no_entry in
     let there : slice_get entries n ≡ Some x = slice_get-get_or entries n no_entry (omega arith) in
-    c.loop-left.invariant.on t (skip_to g c.args.sort c.args.least next c.args.from entries 1 t sum c.loop-left.left low high
+    c.loop-left.invariant.on t (skip_to g c.args.sort c.args.least next entries 1 t sum c.loop-left.left low high
     (λ i e after under at.
     let up : e.to ≤ x.to = c.requires.sorted i n e x (omega arith) (omega arith) at there in
-    c.is_ahead.ensures c.if-is_ahead.true e.to (c.requires.later i e at) up))
+    c.is_ahead.ensures c.if-is_ahead.true e.to up))
 
 pub returns : goal.returns
 returns c = λ t sum.
     let low = c.loop-left.invariant.low in
     let one : 1 ≡ c.loop-left.left = omega arith in
-    c.loop-left.invariant.on t (subst (λ k. SumTo (plain c.args.grammar.now) c.args.sort c.args.least (ways_of c.args.next.now) c.args.from c.args.entries.now k t) one sum)
+    c.loop-left.invariant.on t (subst (λ k. SumTo (plain c.args.grammar.now) c.args.sort c.args.least (ways_of c.args.next.now) c.args.entries.now k t) one sum)

@@ -9,8 +9,8 @@ abbrev pub invariant-loop-left : goal.invariant-loop-left
 invariant-loop-left l = record {
   low : 1 ≤ l.left;
   high : l.left ≤ length l.entries;
-  on : (t : Tally) → SumTo (plain l.grammar) l.sort l.least (ways_of l.next) l.from l.entries l.left t →
-      SumTo (plain l.grammar) l.sort l.least (ways_of l.next) l.from l.entries (length l.entries) (plus t (tally_of l.all));
+  on : (t : Tally) → SumTo (plain l.grammar) l.sort l.least (ways_of l.next) l.entries l.left t →
+      SumTo (plain l.grammar) l.sort l.least (ways_of l.next) l.entries (length l.entries) (plus t (tally_of l.all));
 }
 
 abbrev pub decreases-loop-left : goal.decreases-loop-left

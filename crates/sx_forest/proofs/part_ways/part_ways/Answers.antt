@@ -11,12 +11,12 @@ pub returns-then-is_empty : goal.returns-then-is_empty
 returns-then-is_empty c =
     let entries = c.args.entries.now in
     let none : 0 ≡ length entries = grind (arith, nat_tests, c.is_empty.ensures, c.if-is_empty.true) in
-    subst (λ n. SumTo (plain c.args.grammar.now) c.args.sort c.args.least (ways_of c.args.next.now) c.args.from entries n no_way) none sum_none
+    subst (λ n. SumTo (plain c.args.grammar.now) c.args.sort c.args.least (ways_of c.args.next.now) entries n no_way) none sum_none
 
 pub returns : goal.returns
 returns c =
     let entries = c.args.entries.now in let g = plain c.args.grammar.now in let next = ways_of c.args.next.now in
     let t = tally_of c.entry_ways-first.result in
     let some : 0 < length entries = grind (arith, nat_tests, c.is_empty.ensures, c.if-is_empty.false) in
-    subst (λ u. SumTo g c.args.sort c.args.least next c.args.from entries (length entries) u) (sym c.either.ensures)
-    (c.later_ways-others.ensures t (sum_on g c.args.sort c.args.least next c.args.from entries 0 no_way t t some sum_none c.entry_ways-first.ensures refl))
+    subst (λ u. SumTo g c.args.sort c.args.least next entries (length entries) u) (sym c.either.ensures)
+    (c.later_ways-others.ensures t (sum_on g c.args.sort c.args.least next entries 0 no_way t t some sum_none c.entry_ways-first.ensures refl))

@@ -1,12 +1,12 @@
-use Rattle.std.proofs.Common.{◌-◌, sym, ap, ◌∙◌}
+use Rattle.std.proofs.Common.{◌-◌, ◌∙◌, ap, sym}
 use Rattle.sx_forest.specs.Tallies.{ways_at}
-use Rattle.sx_forest.proofs.Skipping.{before_ways, ways_after}
+use Rattle.sx_forest.proofs.RowWays.{none_after, way_there}
 use Rattle.sx_forest.proofs.row.at.Goals as goal
 
-pub returns-then-number-row : goal.returns-then-number-row
-returns-then-number-row c = λ ahead. sym (before_ways c.args.row.now.skipped (c.args.place - c.args.from) c.args.row.now.ways.items c.if-number-row.true)
-
 pub returns : goal.returns
-returns c = λ ahead.
-    let row = c.args.row.now in let k = c.args.place - c.args.from in
-    c.numbered.ensures ∙ (ap (λ l. ways_at l (k - row.skipped)) c.deref.ensures.value ∙ sym (ways_after row.skipped k row.ways.items c.if-number-row.false))
+returns c =
+    let row = c.args.row.now in
+    c.numbered.ensures ∙ (ap (λ l. ways_at l (row.end - 1 - c.args.place)) c.deref.ensures.value ∙ sym (way_there row c.args.place c.if-row-place.false))
+
+pub returns-then-row-place : goal.returns-then-row-place
+returns-then-row-place c = sym (none_after c.args.row.now c.args.place c.if-row-place.true)

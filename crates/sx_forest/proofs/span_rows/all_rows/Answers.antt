@@ -14,12 +14,12 @@ loop-done-preserved c =
     let row = ways_of c.in_ok-row.row in let next = ways_of c.row_of-next.result.now in let dot = count - n - 1 in
     let stretch = c.stretch_of-stretch.ensures ∙ ap (λ l. stretch_at l dot) c.deref.ensures.value in
     let after = c.row_of-next.ensures ∙ ap (λ rs. row_at rs n) c.deref-in-loop-done.ensures.value in
-    let made : IsRow g ts lists (next_symbol g c.args.head dot) from to (stretch_at all dot) next row =
-    subst (λ s. IsRow g ts lists (next_symbol g c.args.head dot) from to s next row) stretch
-    (subst (λ o. IsRow g ts lists o from to c.stretch_of-stretch.result next row) c.symbol_of-expected.ensures.is c.in_ok-row.ensures) in
-    rows_on g ts lists c.args.head count n from to all c.loop-done.rows.items c.push-in-loop-done.new.self.items c.in_ok-row.row
+    let made : IsRow g ts lists (next_symbol g c.args.head dot) to (stretch_at all dot) next row =
+    subst (λ s. IsRow g ts lists (next_symbol g c.args.head dot) to s next row) stretch
+    (subst (λ o. IsRow g ts lists o to c.stretch_of-stretch.result next row) c.symbol_of-expected.ensures.is c.in_ok-row.ensures) in
+    rows_on g ts lists c.args.head count n to all c.loop-done.rows.items c.push-in-loop-done.new.self.items c.in_ok-row.row
     c.loop-done.invariant c.in_ok-push-2.ensures.items
-    (subst (λ l. IsRow g ts lists (next_symbol g c.args.head dot) from to (stretch_at all dot) l row) after made)
+    (subst (λ l. IsRow g ts lists (next_symbol g c.args.head dot) to (stretch_at all dot) l row) after made)
 
 pub returns : goal.returns
 returns c =
@@ -27,9 +27,9 @@ returns c =
     let lists = c.args.basis.table.now.lists.items in let count = c.symbol_count-count.result in
     let from = c.args.from in let to = c.args.to in let all = c.in_ok-stretches.stretches.items in let rows = c.loop-done.rows.items in
     let end : c.loop-done.done ≡ count = omega arith in
-    let are : AreRows g ts lists c.args.head count count from to all rows = subst (λ n. AreRows g ts lists c.args.head count n from to all rows) end c.loop-done.invariant in
+    let are : AreRows g ts lists c.args.head count count to all rows = subst (λ n. AreRows g ts lists c.args.head count n to all rows) end c.loop-done.invariant in
     record {
       stretches = all;
       spread = subst (λ n. AreStretches g ts lists c.args.head n from to all) c.symbol_count-count.ensures (c.in_ok-stretches.ensures ts);
-      are = subst (λ n. AreRows g ts lists c.args.head n n from to all rows) c.symbol_count-count.ensures are;
+      are = subst (λ n. AreRows g ts lists c.args.head n n to all rows) c.symbol_count-count.ensures are;
     }

@@ -1,5 +1,4 @@
-use Rattle.std.proofs.Common.{◌≡◌, ◌-◌, Some, sym, subst, ap, ◌∙◌}
-use Rattle.std.specs.List.{slice_get}
+use Rattle.std.proofs.Common.{◌-◌, Some, sym, ap, ◌∙◌}
 use Rattle.std.specs.Option.{option_map}
 use Rattle.sx_grammar.specs.Grammar.{production_of}
 use Rattle.sx_grammar.specs.Numbered.{symbol}
@@ -7,14 +6,8 @@ use Rattle.sx_earley.specs.Shown.{texts}
 use Rattle.sx_forest.specs.Tallies.{ways_of}
 use Rattle.sx_forest.specs.Rows.{row_at}
 use Rattle.sx_forest.specs.Forests.{grammar_in, tokens_in, lists_in, symbols_of}
-use Rattle.sx_forest.proofs.Stepwise.{symbol_there, next_row, no_symbol, usable_as, later_there, step_literal, step_token, step_part, some_usable}
+use Rattle.sx_forest.proofs.Stepwise.{symbol_there, next_row, no_symbol, usable_as, step_literal, step_token, step_part, some_usable}
 use Rattle.sx_forest.proofs.stepping.step_at.Goals as goal
-
-pub first_usable-requires : goal.first_usable-requires
-first_usable-requires c = λ i e at.
-    let F = c.args.forest in let f = c.requires.forest in
-    later_there (grammar_in F) (tokens_in F) F.start f.levels f.ranked.0 f.ranked.1 (lists_in F) f.full c.args.opened.now c.requires.opened c.args.dot c.args.place c.requires.at
-    i e (subst (λ l. slice_get l i ≡ Some e) c.from-entries.ensures at)
 
 pub unreachable-requires : goal.unreachable-requires
 unreachable-requires c =
@@ -22,7 +15,7 @@ unreachable-requires c =
     let row = next_row g o c.args.dot c.symbol_count-count.result (ways_of c.row_of-next.result.now) c.symbol_count-count.ensures (c.row_of-next.ensures ∙ ap (λ rs. row_at rs (c.symbol_count-count.result - c.args.dot - 1)) c.deref.ensures.value) in
     let is = sym (symbol_there (production_of g o.head) c.args.dot) ∙ (sym c.symbol_of.ensures.is ∙ ap (λ x. option_map (symbol (texts F.grammar.now)) x) (c.in-Some-Part.is ∙ ap Some c.in-Some-Part.field-0-is)) in
     some_usable g (tokens_in F) F.start f.levels f.ranked.0 f.ranked.1 (lists_in F) f.full o c.requires.opened c.args.dot c.args.place c.in-Some-Part.sort c.in-Some-Part.least is c.requires.at
-    (usable_as g c.in-Some-Part.sort c.in-Some-Part.least o.from 0 row c.from-entries.ensures c.in-None-first_usable.is c.first_usable.ensures)
+    (usable_as g c.in-Some-Part.sort c.in-Some-Part.least 0 row c.from-entries.ensures c.in-None-first_usable.is c.first_usable.ensures)
 
 pub unreachable-requires-in-None : goal.unreachable-requires-in-None
 unreachable-requires-in-None c =
@@ -48,4 +41,4 @@ returns-in-Some c =
     let row = next_row g o c.args.dot c.symbol_count-count.result (ways_of c.row_of-next.result.now) c.symbol_count-count.ensures (c.row_of-next.ensures ∙ ap (λ rs. row_at rs (c.symbol_count-count.result - c.args.dot - 1)) c.deref.ensures.value) in
     let is = sym (symbol_there (production_of g o.head) c.args.dot) ∙ (sym c.symbol_of.ensures.is ∙ ap (λ x. option_map (symbol (texts F.grammar.now)) x) (c.in-Some-Part.is ∙ ap Some c.in-Some-Part.field-0-is)) in
     step_part g (tokens_in F) F.start f.levels f.ranked.0 f.ranked.1 (lists_in F) f.full o c.requires.opened c.args.dot c.args.place c.in-Some-Part.sort c.in-Some-Part.least _ _ is c.requires.at
-    (usable_as g c.in-Some-Part.sort c.in-Some-Part.least o.from 0 row c.from-entries.ensures c.in-Some.is c.first_usable.ensures)
+    (usable_as g c.in-Some-Part.sort c.in-Some-Part.least 0 row c.from-entries.ensures c.in-Some.is c.first_usable.ensures)
