@@ -1,5 +1,5 @@
 -- Lines whose metavariables are among some names.
-use Rattle.std.proofs.Common.{◌≡◌, ℕ, zero, suc, ◌+◌, ◌<◌, ◌^◌, ◌⊎◌, inl, inr, List, [], ◌∷◌, ◌++◌, length, Option, Some, None, slice_get, Contains, refl, ap, ◌∙◌, sym, subst, arith}
+use Rattle.std.proofs.Common.{◌≡◌, ℕ, zero, suc, ◌+◌, ◌⊎◌, inl, inr, List, [], ◌∷◌, ◌++◌, length, Some, None, slice_get, Contains, refl, ap, ◌∙◌, sym, subst}
 use Rattle.std.specs.Prelude.{slice_index_or}
 use Rattle.std.specs.List.{AllByRecursion}
 use Rattle.std.proofs.lemmas.List.{append-nil}
@@ -20,8 +20,8 @@ use Rattle.sx_forest.specs.Text.{texts}
 use Rattle.sx_forest.specs.Names.{IsMetavariable, IsMarked, AreMarked, names_in, names_of, AddsEach}
 use Rattle.sx_notation.specs.declared.notation_error.NotationError.{NotationError}
 use Rattle.sx_notation.specs.declared.notation_error.NotationError.TheVariants.{Memory, NotUtf8, Notation, Token as BadTokens, Grammar, Read, Rules}
-use Rattle.sx_notation.specs.ReadText.{IsKnownCut, IsRead, IsUncut, IsUnreadLine}
-use Rattle.sx_notation.specs.ReadAmong.{IsNamed, IsUnnamed, IsNamedCut, IsReadAmong, IsRefusedAmong}
+use Rattle.sx_notation.specs.ReadText.{IsUncut, IsUnreadLine}
+use Rattle.sx_notation.specs.ReadAmong.{IsNamed, IsNamedCut, IsReadAmong, IsRefusedAmong}
 use Rattle.sx_notation.specs.ReadLaws.{AmongIsRead}
 use Rattle.sx_notation.proofs.Growing.{got_before}
 use Rattle.sx_notation.proofs.TextReading.{is_marked}

@@ -1,6 +1,4 @@
-use Rattle.std.proofs.Common.{◌≡◌, refl, subst, sym}
-use Rattle.std.specs.Prelude.{IfOk, IfErr}
-use Rattle.sx_language.specs.States.{States, IsRefused}
+use Rattle.std.proofs.Common.{refl}
 use Rattle.sx_language.proofs.Stating.{line_refused}
 use Rattle.sx_language.proofs.language_reading.read_language.Goals as goal
 
