@@ -8,8 +8,8 @@
 //!   follow them in order. `sorted_goals_fit`: a goal that is well sorted by the language's grammar
 //!   meets the conditions of `print_goal`.
 //! - `read_text`: the term of a line's only reading by a grammar, or why the line is refused.
-//!   `read_into`: the same without a copy of the names. `LineReader`: the same for many lines, by
-//!   tables that are made once, and for lines whose metavariables are to be among some names.
+//!   `LineReader`: the same for many lines, by tables that are made once, and for lines whose
+//!   metavariables are to be among some names.
 //!   `why_unread`: why tokens have not one reading, with places and texts in place of tokens and
 //!   readings. `read_terms_are_usable`: lexemes and depth of what is read.
 //! - `read_directive`: the production or the stem that a line states, by which it extends a
@@ -46,5 +46,5 @@ pub use sx_directives::Directive;
 pub use sx_lines::Kind;
 pub use sx_outline::MainForm;
 pub use telling::{place_in, why_unread};
-pub use text_reading::{read_into, read_text};
+pub use text_reading::read_text;
 pub use unread::Unread;
