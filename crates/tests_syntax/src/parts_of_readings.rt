@@ -81,8 +81,8 @@ fn token(alloc: Global, mark: Mark, bytes: &str) -> Result<Token, Fail>
     })
 }
 
-/// The tokens `(`, `x`, `)`, `+` and `~y`.
-fn tokens(alloc: Global) -> Result<Vec<Token>, Fail>
+/// The tokens `(`, `x`, `)`, `+` and a metavariable.
+fn tokens(alloc: Global, variable: &str) -> Result<Vec<Token>, Fail>
     ensures five { IfOk result (λ v. length v.items ≡ 5) }
     ensures lexeme { IfOk result (λ v. IsLexeme (slice_get v.items 1)) }
     ensures metavariable { IfOk result (λ v. IsMetavariable (slice_get v.items 4)) }
@@ -92,7 +92,7 @@ fn tokens(alloc: Global) -> Result<Vec<Token>, Fail>
     all.push(token(alloc, Mark::Lex(LexKind::Id), "x")?)?;
     all.push(token(alloc, Mark::Lit(1), ")")?)?;
     all.push(token(alloc, Mark::Lit(2), "+")?)?;
-    all.push(token(alloc, Mark::Meta, "~y")?)?;
+    all.push(token(alloc, Mark::Meta, variable)?)?;
     Ok(all)
 }
 
@@ -108,9 +108,9 @@ fn told(alloc: Global, term: &Term, vars: &Vars) -> Result<String, Fail> {
     }
 }
 
-/// The same of the term of the sum.
-fn stripped(alloc: Global) -> Result<String, Fail> {
-    let tokens = tokens(alloc)?;
+/// The same of the term of the sum with this metavariable.
+fn stripped(alloc: Global, variable: &str) -> Result<String, Fail> {
+    let tokens = tokens(alloc, variable)?;
     let reading = sum(alloc)?;
     let mut vars = Vars::new(alloc);
     let term = strip(alloc, &reading, &tokens, &mut vars)?;
@@ -119,14 +119,16 @@ fn stripped(alloc: Global) -> Result<String, Fail> {
 
 #[test]
 fn a_name_is_numbered(rt: HostRuntime) -> Result<(), Fail> {
-    let words = stripped(rt.alloc())?;
+    let words = stripped(rt.alloc(), "~y")?;
+    assert_eq!(rt; words.as_str(), "2 kids and y");
+    let words = stripped(rt.alloc(), "y")?;
     assert_eq!(rt; words.as_str(), "2 kids and y");
     Ok(())
 }
 
 /// The tree text of the brackets behind `> `.
 fn written(alloc: Global, grammar: &Grammar) -> Result<Vec<u8>, Fail> {
-    let tokens = tokens(alloc)?;
+    let tokens = tokens(alloc, "~y")?;
     let reading = bracketed(alloc)?;
     let mut into = Vec::from_slice(alloc, b"> ")?;
     write_tree(alloc, grammar, &reading, &tokens, &mut into)?;

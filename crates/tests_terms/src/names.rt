@@ -26,6 +26,9 @@ fn names_are_numbered(rt: HostRuntime) {
         None => false,
     };
     let is_last = names.name(2).is_none();
+    let many = names.count();
+    names.cut(1);
+    let left = names.count();
     drop(names);
     let hold = [
         first == Some(0),
@@ -33,8 +36,10 @@ fn names_are_numbered(rt: HostRuntime) {
         again == Some(0),
         is_named,
         is_last,
+        many == 2,
+        left == 1,
     ];
-    assert_eq!(rt; hold, [true; 5]);
+    assert_eq!(rt; hold, [true; 7]);
 }
 
 /// How many bytes stand before the first that is not UTF-8.
