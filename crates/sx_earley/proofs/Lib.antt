@@ -14,6 +14,7 @@ pub mod Rows
 pub mod Opening
 pub mod Turning
 pub mod Spanning
+pub mod Literals
 pub mod Sameness
 pub mod StemLaws
-pub mod Known
+pub mod NoMetas

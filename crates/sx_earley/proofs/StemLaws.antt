@@ -1,11 +1,14 @@
--- Stems and the digits after them.
-use Rattle.std.proofs.Common.{◌≡◌, ◌∙◌, sym, ap, refl, ℕ, ◌+◌, ◌<◌, Bool, true, false, if◌then◌else◌, cond, List, [], ◌∷◌, ◌++◌, append_assoc, length, drop, get_or, map, Option, Some}
+-- Stems and the digits after them, and what tokens show.
+use Rattle.std.proofs.Common.{◌≡◌, ◌∙◌, sym, ap, subst, refl, ℕ, zero, suc, ◌+◌, ◌<◌, Bool, true, false, if◌then◌else◌, cond, List, [], ◌∷◌, ◌++◌, length, take, drop, get_or, Option, Some, add-one, arith}
 use Rattle.std.specs.Char.{is_ascii_digit}
 use Rattle.std.specs.Str.{bytes_eq}
 use Rattle.std.proofs.lemmas.List.{drop_more}
 use Rattle.sx_term.specs.declared.sort.Sort.{Sort}
+use Rattle.sx_token.specs.declared.token.Token.{Token}
 use Rattle.sx_grammar.specs.Grammar.{Text}
+use Rattle.sx_earley.specs.declared.shown.Shown.{Shown}
 use Rattle.sx_earley.specs.Tokens.{kept, without_digits, Stems, sort_of}
+use Rattle.sx_earley.specs.Showing.{Shows, AllShow}
 
 kept_more : (x c : ℕ) (xs : Text) → kept x (xs ++ c ∷ []) ≡ x ∷ xs ++ c ∷ []
 kept_more x c [] = refl
@@ -31,10 +34,17 @@ stem_first xs i s get get' low is same updates t =
     let split : drop i xs ≡ s ∷ drop (i + 1) xs = drop_more xs i s low ∙ ap (λ x. x ∷ drop (i + 1) xs) (sym is) in
     updates t ∙ ap (λ o. cond (bytes_eq s.0 t) (Some s.1) o) (same t) ∙ ap (λ l. sort_of l t) (sym split)
 
+one_more_shown : (literals : List Text) (stems : Stems) (ts : List Token) (i : ℕ) (t : Token) (s : Shown) (old : List Shown) → i < length ts → t ≡ get_or ts i t → Shows literals stems t.mark t.text s →
+    AllShow literals stems (take i ts) old → AllShow literals stems (take (suc i) ts) (old ++ s ∷ [])
+one_more_shown literals stems [] i t s old low is one all = absurd (omega (arith, low))
+one_more_shown literals stems (u ∷ us) zero t s [] low is one all = (subst (λ (x : Token). Shows literals stems x.mark x.text s) is one, tt)
+one_more_shown literals stems (u ∷ us) zero t s (o ∷ os) low is one all = absurd all
+one_more_shown literals stems (u ∷ us) (suc i) t s [] low is one all = absurd all
+one_more_shown literals stems (u ∷ us) (suc i) t s (o ∷ os) low is one all = (all.0, one_more_shown literals stems us i t s os (omega (arith, low)) is one all.1)
+
 -- one more token is shown
-pub shown_more : {X Y : Type 0} (f : X → Y) (xs : List X) (i : ℕ) (x : X) (y : Y) (old new : List Y) → i < length xs → x ≡ get_or xs i x → y ≡ f x → new ≡ old ++ y ∷ [] →
-    old ++ map f (drop i xs) ≡ map f xs → new ++ map f (drop (i + 1) xs) ≡ map f xs
-shown_more f xs i x y old new low is made grown so_far =
-    let split : drop i xs ≡ x ∷ drop (i + 1) xs = drop_more xs i x low ∙ ap (λ z. z ∷ drop (i + 1) xs) (sym is) in
-    ap (λ l. l ++ map f (drop (i + 1) xs)) grown ∙ append_assoc old (y ∷ []) (map f (drop (i + 1) xs))
-    ∙ ap (λ z. old ++ z ∷ map f (drop (i + 1) xs)) made ∙ ap (λ l. old ++ map f l) (sym split) ∙ so_far
+pub shown_more : (literals : List Text) (stems : Stems) (ts : List Token) (i : ℕ) (t : Token) (s : Shown) (old new : List Shown) → i < length ts → t ≡ get_or ts i t → Shows literals stems t.mark t.text s → new ≡ old ++ s ∷ [] →
+    AllShow literals stems (take i ts) old → AllShow literals stems (take (i + 1) ts) new
+shown_more literals stems ts i t s old new low is one grown all =
+    let more : AllShow literals stems (take (suc i) ts) new = subst (AllShow literals stems (take (suc i) ts)) (sym grown) (one_more_shown literals stems ts i t s old low is one all) in
+    subst (λ n. AllShow literals stems (take n ts) new) (sym (add-one i)) more

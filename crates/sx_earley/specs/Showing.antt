@@ -1,5 +1,5 @@
--- What tokens show, by the numbers of literals, kinds and sorts.
-use Rattle.std.specs.Prelude.{◌≡◌, Option, Some, None}
+-- What tokens show to a grammar, by the numbers of its literals, kinds and sorts.
+use Rattle.std.specs.Prelude.{◌≡◌, List, [], ◌∷◌, Option, Some, None, slice_get, Contains}
 use Rattle.std.specs.HashMap.{get_by}
 use Rattle.std.specs.Str.{bytes_eq}
 use Rattle.sx_term.specs.declared.lex_kind.LexKind.TheVariants.{Id}
@@ -7,9 +7,10 @@ use Rattle.sx_term.specs.declared.sort.Sort.{Sort}
 use Rattle.sx_term.specs.declared.sort.Sort.TheVariants as sorts
 use Rattle.sx_term.specs.declared.mark.Mark.{Mark}
 use Rattle.sx_term.specs.declared.mark.Mark.TheVariants as marks
+use Rattle.sx_token.specs.declared.token.Token.{Token}
 use Rattle.sx_grammar.specs.Grammar.{Text}
 use Rattle.sx_earley.specs.declared.shown.Shown.{Shown}
-use Rattle.sx_earley.specs.declared.shown.Shown.TheVariants.{Lit, Lex, Kind, Sort as OfSort}
+use Rattle.sx_earley.specs.declared.shown.Shown.TheVariants.{Lit, Lex, Kind, Sort as OfSort, Other}
 use Rattle.sx_earley.specs.declared.stem_table.StemTable.{StemTable}
 use Rattle.sx_earley.specs.Tokens.{Stems, sort_of, stem_of}
 
@@ -25,8 +26,21 @@ shown_stem (Some (sorts.Lex kind)) = Kind kind
 shown_stem (Some (sorts.Plain n)) = OfSort n
 shown_stem (Some (sorts.Typed n)) = OfSort n
 
--- what a token shows
-abbrev pub show : Stems → Mark → Text → Shown
-show stems (marks.Lit n) text = Lit n
-show stems (marks.Lex kind) text = Lex kind
-show stems marks.Meta text = shown_stem (sort_of stems (stem_of text))
+-- a literal shows the number of its text among the grammar's literals, or that it is none of them
+abbrev pub IsLiteralShown : List Text → Text → Shown → Type 0
+IsLiteralShown literals text (Lit n) = slice_get literals n ≡ Some text
+IsLiteralShown literals text Other = ¬ (Contains literals text)
+IsLiteralShown literals text _ = ⊥
+
+-- a token with this mark and text shows this
+abbrev pub Shows : List Text → Stems → Mark → Text → Shown → Type 0
+Shows literals stems (marks.Lit n) text shown = IsLiteralShown literals text shown
+Shows literals stems (marks.Lex kind) text shown = shown ≡ Lex kind
+Shows literals stems marks.Meta text shown = shown ≡ shown_stem (sort_of stems (stem_of text))
+
+-- the tokens show these, one after another
+abbrev pub AllShow : List Text → Stems → List Token → List Shown → Type 0
+AllShow literals stems [] [] = Unit {0}
+AllShow literals stems (t ∷ ts) (s ∷ shown) = Shows literals stems t.mark t.text s ×
+    AllShow literals stems ts shown
+AllShow literals stems _ _ = ⊥

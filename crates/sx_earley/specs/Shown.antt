@@ -8,7 +8,7 @@ use Rattle.sx_grammar.specs.Tables.{GrammarData, literals_of}
 use Rattle.sx_grammar.specs.declared.numbered.NumberedSymbol.{NumberedSymbol}
 use Rattle.sx_grammar.specs.declared.numbered.NumberedSymbol.TheVariants as symbols
 use Rattle.sx_earley.specs.declared.shown.Shown.{Shown}
-use Rattle.sx_earley.specs.declared.shown.Shown.TheVariants.{Lit, Lex, Kind, Sort}
+use Rattle.sx_earley.specs.declared.shown.Shown.TheVariants.{Lit, Lex, Kind, Sort, Other}
 
 -- the grammar as plain data, with numbers for names
 abbrev pub plain : GrammarData → Grammar
@@ -18,12 +18,13 @@ plain d = numbered d.parts
 abbrev pub texts : GrammarData → List Text
 texts d = literals_of d.parts
 
--- the token that is shown; only a literal's text is read
+-- the token that is shown; only a literal's text is read, and no literal of a grammar is empty
 abbrev pub token_of : List Text → Shown → Token
 token_of literals (Lit n) = record { mark = is_literal; text = slice_index_or literals n [] }
 token_of literals (Lex kind) = record { mark = is_lexeme kind; text = [] }
 token_of literals (Kind kind) = record { mark = is_variable (of_kind kind); text = [] }
 token_of literals (Sort sort) = record { mark = is_variable (of_sort sort); text = [] }
+token_of literals Other = record { mark = is_literal; text = [] }
 
 -- the tokens that are shown
 abbrev pub tokens_of : GrammarData → List Shown → List Token

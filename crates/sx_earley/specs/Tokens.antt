@@ -1,9 +1,7 @@
 -- The tokens of a text with metavariables, as a grammar reads them.
-use Rattle.std.specs.Prelude.{◌≡◌, ℕ, true, if◌then◌else◌, List, [], ◌∷◌, Option, Some, None, map}
-use Rattle.std.specs.Prelude.{slice_get, is_some}
+use Rattle.std.specs.Prelude.{ℕ, if◌then◌else◌, List, [], ◌∷◌, Option, Some, None, map}
 use Rattle.std.specs.Char.{is_ascii_digit}
 use Rattle.std.specs.Str.{bytes_eq}
-use Rattle.std.specs.List.{AllByRecursion}
 use Rattle.sx_term.specs.declared.lex_kind.LexKind.TheVariants.{Id}
 use Rattle.sx_term.specs.declared.sort.Sort.{Sort}
 use Rattle.sx_term.specs.declared.sort.Sort.TheVariants as sorts
@@ -61,13 +59,3 @@ shown stems Meta text = record {
 -- the tokens, as a grammar reads them
 abbrev pub plain_tokens : Stems → List Token → List plain.Token
 plain_tokens stems ts = map (λ t. shown stems t.mark t.text) ts
-
--- a literal has its own text, and a metavariable has a stem
-abbrev pub IsKnown : List Text → Stems → Mark → Text → Type 0
-IsKnown literals stems (Lit n) text = slice_get literals n ≡ Some text
-IsKnown literals stems (Lex kind) text = Unit {0}
-IsKnown literals stems Meta text = is_some (sort_of stems (stem_of text)) ≡ true
-
--- so it is of all tokens
-abbrev pub AreKnown : List Text → Stems → List Token → Type 0
-AreKnown literals stems ts = AllByRecursion (λ t. IsKnown literals stems t.mark t.text) ts

@@ -1,4 +1,4 @@
--- Metavariables whose stems are unknown.
+-- Metavariables whose stems are known or unknown.
 use Rattle.std.specs.Prelude.{◌≡◌, ℕ, true, List, Option, Some, None, slice_get, is_some, take}
 use Rattle.std.specs.List.{AllByRecursion}
 use Rattle.sx_term.specs.declared.mark.Mark.TheVariants.{Meta}
@@ -13,8 +13,12 @@ IsUnknown stems t = (t.mark ≡ Meta) × (sort_of stems (stem_of t.text) ≡ Non
 abbrev pub HasStem : Stems → Token → Type 0
 HasStem stems t = t.mark ≡ Meta → is_some (sort_of stems (stem_of t.text)) ≡ true
 
+-- so it is of each token
+abbrev pub HaveStems : Stems → List Token → Type 0
+HaveStems stems ts = AllByRecursion (HasStem stems) ts
+
 -- the token at the place is the first that is unknown, or none is
 abbrev pub IsFirstUnknown : Stems → List Token → Option ℕ → Type 0
-IsFirstUnknown stems ts None = AllByRecursion (HasStem stems) ts
-IsFirstUnknown stems ts (Some n) = AllByRecursion (HasStem stems) (take n ts) ×
+IsFirstUnknown stems ts None = HaveStems stems ts
+IsFirstUnknown stems ts (Some n) = HaveStems stems (take n ts) ×
     ((t : Token) × (slice_get ts n ≡ Some t) × IsUnknown stems t)

@@ -4,7 +4,8 @@ ghost use Rattle.std.specs.Prelude.{◌≡◌, ◌≤◌, IfOk, Err, length};
 ghost use Rattle.sx_grammar.specs.Tally.{EachOnce};
 ghost use Rattle.sx_grammar.specs.ReadOne.{MoreHold, IsGreatestEnd};
 ghost use Rattle.sx_earley.specs.Shown.{plain, texts, tokens_of, AreBelow};
-ghost use Rattle.sx_earley.specs.Tokens.{plain_tokens, AreKnown};
+ghost use Rattle.sx_earley.specs.Tokens.{plain_tokens};
+ghost use Rattle.sx_earley.specs.Unknown.{HaveStems};
 ghost use Rattle.sx_earley.specs.Chart.{HasAllOpenings};
 ghost use Rattle.sx_earley.specs.Completed.{IsSort, number_of, IsChart};
 
@@ -87,7 +88,8 @@ pub fn chart_of(
 }
 
 /// The chart of the tokens for the start sort: the spans that the items complete, and the greatest
-/// end of any item. TooHard comes exactly where more than 2,000,000 items hold.
+/// end of any item. A literal is read by its text, whatever its number; one that is none of the
+/// grammar's is read by nothing. TooHard comes exactly where more than 2,000,000 items hold.
 pub fn chart(
     alloc: Global,
     grammar: &Grammar,
@@ -97,9 +99,7 @@ pub fn chart(
 ) -> Result<Chart, ChartError>
     requires short { length tokens.now ≤ 10000 }
     requires start { IsSort grammar.now.parts start }
-
-    // A literal's number is its place among the grammar's literals. Each metavariable has a stem.
-    requires known { AreKnown (texts grammar.now) metas.now.stems.items tokens.now }
+    requires stems { HaveStems metas.now.stems.items tokens.now }
     ensures spans { IfOk result (λ c. IsChart (plain grammar.now)
         (plain_tokens metas.now.stems.items tokens.now) (number_of start) c.spans) }
     ensures once { IfOk result (λ c. EachOnce c.spans) }
@@ -111,7 +111,8 @@ pub fn chart(
         MoreHold (plain grammar.now) (plain_tokens metas.now.stems.items tokens.now)
         (number_of start) 2000000 }
 {
-    let shown = show_all(alloc, metas, tokens)?;
+    grammar.facts();
+    let shown = show_all(alloc, grammar, metas, tokens)?;
     let openings = openings(alloc, grammar)?;
     chart_by(alloc, grammar, &openings, number_of(start), &shown)
 }

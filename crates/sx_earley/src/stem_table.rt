@@ -5,13 +5,15 @@ ghost use Rattle.std.specs.HashMap.{get_by};
 ghost use Rattle.std.specs.Str.{bytes_eq};
 ghost use Rattle.sx_term.specs.declared.sort.Sort.{Sort};
 ghost use Rattle.sx_earley.specs.Tokens.{without_digits, stem_of, sort_of};
-ghost use Rattle.sx_earley.specs.Showing.{IsStems, show, shown_stem};
+ghost use Rattle.sx_earley.specs.Shown.{texts};
+ghost use Rattle.sx_earley.specs.Showing.{IsStems, Shows, shown_stem};
 ghost use Rattle.sx_earley.specs.Unknown.{HasStem, IsUnknown};
 
 use crate::metas::Metas;
-use crate::shown::Shown;
+use crate::shown::{Shown, literal_shown};
 use std::alloc::{AllocError, Global};
 use std::collections::HashMap;
+use sx_grammar::Grammar;
 use sx_term::{LexKind, Mark, Sort};
 use sx_token::Token;
 
@@ -109,13 +111,13 @@ impl<'a> StemTable<'a> {
         }
     }
 
-    /// What the token shows.
-    pub(crate) fn show(&self, token: &Token) -> Shown
+    /// What the token shows to the grammar.
+    pub(crate) fn show(&self, grammar: &Grammar, token: &Token) -> Shown
         ensures { (stems : List (List ℕ × Sort)) → IsStems stems self.now →
-            result ≡ show stems token.now.mark token.now.text }
+            Shows (texts grammar.now) stems token.now.mark token.now.text result }
     {
         match token.mark {
-            Mark::Lit(number) => Shown::Lit(number),
+            Mark::Lit(number) => literal_shown(grammar, number, token.text.bytes()),
             Mark::Lex(kind) => Shown::Lex(kind),
             Mark::Meta => shown_stem(self.sort_of(stem_of(token.text.bytes()))),
         }

@@ -1,9 +1,10 @@
 //! What the tokens of texts show.
 
-ghost use Rattle.std.specs.Prelude.{◌≡◌, ℕ, List, IfOk, map};
+ghost use Rattle.std.specs.Prelude.{◌≡◌, ℕ, List, IfOk};
 ghost use Rattle.sx_term.specs.declared.sort.Sort.{Sort};
 ghost use Rattle.sx_earley.specs.Tokens.{without_digits, sort_of};
-ghost use Rattle.sx_earley.specs.Showing.{IsStems, show};
+ghost use Rattle.sx_earley.specs.Shown.{texts};
+ghost use Rattle.sx_earley.specs.Showing.{IsStems, AllShow};
 ghost use Rattle.sx_earley.specs.Unknown.{IsFirstUnknown};
 
 use crate::metas::Metas;
@@ -11,6 +12,7 @@ use crate::shown::Shown;
 use crate::stem_table::{StemTable, stem_table};
 use std::alloc::{AllocError, Global};
 use std::marker::Model;
+use sx_grammar::Grammar;
 use sx_term::Sort;
 use sx_token::Token;
 
@@ -47,15 +49,20 @@ fn first_unknown_of(table: &StemTable, tokens: &[Token]) -> Option<usize>
     None
 }
 
-/// What each of the tokens shows.
-fn show_each(alloc: Global, table: &StemTable, tokens: &[Token]) -> Result<Vec<Shown>, AllocError>
+/// What each of the tokens shows to the grammar.
+fn show_each(
+    alloc: Global,
+    grammar: &Grammar,
+    table: &StemTable,
+    tokens: &[Token],
+) -> Result<Vec<Shown>, AllocError>
     ensures { IfOk result (λ v. (stems : List (List ℕ × Sort)) → IsStems stems table.now →
-        v.items ≡ map (λ t. show stems t.mark t.text) tokens.now) }
+        AllShow (texts grammar.now) stems tokens.now v.items) }
 {
     let mut shown = Vec::with_capacity(alloc, tokens.len())?;
     for i in 0..tokens.len() {
         let token = &tokens[i];
-        shown.push(table.show(token))?;
+        shown.push(table.show(grammar, token))?;
     }
     Ok(shown)
 }
@@ -87,22 +94,32 @@ impl<'a> Stems<'a> {
         first_unknown_of(table, tokens)
     }
 
-    /// What the tokens show.
-    pub fn show_all(&self, alloc: Global, tokens: &[Token]) -> Result<Vec<Shown>, AllocError>
-        ensures { IfOk result (λ v. v.items ≡ map (λ t. show self.now t.mark t.text) tokens.now) }
+    /// What the tokens show to the grammar.
+    pub fn show_all(
+        &self,
+        alloc: Global,
+        grammar: &Grammar,
+        tokens: &[Token],
+    ) -> Result<Vec<Shown>, AllocError>
+        ensures { IfOk result (λ v. AllShow (texts grammar.now) self.now tokens.now v.items) }
     {
         let table = &self.table;
-        show_each(alloc, table, tokens)
+        show_each(alloc, grammar, table, tokens)
     }
 }
 
-/// What the tokens show.
-pub fn show_all(alloc: Global, metas: &Metas, tokens: &[Token]) -> Result<Vec<Shown>, AllocError>
-    ensures { IfOk result (λ v. v.items ≡ map
-        (λ t. show metas.now.stems.items t.mark t.text) tokens.now) }
+/// What the tokens show to the grammar.
+pub fn show_all(
+    alloc: Global,
+    grammar: &Grammar,
+    metas: &Metas,
+    tokens: &[Token],
+) -> Result<Vec<Shown>, AllocError>
+    ensures { IfOk result (λ v. AllShow (texts grammar.now) metas.now.stems.items tokens.now
+        v.items) }
 {
     let stems = Stems::new(alloc, metas)?;
-    stems.show_all(alloc, tokens)
+    stems.show_all(alloc, grammar, tokens)
 }
 
 /// The place of the first metavariable whose stem is none of the stems, or None where each has one.

@@ -16,6 +16,7 @@ pub mod Skipping
 pub mod Covering
 pub mod Spans
 pub mod Filling
+pub mod Wider
 pub mod Apart
 pub mod Sorting
 pub mod Putting

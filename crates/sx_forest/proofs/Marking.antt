@@ -7,7 +7,7 @@ use Rattle.sx_grammar.specs.Reading.{Marked}
 use Rattle.sx_grammar.specs.Tables.{GrammarData}
 use Rattle.sx_earley.specs.Shown.{texts, token_of, tokens_of}
 use Rattle.sx_earley.specs.declared.shown.Shown.{Shown}
-use Rattle.sx_earley.specs.declared.shown.Shown.TheVariants.{Lit, Lex, Kind, Sort}
+use Rattle.sx_earley.specs.declared.shown.Shown.TheVariants.{Lit, Lex, Kind, Sort, Other}
 
 same_sort : (n sort : ℕ) → is_variable (of_sort n) ≡ is_variable (of_sort sort) → n ≡ sort
 same_sort n sort e = cc
@@ -33,6 +33,7 @@ not_marked literals (Some (Lit n)) none sort text e = let q : is_literal ≡ is_
 not_marked literals (Some (Lex kind)) none sort text e = let q : is_lexeme kind ≡ is_variable (of_sort sort) = marks literals (Lex kind) sort text e in absurd cc
 not_marked literals (Some (Kind kind)) none sort text e = let q : is_variable (of_kind kind) ≡ is_variable (of_sort sort) = marks literals (Kind kind) sort text e in absurd cc
 not_marked literals (Some (Sort n)) none sort text e = none n refl
+not_marked literals (Some Other) none sort text e = let q : is_literal ≡ is_variable (of_sort sort) = marks literals Other sort text e in absurd cc
 
 -- where no metavariable of a sort is shown, none is marked
 pub no_sort_there : (d : GrammarData) (shown : List Shown) (place : ℕ) → ((n : ℕ) → slice_get shown place ≡ Some (Sort n) → ⊥) →

@@ -12,7 +12,6 @@ use Rattle.sx_grammar.specs.Items.{ReadsToken, Makes, Item}
 use Rattle.sx_grammar.specs.Order.{IsRanking}
 use Rattle.sx_grammar.specs.Tally.{Tally, no_way, one_way, more_ways, times, IsVariableAt}
 use Rattle.sx_earley.specs.Shown.{plain, texts, tokens_of, AreBelow}
-use Rattle.sx_forest.specs.declared.ways.Ways.{Ways}
 use Rattle.sx_forest.specs.declared.entry.Maker.{Maker}
 use Rattle.sx_forest.specs.declared.entry.Maker.TheVariants.{Variable, By}
 use Rattle.sx_forest.specs.declared.entry.Entry.{Entry}
@@ -22,7 +21,7 @@ use Rattle.sx_forest.specs.declared.fork.Fork.{Fork}
 use Rattle.sx_forest.specs.declared.fork.Fork.TheVariants.{Apart, Inside}
 use Rattle.sx_forest.specs.declared.forest.Forest.{Forest}
 use Rattle.sx_forest.specs.declared.opened.Opened.{Opened}
-use Rattle.sx_forest.specs.Tallies.{tally_of, ways_at}
+use Rattle.sx_forest.specs.Tallies.{tally_of}
 use Rattle.sx_forest.specs.Rows.{FitsPart, AreSpanRows, row_at, list_at}
 use Rattle.sx_forest.specs.Useful.{IsUseful, IsUsefulBy}
 use Rattle.sx_forest.specs.Table.{IsFull, IsSoundBy}

@@ -5,6 +5,7 @@ pub mod Names
 pub mod Places
 pub mod Fitting
 pub mod Rows
+pub mod KeptRows
 pub mod Reached
 pub mod Useful
 pub mod Table

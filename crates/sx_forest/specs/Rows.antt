@@ -12,11 +12,10 @@ use Rattle.sx_grammar.specs.Tally.{Tally, no_way, one_way, plus, times, deeper}
 use Rattle.sx_earley.specs.Chart.{IsOfSort, next_symbol}
 use Rattle.sx_forest.specs.declared.row.Row.{Row}
 use Rattle.sx_forest.specs.declared.stretch.Stretch.{Stretch}
-use Rattle.sx_forest.specs.declared.ways.Ways.{Ways}
 use Rattle.sx_forest.specs.declared.entry.Maker.{Maker}
 use Rattle.sx_forest.specs.declared.entry.Maker.TheVariants.{Variable, By}
 use Rattle.sx_forest.specs.declared.entry.Entry.{Entry}
-use Rattle.sx_forest.specs.Tallies.{tally_of, ways_at, ways_of, IsSmall, IsLastRow}
+use Rattle.sx_forest.specs.Tallies.{tally_of, ways_of, IsSmall, IsLastRow}
 
 -- the maker makes the sort at least the level
 abbrev pub FitsPart : Grammar → Maker → ℕ → ℕ → Type 0

@@ -16,7 +16,7 @@ use Rattle.sx_forest.specs.declared.ways.Ways.TheVariants.{One}
 use Rattle.sx_forest.specs.declared.entry.Maker.{Maker}
 use Rattle.sx_forest.specs.declared.entry.Maker.TheVariants.{Variable, By}
 use Rattle.sx_forest.specs.declared.entry.Entry.{Entry}
-use Rattle.sx_forest.specs.Tallies.{tally_of, ways_at}
+use Rattle.sx_forest.specs.Tallies.{tally_of}
 use Rattle.sx_forest.specs.Rows.{list_at, AllSorted, IsSpanWays}
 use Rattle.sx_forest.specs.Useful.{IsKidEnd, IsUseful}
 

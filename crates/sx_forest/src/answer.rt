@@ -3,9 +3,9 @@
 ghost use Rattle.std.specs.Prelude.{◌≤◌, IfOk, IfErr, length};
 ghost use Rattle.sx_grammar.specs.Parts.{labels};
 ghost use Rattle.sx_grammar.specs.ReadOne.{IsAnswer, only};
-ghost use Rattle.sx_earley.specs.Shown as grammars;
 ghost use Rattle.sx_earley.specs.Shown.{plain};
-ghost use Rattle.sx_earley.specs.Tokens.{plain_tokens, AreKnown};
+ghost use Rattle.sx_earley.specs.Tokens.{plain_tokens};
+ghost use Rattle.sx_earley.specs.Unknown.{HaveStems};
 ghost use Rattle.sx_earley.specs.Completed.{IsSort, number_of};
 ghost use Rattle.sx_forest.specs.Readings.{plain_reading};
 ghost use Rattle.sx_forest.specs.Text.{texts};
@@ -20,9 +20,11 @@ use sx_grammar::Grammar;
 use sx_term::Sort;
 use sx_token::Token;
 
-/// The only reading of the tokens as the start sort. It is an error where more than 2,000,000 items
-/// hold, where there is no reading, where a reading is deeper than 1,000 (the depth of a lexeme and
-/// of a variable is 1, and each node and each bracket pair adds 1), and where there are two.
+/// The only reading of the tokens as the start sort. A literal is read by its text, whatever its
+/// number; one that is none of the grammar's is read by nothing. It is an error where more than
+/// 2,000,000 items hold, where there is no reading, where a reading is deeper than 1,000 (the depth
+/// of a lexeme and of a variable is 1, and each node and each bracket pair adds 1), and where there
+/// are two.
 pub fn read_one(
     alloc: Global,
     grammar: &Grammar,
@@ -32,7 +34,7 @@ pub fn read_one(
 ) -> Result<Reading, ReadError>
     requires short { length tokens.now ≤ 10000 }
     requires start { IsSort grammar.now.parts start }
-    requires known { AreKnown (grammars.texts grammar.now) metas.now.stems.items tokens.now }
+    requires stems { HaveStems metas.now.stems.items tokens.now }
     ensures only { IfOk result (λ r. IsAnswer (plain grammar.now)
         (plain_tokens metas.now.stems.items tokens.now) (number_of start)
         (only (plain_reading r))) }
@@ -55,7 +57,7 @@ pub fn read_one_by(
 ) -> Result<Reading, ReadError>
     requires short { length tokens.now ≤ 10000 }
     requires start { IsSort by.now.parts start }
-    requires known { AreKnown (grammars.texts by.now) stems.now tokens.now }
+    requires stems { HaveStems stems.now tokens.now }
     ensures only { IfOk result (λ r. IsAnswer (plain by.now)
         (plain_tokens stems.now tokens.now) (number_of start) (only (plain_reading r))) }
     ensures refused { IfErr result (IsRefusal (labels by.now.parts) (texts tokens.now)

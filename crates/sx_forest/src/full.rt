@@ -6,6 +6,7 @@ ghost use Rattle.sx_grammar.specs.Tally.{EachOnce};
 ghost use Rattle.sx_earley.specs.Shown.{plain, texts, tokens_of, AreBelow};
 ghost use Rattle.sx_earley.specs.Completed.{IsChart};
 ghost use Rattle.sx_forest.specs.Rows.{AllSorted};
+ghost use Rattle.sx_forest.specs.KeptRows.{AllKept};
 ghost use Rattle.sx_forest.specs.Table.{IsAdded, IsFull};
 
 use crate::basis::Basis;
@@ -13,19 +14,22 @@ use crate::entries::Entries;
 use crate::entry::{Entry, Maker};
 use crate::first_entries::first_entries;
 use crate::in_order::{head_of, in_order};
-use crate::span_rows::span_ways;
+use crate::kept::Kept;
+use crate::span_ways::{leave, span_ways};
 use crate::useful::useful_spans;
 use std::alloc::Global;
 use sx_earley::{Shown, Span};
 use sx_grammar::Grammar;
 use sx_term::NoMemory;
 
-/// Adds an entry for the span.
+/// Adds an entry for the span, whose ways it counts by the rows that are kept; it keeps those that
+/// the entry leaves as they are.
 fn add_span(
     alloc: Global,
     grammar: &Grammar,
     shown: &[Shown],
     table: &mut Entries,
+    kept: &mut Vec<Kept>,
     span: Span,
 ) -> Result<(), NoMemory>
     requires short { span.to ≤ 10000 }
@@ -33,8 +37,12 @@ fn add_span(
     requires inside { span.to < length table.old.lists.items }
     requires shown { AreBelow (length (texts grammar.now)) shown.now }
     requires sorted { AllSorted table.old.lists.items }
-    ensures { OnOk result (IsAdded (plain grammar.now)
+    requires kept { AllKept (plain grammar.now) (tokens_of grammar.now shown.now)
+        table.old.lists.items kept.old.items }
+    ensures added { OnOk result (IsAdded (plain grammar.now)
         (tokens_of grammar.now shown.now) table.old.lists.items table.new.lists.items span) }
+    ensures kept { OnOk result (AllKept (plain grammar.now) (tokens_of grammar.now shown.now)
+        table.new.lists.items kept.new.items) }
 {
     let head = head_of(span.of);
     let basis = Basis {
@@ -42,7 +50,8 @@ fn add_span(
         shown,
         table,
     };
-    let ways = span_ways(alloc, basis, head, span.from, span.to)?;
+    let ways = span_ways(alloc, basis, kept, head, span.from, span.to)?;
+    leave(kept, span.from);
     table.put(
         span.from,
         Entry {
@@ -77,8 +86,9 @@ pub(crate) fn fill(
     let ordered = in_order(alloc, grammar, ranks, &useful)?;
     drop(useful);
     let mut table = first_entries(alloc, shown)?;
+    let mut kept = Vec::new(alloc);
     for item in &ordered {
-        add_span(alloc, grammar, shown, &mut table, item.span)?;
+        add_span(alloc, grammar, shown, &mut table, &mut kept, item.span)?;
     }
     Ok(table)
 }

@@ -60,6 +60,7 @@ fn is_same(one: Shown, other: Shown) -> bool
         (Shown::Lex(a), Shown::Lex(b)) => a == b,
         (Shown::Kind(a), Shown::Kind(b)) => a == b,
         (Shown::Sort(a), Shown::Sort(b)) => a == b,
+        (Shown::Other, Shown::Other) => true,
         _ => false,
     }
 }

@@ -4,9 +4,9 @@ ghost use Rattle.std.specs.Prelude.{◌≤◌, IfOk, IfErr, length};
 ghost use Rattle.sx_grammar.specs.Order.{IsRanking, rank_at};
 ghost use Rattle.sx_grammar.specs.Parts.{labels};
 ghost use Rattle.sx_grammar.specs.ReadOne.{IsAnswer, only};
-ghost use Rattle.sx_earley.specs.Shown as grammars;
 ghost use Rattle.sx_earley.specs.Shown.{plain};
-ghost use Rattle.sx_earley.specs.Tokens.{plain_tokens, AreKnown};
+ghost use Rattle.sx_earley.specs.Tokens.{plain_tokens};
+ghost use Rattle.sx_earley.specs.Unknown.{HaveStems};
 ghost use Rattle.sx_earley.specs.Completed.{IsSort, number_of};
 ghost use Rattle.sx_forest.specs.Readings.{plain_reading};
 ghost use Rattle.sx_forest.specs.Text.{texts};
@@ -33,7 +33,7 @@ pub(crate) fn read_ranked(
 ) -> Result<Reading, ReadError>
     requires short { length tokens.now ≤ 10000 }
     requires start { IsSort by.now.parts start }
-    requires known { AreKnown (grammars.texts by.now) stems.now tokens.now }
+    requires stems { HaveStems stems.now tokens.now }
     requires ranking { IsRanking (plain by.now) (rank_at ranks.now) }
     ensures only { IfOk result (λ r. IsAnswer (plain by.now)
         (plain_tokens stems.now tokens.now) (number_of start) (only (plain_reading r))) }
@@ -41,7 +41,8 @@ pub(crate) fn read_ranked(
         (plain by.now) (plain_tokens stems.now tokens.now) (number_of start)) }
 {
     let grammar = by.grammar();
-    let shown = stems.show_all(alloc, tokens)?;
+    grammar.facts();
+    let shown = stems.show_all(alloc, grammar, tokens)?;
     match read_shown(alloc, by, ranks, number_of(start), &shown)? {
         Found::Only(reading) => Ok(reading),
         Found::Two(one, other) => {

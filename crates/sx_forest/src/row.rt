@@ -1,6 +1,6 @@
 //! Rows: the ways to read some symbols from each of the places of a span up to its end.
 
-ghost use Rattle.std.specs.Prelude.{◌≡◌, ◌≤◌, ◌+◌, ℕ, IsTrue, IfOk};
+ghost use Rattle.std.specs.Prelude.{◌≡◌, ◌≤◌, ◌+◌, ℕ, IsTrue, IfOk, OnOk, length};
 ghost use Rattle.sx_grammar.specs.Tally.{no_way};
 ghost use Rattle.sx_forest.specs.Tallies.{tally_of, ways_at, ways_of, IsLastRow};
 
@@ -58,4 +58,18 @@ pub(crate) fn is_past(row: &Row, place: u32) -> bool
     ensures { IsTrue result → (p : ℕ) → place ≤ p → ways_of row.now p ≡ no_way }
 {
     row.end <= place
+}
+
+/// Makes the row begin at the place: it keeps its ways from there on, and has none before.
+pub(crate) fn begin_at(row: &mut Row, first: u32) -> Result<(), NoMemory>
+    ensures begins { OnOk result (row.new.end ≡ first + length row.new.ways.items) }
+    ensures kept { OnOk result ((p : ℕ) → first ≤ p → ways_of row.new p ≡ ways_of row.old p) }
+{
+    if row.ways.is_empty() || row.end <= first {
+        row.ways.clear();
+        row.end = first;
+        return Ok(());
+    }
+    row.ways.resize((row.end - first) as usize, Ways::Nothing)?;
+    Ok(())
 }

@@ -7,17 +7,17 @@ ghost use Rattle.sx_grammar.specs.Grammar.{production_of};
 ghost use Rattle.sx_grammar.specs.Tally.{no_way};
 ghost use Rattle.sx_earley.specs.Shown.{plain, texts, tokens_of, IsBelow, AreBelow};
 ghost use Rattle.sx_forest.specs.Tallies.{tally_of, ways_of};
-ghost use Rattle.sx_forest.specs.Rows.{AllSorted, IsRow, IsExtended, count_of, row_at, AreSpanRows};
-ghost use Rattle.sx_forest.specs.Rows.{IsSpanWays};
+ghost use Rattle.sx_forest.specs.Rows.{AllSorted, IsRow, IsExtended, count_of, row_at, AreRows};
+ghost use Rattle.sx_forest.specs.Rows.{AreSpanRows};
 
 use crate::basis::Basis;
 use crate::narrowing::narrowed;
 use crate::part_ways::is_nothing;
-use crate::row::{Row, at, last_row};
+use crate::row::{Row, last_row};
 use crate::spreading::{stretch_of, stretches};
 use crate::stretch::{Stretch, clipped};
 use crate::symbol_ways::next_ways;
-use crate::ways::{Ways, inside};
+use crate::ways::Ways;
 use std::alloc::Global;
 use sx_earley::{production_at, symbol_of};
 use sx_grammar::{Grammar, Head, NumberedSymbol};
@@ -31,7 +31,7 @@ fn is_idle(ways: &[Ways], here: Ways) -> bool
 }
 
 /// Adds the ways from the places of the stretch to a row whose places come after them.
-fn extend(
+pub(crate) fn extend(
     basis: Basis,
     expected: Option<NumberedSymbol>,
     next: &Row,
@@ -65,7 +65,7 @@ fn extend(
 
 /// The row before the symbol, where the next is what comes after it: the ways from those places of
 /// the stretch from which the symbol leads to where the next row has any.
-fn row_before(
+pub(crate) fn row_before(
     alloc: Global,
     basis: Basis,
     expected: Option<NumberedSymbol>,
@@ -117,6 +117,40 @@ pub(crate) fn row_of(rows: &[Row], place: usize) -> &Row
     &rows[place]
 }
 
+/// The first rows of a span: that after all symbols of the head, and so many before it, where the
+/// symbols can begin in these stretches.
+pub(crate) fn last_rows(
+    alloc: Global,
+    basis: Basis,
+    head: Head,
+    stretches: &[Stretch],
+    number: usize,
+    to: u32,
+) -> Result<Vec<Row>, NoMemory>
+    requires short { to ≤ 10000 }
+    requires shown { AreBelow (length (texts basis.grammar.now)) basis.shown.now }
+    requires sorted { AllSorted basis.table.now.lists.items }
+    requires few { number ≤ count_of (production_of (plain basis.grammar.now) head) }
+    ensures { IfOk result (λ v. AreRows (plain basis.entry.grammar.now)
+        (tokens_of basis.entry.grammar.now basis.entry.shown.now)
+        basis.entry.table.now.lists.items head
+        (count_of (production_of (plain basis.entry.grammar.now) head)) number to stretches.now
+        v.items) }
+{
+    let count = symbol_count(basis.grammar, head);
+    let mut rows = Vec::new(alloc);
+    rows.push(last_row(alloc, to)?)?;
+    for done in 0..number {
+        let dot = count - done - 1;
+        let expected = symbol_of(basis.grammar, head, dot);
+        let stretch = stretch_of(stretches, dot);
+        let next = row_of(&rows, done);
+        let row = row_before(alloc, basis, expected, next, to, stretch)?;
+        rows.push(row)?;
+    }
+    Ok(rows)
+}
+
 /// The rows of a span, from that after all symbols of the head to that before all.
 pub(crate) fn all_rows(
     alloc: Global,
@@ -135,36 +169,5 @@ pub(crate) fn all_rows(
 {
     let count = symbol_count(basis.grammar, head);
     let stretches = stretches(alloc, basis, head, count, from, to)?;
-    let mut rows = Vec::new(alloc);
-    rows.push(last_row(alloc, to)?)?;
-    for done in 0..count {
-        let dot = count - done - 1;
-        let expected = symbol_of(basis.grammar, head, dot);
-        let stretch = stretch_of(&stretches, dot);
-        let next = row_of(&rows, done);
-        let row = row_before(alloc, basis, expected, next, to, stretch)?;
-        rows.push(row)?;
-    }
-    Ok(rows)
-}
-
-/// The ways of a span.
-pub(crate) fn span_ways(
-    alloc: Global,
-    basis: Basis,
-    head: Head,
-    from: u32,
-    to: u32,
-) -> Result<Ways, NoMemory>
-    requires short { to ≤ 10000 }
-    requires along { from ≤ to }
-    requires shown { AreBelow (length (texts basis.grammar.now)) basis.shown.now }
-    requires sorted { AllSorted basis.table.now.lists.items }
-    ensures { IfOk result (λ w. IsSpanWays (plain basis.entry.grammar.now)
-        (tokens_of basis.entry.grammar.now basis.entry.shown.now)
-        basis.entry.table.now.lists.items head from to (tally_of w)) }
-{
-    let rows = all_rows(alloc, basis, head, from, to)?;
-    let count = symbol_count(basis.grammar, head);
-    Ok(inside(at(row_of(&rows, count), from)))
+    last_rows(alloc, basis, head, &stretches, count, to)
 }

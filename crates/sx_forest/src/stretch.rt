@@ -1,7 +1,8 @@
 //! Stretches of places.
 
-ghost use Rattle.std.specs.Prelude.{ℕ, suc, ◌+◌, ◌<◌, ◌≤◌, ◌^◌, ◌↔◌};
+ghost use Rattle.std.specs.Prelude.{ℕ, suc, ◌+◌, ◌<◌, ◌≤◌, ◌^◌, ◌↔◌, IfSome};
 ghost use Rattle.sx_forest.specs.Rows.{IsIn};
+ghost use Rattle.sx_forest.specs.KeptRows.{IsJoined};
 
 /// The places from the first on and before the end; none where the end is not after the first.
 #[derive(Clone, Copy)]
@@ -62,6 +63,24 @@ pub(crate) fn joined(one: Stretch, other: Stretch) -> Stretch
         grown.end = other.end;
     }
     grown
+}
+
+/// The stretch with the places of another too, where those that it has more are in front of it and
+/// join it, or there are none.
+pub(crate) fn joined_in_front(stretch: Stretch, other: Stretch) -> Option<Stretch>
+    ensures { IfSome result (IsJoined stretch other) }
+{
+    if other.end <= other.first {
+        return Some(stretch);
+    }
+    if other.end < stretch.first || stretch.end < other.end {
+        return None;
+    }
+    let mut grown = stretch;
+    if other.first < stretch.first {
+        grown.first = other.first;
+    }
+    Some(grown)
 }
 
 /// The places of both.

@@ -1,8 +1,7 @@
 -- The tokens that a line is cut into can be read, and their only reading can be stripped.
-use Rattle.std.proofs.Common.{◌≡◌, ℕ, zero, suc, ◌+◌, ◌<◌, ◌≤◌, ◌^◌, List, [], ◌∷◌, ◌++◌, Contains, length, ap, ◌∙◌, sym, subst, arith}
+use Rattle.std.proofs.Common.{◌≡◌, ℕ, ◌+◌, ◌<◌, ◌≤◌, ◌^◌, List, [], ◌++◌, length, ap, ◌∙◌, sym, subst, arith}
 use Rattle.std.specs.Prelude.{Result, Ok, Err, IfErr}
 use Rattle.std.specs.Result.{IsErrAnd}
-use Rattle.std.specs.List.{AllByRecursion}
 use Rattle.std.proofs.lemmas.List.{length-map, append-nil}
 use Rattle.sx_term.specs.declared.sort.Sort.{Sort}
 use Rattle.sx_term.specs.Tree.{Tree}
@@ -10,14 +9,11 @@ use Rattle.sx_token.specs.declared.token.Token.{Token}
 use Rattle.sx_token.specs.Tokens.{piece_of, pieces}
 use Rattle.sx_grammar.specs.Grammar.{Text}
 use Rattle.sx_grammar.specs.Parts.{Parts, numbered}
-use Rattle.sx_grammar.specs.Tables.{literals_of}
 use Rattle.sx_grammar.specs.Reading.{Reading}
 use Rattle.sx_grammar.specs.ReadOne.{IsAnswer, only}
 use Rattle.sx_grammar.specs.Print.{term_of}
-use Rattle.sx_earley.specs.Tokens.{Stems, shown, plain_tokens, AreKnown}
-use Rattle.sx_earley.specs.Unknown.{HasStem}
+use Rattle.sx_earley.specs.Tokens.{Stems, shown, plain_tokens}
 use Rattle.sx_earley.specs.Completed.{number_of}
-use Rattle.sx_earley.proofs.Known.{cut_known}
 use Rattle.sx_forest.specs.Names.{IsMarked, names_in, AddsEach}
 use Rattle.sx_forest.proofs.Fits.{readings_marked, readings_few}
 use Rattle.sx_forest.proofs.Naming.{each_long}
@@ -29,11 +25,6 @@ use Rattle.sx_notation.specs.ReadText.{IsKnownCut, IsRead, IsUncut, IsRefused}
 pub err_if : {T E : Type 0} (r : Result T E) (P Q : E → Type 0) → IsErrAnd r P → ((e : E) → P e → Q e) → IfErr r Q
 err_if (Ok x) P Q h f = tt
 err_if (Err e) P Q h f = f e h
-
-stem_at : (stems : Stems) (ts : List Token) (t : Token) → AllByRecursion (HasStem stems) ts → Contains ts t → HasStem stems t
-stem_at stems [] t all h = absurd (omega (arith, h.1))
-stem_at stems (u ∷ us) t all (zero, h, e) = subst (HasStem stems) e all.0
-stem_at stems (u ∷ us) t all (suc k, h, e) = stem_at stems us t all.1 (k, omega (arith, h), e)
 
 pub as_many_tokens : (ts : List Token) (n : ℕ) → length (pieces ts) ≤ n → length ts ≤ n
 as_many_tokens ts n h = omega (arith, h, length-map ts piece_of)
@@ -59,9 +50,6 @@ uncut_refused p stems sort line number (Rules e v) h = absurd h
 module _ (p : Parts) (stems : Stems) (line : Text) (ts : List Token) (known : IsKnownCut p stems line ts) where
   pub few_tokens : length ts ≤ 10000
   few_tokens = as_many_tokens ts 10000 known.0.1
-
-  pub known_tokens : AreKnown (literals_of p) stems ts
-  known_tokens = cut_known stems ts known.0.2 (λ t there. stem_at stems ts t known.1 there)
 
   module _ (sort : Sort) (r : Reading) (answer : IsAnswer (numbered p) (plain_tokens stems ts) (number_of sort) (only r)) where
     pub is_marked : IsMarked ts r

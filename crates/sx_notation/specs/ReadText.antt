@@ -14,7 +14,7 @@ use Rattle.sx_grammar.specs.Reading.{Reading}
 use Rattle.sx_grammar.specs.ReadOne.{IsAnswer, only}
 use Rattle.sx_grammar.specs.Print.{term_of}
 use Rattle.sx_earley.specs.Tokens.{Stems, plain_tokens}
-use Rattle.sx_earley.specs.Unknown.{IsFirstUnknown}
+use Rattle.sx_earley.specs.Unknown.{HaveStems, IsFirstUnknown}
 use Rattle.sx_earley.specs.Completed.{number_of}
 use Rattle.sx_forest.specs.Names.{names_in, AddsEach}
 use Rattle.sx_lines.specs.declared.kind.Kind.TheVariants.{Variable}
@@ -35,7 +35,7 @@ IsCut p line ts = IsOutcome (literals_of p) true line (tokens (pieces ts))
 
 -- and the stem of each metavariable is known
 abbrev pub IsKnownCut : Parts → Stems → (line : Text) → List Token → Type 0
-IsKnownCut p stems line ts = IsCut p line ts × IsFirstUnknown stems ts None
+IsKnownCut p stems line ts = IsCut p line ts × HaveStems stems ts
 
 -- the tree is that of the line's only reading as the sort; names that the old list lacks are added
 -- to it in order of standing

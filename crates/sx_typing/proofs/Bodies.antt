@@ -1,56 +1,35 @@
 -- Texts without metavariables.
-use Rattle.std.proofs.Common.{◌≡◌, ℕ, zero, suc, ◌≤◌, true, false, List, [], ◌∷◌, ◌++◌, slice_get}
-use Rattle.std.proofs.Common.{Contains, length, refl, ap, ◌∙◌, sym, subst, arith}
+use Rattle.std.proofs.Common.{◌≡◌, ℕ, zero, suc, ◌≤◌, List, [], ◌∷◌, ◌++◌, slice_get, length}
+use Rattle.std.proofs.Common.{refl, ap, ◌∙◌, sym, subst}
 use Rattle.std.specs.List.{AllByRecursion}
 use Rattle.std.proofs.lemmas.List.{append-nil}
-use Rattle.sx_term.specs.declared.mark.Mark.{Mark}
-use Rattle.sx_term.specs.declared.mark.Mark.TheVariants.{Lit, Lex, Meta}
+use Rattle.sx_term.specs.declared.mark.Mark.TheVariants.{Meta}
 use Rattle.sx_term.specs.declared.sort.Sort.{Sort}
 use Rattle.sx_term.specs.Tree.{Tree}
-use Rattle.sx_term.specs.Cutting.{Piece, Stands, Cuts, done, skip, piece}
 use Rattle.sx_token.specs.declared.token.Token.{Token}
 use Rattle.sx_token.specs.Tokens.{pieces}
 use Rattle.sx_grammar.specs.Grammar.{Text}
 use Rattle.sx_grammar.specs.Parts.{Parts, numbered}
-use Rattle.sx_grammar.specs.Tables.{literals_of}
 use Rattle.sx_grammar.specs.Reading.{Reading, Readings, branch, bracket, leaf, variable}
 use Rattle.sx_grammar.specs.Reading.{done as no_readings, ◌▸◌}
 use Rattle.sx_grammar.specs.ReadOne.{IsAnswer, only}
 use Rattle.sx_grammar.specs.Print.{term_of}
-use Rattle.sx_earley.specs.Tokens.{plain_tokens, AreKnown}
+use Rattle.sx_earley.specs.Tokens.{plain_tokens}
+use Rattle.sx_earley.specs.Unknown.{HaveStems}
 use Rattle.sx_earley.specs.Completed.{number_of}
-use Rattle.sx_earley.proofs.Known.{cut_known}
+use Rattle.sx_earley.proofs.NoMetas.{no_metas, cut_has_stems}
 use Rattle.sx_forest.specs.Names.{IsMetavariable, IsMarked, AreMarked, names_in, names_of, AddsEach}
 use Rattle.sx_forest.proofs.Fits.{readings_marked}
 use Rattle.sx_notation.proofs.TextReading.{as_many_tokens}
 use Rattle.sx_typing.specs.Body.{IsCut, ReadsAs}
 
--- no metavariable stands where none may
-no_meta : (literals : List Text) (m : Mark) (text rest : Text) → Stands literals false m text rest →
-    m ≡ Meta → ⊥
-no_meta literals (Lit n) text rest h e = cc
-no_meta literals (Lex kind) text rest h e = cc
-no_meta literals Meta text rest h e = let impossible : false ≡ true = h.0 in cc
-
 abbrev pub IsPlain : Token → Type 0
 IsPlain t = t.mark ≡ Meta → ⊥
-
-plain_pieces : {literals : List Text} {size : ℕ} {text rest : Text} {ps : List Piece} →
-    Cuts literals false size text ps rest → AllByRecursion (λ p. p.mark ≡ Meta → ⊥) ps
-plain_pieces done = tt
-plain_pieces (skip blank more) = plain_pieces more
-plain_pieces {literals = literals} (piece {more = more} {t = t} at rest) =
-    (no_meta literals t.mark t.text more at.stands, plain_pieces rest)
 
 plain_all : (ts : List Token) → AllByRecursion (λ p. p.mark ≡ Meta → ⊥) (pieces ts) →
     AllByRecursion IsPlain ts
 plain_all [] h = tt
 plain_all (t ∷ ts) h = (h.0, plain_all ts h.1)
-
-plain_at : (ts : List Token) (t : Token) → AllByRecursion IsPlain ts → Contains ts t → IsPlain t
-plain_at [] t all h = absurd (omega (arith, h.1))
-plain_at (u ∷ us) t all (zero, h, e) = subst IsPlain e all.0
-plain_at (u ∷ us) t all (suc k, h, e) = plain_at us t all.1 (k, omega (arith, h), e)
 
 no_variable : (ts : List Token) (n : ℕ) → AllByRecursion IsPlain ts →
     IsMetavariable (slice_get ts n) → ⊥
@@ -76,13 +55,13 @@ nothing_added names new e h = subst (λ l. AddsEach [] l new → new ≡ []) (sy
 
 module _ (p : Parts) (text : Text) (ts : List Token) (cut : IsCut p text ts) where
   pub plain : AllByRecursion IsPlain ts
-  plain = plain_all ts (plain_pieces cut.2)
+  plain = plain_all ts (no_metas cut.2)
 
   pub few_tokens : length ts ≤ 10000
   few_tokens = as_many_tokens ts 10000 cut.1
 
-  pub known_tokens : AreKnown (literals_of p) [] ts
-  known_tokens = cut_known [] ts cut.2 (λ t there e. absurd (plain_at ts t plain there e))
+  pub have_stems : HaveStems [] ts
+  have_stems = cut_has_stems [] ts cut.2
 
   module _ (sort : Sort) (r : Reading)
       (answer : IsAnswer (numbered p) (plain_tokens [] ts) (number_of sort) (only r)) where

@@ -1,11 +1,12 @@
 //! The conditions of reading, looked at as the tests run.
 
 ghost use Rattle.std.specs.Prelude.{IfSome, IsTrue};
-ghost use Rattle.sx_earley.specs.Tokens.{Stems, IsKnown, AreKnown};
+ghost use Rattle.sx_earley.specs.Tokens.{Stems};
+ghost use Rattle.sx_earley.specs.Unknown.{HasStem, HaveStems};
 ghost use Rattle.sx_earley.specs.Completed.{IsSort};
 
 use sx_grammar::Grammar;
-use sx_term::{Mark, Sort, Text};
+use sx_term::{Mark, Sort};
 use sx_token::Token;
 
 /// The first sort, if it is plain.
@@ -19,27 +20,22 @@ pub(crate) fn first_sort(grammar: &Grammar) -> Option<Sort>
     Some(Sort::Plain(0))
 }
 
-/// Whether the token is a literal that has its own text, or a lexeme.
-fn is_known(literals: &[Text], token: &Token) -> bool
-    ensures { (stems : Stems) → IsTrue result →
-        IsKnown literals.now stems token.now.mark token.now.text }
+/// Whether the token is no metavariable.
+fn has_stem(token: &Token) -> bool
+    ensures { (stems : Stems) → IsTrue result → HasStem stems token.now }
 {
     match token.mark {
-        Mark::Lit(number) => match literals.get(number as usize) {
-            None => false,
-            Some(text) => *text == token.text,
-        },
-        Mark::Lex(_) => true,
         Mark::Meta => false,
+        _ => true,
     }
 }
 
-/// Whether each token is.
-pub(crate) fn are_known(literals: &[Text], tokens: &[Token]) -> bool
-    ensures { (stems : Stems) → IsTrue result → AreKnown literals.now stems tokens.now }
+/// Whether none of the tokens is a metavariable.
+pub(crate) fn have_stems(tokens: &[Token]) -> bool
+    ensures { (stems : Stems) → IsTrue result → HaveStems stems tokens.now }
 {
     for token in tokens {
-        if !is_known(literals, token) {
+        if !has_stem(token) {
             return false;
         }
     }

@@ -14,6 +14,8 @@ mod readings;
 #[cfg(test)]
 mod refused_grammars;
 #[cfg(test)]
+mod renumbered;
+#[cfg(test)]
 mod samples;
 #[cfg(test)]
 mod spans;

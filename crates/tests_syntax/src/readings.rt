@@ -1,7 +1,8 @@
 //! Texts with one reading at most.
 
+use crate::renumbered::Cut;
 use crate::samples::Sample;
-use crate::told::is_read_as;
+use crate::told::{is_cut_read_as, is_read_as};
 use std::alloc::Global;
 use std::test::Fail;
 
@@ -27,6 +28,48 @@ fn no_reading(rt: HostRuntime) -> Result<(), Fail> {
         is_read_as(rt.alloc(), Sample::Sums(50), b"", start)?,
     ];
     assert_eq!(rt; hold, [true; 3]);
+    Ok(())
+}
+
+/// A sum whose sign has the number.
+fn sum(number: u32) -> Cut<'static> {
+    Cut {
+        by: Sample::Sums(51),
+        bytes: b"1 + 2",
+        number,
+    }
+}
+
+/// Two numbers with a literal between them that the sums lack, under this number.
+fn colon(number: u32) -> Cut<'static> {
+    Cut {
+        by: Sample::Functions,
+        bytes: b"1 : 2",
+        number,
+    }
+}
+
+/// The literals of sums are `(`, `)` and `+`. A literal with another's number or a number past all
+/// is read by its text.
+#[test]
+fn literals_under_other_numbers(rt: HostRuntime) -> Result<(), Fail> {
+    let words = b"plus(last(1),last(2))".as_slice();
+    let hold = [
+        is_cut_read_as(rt.alloc(), Sample::Sums(51), sum(0), words)?,
+        is_cut_read_as(rt.alloc(), Sample::Sums(51), sum(7), words)?,
+    ];
+    assert_eq!(rt; hold, [true; 2]);
+    Ok(())
+}
+
+#[test]
+fn literals_that_the_grammar_lacks(rt: HostRuntime) -> Result<(), Fail> {
+    let words = b"no reading beyond token 1".as_slice();
+    let hold = [
+        is_cut_read_as(rt.alloc(), Sample::Sums(51), colon(2), words)?,
+        is_cut_read_as(rt.alloc(), Sample::Sums(51), colon(7), words)?,
+    ];
+    assert_eq!(rt; hold, [true; 2]);
     Ok(())
 }
 

@@ -1,11 +1,11 @@
 //! The completed spans of charts, and how many items hold.
 
 ghost use Rattle.std.specs.Prelude.{◌≤◌, length};
-ghost use Rattle.sx_earley.specs.Shown.{texts};
-ghost use Rattle.sx_earley.specs.Tokens.{AreKnown};
+ghost use Rattle.sx_earley.specs.Unknown.{HaveStems};
 ghost use Rattle.sx_earley.specs.Completed.{IsSort};
 
-use crate::known::{are_known, first_sort};
+use crate::known::{first_sort, have_stems};
+use crate::renumbered::{Cut, cut_as};
 use crate::samples::{Sample, grammar_of};
 use std::alloc::Global;
 use std::test::Fail;
@@ -58,7 +58,7 @@ fn charted(
 ) -> Counted
     requires short { length tokens.now ≤ 10000 }
     requires start { IsSort grammar.now.parts start }
-    requires known { AreKnown (texts grammar.now) metas.now.stems.items tokens.now }
+    requires stems { HaveStems metas.now.stems.items tokens.now }
 {
     match chart(alloc, grammar, start, metas, tokens) {
         Ok(chart) => told_by(&chart, spans),
@@ -68,12 +68,12 @@ fn charted(
 }
 
 /// The same where the conditions of the call are met.
-fn chart_known(alloc: Global, grammar: &Grammar, cut: &[Token], spans: &[Span]) -> Counted {
+fn chart_cut(alloc: Global, grammar: &Grammar, cut: &[Token], spans: &[Span]) -> Counted {
     let metas = Metas {
         stems: Vec::new(alloc),
     };
     match first_sort(grammar) {
-        Some(start) if cut.len() <= 10000 && are_known(grammar.literals(), cut) => {
+        Some(start) if cut.len() <= 10000 && have_stems(cut) => {
             charted(alloc, grammar, start, &metas, cut, spans)
         }
         _ => Counted::Unmet,
@@ -92,7 +92,7 @@ fn chart_text(
     }
     grammar.facts();
     let cut = tokens(alloc, bytes, grammar.literals(), false)?;
-    Ok(chart_known(alloc, grammar, &cut, spans))
+    Ok(chart_cut(alloc, grammar, &cut, spans))
 }
 
 /// The same by the sample.
@@ -101,6 +101,15 @@ fn told(alloc: Global, sample: Sample, bytes: &[u8], spans: &[Span]) -> Result<C
     let told = chart_text(alloc, &grammar, bytes, spans);
     drop(grammar);
     told
+}
+
+/// The same of tokens that are cut by another sample.
+fn told_of(alloc: Global, sample: Sample, cut: Cut, spans: &[Span]) -> Result<Counted, Fail> {
+    let tokens = cut_as(alloc, cut)?;
+    let grammar = grammar_of(alloc, sample)?;
+    let told = chart_cut(alloc, &grammar, &tokens, spans);
+    drop(grammar);
+    Ok(told)
 }
 
 /// What is told where there are only the spans that are looked for.
@@ -153,6 +162,27 @@ fn spans_of_nothing(rt: HostRuntime) -> Result<(), Fail> {
     let spans = [node(0, 0, 0), node(0, 1, 1), node(1, 0, 1)];
     let one = told(rt.alloc(), Sample::OpenRows, b"1", &spans)?;
     assert_eq!(rt; [nothing, one], [only(1, 0), only(3, 1)]);
+    Ok(())
+}
+
+/// A literal counts by its text. One that the grammar lacks is read by nothing, so no item ends
+/// behind it.
+#[test]
+fn spans_of_renumbered_literals(rt: HostRuntime) -> Result<(), Fail> {
+    let sum = Cut {
+        by: Sample::Sums(51),
+        bytes: b"1 + 2",
+        number: 0,
+    };
+    let colon = Cut {
+        by: Sample::Functions,
+        bytes: b"1 : 2",
+        number: 2,
+    };
+    let spans = [node(0, 0, 1), node(0, 2, 3), node(1, 0, 3)];
+    let read = told_of(rt.alloc(), Sample::Sums(51), sum, &spans)?;
+    let open = told_of(rt.alloc(), Sample::Sums(51), colon, &[node(0, 0, 1)])?;
+    assert_eq!(rt; [read, open], [only(3, 3), only(1, 1)]);
     Ok(())
 }
 

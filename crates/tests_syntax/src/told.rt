@@ -2,13 +2,13 @@
 
 ghost use Rattle.std.specs.Prelude.{◌≤◌, length};
 ghost use Rattle.sx_grammar.specs.Reading.{reading_depth};
-ghost use Rattle.sx_earley.specs.Shown as grammars;
-ghost use Rattle.sx_earley.specs.Tokens.{AreKnown};
+ghost use Rattle.sx_earley.specs.Unknown.{HaveStems};
 ghost use Rattle.sx_earley.specs.Completed.{IsSort};
 ghost use Rattle.sx_forest.specs.Readings.{plain_reading};
 ghost use Rattle.sx_forest.specs.Text.{IsWithin};
 
-use crate::known::{are_known, first_sort};
+use crate::known::{first_sort, have_stems};
+use crate::renumbered::{Cut, cut_as};
 use crate::samples::{Sample, grammar_of};
 use std::alloc::Global;
 use std::test::Fail;
@@ -72,7 +72,7 @@ fn answered(
 ) -> Result<Vec<u8>, Fail>
     requires short { length tokens.now ≤ 10000 }
     requires start { IsSort grammar.now.parts start }
-    requires known { AreKnown (grammars.texts grammar.now) metas.now.stems.items tokens.now }
+    requires stems { HaveStems metas.now.stems.items tokens.now }
 {
     match read_one(alloc, grammar, start, metas, tokens) {
         Ok(reading) => tree(alloc, grammar, tokens, &reading),
@@ -85,12 +85,12 @@ fn answered(
 }
 
 /// The same, where the conditions of the call are met.
-fn read_known(alloc: Global, grammar: &Grammar, cut: &[Token]) -> Result<Vec<u8>, Fail> {
+fn read_cut(alloc: Global, grammar: &Grammar, cut: &[Token]) -> Result<Vec<u8>, Fail> {
     let metas = Metas {
         stems: Vec::new(alloc),
     };
     match first_sort(grammar) {
-        Some(start) if cut.len() <= 10000 && are_known(grammar.literals(), cut) => {
+        Some(start) if cut.len() <= 10000 && have_stems(cut) => {
             answered(alloc, grammar, start, &metas, cut)
         }
         _ => Err(Fail::from("the conditions are not met")),
@@ -104,7 +104,7 @@ fn read_text(alloc: Global, grammar: &Grammar, bytes: &[u8]) -> Result<Vec<u8>, 
     }
     grammar.facts();
     let cut = tokens(alloc, bytes, grammar.literals(), false)?;
-    read_known(alloc, grammar, &cut)
+    read_cut(alloc, grammar, &cut)
 }
 
 /// What the text is read as by the sample.
@@ -123,6 +123,28 @@ pub(crate) fn is_read_as(
     words: &[u8],
 ) -> Result<bool, Fail> {
     let found = told(alloc, sample, bytes)?;
+    let same = found.as_slice() == words;
+    drop(found);
+    Ok(same)
+}
+
+/// What the tokens are read as by the sample.
+fn told_of(alloc: Global, sample: Sample, cut: Cut) -> Result<Vec<u8>, Fail> {
+    let tokens = cut_as(alloc, cut)?;
+    let grammar = grammar_of(alloc, sample)?;
+    let words = read_cut(alloc, &grammar, &tokens);
+    drop(grammar);
+    words
+}
+
+/// Whether the text, cut by another sample, is read as these words by the sample.
+pub(crate) fn is_cut_read_as(
+    alloc: Global,
+    sample: Sample,
+    cut: Cut,
+    words: &[u8],
+) -> Result<bool, Fail> {
+    let found = told_of(alloc, sample, cut)?;
     let same = found.as_slice() == words;
     drop(found);
     Ok(same)

@@ -3,9 +3,9 @@ use Rattle.std.specs.Prelude.{IfOk, IfErr}
 use Rattle.sx_grammar.specs.Parts.{labels}
 use Rattle.sx_grammar.specs.Tables.{GrammarData}
 use Rattle.sx_grammar.specs.ReadOne.{IsAnswer, only}
-use Rattle.sx_earley.specs.Shown as grammars
 use Rattle.sx_earley.specs.Shown.{plain}
-use Rattle.sx_earley.specs.Tokens.{Stems, plain_tokens, AreKnown}
+use Rattle.sx_earley.specs.Tokens.{Stems, plain_tokens}
+use Rattle.sx_earley.specs.Unknown.{HaveStems}
 use Rattle.sx_earley.specs.Completed.{IsSort, number_of}
 use Rattle.sx_forest.specs.Readings.{plain_reading}
 use Rattle.sx_forest.specs.Text.{texts}
@@ -15,10 +15,8 @@ use Rattle.sx_forest.proofs.answer.read_one.Goals as goal
 pub read_one_by-requires-clause-start : goal.read_one_by-requires-clause-start
 read_one_by-requires-clause-start c = subst (λ (d : GrammarData). IsSort d.parts c.args.start) (sym c.in_ok-by.ensures) c.requires.start
 
-pub read_one_by-requires-clause-known : goal.read_one_by-requires-clause-known
-read_one_by-requires-clause-known c =
-    subst (λ (d : GrammarData). AreKnown (grammars.texts d) c.in_ok-stems.stems c.args.tokens.now) (sym c.in_ok-by.ensures)
-    (subst (λ (s : Stems). AreKnown (grammars.texts c.args.grammar.now) s c.args.tokens.now) (sym c.in_ok-stems.ensures) c.requires.known)
+pub read_one_by-requires-clause-stems : goal.read_one_by-requires-clause-stems
+read_one_by-requires-clause-stems c = subst (λ (s : Stems). HaveStems s c.args.tokens.now) (sym c.in_ok-stems.ensures) c.requires.stems
 
 pub returns-clause-only : goal.returns-clause-only
 returns-clause-only c =

@@ -11,6 +11,7 @@ use Rattle.sx_forest.specs.Ordering.{AreOrdered}
 use Rattle.sx_grammar.specs.Order.{rank_at}
 use Rattle.sx_forest.proofs.Rows.{span_forward, span_within}
 use Rattle.sx_forest.proofs.Tabling.{no_ordered, useful_forward, span_at, so_far_on, so_far_first, full_is}
+use Rattle.sx_forest.proofs.Wider.{none_kept}
 use Rattle.sx_forest.proofs.full.fill.Goals as goal
 
 pub in_order-requires-clause-along : goal.in_order-requires-clause-along
@@ -20,10 +21,13 @@ pub loop-item-init : goal.loop-item-init
 loop-item-init c =
     let gr = plain c.args.grammar.now in let ts = tokens_of c.args.grammar.now c.args.shown.now in
     let long : length ts ≡ length c.args.shown.now = length-map c.args.shown.now (token_of (texts c.args.grammar.now)) in
-    so_far_first gr ts c.args._start (rank_at c.args.ranks.now) c.deref.result.now (subst (AreUseful (plain c.args.grammar.now) (tokens_of c.args.grammar.now c.args.shown.now) c.args._start) (sym c.deref.ensures.value) c.in_ok-useful.ensures.are) c.deref-item-items.result.now
-    (subst (λ l. AreOrdered gr (rank_at c.args.ranks.now) c.deref.result.now l) (sym c.deref-item-items.ensures.value) c.in_ok-ordered.ensures)
-    c.in_ok-table.table.lists.items
-    (subst (λ n. IsFirstTable ts (n + 1) c.in_ok-table.table.lists.items) (sym long) (c.in_ok-table.ensures c.args.grammar.now))
+    record {
+      so = so_far_first gr ts c.args._start (rank_at c.args.ranks.now) c.deref.result.now (subst (AreUseful (plain c.args.grammar.now) (tokens_of c.args.grammar.now c.args.shown.now) c.args._start) (sym c.deref.ensures.value) c.in_ok-useful.ensures.are) c.deref-item-items.result.now
+          (subst (λ l. AreOrdered gr (rank_at c.args.ranks.now) c.deref.result.now l) (sym c.deref-item-items.ensures.value) c.in_ok-ordered.ensures)
+          c.in_ok-table.table.lists.items
+          (subst (λ n. IsFirstTable ts (n + 1) c.in_ok-table.table.lists.items) (sym long) (c.in_ok-table.ensures c.args.grammar.now));
+      kept = none_kept gr ts c.in_ok-table.table.lists.items c.new-kept.result.items c.new-kept.ensures.items;
+    }
 
 -- the span at hand is complete
 span_here : (c : goal.After-add_span-arg-1) → let o = get_or c.deref-item-items.result.now c.loop-item.item-index no_ordered in
@@ -56,12 +60,12 @@ add_span-requires-clause-along c = along_here c
 
 pub add_span-requires-clause-inside : goal.add_span-requires-clause-inside
 add_span-requires-clause-inside c =
-    let h = within_here c in let a = along_here c in let l = c.loop-item.invariant.long in
+    let h = within_here c in let a = along_here c in let l = c.loop-item.invariant.so.long in
     let long : length (tokens_of c.args.grammar.now c.args.shown.now) ≡ length c.args.shown.now = length-map c.args.shown.now (token_of (texts c.args.grammar.now)) in
     omega arith
 
 pub add_span-requires-clause-sorted : goal.add_span-requires-clause-sorted
-add_span-requires-clause-sorted c = c.loop-item.invariant.table.sorted
+add_span-requires-clause-sorted c = c.loop-item.invariant.so.table.sorted
 
 pub loop-item-preserved : goal.loop-item-preserved
 loop-item-preserved c =
@@ -69,15 +73,18 @@ loop-item-preserved c =
     let long : length ts ≡ length c.args.shown.now = length-map c.args.shown.now (token_of (texts c.args.grammar.now)) in
     let many : length gr.productions ≡ length c.args.grammar.now.parts.productions = length-map c.args.grammar.now.parts.productions (numbered_line (names c.args.grammar.now.parts)) in
     let n = c.loop-item.item-index in let s = c.requires.short in
-    so_far_on gr ts c.args._start (rank_at c.args.ranks.now) c.deref.result.now (subst (AreUseful (plain c.args.grammar.now) (tokens_of c.args.grammar.now c.args.shown.now) c.args._start) (sym c.deref.ensures.value) c.in_ok-useful.ensures.are) c.deref-item-items.result.now
-    (subst (λ l. AreOrdered gr (rank_at c.args.ranks.now) c.deref.result.now l) (sym c.deref-item-items.ensures.value) c.in_ok-ordered.ensures)
-    c.loop-item.table.lists.items c.add_span.new.table.lists.items n (get_or c.deref-item-items.result.now n no_ordered) c.facts.ensures.levels c.requires.ranking
-    (omega (arith, many, c.facts.ensures.limits.productions))
-    (omega arith) (slice_get-get_or c.deref-item-items.result.now n no_ordered c.loop-item-test.true) c.loop-item.invariant c.in_ok-add_span.ensures
+    record {
+      so = so_far_on gr ts c.args._start (rank_at c.args.ranks.now) c.deref.result.now (subst (AreUseful (plain c.args.grammar.now) (tokens_of c.args.grammar.now c.args.shown.now) c.args._start) (sym c.deref.ensures.value) c.in_ok-useful.ensures.are) c.deref-item-items.result.now
+          (subst (λ l. AreOrdered gr (rank_at c.args.ranks.now) c.deref.result.now l) (sym c.deref-item-items.ensures.value) c.in_ok-ordered.ensures)
+          c.loop-item.table.lists.items c.add_span.new.table.lists.items n (get_or c.deref-item-items.result.now n no_ordered) c.facts.ensures.levels c.requires.ranking
+          (omega (arith, many, c.facts.ensures.limits.productions))
+          (omega arith) (slice_get-get_or c.deref-item-items.result.now n no_ordered c.loop-item-test.true) c.loop-item.invariant.so c.in_ok-add_span.ensures.added;
+      kept = c.in_ok-add_span.ensures.kept;
+    }
 
 pub returns : goal.returns
 returns c =
     let gr = plain c.args.grammar.now in let ts = tokens_of c.args.grammar.now c.args.shown.now in
     full_is gr ts c.args._start (rank_at c.args.ranks.now) c.deref.result.now (subst (AreUseful (plain c.args.grammar.now) (tokens_of c.args.grammar.now c.args.shown.now) c.args._start) (sym c.deref.ensures.value) c.in_ok-useful.ensures.are) c.deref-item-items.result.now
     (subst (λ l. AreOrdered gr (rank_at c.args.ranks.now) c.deref.result.now l) (sym c.deref-item-items.ensures.value) c.in_ok-ordered.ensures)
-    c.loop-item.table.lists.items c.loop-item.item-index (omega arith) c.loop-item.invariant
+    c.loop-item.table.lists.items c.loop-item.item-index (omega arith) c.loop-item.invariant.so

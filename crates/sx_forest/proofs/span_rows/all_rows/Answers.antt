@@ -1,35 +1,20 @@
-use Rattle.std.proofs.Common.{◌≡◌, ◌-◌, subst, ap, ◌∙◌, arith}
-use Rattle.sx_earley.specs.Chart.{next_symbol}
+use Rattle.std.proofs.Common.{subst}
+use Rattle.std.proofs.lemmas.Result.{IfOk-weaker}
+use Rattle.sx_grammar.specs.Grammar.{production_of}
 use Rattle.sx_earley.specs.Shown.{plain, tokens_of}
-use Rattle.sx_forest.specs.Tallies.{ways_of}
-use Rattle.sx_forest.specs.Rows.{row_at, stretch_at, AreStretches, IsRow, AreRows}
-use Rattle.sx_forest.proofs.Filling.{rows_on}
+use Rattle.sx_forest.specs.Rows.{count_of, AreStretches, AreRows, AreSpanRows}
 use Rattle.sx_forest.proofs.span_rows.all_rows.Goals as goal
-
-pub loop-done-preserved : goal.loop-done-preserved
-loop-done-preserved c =
-    let g = plain c.args.basis.grammar.now in let ts = tokens_of c.args.basis.grammar.now c.args.basis.shown.now in
-    let lists = c.args.basis.table.now.lists.items in let count = c.symbol_count-count.result in let n = c.loop-done.done in
-    let from = c.args.from in let to = c.args.to in let all = c.in_ok-stretches.stretches.items in
-    let row = ways_of c.in_ok-row.row in let next = ways_of c.row_of-next.result.now in let dot = count - n - 1 in
-    let stretch = c.stretch_of-stretch.ensures ∙ ap (λ l. stretch_at l dot) c.deref.ensures.value in
-    let after = c.row_of-next.ensures ∙ ap (λ rs. row_at rs n) c.deref-in-loop-done.ensures.value in
-    let made : IsRow g ts lists (next_symbol g c.args.head dot) to (stretch_at all dot) next row =
-    subst (λ s. IsRow g ts lists (next_symbol g c.args.head dot) to s next row) stretch
-    (subst (λ o. IsRow g ts lists o to c.stretch_of-stretch.result next row) c.symbol_of-expected.ensures.is c.in_ok-row.ensures) in
-    rows_on g ts lists c.args.head count n to all c.loop-done.rows.items c.push-in-loop-done.new.self.items c.in_ok-row.row
-    c.loop-done.invariant c.in_ok-push-2.ensures.items
-    (subst (λ l. IsRow g ts lists (next_symbol g c.args.head dot) to (stretch_at all dot) l row) after made)
 
 pub returns : goal.returns
 returns c =
     let g = plain c.args.basis.grammar.now in let ts = tokens_of c.args.basis.grammar.now c.args.basis.shown.now in
-    let lists = c.args.basis.table.now.lists.items in let count = c.symbol_count-count.result in
-    let from = c.args.from in let to = c.args.to in let all = c.in_ok-stretches.stretches.items in let rows = c.loop-done.rows.items in
-    let end : c.loop-done.done ≡ count = omega arith in
-    let are : AreRows g ts lists c.args.head count count to all rows = subst (λ n. AreRows g ts lists c.args.head count n to all rows) end c.loop-done.invariant in
-    record {
+    let lists = c.args.basis.table.now.lists.items in let head = c.args.head in let from = c.args.from in let to = c.args.to in
+    let all = c.in_ok-stretches.stretches.items in let count = c.symbol_count-count.result in let number = count_of (production_of g head) in
+    IfOk-weaker c.last_rows.result (λ v. AreRows g ts lists head number count to c.deref.result.now v.items) (λ v. AreSpanRows g ts lists head from to v.items)
+    (λ v are. record {
       stretches = all;
-      spread = subst (λ n. AreStretches g ts lists c.args.head n from to all) c.symbol_count-count.ensures (c.in_ok-stretches.ensures ts);
-      are = subst (λ n. AreRows g ts lists c.args.head n n to all rows) c.symbol_count-count.ensures are;
-    }
+      spread = subst (λ n. AreStretches g ts lists head n from to all) c.symbol_count-count.ensures (c.in_ok-stretches.ensures ts);
+      are = subst (λ l. AreRows g ts lists head number number to l v.items) c.deref.ensures.value
+          (subst (λ n. AreRows g ts lists head number n to c.deref.result.now v.items) c.symbol_count-count.ensures are);
+    })
+    c.last_rows.ensures

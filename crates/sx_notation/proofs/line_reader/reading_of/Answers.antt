@@ -1,19 +1,17 @@
 use Rattle.std.proofs.Common.{sym, subst}
 use Rattle.sx_grammar.specs.Parts.{numbered}
-use Rattle.sx_grammar.specs.Tables.{GrammarData, literals_of}
+use Rattle.sx_grammar.specs.Tables.{GrammarData}
 use Rattle.sx_grammar.specs.ReadOne.{IsAnswer, only}
-use Rattle.sx_earley.specs.Tokens.{plain_tokens, AreKnown}
+use Rattle.sx_earley.specs.Tokens.{plain_tokens}
+use Rattle.sx_earley.specs.Unknown.{HaveStems}
 use Rattle.sx_earley.specs.Completed.{number_of}
 use Rattle.sx_forest.specs.Readings.{plain_reading}
 use Rattle.sx_notation.specs.WhyUnread.{IsReadError}
 use Rattle.sx_notation.specs.ReadText.{ReaderData, IsUnreadLine}
-use Rattle.sx_notation.proofs.TextReading.{known_tokens}
 use Rattle.sx_notation.proofs.line_reader.reading_of.Goals as goal
 
-pub read_one_by-requires-clause-known : goal.read_one_by-requires-clause-known
-read_one_by-requires-clause-known c =
-    subst (λ (d : ReaderData). AreKnown (literals_of d.parts) d.stems c.args.tokens.now) (sym c.by.view_is)
-    (known_tokens c.args.by.now.parts c.args.by.now.stems c.requires.known.0 c.args.tokens.now c.requires.known.1)
+pub read_one_by-requires-clause-stems : goal.read_one_by-requires-clause-stems
+read_one_by-requires-clause-stems c = subst (λ (d : ReaderData). HaveStems d.stems c.args.tokens.now) (sym c.by.view_is) c.requires.known.1.1
 
 pub returns-in-Ok-clause-only : goal.returns-in-Ok-clause-only
 returns-in-Ok-clause-only c =

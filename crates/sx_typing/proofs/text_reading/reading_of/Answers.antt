@@ -1,20 +1,19 @@
 use Rattle.std.proofs.Common.{[], sym, subst}
 use Rattle.sx_grammar.specs.Parts.{numbered}
-use Rattle.sx_grammar.specs.Tables.{literals_of}
 use Rattle.sx_grammar.specs.ReadOne.{IsAnswer, only}
-use Rattle.sx_earley.specs.Tokens.{Stems, plain_tokens, AreKnown}
+use Rattle.sx_earley.specs.Tokens.{Stems, plain_tokens}
+use Rattle.sx_earley.specs.Unknown.{HaveStems}
 use Rattle.sx_earley.specs.Completed.{number_of}
 use Rattle.sx_forest.specs.Readings.{plain_reading}
 use Rattle.sx_notation.specs.WhyUnread.{IsUnreadAs, IsReadError}
-use Rattle.sx_typing.proofs.Bodies.{known_tokens}
+use Rattle.sx_typing.proofs.Bodies.{have_stems}
 use Rattle.sx_typing.proofs.text_reading.reading_of.Goals as goal
 
-pub read_one-requires-clause-known : goal.read_one-requires-clause-known
-read_one-requires-clause-known c =
-    let p = c.args.grammar.now.parts in
+pub read_one-requires-clause-stems : goal.read_one-requires-clause-stems
+read_one-requires-clause-stems c =
     let ts = c.args.tokens.now in
-    subst (λ (l : Stems). AreKnown (literals_of p) l ts) (sym c.no_metas-metas.ensures)
-    (known_tokens p c.requires.cut.0 ts c.requires.cut.1)
+    subst (λ (l : Stems). HaveStems l ts) (sym c.no_metas-metas.ensures)
+    (have_stems c.args.grammar.now.parts c.requires.cut.0 ts c.requires.cut.1)
 
 pub returns-in-Ok-clause-only : goal.returns-in-Ok-clause-only
 returns-in-Ok-clause-only c =
