@@ -1,6 +1,9 @@
-//! Terms of a search: equal terms are stored once, and named by a number.
+//! Terms of a search: equal terms are stored once, and named by a number. Where a call that only
+//! this crate knows lacks memory, it answers `AllocError`: that takes no room, and so a number or
+//! this error is handed back in registers.
 
-ghost use Rattle.std.specs.Prelude.{◌≡◌, ℕ, ◌+◌, ◌-◌, ◌^◌, ◌<◌, ◌≤◌, [], IfOk, length, map, min};
+ghost use Rattle.std.specs.Prelude.{◌≡◌, ℕ, ◌+◌, ◌-◌, ◌^◌, ◌<◌, ◌≤◌, [], ◌∷◌, IfOk, length};
+ghost use Rattle.std.specs.Prelude.{map, min};
 ghost use Rattle.std.specs.Prelude.{take, None};
 ghost use Rattle.sx_term.specs.Tree.{node, lexeme, hole, forest, greatest_depth, total_size};
 ghost use Rattle.sx_arena.specs.Arena.{trees, tree_at, cell_tree, IsArena, IsCell, AreBelow};
@@ -9,7 +12,7 @@ ghost use Rattle.sx_arena.specs.Hashed.{mixed, hash_of};
 
 use crate::cells::Cells;
 use crate::shape::{Kids, Shape, hash, node_hash};
-use std::alloc::Global;
+use std::alloc::{AllocError, Global};
 use sx_term::{LexKind, NoMemory, Text};
 
 /// A term's shape, by which it is found, with its depth and its size, or the greatest number where
@@ -87,7 +90,7 @@ impl Arena {
 
     /// The number of a new term, of which this is the cell, whose shape has this hash.
     #[inline(always)]
-    fn add(&mut self, cell: Cell, hash: u64) -> Result<usize, NoMemory>
+    fn add(&mut self, cell: Cell, hash: u64) -> Result<usize, AllocError>
         requires arena { IsArena self.old }
         requires cell { IsNewCell (trees self.old) cell }
         requires hash { hash ≡ hash_of cell.shape }
@@ -107,7 +110,7 @@ impl Arena {
         let hash = hash(&cell.shape);
         match self.found(&cell, hash) {
             Some(index) => Ok(index),
-            None => self.add(cell, hash),
+            None => Ok(self.add(cell, hash)?),
         }
     }
 
@@ -146,7 +149,7 @@ impl Arena {
 
     /// The number of a new node with these kids, of which this is the hash.
     #[inline(always)]
-    fn add_node(&mut self, label: u32, kids: Kids, hash: u64) -> Result<usize, NoMemory>
+    fn add_node(&mut self, label: u32, kids: Kids, hash: u64) -> Result<usize, AllocError>
         requires arena { IsArena self.old }
         requires kids { AreBelow (length (trees self.old)) kids.items }
         requires hash { hash ≡ mixed label kids.items }
@@ -165,7 +168,7 @@ impl Arena {
     }
 
     /// The number of the node with these kids.
-    pub fn node(&mut self, label: u32, kids: Vec<usize>) -> Result<usize, NoMemory>
+    pub(crate) fn node_of_list(&mut self, label: u32, kids: Vec<usize>) -> Result<usize, AllocError>
         requires arena { IsArena self.old }
         requires kids { AreBelow (length (trees self.old)) kids.items }
         ensures { IfOk result (λ i. IsHeld self.old self.new i
@@ -178,43 +181,97 @@ impl Arena {
         }
     }
 
-    /// The number of a new node with a copy of these kids, of which this is the hash.
-    #[inline(never)]
-    fn add_node_of(
-        &mut self,
-        alloc: Global,
-        label: u32,
-        kids: &[usize],
-        hash: u64,
-    ) -> Result<usize, NoMemory>
+    /// The number of the node with these kids.
+    pub fn node(&mut self, label: u32, kids: Vec<usize>) -> Result<usize, NoMemory>
         requires arena { IsArena self.old }
-        requires kids { AreBelow (length (trees self.old)) kids.now }
-        requires hash { hash ≡ mixed label kids.now }
-        requires new { IsPlace (trees self.old)
-            (node label (forest (map (tree_at (trees self.old)) kids.now))) None }
+        requires kids { AreBelow (length (trees self.old)) kids.items }
         ensures { IfOk result (λ i. IsHeld self.old self.new i
-            (node label (forest (map (tree_at (trees self.old)) kids.now)))) }
+            (node label (forest (map (tree_at (trees self.old)) kids.items)))) }
     {
-        self.add_node(label, Kids::from_slice(alloc, kids)?, hash)
+        Ok(self.node_of_list(label, kids)?)
     }
 
-    /// The number of the node with these kids, which are copied where the node is new.
-    #[inline(always)]
-    pub(crate) fn node_of(
+    /// The number of a new node with this kid, of which this is the hash. How many kids there are
+    /// is known where this is compiled, so that the cell is made without a loop.
+    #[inline(never)]
+    fn add_node_of_one(
         &mut self,
         alloc: Global,
         label: u32,
-        kids: &[usize],
-    ) -> Result<usize, NoMemory>
+        kid: usize,
+        hash: u64,
+    ) -> Result<usize, AllocError>
         requires arena { IsArena self.old }
-        requires kids { AreBelow (length (trees self.old)) kids.now }
+        requires kids { AreBelow (length (trees self.old)) (kid ∷ []) }
+        requires hash { hash ≡ mixed label (kid ∷ []) }
+        requires new { IsPlace (trees self.old)
+            (node label (forest (map (tree_at (trees self.old)) (kid ∷ [])))) None }
         ensures { IfOk result (λ i. IsHeld self.old self.new i
-            (node label (forest (map (tree_at (trees self.old)) kids.now)))) }
+            (node label (forest (map (tree_at (trees self.old)) (kid ∷ []))))) }
     {
-        let hash = node_hash(label, kids);
-        match self.found_node(label, kids, hash) {
+        self.add_node(label, Kids::from_slice(alloc, &[kid])?, hash)
+    }
+
+    /// The number of a new node with these two kids, of which this is the hash. It is made as that
+    /// of one kid.
+    #[inline(never)]
+    fn add_node_of_two(
+        &mut self,
+        alloc: Global,
+        label: u32,
+        left: usize,
+        right: usize,
+        hash: u64,
+    ) -> Result<usize, AllocError>
+        requires arena { IsArena self.old }
+        requires kids { AreBelow (length (trees self.old)) (left ∷ right ∷ []) }
+        requires hash { hash ≡ mixed label (left ∷ right ∷ []) }
+        requires new { IsPlace (trees self.old)
+            (node label (forest (map (tree_at (trees self.old)) (left ∷ right ∷ [])))) None }
+        ensures { IfOk result (λ i. IsHeld self.old self.new i
+            (node label (forest (map (tree_at (trees self.old)) (left ∷ right ∷ []))))) }
+    {
+        self.add_node(label, Kids::from_slice(alloc, &[left, right])?, hash)
+    }
+
+    /// The number of the node with this kid.
+    #[inline(always)]
+    pub(crate) fn node_of_one(
+        &mut self,
+        alloc: Global,
+        label: u32,
+        kid: usize,
+    ) -> Result<usize, AllocError>
+        requires arena { IsArena self.old }
+        requires kids { AreBelow (length (trees self.old)) (kid ∷ []) }
+        ensures { IfOk result (λ i. IsHeld self.old self.new i
+            (node label (forest (map (tree_at (trees self.old)) (kid ∷ []))))) }
+    {
+        let hash = node_hash(label, &[kid]);
+        match self.found_node(label, &[kid], hash) {
             Some(index) => Ok(index),
-            None => self.add_node_of(alloc, label, kids, hash),
+            None => self.add_node_of_one(alloc, label, kid, hash),
+        }
+    }
+
+    /// The number of the node with these two kids.
+    #[inline(always)]
+    pub(crate) fn node_of_two(
+        &mut self,
+        alloc: Global,
+        label: u32,
+        left: usize,
+        right: usize,
+    ) -> Result<usize, AllocError>
+        requires arena { IsArena self.old }
+        requires kids { AreBelow (length (trees self.old)) (left ∷ right ∷ []) }
+        ensures { IfOk result (λ i. IsHeld self.old self.new i
+            (node label (forest (map (tree_at (trees self.old)) (left ∷ right ∷ []))))) }
+    {
+        let hash = node_hash(label, &[left, right]);
+        match self.found_node(label, &[left, right], hash) {
+            Some(index) => Ok(index),
+            None => self.add_node_of_two(alloc, label, left, right, hash),
         }
     }
 

@@ -8,9 +8,8 @@ ghost use Rattle.sx_arena.specs.contracts.shape.ShapePartialEq.TheImpl.{eq-value
 
 use crate::arena::Cell;
 use crate::shape::{Shape, is_node, mix};
-use std::alloc::Global;
+use std::alloc::{AllocError, Global};
 use std::marker::Model;
-use sx_term::NoMemory;
 
 /// How many slots there are at first.
 const FIRST_SLOTS: usize = 64;
@@ -75,7 +74,7 @@ fn grow(
     hashes: &[u64],
     links: &mut [usize],
     lasts: &mut Vec<usize>,
-) -> Result<(), NoMemory>
+) -> Result<(), AllocError>
     requires links { length links.old ≡ length hashes.now }
     requires full { length lasts.old.items ≡ length hashes.now }
     requires linked { AreLinked (length lasts.old.items) hashes.now links.old lasts.old.items
@@ -182,7 +181,7 @@ impl Cells {
 
     /// One more cell, the last, whose shape has this hash.
     #[inline(always)]
-    pub(crate) fn push(&mut self, cell: Cell, hash: u64) -> Result<(), NoMemory>
+    pub(crate) fn push(&mut self, cell: Cell, hash: u64) -> Result<(), AllocError>
         requires hash { hash ≡ hash_of cell.shape }
         ensures { OnOk result (self.new ≡ self.old ++ cell ∷ []) }
     {

@@ -12,7 +12,7 @@ ghost use Rattle.sx_arena.specs.Places.{AreHeld};
 use crate::arena::Arena;
 use crate::binds::Binds;
 use crate::shape::Shape;
-use std::alloc::Global;
+use std::alloc::{AllocError, Global};
 use sx_term::{LexKind, NoMemory, Term, Text};
 
 /// The number of the term that the chain of bindings gives the variable; what is not bound has the
@@ -24,7 +24,7 @@ fn bound(
     binds: &Binds,
     env: usize,
     variable: u32,
-) -> Result<usize, NoMemory>
+) -> Result<usize, AllocError>
     requires arena { IsArena arena.old }
     requires binds { IsBinds (trees arena.old) binds.now }
     requires env { env ≤ length binds.now.cells.items }
@@ -33,7 +33,23 @@ fn bound(
 {
     match binds.find(env, variable as usize) {
         Some(term) => Ok(term),
-        None => arena.node_of(alloc, 0, &[]),
+        None => arena.node_of_list(0, Vec::new(alloc)),
+    }
+}
+
+/// The number of the lexeme.
+fn made_lexeme(
+    alloc: Global,
+    arena: &mut Arena,
+    kind: LexKind,
+    text: &Text,
+) -> Result<usize, AllocError>
+    requires arena { IsArena arena.old }
+    ensures { IfOk result (λ i. IsHeld arena.old arena.new i (lexeme kind text.now)) }
+{
+    match arena.lexeme(alloc, kind, text) {
+        Ok(index) => Ok(index),
+        Err(_) => Err(AllocError),
     }
 }
 
@@ -45,7 +61,7 @@ fn made_each(
     binds: &Binds,
     env: usize,
     patterns: &[Term],
-) -> Result<Vec<usize>, NoMemory>
+) -> Result<Vec<usize>, AllocError>
     requires depth { greatest_depth (forest (map tree patterns.now)) < 1000 }
     requires arena { IsArena arena.old }
     requires binds { IsBinds (trees arena.old) binds.now }
@@ -56,9 +72,33 @@ fn made_each(
 {
     let mut parts = Vec::with_capacity(alloc, patterns.len())?;
     for pattern in patterns {
-        parts.push(made(alloc, arena, binds, env, pattern)?)?;
+        parts.push(found_or_made(alloc, arena, binds, env, pattern)?)?;
     }
     Ok(parts)
+}
+
+/// The number of the node whose kids are the instances of three patterns or more, or of none. The
+/// list of the kids is kept here, so that a call for one kid or two has no room for it.
+#[cycle(making)]
+#[inline(never)]
+fn made_many(
+    alloc: Global,
+    arena: &mut Arena,
+    binds: &Binds,
+    env: usize,
+    label: u32,
+    kids: &[Term],
+) -> Result<usize, AllocError>
+    requires depth { greatest_depth (forest (map tree kids.now)) < 1000 }
+    requires arena { IsArena arena.old }
+    requires binds { IsBinds (trees arena.old) binds.now }
+    requires env { env ≤ length binds.now.cells.items }
+    ensures { IfOk result (λ i. IsHeld arena.old arena.new i
+        (instance (filled (env_at (envs (trees arena.old) binds.now) env))
+        (node label (forest (map tree kids.now))))) }
+{
+    let parts = made_each(alloc, arena, binds, env, kids)?;
+    arena.node_of_list(label, parts)
 }
 
 /// The number of the node whose kids are the patterns' instances.
@@ -70,7 +110,7 @@ fn made_node(
     env: usize,
     label: u32,
     kids: &[Term],
-) -> Result<usize, NoMemory>
+) -> Result<usize, AllocError>
     requires depth { greatest_depth (forest (map tree kids.now)) < 1000 }
     requires arena { IsArena arena.old }
     requires binds { IsBinds (trees arena.old) binds.now }
@@ -81,23 +121,43 @@ fn made_node(
 {
     match kids {
         [only] => {
-            let part = made(alloc, arena, binds, env, only)?;
-            arena.node_of(alloc, label, &[part])
+            let part = found_or_made(alloc, arena, binds, env, only)?;
+            arena.node_of_one(alloc, label, part)
         }
         [left, right] => {
-            let first = made(alloc, arena, binds, env, left)?;
-            let second = made(alloc, arena, binds, env, right)?;
-            arena.node_of(alloc, label, &[first, second])
+            let first = found_or_made(alloc, arena, binds, env, left)?;
+            let second = found_or_made(alloc, arena, binds, env, right)?;
+            arena.node_of_two(alloc, label, first, second)
         }
-        others => {
-            let parts = made_each(alloc, arena, binds, env, others)?;
-            arena.node(label, parts)
-        }
+        others => made_many(alloc, arena, binds, env, label, others),
     }
 }
 
 /// The number of the pattern's instance.
 #[cycle(making)]
+#[inline(always)]
+fn found_or_made(
+    alloc: Global,
+    arena: &mut Arena,
+    binds: &Binds,
+    env: usize,
+    pattern: &Term,
+) -> Result<usize, AllocError>
+    requires depth { depth_of (tree pattern.now) ≤ 1000 }
+    requires arena { IsArena arena.old }
+    requires binds { IsBinds (trees arena.old) binds.now }
+    requires env { env ≤ length binds.now.cells.items }
+    ensures { IfOk result (λ i. IsHeld arena.old arena.new i
+        (instance (filled (env_at (envs (trees arena.old) binds.now) env)) (tree pattern.now))) }
+{
+    match pattern {
+        Term::Node { label, kids } => made_node(alloc, arena, binds, env, *label, kids.as_slice()),
+        Term::Lex { kind, text } => made_lexeme(alloc, arena, *kind, text),
+        Term::Var(variable) => bound(alloc, arena, binds, env, *variable),
+    }
+}
+
+/// The number of the pattern's instance.
 #[inline(always)]
 pub fn made(
     alloc: Global,
@@ -113,11 +173,7 @@ pub fn made(
     ensures { IfOk result (λ i. IsHeld arena.old arena.new i
         (instance (filled (env_at (envs (trees arena.old) binds.now) env)) (tree pattern.now))) }
 {
-    match pattern {
-        Term::Node { label, kids } => made_node(alloc, arena, binds, env, *label, kids.as_slice()),
-        Term::Lex { kind, text } => arena.lexeme(alloc, *kind, text),
-        Term::Var(variable) => bound(alloc, arena, binds, env, *variable),
-    }
+    Ok(found_or_made(alloc, arena, binds, env, pattern)?)
 }
 
 /// Whether the term is the lexeme.
