@@ -14,12 +14,13 @@ use Rattle.sx_outline.specs.Known.{kept_lines}
 use Rattle.sx_outline.specs.Stages.{Numbered, PlainData, RuleData, start_after}
 use Rattle.sx_outline.specs.Structure.{numbered_lines, IsDeclaring, AreDeclarations, ArePairs, AreRules, AreHeaderLines, AreExtensionLines}
 use Rattle.sx_outline.specs.ExtensionOutlined.{ExtensionOutlineData, extension_declares, AreReadAfter, IsExtensionEnd, IsExtensionOutlineOf, IsExtensionReadAs}
+use Rattle.sx_outline.specs.BadExtensions.{BeginOther, HaveHeader}
 use Rattle.sx_outline.proofs.OutcomeSteps.{reaches_outcome}
 use Rattle.sx_outline.proofs.LeftLines.{Whole, IsRestOfFile}
 use Rattle.sx_outline.proofs.LinesLaws.{left_of}
 use Rattle.sx_outline.proofs.LinesLead.{HasAll, all_of}
 use Rattle.sx_outline.proofs.LinesDeclared.{declares_of, head_same}
-use Rattle.sx_outline.proofs.UseLines.{HeaderTo, header_lines, BeginsOther, IsOther, no_use, header_back, named_of}
+use Rattle.sx_outline.proofs.UseLines.{HeaderTo, header_lines, IsOther, no_use, header_back, named_of}
 use Rattle.sx_outline.proofs.ExtensionFits.{IsLastOf, last_of_extension, header_is, no_error}
 
 -- what the lines are that come after a header
@@ -73,7 +74,7 @@ extension_lines sorts vars bytes o r =
 
 -- ---- the other way
 
-rules_other : (lines : List Numbered) (rules : List RuleData) → AreRules files.Extension lines rules → BeginsOther lines
+rules_other : (lines : List Numbered) (rules : List RuleData) → AreRules files.Extension lines rules → BeginOther lines
 rules_other [] rules h = tt
 rules_other (l ∷ lines) [] h = absurd (no_lines l lines h)
   where
@@ -84,7 +85,7 @@ rules_other (l ∷ lines) (r ∷ rules) (front, back, parts, rule, others) =
     subst (λ (x : Numbered). IsUseLine x.text → ⊥) (sym (head_same l rule.first lines ((r.premises ++ rule.bar ∷ r.conclusion ∷ rule.bodies ++ rule.last ∷ []) ++ back) whole))
     (no_use rule.first.text (Rule r.name) rule.begins tt)
 
-pairs_other : (known : Declared) (pairs rules : List Numbered) (plains : List PlainData) → ArePairs files.Extension known pairs plains → BeginsOther rules → BeginsOther (pairs ++ rules)
+pairs_other : (known : Declared) (pairs rules : List Numbered) (plains : List PlainData) → ArePairs files.Extension known pairs plains → BeginOther rules → BeginOther (pairs ++ rules)
 pairs_other known [] rules plains h k = k
 pairs_other known (first ∷ []) rules plains h k = absurd h
 pairs_other known (first ∷ body ∷ pairs) rules [] h k = absurd h
@@ -98,7 +99,7 @@ declaring_other (Form f) h = tt
 declaring_other (Main m) h = tt
 declaring_other _ h = absurd h
 
-declarations_other : (known d all : Declared) (declarations rest : List Numbered) → AreDeclarations files.Extension known d declarations all → BeginsOther rest → BeginsOther (declarations ++ rest)
+declarations_other : (known d all : Declared) (declarations rest : List Numbered) → AreDeclarations files.Extension known d declarations all → BeginOther rest → BeginOther (declarations ++ rest)
 declarations_other known d all [] rest h k = k
 declarations_other known d all (l ∷ declarations) rest (row, spelled, declaring, fits, h) k = no_use l.text row spelled (declaring_other row declaring)
 
@@ -142,7 +143,7 @@ lines_extended sorts vars bytes o utf8 h =
     let known : Declared = extension_declares sorts o in
     let base : Declared = declared_before sorts vars o.header.uses in
     let rest : List Numbered = h.declarations ++ (h.pairs ++ h.rules) in
-    let other : BeginsOther rest =
+    let other : BeginOther rest =
     declarations_other known base known h.declarations (h.pairs ++ h.rules) h.declared (pairs_other known h.pairs h.rules o.plains h.pairs_are (rules_other h.rules o.rules h.rules_are)) in (
       utf8,
       header_back (λ x lines. AreReadAfter sorts vars x lines (Ok o)) (λ number bad. Ok o ≡ Err (Notation number bad)) (kept_lines (lines_from 1 bytes)) h.header rest o.header h.lines_are h.header_is other
@@ -157,3 +158,18 @@ header_of_outline sorts vars bytes o r = (
   named_of (λ h lines. AreReadAfter sorts vars h lines (Ok o)) (λ number bad. Ok o ≡ Err (Notation number bad)) (λ n bad e. no_error o n bad (Ok o) refl e) o.header
       (λ h lines k. header_is sorts vars h lines o k) (kept_lines (lines_from 1 bytes)) r.1,
 )
+
+pub lines_have_header : (sorts : List SortLine) (vars : List VarLine) (lines : List Numbered) (o : ExtensionOutlineData) → AreExtensionLines sorts vars lines o
+    → HaveHeader (λ x. x ≡ o.header.name) lines
+lines_have_header sorts vars lines o h =
+    let known : Declared = extension_declares sorts o in
+    record {
+      header = o.header;
+      front = h.header;
+      rest = h.declarations ++ (h.pairs ++ h.rules);
+      lines_are = h.lines_are;
+      such = refl;
+      are = h.header_is;
+      other = declarations_other known (declared_before sorts vars o.header.uses) known h.declarations (h.pairs ++ h.rules) h.declared
+          (pairs_other known h.pairs h.rules o.plains h.pairs_are (rules_other h.rules o.rules h.rules_are));
+    }

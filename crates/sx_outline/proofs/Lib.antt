@@ -26,6 +26,16 @@ pub mod MainLines
 pub mod LinesOutlined
 pub mod LinesLead
 pub mod OneOutline
+pub mod Led
+pub mod GoodLines
+pub mod BackLines
+pub mod OtherKnown
+pub mod Written
+pub mod HeadRows
+pub mod Closing
+pub mod NotEnded
+pub mod GoodOutlines
+pub mod RefusedLines
 mod ReadRows
 mod HeaderLaws
 mod OneHeader
@@ -34,3 +44,8 @@ pub mod ExtensionLaws
 pub mod ExtensionFits
 pub mod ExtensionLines
 pub mod OneExtension
+pub mod Growing
+pub mod WholeOutlines
+pub mod RefusedUses
+pub mod RefusedHeaders
+pub mod RefusedExtensions

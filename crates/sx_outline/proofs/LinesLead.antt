@@ -7,7 +7,7 @@ use Rattle.sx_outline.specs.Stages.{State}
 use Rattle.sx_outline.specs.Structure.{numbered_lines}
 use Rattle.sx_outline.proofs.OutcomeSteps.{Reaches}
 use Rattle.sx_outline.proofs.LinesEnded.{IsAll, ends_whole}
-use Rattle.sx_outline.proofs.MainLines.{AreMains}
+use Rattle.sx_outline.specs.BadLines.{AreMains}
 use Rattle.sx_outline.proofs.LeftLines.{Whole, LeftAt}
 use Rattle.sx_outline.proofs.LinesOutlined.{leads_on}
 

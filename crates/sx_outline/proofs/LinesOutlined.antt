@@ -1,7 +1,6 @@
 -- Lines that are those of a file lead to its end.
 use Rattle.std.proofs.Common.{◌≡◌, ℕ, List, [], ◌∷◌, ◌++◌, Option, Some, None, refl, sym, ap, subst, ◌∙◌, inl, inr, append_assoc, append-nil}
 use Rattle.std.specs.List.{AllByRecursion}
-use Rattle.sx_lines.specs.Lines.{Lines, over, line}
 use Rattle.sx_directives.specs.declared.file_kind.FileKind.{FileKind}
 use Rattle.sx_directives.specs.Rows.{IsRow}
 use Rattle.sx_directives.specs.declared.rows.PlainLine.{PlainLine}
@@ -10,10 +9,9 @@ use Rattle.sx_directives.specs.declared.row.Row.TheVariants.{Sort, Prod, Var, Fo
 use Rattle.sx_outline.specs.Declarations.{Declared, declare}
 use Rattle.sx_outline.specs.Fitting.{ArePartNames, Fits}
 use Rattle.sx_outline.specs.Stages.{Numbered, PlainData, RuleData, Begun, BegunPlain, begun_plain, Stage, at_start, at_declarations, at_body, at_plains, at_rules, at_premises, at_conclusion, at_end, State, StepsAt, IsGoodRow, IsBar, MayStandAt, after, at as to, with_premise, with_body, with_plain, concluded, paired, head_row}
-use Rattle.sx_outline.specs.Structure.{numbered_lines, IsDeclaring, AreBodies, AreDeclarations, ArePairs, AreRules}
-use Rattle.sx_outline.proofs.OutcomeSteps.{Reaches}
-use Rattle.sx_outline.proofs.LinesEnded.{IsAll, ends_whole}
-use Rattle.sx_outline.proofs.MainLines.{AreMains, first_main, mains_stay}
+use Rattle.sx_outline.specs.Structure.{IsDeclaring, AreBodies, AreDeclarations, ArePairs, AreRules}
+use Rattle.sx_outline.specs.BadLines.{AreMains}
+use Rattle.sx_outline.proofs.MainLines.{first_main, mains_stay}
 use Rattle.sx_outline.proofs.LinesDeclared.{none_first, head_same, tail_same}
 use Rattle.sx_outline.proofs.LeftLines.{Whole, IsRest, IsInRule, LeftPremises, LeftConclusion, IsBodyLeft, IsInPair, IsRestOfPairs, IsRestOfFile, IsLeft, LeftAt}
 

@@ -9,6 +9,7 @@ use Rattle.sx_outline.specs.Declarations.{Declared, declare}
 use Rattle.sx_outline.specs.Fitting.{IsMainOf}
 use Rattle.sx_outline.specs.Stages.{Numbered}
 use Rattle.sx_outline.specs.Structure.{AreDeclarations}
+use Rattle.sx_outline.specs.BadLines.{AreMains}
 
 -- main lines stay
 pub mains_stay : (kind : FileKind) (known d all : Declared) (lines : List Numbered) → AreDeclarations kind known d lines all → (more : List MainLine) × (all.mains ≡ d.mains ++ more)
@@ -21,12 +22,6 @@ mains_stay kind known d all (l ∷ lines) (Main m, spelled, declaring, fits, h) 
     let k = mains_stay kind known (declare d (Main m)) all lines h in
     (m ∷ k.0, k.1 ∙ append_assoc d.mains (m ∷ []) k.0)
 mains_stay kind known d all (l ∷ lines) (_, spelled, declaring, fits, h) = absurd declaring
-
--- there is at most one main line, and it is of a main form
-abbrev pub AreMains : Declared → List MainLine → Type 0
-AreMains known [] = Unit {0}
-AreMains known (m ∷ []) = (main : MainForm) × IsMainOf known m main
-AreMains known (m ∷ n ∷ mains) = ⊥
 
 -- so a main line is the first, and of a main form
 pub first_main : (known : Declared) (mains before more : List MainLine) (m : MainLine) → mains ≡ before ++ m ∷ more → AreMains known mains → (before ≡ []) × ((main : MainForm) × IsMainOf known m main)

@@ -66,25 +66,26 @@ same_after s n (Plain a) (Plain b) e = ap (λ x. to s (at_body x)) (begun_same n
 same_after s n (To a) (To b) e = ap (λ x. after s n (To x)) e
 same_after s n _ _ e = absurd e
 
-one_by_row : (kind : FileKind) (known : Declared) (s : State) (n : ℕ) (text : List ℕ) (t u : State) → StepsByRow kind known s n text t → StepsByRow kind known s n text u → t ≡ u
-one_by_row kind known s n text t u (r, good, e) (q, fine, f) = e ∙ same_after s n r q (same_row kind text r q good.spelled fine.spelled) ∙ sym f
+one_by_row : (kind : FileKind) (known other : Declared) (s : State) (n : ℕ) (text : List ℕ) (t u : State) → StepsByRow kind known s n text t → StepsByRow kind other s n text u → t ≡ u
+one_by_row kind known other s n text t u (r, good, e) (q, fine, f) = e ∙ same_after s n r q (same_row kind text r q good.spelled fine.spelled) ∙ sym f
 
-one_step : (at : Stage) (kind : FileKind) (known : Declared) (name : List ℕ) (s : State) (n : ℕ) (text : List ℕ) (t u : State) → StepsAt at kind known name s n text t → StepsAt at kind known name s n text u → t ≡ u
-one_step at_start kind known name s n text t u h k = h.1 ∙ sym k.1
-one_step at_declarations kind known name s n text t u h k = one_by_row kind known s n text t u h k
-one_step (at_body b) kind known name s n text t u h k = h ∙ sym k
-one_step at_plains kind known name s n text t u h k = one_by_row kind known s n text t u h k
-one_step at_rules kind known name s n text t u h k = one_by_row kind known s n text t u h k
-one_step (at_premises b) kind known name s n text t u (inl h) (inl k) = h.1 ∙ sym k.1
-one_step (at_premises b) kind known name s n text t u (inl h) (inr k) = absurd (k.0 h.0)
-one_step (at_premises b) kind known name s n text t u (inr h) (inl k) = absurd (h.0 k.0)
-one_step (at_premises b) kind known name s n text t u (inr h) (inr k) = h.1 ∙ sym k.1
-one_step (at_conclusion b) kind known name s n text t u h k = h ∙ sym k
-one_step (at_end r) kind known name s n text t u h k = one_by_row kind known s n text t u h k
+-- where a line leads does not depend on what is known
+pub one_step : (at : Stage) (kind : FileKind) (known other : Declared) (name : List ℕ) (s : State) (n : ℕ) (text : List ℕ) (t u : State) → StepsAt at kind known name s n text t → StepsAt at kind other name s n text u → t ≡ u
+one_step at_start kind known other name s n text t u h k = h.1 ∙ sym k.1
+one_step at_declarations kind known other name s n text t u h k = one_by_row kind known other s n text t u h k
+one_step (at_body b) kind known other name s n text t u h k = h ∙ sym k
+one_step at_plains kind known other name s n text t u h k = one_by_row kind known other s n text t u h k
+one_step at_rules kind known other name s n text t u h k = one_by_row kind known other s n text t u h k
+one_step (at_premises b) kind known other name s n text t u (inl h) (inl k) = h.1 ∙ sym k.1
+one_step (at_premises b) kind known other name s n text t u (inl h) (inr k) = absurd (k.0 h.0)
+one_step (at_premises b) kind known other name s n text t u (inr h) (inl k) = absurd (h.0 k.0)
+one_step (at_premises b) kind known other name s n text t u (inr h) (inr k) = h.1 ∙ sym k.1
+one_step (at_conclusion b) kind known other name s n text t u h k = h ∙ sym k
+one_step (at_end r) kind known other name s n text t u h k = one_by_row kind known other s n text t u h k
 
 -- ---- a bad line
 
-due_row : (at : Stage) (kind : FileKind) (known : Declared) (name : List ℕ) (s : State) (n : ℕ) (text : List ℕ) (t : State) → IsDue at → StepsAt at kind known name s n text t → StepsByRow kind known s n text t
+pub due_row : (at : Stage) (kind : FileKind) (known : Declared) (name : List ℕ) (s : State) (n : ℕ) (text : List ℕ) (t : State) → IsDue at → StepsAt at kind known name s n text t → StepsByRow kind known s n text t
 due_row at_start kind known name s n text t due h = absurd due
 due_row at_declarations kind known name s n text t due h = h
 due_row (at_body b) kind known name s n text t due h = absurd due
@@ -95,7 +96,7 @@ due_row (at_conclusion b) kind known name s n text t due h = absurd due
 due_row (at_end r) kind known name s n text t due h = h
 
 -- a line that leads on is not bad
-good_or_bad : (kind : FileKind) (known : Declared) (name : List ℕ) (s : State) (n : ℕ) (text : List ℕ) (t : State) (wrong : Kind) → Steps kind known name s n text t → IsBad kind known name s text wrong → ⊥
+pub good_or_bad : (kind : FileKind) (known : Declared) (name : List ℕ) (s : State) (n : ℕ) (text : List ℕ) (t : State) (wrong : Kind) → Steps kind known name s n text t → IsBad kind known name s text wrong → ⊥
 good_or_bad kind known name s n text t Head steps bad =
     let h : StepsAt at_start kind known name s n text t = subst (λ x. StepsAt x kind known name s n text t) bad.0 steps in
     bad.1 h.0
@@ -267,7 +268,7 @@ pub both_outcomes : (R : Type 0) (AfterA AfterB : State → ℕ → Type 0) (Bad
 both_outcomes R AfterA AfterB BadA BadB f g kind known name s (over n) h k = f s n h k
 both_outcomes R AfterA AfterB BadA BadB f g kind known name s (line n text after more) (inl h) (inl k) =
     both_outcomes R AfterA AfterB BadA BadB f g kind known name k.0 more
-    (subst (λ t. IsOutcome kind known name t more AfterA BadA) (one_step s.stage kind known name s n text h.0 k.0 h.1 k.1) h.2) k.2
+    (subst (λ t. IsOutcome kind known name t more AfterA BadA) (one_step s.stage kind known known name s n text h.0 k.0 h.1 k.1) h.2) k.2
 both_outcomes R AfterA AfterB BadA BadB f g kind known name s (line n text after more) (inl h) (inr k) = absurd (good_or_bad kind known name s n text h.0 k.0 h.1 k.1)
 both_outcomes R AfterA AfterB BadA BadB f g kind known name s (line n text after more) (inr h) (inl k) = absurd (good_or_bad kind known name s n text k.0 h.0 k.1 h.1)
 both_outcomes R AfterA AfterB BadA BadB f g kind known name s (line n text after more) (inr h) (inr k) =

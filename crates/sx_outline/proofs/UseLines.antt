@@ -15,6 +15,7 @@ use Rattle.sx_outline.specs.Fitting.{AreDistinct}
 use Rattle.sx_outline.specs.Stages.{Numbered}
 use Rattle.sx_outline.specs.Headers.{HeaderData, begun, with_use, IsUseLine, AreUses, IsLanguageNext, IsHeaderOf, IsHeader}
 use Rattle.sx_outline.specs.Structure.{numbered_lines, AreUseLines, AreHeaderLines}
+use Rattle.sx_outline.specs.BadExtensions.{BeginOther}
 use Rattle.sx_outline.proofs.KeptLaws.{distinct_push}
 use Rattle.sx_outline.proofs.LinesDeclared.{none_first, head_same, tail_same}
 
@@ -117,11 +118,6 @@ header_lines Next Bad n (line number text after more) (inr x) = absurd (n number
 
 -- ---- the other way
 
--- the first line, if there is one, is no `use` line
-abbrev pub BeginsOther : List Numbered → Type 0
-BeginsOther [] = Unit {0}
-BeginsOther (l ∷ lines) = IsUseLine l.text → ⊥
-
 abbrev told_part : List (List ℕ) → ℕ
 told_part [] = 0
 told_part (part ∷ parts) = get_or part 0 0 * 256 + get_or part 1 0
@@ -151,7 +147,7 @@ no_use text (Plain p) h o = other_row text (Plain p) h (λ e. omega (arith, e))
 no_use text (Rule name) h o = other_row text (Rule name) h (λ e. omega (arith, e))
 no_use text _ h o = absurd o
 
-distinct_front : (texts : List (List ℕ)) (text : List ℕ) (more : List (List ℕ)) → AreDistinct (texts ++ text ∷ more) → Contains texts text → ⊥
+pub distinct_front : (texts : List (List ℕ)) (text : List ℕ) (more : List (List ℕ)) → AreDistinct (texts ++ text ∷ more) → Contains texts text → ⊥
 distinct_front [] text more h (k, lt, e) = omega (arith, lt)
 distinct_front (first ∷ texts) text more h (zero, lt, e) =
     h.0 (Contains-append_right texts (text ∷ more) first (0, omega arith, sym e))
@@ -161,11 +157,11 @@ last_same : (last h : HeaderData) → last.name ≡ h.name → last.language ≡
 last_same last h n l u = λ i. record { name = n i; language = l i; uses = u i }
 
 pub uses_back : (Next : HeaderData → Lines → Type 0) (Bad : ℕ → Kind → Type 0) (h : HeaderData) (lines : Lines) (front rest : List Numbered) (more : List (List ℕ)) (last : HeaderData)
-    → numbered_lines lines ≡ front ++ rest → AreUseLines front more → last.name ≡ h.name → last.language ≡ h.language → last.uses ≡ h.uses ++ more → AreDistinct last.uses → BeginsOther rest
+    → numbered_lines lines ≡ front ++ rest → AreUseLines front more → last.name ≡ h.name → last.language ≡ h.language → last.uses ≡ h.uses ++ more → AreDistinct last.uses → BeginOther rest
     → ((left : Lines) → numbered_lines left ≡ rest → Next last left) → AreUses h lines Next Bad
 uses_back Next Bad h (over end) [] rest [] last e are n l u once other f = subst (λ (x : HeaderData). Next x (over end)) (last_same last h n l (u ∙ append-nil h.uses)) (f (over end) e)
 uses_back Next Bad h (line number text after more) [] rest [] last e are n l u once other f =
-    inr (inr (subst BeginsOther (sym e) other, subst (λ (x : HeaderData). Next x (line number text after more)) (last_same last h n l (u ∙ append-nil h.uses)) (f (line number text after more) e)))
+    inr (inr (subst BeginOther (sym e) other, subst (λ (x : HeaderData). Next x (line number text after more)) (last_same last h n l (u ∙ append-nil h.uses)) (f (line number text after more) e)))
 uses_back Next Bad h lines [] rest (used ∷ more) last e are n l u once other f = absurd are
 uses_back Next Bad h lines (first ∷ front) rest [] last e are n l u once other f = absurd are
 uses_back Next Bad h (over end) (first ∷ front) rest (used ∷ more) last e are n l u once other f = absurd (none_first first (front ++ rest) e)
@@ -180,7 +176,7 @@ uses_back Next Bad h (line number text after lines) (first ∷ front) rest (used
     )
 
 pub header_back : (Next : HeaderData → Lines → Type 0) (Bad : ℕ → Kind → Type 0) (lines : Lines) (front rest : List Numbered) (last : HeaderData) → numbered_lines lines ≡ front ++ rest
-    → AreHeaderLines front last → BeginsOther rest → ((left : Lines) → numbered_lines left ≡ rest → Next last left) → IsHeader lines Next Bad
+    → AreHeaderLines front last → BeginOther rest → ((left : Lines) → numbered_lines left ≡ rest → Next last left) → IsHeader lines Next Bad
 header_back Next Bad (over end) front rest last e h other f =
     absurd (none_first h.first (h.second ∷ h.others ++ rest) (e ∙ ap (λ (x : List Numbered). x ++ rest) h.lines_are))
 header_back Next Bad (line number text after (over end)) front rest last e h other f =

@@ -16,4 +16,6 @@ pub mod ExtensionOutlined
 pub mod ExtensionReading
 pub mod ExtensionSized
 pub mod Structure
+pub mod BadLines
+pub mod BadExtensions
 pub mod Laws

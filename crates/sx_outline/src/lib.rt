@@ -44,9 +44,11 @@ pub use extension_outline::ExtensionOutline;
 pub use extension_reading::read_extension_outline;
 pub use header_reading::read_extension_header;
 pub use laws::{
-    extension_outlines_have_lines, lines_have_extension_outlines, lines_have_outlines,
-    one_extension_header, one_extension_outline, one_outline_answer, outlines_have_headers,
-    outlines_have_lines,
+    extension_lines_are_whole, extension_lines_have_headers, extension_outlines_have_lines,
+    good_lines_are_outlines, lines_have_extension_outlines, lines_have_outlines,
+    one_extension_header, one_extension_outline, one_outline_answer, outline_lines_are_good,
+    outlines_have_headers, outlines_have_lines, refused_extension_files, refused_headers,
+    refused_language_files, whole_lines_are_outlines,
 };
 pub use main_form::MainForm;
 pub use outline::Outline;
