@@ -17,7 +17,6 @@ use crate::reader::Reader;
 use crate::reading::Reading;
 use std::alloc::Global;
 use sx_arena::{Arena, enter, enter_places, roles};
-use sx_rewrite::subject_of;
 use sx_rules::{Hyps, Judgement, RuleSet};
 use sx_term::NoMemory;
 
@@ -90,7 +89,7 @@ fn given_subject(
     if !is_needed {
         return Ok(None);
     }
-    match subject_of(base, it) {
+    match base.subject_of(it) {
         Some(term) => Ok(Some(enter(alloc, arena, term)?)),
         None => Ok(None),
     }

@@ -1,14 +1,12 @@
 //! Subjects of lowered kids, put for the variables that are subjects of premises.
 
-ghost use Rattle.std.specs.Prelude.{◌≡◌, ◌<◌, ◌≤◌, ℕ, List, [], ◌∷◌, None, length, map};
+ghost use Rattle.std.specs.Prelude.{◌≡◌, ◌<◌, ◌≤◌, List, [], None, length, map};
 ghost use Rattle.std.specs.Prelude.{slice_set, get_or};
-ghost use Rattle.std.specs.Prelude.{MatchOption};
-ghost use Rattle.sx_term.specs.Term.{tree};
-ghost use Rattle.sx_term.specs.Tree.{Tree, hole, depth_of};
+ghost use Rattle.sx_term.specs.Tree.{Tree, depth_of};
 ghost use Rattle.sx_rules.specs.Derivations as spec;
 ghost use Rattle.sx_rules.specs.Rules as known;
 ghost use Rattle.sx_rules.specs.Rules.{judgements_of};
-ghost use Rattle.sx_rules.specs.Discipline.{subjects_of, AreBareSubjects};
+ghost use Rattle.sx_rules.specs.Discipline.{AreBareSubjects};
 ghost use Rattle.sx_rules.specs.Sets.{forms_in, bare_rules_in};
 ghost use Rattle.sx_rules.specs.Views.{judgement, premise, subjects_in};
 ghost use Rattle.sx_arena.specs.Arena.{trees, tree_at, IsArena};
@@ -22,9 +20,8 @@ ghost use Rattle.sx_expand.specs.Put.{ArePutAt};
 use crate::put_numbers::PutNumbers;
 use sx_arena::Arena;
 use sx_plain::Measure;
-use sx_rewrite::{Accepted, subject_of};
+use sx_rewrite::{Accepted, premise_variable};
 use sx_rules::{Judgement, Premise, RuleSet};
-use sx_term::Term;
 
 /// Puts the subject of each lowered kid that a node by the rule needs, by its number, for the
 /// variable that is the subject of its premise.
@@ -111,34 +108,6 @@ fn put_subject(
             None => {}
         },
         None => {}
-    }
-}
-
-/// The variable that is the subject of the premise.
-fn premise_variable(set: &RuleSet, premise: &Judgement) -> Option<u32>
-    ensures { MatchOption result
-        ((v : ℕ) (rest : List Tree) →
-        subjects_of (subjects_in (forms_in set.now)) (judgement premise.now)
-        ≡ hole v ∷ rest → ⊥)
-        (λ v. (rest : List Tree)
-        × (subjects_of (subjects_in (forms_in set.now)) (judgement premise.now)
-        ≡ hole v ∷ rest)) }
-{
-    match subject_of(set, premise) {
-        Some(term) => variable_of(term),
-        None => None,
-    }
-}
-
-/// The number of the variable that the term is.
-fn variable_of(term: &Term) -> Option<u32>
-    ensures { MatchOption result ((v : ℕ) → tree term.now ≡ hole v → ⊥)
-        (λ v. tree term.now ≡ hole v) }
-{
-    match term {
-        Term::Node { label: _, kids: _ } => None,
-        Term::Lex { kind: _, text: _ } => None,
-        Term::Var(variable) => Some(*variable),
     }
 }
 

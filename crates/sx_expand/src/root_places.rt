@@ -17,7 +17,7 @@ use crate::reader::Reader;
 use std::alloc::Global;
 use sx_arena::export_all;
 use sx_plain::PlainTable;
-use sx_rewrite::{Accepted, places_of};
+use sx_rewrite::Accepted;
 use sx_rules::{Judgement, Place};
 use sx_term::{NoMemory, Role, TermError};
 
@@ -41,7 +41,7 @@ pub(crate) fn root_judgement(
         read.now.subject (roles_of (places_at (forms_in set.now.base) form)) inputs.now
         read.now.outputs.items ks → map tree x.places.items ≡ ks) }
 {
-    let places = places_of(set.base_rules(), form);
+    let places = set.base_rules().places_of(form);
     let numbers = root_numbers(alloc, set.plain(), reader, places, inputs, read)?;
     let terms = export_all(alloc, &reader.arena, &numbers);
     drop(numbers);

@@ -14,7 +14,6 @@ use crate::reading::Reading;
 use std::alloc::Global;
 use sx_arena::Arena;
 use sx_images::filled;
-use sx_rewrite::subject_of;
 use sx_rules::Rule;
 use sx_term::NoMemory;
 
@@ -40,7 +39,12 @@ pub(crate) fn subject_number(
         (subjects_of (signature_by reading.now).subjects
         (own_judgement (set_by reading.now).table (signature_by reading.now).subjects x)) r) }
 {
-    match subject_of(reading.listing.set.base_rules(), &rule.conclusion) {
+    match reading
+        .listing
+        .set
+        .base_rules()
+        .subject_of(&rule.conclusion)
+    {
         Some(own) => match reading.listing.set.flat_body(number) {
             Some(body) => Ok(Some(filled(alloc, arena, body, numbers)?)),
             None => Ok(Some(filled(alloc, arena, own, numbers)?)),

@@ -26,8 +26,8 @@ ghost use Rattle.sx_extcheck.specs.FlatTerms.{listed_term};
 use crate::flat_goal::FlatGoal;
 use std::alloc::Global;
 use sx_plain::PlainTable;
-use sx_rewrite::{ExtRule, is_subject, places_of, plain_term};
-use sx_rules::{Goal, Place, RuleSet};
+use sx_rewrite::{ExtRule, plain_term};
+use sx_rules::{Goal, Place, RuleSet, is_subject};
 use sx_term::{NoMemory, Role, Term};
 
 /// The goal and the outputs of the flat conclusion: its places have plain images, and the subject
@@ -49,7 +49,7 @@ pub(crate) fn flat_goal(
         (flat.flat_goal (table_of plain.now) (subjects_in (forms_in set.now)) (ext_rule ext.now))) }
 {
     let conclusion = &ext.rule.conclusion;
-    let places = places_of(set, conclusion.form);
+    let places = set.places_of(conclusion.form);
     let mut inputs = Vec::new(alloc);
     let mut wanted = Vec::new(alloc);
     for i in 0..conclusion.places.len() {

@@ -11,7 +11,7 @@ ghost use Rattle.sx_rewrite.specs.ExtensionView.{ext_rule};
 ghost use Rattle.sx_rewrite.specs.PlainRules.{image_premise};
 ghost use Rattle.sx_rewrite.specs.Puts.{Answers};
 ghost use Rattle.sx_rewrite.specs.Rewriting.{first_over};
-ghost use Rattle.sx_rewrite.specs.SubjectTerms.{subject_mask};
+ghost use Rattle.sx_rules.specs.SubjectTerms.{subject_mask};
 ghost use Rattle.sx_extcheck.specs.FlatTerms.{
   premise_terms,
   listed_term,
@@ -23,8 +23,8 @@ ghost use Rattle.sx_extcheck.specs.FlatTerms.{
 };
 
 use sx_plain::{PlainTable, image_measure};
-use sx_rewrite::{ExtRule, RewriteError, check_measure, is_subject, places_of};
-use sx_rules::{Place, Premise, RuleSet};
+use sx_rewrite::{ExtRule, RewriteError, check_measure};
+use sx_rules::{Place, Premise, RuleSet, is_subject};
 use sx_term::Term;
 
 /// Measures the terms of the rule with plain images: its premises in order, the places of its
@@ -41,7 +41,7 @@ pub(crate) fn measure_rule(
         (λ _. Unit {0}) result }
 {
     let conclusion = &ext.rule.conclusion;
-    let places = places_of(set, conclusion.form);
+    let places = set.places_of(conclusion.form);
     measure_premises(plain, &ext.rule.premises)?;
     measure_places(plain, places, &conclusion.places, false)?;
     measure_body(plain, &ext.body)?;

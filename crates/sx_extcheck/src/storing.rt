@@ -21,7 +21,7 @@ ghost use Rattle.sx_extcheck.specs.FlatTerms.{listed_term};
 use std::alloc::Global;
 use sx_expand::derivation_of;
 use sx_plain::PlainTable;
-use sx_rewrite::{Flat, plain_term, subject_of};
+use sx_rewrite::{Flat, plain_term};
 use sx_rules::{Entry, Hyps, Judgement, Proof, RuleSet};
 use sx_term::{NoMemory, Term};
 
@@ -98,7 +98,7 @@ fn subject_copy(alloc: Global, set: &RuleSet, from: &Judgement) -> Result<Term, 
     ensures { IfOk result
         (λ t. subjects_of (subjects_in (forms_in set.now)) (judgement from.now) ≡ tree t ∷ []) }
 {
-    match subject_of(set, from) {
+    match set.subject_of(from) {
         Some(term) => term.copy(alloc),
         None => unreachable!(),
     }

@@ -13,7 +13,7 @@ use Rattle.sx_plain.specs.declared.measure.Measure.{Measure}
 use Rattle.sx_plain.specs.Measures.{greatest}
 use Rattle.sx_plain.specs.PartMeasures.{depths_of}
 use Rattle.sx_rewrite.specs.Puts.{IsMeasureOf, AreMeasuresOf, AreMadeOf}
-use Rattle.sx_rewrite.specs.SubjectTerms.{IsSubject}
+use Rattle.sx_rules.specs.SubjectTerms.{IsSubject}
 use Rattle.sx_rewrite.specs.PutSubjects.{IsSubjectPut}
 
 length-set : (ts : List Tree) (v : ℕ) (t : Tree) → length (slice_set ts v t) ≡ length ts

@@ -1,5 +1,5 @@
 -- Subjects of judgements.
-use Rattle.std.proofs.Common.{◌≡◌, arith, ℕ, zero, suc, ◌+◌, ◌<◌, ◌≤◌, drop, get_or, length, Bool, true, false, List, [], ◌∷◌, map, Box, Vec, Option, Some, None, refl, sym, ap, ◌∙◌, subst}
+use Rattle.std.proofs.Common.{◌≡◌, ℕ, zero, suc, ◌≤◌, Bool, true, false, List, [], ◌∷◌, map, Box, Vec, Option, Some, None, sym, ap, ◌∙◌, subst}
 use Rattle.std.specs.declared.alloc.Global.{Global}
 use Rattle.std.specs.Prelude.{slice_get, Result, Ok, Err, IfOk}
 use Rattle.sx_term.specs.declared.term.Term.{Term}
@@ -16,52 +16,8 @@ use Rattle.sx_rules.specs.declared.rule.Rule.{Rule as RuleOf}
 use Rattle.sx_rules.specs.Views.{named, rule, judgement}
 use Rattle.sx_rules.specs.ProofView.{proof}
 use Rattle.sx_rules.proofs.ProofRows.{proof-at_by}
-use Rattle.sx_rewrite.specs.SubjectTerms.{IsSubject}
+use Rattle.sx_rules.specs.SubjectTerms.{IsSubject}
 use Rattle.sx_rewrite.proofs.Instanced.{bare-found, bare-none}
-
--- the first at a subject place
-abbrev from : List Bool → List Term → ℕ → List Tree
-from mask terms i = outputs (drop i mask) (drop i (map tree terms))
-
-subject-here : (mask : List Bool) (terms : List Term) (i : ℕ) (t : Term) → i < length terms → t ≡ get_or terms i t → get_or mask i false ≡ true → (rest : List Tree) × (from mask terms i ≡ tree t ∷ rest)
-subject-here mask [] i t l e m = absurd (omega (arith, l))
-subject-here [] (x ∷ terms) i t l e m = cc
-subject-here (false ∷ mask) (x ∷ terms) zero t l e m = cc
-subject-here (true ∷ mask) (x ∷ terms) zero t l e m = (outputs mask (map tree terms), ap (λ (y : Term). tree y ∷ outputs mask (map tree terms)) (sym e))
-subject-here (b ∷ mask) (x ∷ terms) (suc i) t l e m = subject-here mask terms i t (omega (arith, l)) e m
-
-subject-past : (mask : List Bool) (terms : List Term) (i : ℕ) → get_or mask i false ≡ false → i < length terms → from mask terms i ≡ from mask terms (i + 1)
-subject-past mask [] i m l = absurd (omega (arith, l))
-subject-past [] (x ∷ terms) zero m l = refl
-subject-past [] (x ∷ terms) (suc i) m l = let n : suc i + 1 ≡ suc (i + 1) = omega arith in rw n refl
-subject-past (false ∷ mask) (x ∷ terms) zero m l = refl
-subject-past (true ∷ mask) (x ∷ terms) zero m l = cc
-subject-past (b ∷ mask) (x ∷ terms) (suc i) m l = let n : suc i + 1 ≡ suc (i + 1) = omega arith in rw n (subject-past mask terms i m (omega (arith, l)))
-
-subject-end : (mask : List Bool) (terms : List Term) (i : ℕ) → length terms ≤ i → from mask terms i ≡ []
-subject-end [] [] zero l = refl
-subject-end [] [] (suc i) l = refl
-subject-end (b ∷ mask) [] zero l = refl
-subject-end (b ∷ mask) [] (suc i) l = end mask i
-  where
-    end : (bs : List Bool) (n : ℕ) → outputs {X = Tree} (drop n bs) [] ≡ []
-    end [] zero = refl
-    end [] (suc n) = refl
-    end (x ∷ bs) zero = refl
-    end (x ∷ bs) (suc n) = end bs n
-subject-end mask (x ∷ terms) zero l = absurd (omega (arith, l))
-subject-end [] (x ∷ terms) (suc i) l = refl
-subject-end (b ∷ mask) (x ∷ terms) (suc i) l = subject-end mask terms i (omega (arith, l))
-
-module _ (mask : List Bool) (terms : List Term) (i : ℕ) (before : outputs mask (map tree terms) ≡ from mask terms i) where
-  pub subject-found : (t : Term) → i < length terms → t ≡ get_or terms i t → get_or mask i false ≡ true → (rest : List Tree) × (outputs mask (map tree terms) ≡ tree t ∷ rest)
-  subject-found t l e m = let h = subject-here mask terms i t l e m in (h.0, before ∙ h.1)
-
-  pub subject-later : i < length terms → get_or mask i false ≡ false → outputs mask (map tree terms) ≡ from mask terms (i + 1)
-  subject-later l m = before ∙ subject-past mask terms i m l
-
-  pub subject-none : length terms ≤ i → outputs mask (map tree terms) ≡ []
-  subject-none l = before ∙ subject-end mask terms i l
 
 -- the subject is no deeper than the places
 shallow-first : (mask : List Bool) (ts : List Tree) (t : Tree) (rest : List Tree) → AreShallow ts → outputs mask ts ≡ t ∷ rest → depth_of t ≤ 1000

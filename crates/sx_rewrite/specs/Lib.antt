@@ -35,7 +35,6 @@ pub mod Puts
 pub mod Put
 pub mod Taken
 pub mod PutImages
-pub mod SubjectTerms
 pub mod PutSubjects
 pub mod Needed
 pub mod Lowering

@@ -65,6 +65,7 @@ mod size_laws;
 mod size_look_up;
 mod sizing;
 mod source;
+mod subject_variable;
 mod tally;
 mod tallying;
 mod telling;
@@ -94,7 +95,6 @@ pub use laws::{lowered_are_derivations, lowered_are_sorted, lowering_exists, low
 pub use limits::check_measure;
 pub use lowered::Lowered;
 pub use lowered_size::LoweredSize;
-pub use lowered_subject::{is_subject, places_of, subject_of};
 pub use measured_laws::{measured_are_all, measuring_is_unique, terms_are_measured};
 pub use node_instance::check_conclusion;
 pub use plain_laws::{plain_rules_are_accepted, plain_rules_lower_alike};
@@ -105,5 +105,6 @@ pub use rewriting_laws::{rewriting_answers, rewriting_is_good, rewriting_is_uniq
 pub use rule_set_laws::good_rules_are_disciplined;
 pub use samples::sample_is_lowered;
 pub use size_laws::{derivations_fit, plain_rules_count_alike};
+pub use subject_variable::premise_variable;
 pub use tally::Tally;
 pub use used_laws::{lowered_are_counted, typed_variables_are_used, unused_kids_are_free};

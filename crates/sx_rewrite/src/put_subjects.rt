@@ -1,12 +1,11 @@
 //! Subjects of lowered kids, put for the variables that are subjects of premises.
 
-ghost use Rattle.std.specs.Prelude.{◌≡◌, ℕ, ◌≤◌, List, [], ◌∷◌, length, map, slice_set, OnOk};
-ghost use Rattle.std.specs.Prelude.{MatchOption};
+ghost use Rattle.std.specs.Prelude.{◌≡◌, ◌≤◌, List, [], length, map, slice_set, OnOk};
 ghost use Rattle.sx_term.specs.Term.{tree};
-ghost use Rattle.sx_term.specs.Tree.{Tree, hole, depth_of};
+ghost use Rattle.sx_term.specs.Tree.{Tree, depth_of};
 ghost use Rattle.sx_rules.specs.Rules as known;
 ghost use Rattle.sx_rules.specs.Rules.{judgements_of};
-ghost use Rattle.sx_rules.specs.Discipline.{subjects_of, AreBareSubjects};
+ghost use Rattle.sx_rules.specs.Discipline.{AreBareSubjects};
 ghost use Rattle.sx_rules.specs.Derivations.{ShallowJudgements};
 ghost use Rattle.sx_rules.specs.ProofView as view;
 ghost use Rattle.sx_rules.specs.Sets.{forms_in, bare_rules_in};
@@ -17,9 +16,10 @@ ghost use Rattle.sx_rewrite.specs.Needed.{needed};
 ghost use Rattle.sx_rewrite.specs.Stored.{certificate_at};
 ghost use Rattle.sx_rewrite.specs.AcceptedView.{accepted};
 
-use crate::lowered_subject::{lowered_subject, subject_of};
+use crate::lowered_subject::lowered_subject;
 use crate::put_terms::PutTerms;
 use crate::source::Source;
+use crate::subject_variable::premise_variable;
 use std::alloc::Global;
 use sx_plain::Measure;
 use sx_rules::{Hyps, Judgement, Premise, Proof, RuleSet};
@@ -99,34 +99,6 @@ fn put_subject(
             None => Ok(()),
         },
         None => Ok(()),
-    }
-}
-
-/// The variable that is the subject of the premise.
-fn premise_variable(set: &RuleSet, premise: &Judgement) -> Option<u32>
-    ensures { MatchOption result
-        ((v : ℕ) (rest : List Tree) →
-        subjects_of (subjects_in (forms_in set.now)) (judgement premise.now)
-        ≡ hole v ∷ rest → ⊥)
-        (λ v. (rest : List Tree)
-        × (subjects_of (subjects_in (forms_in set.now)) (judgement premise.now)
-        ≡ hole v ∷ rest)) }
-{
-    match subject_of(set, premise) {
-        Some(term) => variable_of(term),
-        None => None,
-    }
-}
-
-/// The number of the variable that the term is.
-fn variable_of(term: &Term) -> Option<u32>
-    ensures { MatchOption result ((v : ℕ) → tree term.now ≡ hole v → ⊥)
-        (λ v. tree term.now ≡ hole v) }
-{
-    match term {
-        Term::Node { label: _, kids: _ } => None,
-        Term::Lex { kind: _, text: _ } => None,
-        Term::Var(variable) => Some(*variable),
     }
 }
 

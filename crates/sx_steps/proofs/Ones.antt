@@ -10,17 +10,13 @@ use Rattle.sx_steps.specs.declared.step_error.StepError.TheVariants as errors
 use Rattle.sx_steps.specs.Steps.{Then, Goes, NoTries, Trying, GoesOn, AndThen}
 use Rattle.sx_steps.specs.Held.{Held, IsLong}
 use Rattle.sx_steps.specs.Lower.{Lower}
-use Rattle.sx_steps.specs.Agree.{IsNoReadFault, AreReadings, Agree, IsSure, AnswersBy}
+use Rattle.sx_steps.specs.Agree.{IsNoReadFault, IsSure, AnswersBy}
 
 -- ---- steps
 
 -- the step has one result, read faults aside
 abbrev pub IsOne : {A : Type 0} → (Result A Stop → Type 0) → Type 0
 IsOne {A} step = (x y : Result A Stop) → step x → step y → IsNoReadFault x → IsNoReadFault y → x ≡ y
-
--- so it has, but for the readings that a stop shows
-abbrev pub IsNearlyOne : {A : Type 0} → (Result A Stop → Type 0) → Type 0
-IsNearlyOne {A} step = (x y : Result A Stop) → step x → step y → IsNoReadFault x → IsNoReadFault y → Agree x y
 
 pub ok_same : {A B : Type 0} (a b : A) → ◌≡◌ {A = Result A B} (Ok a) (Ok b) → a ≡ b
 ok_same a b e = cc
@@ -37,9 +33,6 @@ some_same a b e = cc
 pub none_some : {A : Type 0} (a : A) → ◌≡◌ {A = Option A} None (Some a) → ⊥
 none_some a e = cc
 
-pub nearly : {A : Type 0} (step : Result A Stop → Type 0) → IsOne step → IsNearlyOne step
-nearly step one x y h k n m = inl (one x y h k n m)
-
 module _ {A B : Type 0} (first : Result A Stop → Type 0) (next : A → Result B Stop → Type 0) (one : IsOne first) (more : (given : A) → first (Ok given) → IsOne (next given)) where
   goes_one : (g k : Result A Stop) (x y : Result B Stop) → first g → first k → Goes next g x → Goes next k y → IsNoReadFault x → IsNoReadFault y → x ≡ y
   goes_one (Ok a) (Ok b) x y f e h j n m =
@@ -53,35 +46,6 @@ module _ {A B : Type 0} (first : Result A Stop → Type 0) (next : A → Result 
 
   pub then_one : IsOne (Then first next)
   then_one x y h k n m = goes_one h.given k.given x y h.begins k.begins h.goes k.goes n m
-
--- results that agree with others are no read faults with them, and neither is a value
-both_values : {A : Type 0} (a b : A) → Agree {A = A} (Ok a) (Ok b) → a ≡ b
-both_values a b (inl same) = ok_same a b same
-both_values a b (inr none) = absurd none
-
-value_stop : {A : Type 0} (a : A) (s : Stop) → Agree (Ok a) (Err s) → ⊥
-value_stop a s (inl same) = ok_no_err a s same
-value_stop a s (inr none) = none
-
-stops_agree : {A B : Type 0} (s t : Stop) → Agree {A = A} (Err s) (Err t) → Agree {A = B} (Err s) (Err t)
-stops_agree s t (inl same) = inl (ap (λ (z : Stop). Err z) (err_same s t same))
-stops_agree s t (inr differ) = inr differ
-
-agree_as : {B : Type 0} (x y z w : Result B Stop) → x ≡ z → y ≡ w → Agree z w → Agree x y
-agree_as {B = B} x y z w e f agree = subst (λ (v : Result B Stop). Agree v y) (sym e) (subst (λ (v : Result B Stop). Agree z v) (sym f) agree)
-
-module _ {A B : Type 0} (first : Result A Stop → Type 0) (next : A → Result B Stop → Type 0) (one : IsNearlyOne first) (more : (given : A) → first (Ok given) → IsNearlyOne (next given)) where
-  goes_nearly : (g k : Result A Stop) (x y : Result B Stop) → first g → first k → Goes next g x → Goes next k y → IsNoReadFault x → IsNoReadFault y → Agree x y
-  goes_nearly (Ok a) (Ok b) x y f e h j n m =
-      let same = both_values a b (one (Ok a) (Ok b) f e tt tt) in
-      more a f x y h (subst (λ (z : A). next z y) (sym same) j) n m
-  goes_nearly (Ok a) (Err s) x y f e h j n m = absurd (value_stop a s (one (Ok a) (Err s) f e tt (subst (λ (z : Result B Stop). IsNoReadFault z) j m)))
-  goes_nearly (Err s) (Ok b) x y f e h j n m = absurd (value_stop b s (one (Ok b) (Err s) e f tt (subst (λ (z : Result B Stop). IsNoReadFault z) h n)))
-  goes_nearly (Err s) (Err t) x y f e h j n m =
-      agree_as x y (Err s) (Err t) h j (stops_agree s t (one (Err s) (Err t) f e (subst (λ (z : Result B Stop). IsNoReadFault z) h n) (subst (λ (z : Result B Stop). IsNoReadFault z) j m)))
-
-  pub then_nearly : IsNearlyOne (Then first next)
-  then_nearly x y h k n m = goes_nearly h.given k.given x y h.begins k.begins h.goes k.goes n m
 
 -- ---- steps with tries
 
@@ -144,9 +108,9 @@ module _ (Related : Stop → Stop → Type 0) where
         let both = goes_on_by h.given k.given x y h.before h.after k.before k.after h.begins k.begins h.goes k.goes p q in
         (both.0, sums m n h.before h.after k.before k.after h.sum k.sum both.1 both.2)
 
--- a step with one answer, and one with one answer but for stops that are so related
+-- a step with one answer
 module _ (Related : Stop → Stop → Type 0) (same : (s : Stop) → Related s s) where
-  equal_by : {A : Type 0} (x y : Result A Stop) → x ≡ y → AnswersBy Related (as_answer x) (as_answer y)
+  pub equal_by : {A : Type 0} (x y : Result A Stop) → x ≡ y → AnswersBy Related (as_answer x) (as_answer y)
   equal_by (Ok a) (Ok b) e = ok_same a b e
   equal_by (Ok a) (Err t) e = ok_no_err a t e
   equal_by (Err s) (Ok b) e = ok_no_err b s (sym e)
@@ -154,18 +118,6 @@ module _ (Related : Stop → Stop → Type 0) (same : (s : Stop) → Related s s
 
   pub trying_same : {A : Type 0} (Walks : ℕ → Type 0) (step : Result A Stop → Type 0) → IsOneNumber Walks → IsOne step → IsOneBy Related (Trying Walks step)
   trying_same Walks step one is_one = trying_by Related Walks step one (λ x y h k n m. equal_by x y (is_one x y h k n m))
-
-  module _ {A : Type 0} (step : Result A Stop → Type 0) (free : (s t : Stop) → step (Err s) → step (Err t) → AreReadings s t → Related s t) where
-    agree_by : (x y : Result A Stop) → step x → step y → Agree x y → AnswersBy Related (as_answer x) (as_answer y)
-    agree_by (Ok a) (Ok b) h k agree = both_values a b agree
-    agree_by (Ok a) (Err t) h k agree = value_stop a t agree
-    agree_by (Err s) (Ok b) h k (inl e) = ok_no_err b s (sym e)
-    agree_by (Err s) (Ok b) h k (inr none) = none
-    agree_by (Err s) (Err t) h k (inl e) = subst (Related s) (err_same s t e) (same s)
-    agree_by (Err s) (Err t) h k (inr show) = free s t h k show
-
-    pub trying_nearly : (Walks : ℕ → Type 0) → IsOneNumber Walks → IsNearlyOne step → IsOneBy Related (Trying Walks step)
-    trying_nearly Walks one nearly_one = trying_by Related Walks step one (λ x y h k n m. agree_by x y h k (nearly_one x y h k n m))
 
 pub trying_one : {A : Type 0} (Walks : ℕ → Type 0) (step : Result A Stop → Type 0) → IsOneNumber Walks → IsOne step → IsOneBy ◌≡◌ (Trying Walks step)
 trying_one Walks step one is_one = trying_same ◌≡◌ (λ s. refl) Walks step one is_one

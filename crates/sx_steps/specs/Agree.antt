@@ -1,5 +1,5 @@
 -- Results that agree, though two readings that they show may not be the same.
-use Rattle.std.specs.Prelude.{◌≡◌, ◌⊎◌, Result, Ok, Err}
+use Rattle.std.specs.Prelude.{◌≡◌, Result, Ok, Err}
 use Rattle.sx_words.specs.declared.text_defect.TextDefect.TheVariants as text_defect
 use Rattle.sx_words.specs.declared.print_defect.PrintDefect.TheVariants as print_defect
 use Rattle.sx_words.specs.declared.refusal.Defect.{Defect}
@@ -29,15 +29,6 @@ pub record AreReadings (s t : Stop) : Type 0 where
   pub file : s.file ≡ t.file
   pub place : s.refusal.place ≡ t.refusal.place
   pub shown : ShowReadings s.refusal.defect t.refusal.defect
-
--- the results are such stops
-abbrev pub DifferInReadings : {A : Type 0} → Result A Stop → Result A Stop → Type 0
-DifferInReadings (Err s) (Err t) = AreReadings s t
-DifferInReadings x y = ⊥
-
--- the results are equal, but for the two readings that they show where a text has more than one
-abbrev pub Agree : {A : Type 0} → Result A Stop → Result A Stop → Type 0
-Agree x y = (x ≡ y) ⊎ DifferInReadings x y
 
 -- memory was not out, and no read failed
 abbrev pub IsSure : {A : Type 0} → Result A StepError → Type 0

@@ -12,10 +12,14 @@ list_file name = name ++ codes ".der"
 abbrev pub interface_file : List ℕ → List ℕ
 interface_file name = name ++ codes ".int"
 
+-- the line that says of a name what was done, and with how many nodes
+abbrev pub nodes_line : (word name : List ℕ) → ℕ → List ℕ
+nodes_line word name nodes =
+    word ++ codes " " ++ name ++ codes ": " ++ decimal nodes ++ codes " nodes" ++ 10 ∷ []
+
 -- the line that tells how many nodes the derivation has
 abbrev pub built_line : List ℕ → ℕ → List ℕ
-built_line name nodes =
-    codes "built " ++ name ++ codes ": " ++ decimal nodes ++ codes " nodes" ++ 10 ∷ []
+built_line name nodes = nodes_line (codes "built") name nodes
 
 -- the three files, with these bytes, and the line
 abbrev pub built_plan : List ℕ → List ℕ → List ℕ → List ℕ → ℕ → Plan

@@ -6,7 +6,7 @@
 //! - `refused`, `refused_at`, `bad_line`, `bad_rules`: stops that more than one command has.
 //! - `read_file`: the bytes of a file on the shelf.
 //! - `Work` is what is left to do where no step stopped; `built_work` is that of a unit that was
-//!   built.
+//!   built, and `nodes_line` the line that says so.
 #![tactic(auto)]
 
 mod held;
@@ -24,5 +24,5 @@ pub use status::Status;
 pub use step_error::StepError;
 pub use stop::{Stop, about, refusal_line};
 pub use stops::{bad_line, bad_rules, refused, refused_at};
-pub use unit::built_work;
+pub use unit::{built_work, nodes_line};
 pub use work::{Output, Work};

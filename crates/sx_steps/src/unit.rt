@@ -1,7 +1,7 @@
 //! The three files of a unit that was built.
 
 ghost use Rattle.std.specs.Prelude.{◌≡◌, ◌++◌, IfOk, [], ◌∷◌};
-ghost use Rattle.sx_steps.specs.Unit.{built_line as line_of_built, built_plan};
+ghost use Rattle.sx_steps.specs.Unit.{nodes_line as line_of_nodes, built_plan};
 ghost use Rattle.sx_steps.specs.Work.{plan_of, file_of};
 
 use crate::names::with_suffix;
@@ -34,11 +34,13 @@ fn three(
     Ok(files)
 }
 
-/// The line that tells how many nodes the derivation has.
-fn built_line(alloc: Global, name: &Text, nodes: u64) -> Result<Vec<u8>, NoMemory>
-    ensures { IfOk result (λ bytes. bytes.items ≡ line_of_built name.now nodes) }
+/// The line that says of a name what was done, and with how many nodes: the word, the name and the
+/// number of nodes. The one refusal is out of memory.
+pub fn nodes_line(alloc: Global, word: &str, name: &Text, nodes: u64) -> Result<Vec<u8>, NoMemory>
+    ensures { IfOk result (λ bytes. bytes.items ≡ line_of_nodes word.now name.now nodes) }
 {
-    let mut bytes = Vec::from_slice(alloc, b"built ")?;
+    let mut bytes = Vec::from_slice(alloc, word.as_bytes())?;
+    bytes.push(b' ')?;
     bytes.extend_from_slice(name.bytes())?;
     bytes.extend_from_slice(b": ")?;
     let digits = nodes.to_string(alloc)?;
@@ -63,6 +65,6 @@ pub fn built_work(
     let list = output(alloc, name, ".der", list)?;
     let interface = output(alloc, name, ".int", interface)?;
     let files = three(alloc, base, list, interface)?;
-    let lines = built_line(alloc, name, nodes)?;
+    let lines = nodes_line(alloc, "built", name, nodes)?;
     Ok(Work { files, lines })
 }

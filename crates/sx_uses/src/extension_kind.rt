@@ -16,7 +16,7 @@ use sx_words::{Defect, ExtensionDefect};
 
 /// The extensions that are written for a language.
 #[derive(Clone, Copy)]
-pub(crate) struct ExtensionKind<'a> {
+pub struct ExtensionKind<'a> {
     /// The name of the language.
     pub language: &'a Text,
 }

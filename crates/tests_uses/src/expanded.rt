@@ -30,7 +30,7 @@ use sx_expand::{Expanded, expand};
 use sx_extcheck::Budgets;
 use sx_notation::Language;
 use sx_outside::MemShelf;
-use sx_rewrite::{Accepted, Lowered, RewriteError, places_of, rewrite};
+use sx_rewrite::{Accepted, Lowered, RewriteError, rewrite};
 use sx_rules::{Entry, Goal, Hyps, Proof, preorder};
 use sx_steps::StepError;
 use sx_term::{Steps, Term, Text};
@@ -206,7 +206,7 @@ fn tell_sorted<L: Ledger>(alloc: Global, set: &Accepted, asked: Asked, steps: &m
     requires lowered { depth_of (tree asked.lowered.now) ≤ 1000 }
 {
     set.facts();
-    let places = places_of(set.base_rules(), asked.goal.form);
+    let places = set.base_rules().places_of(asked.goal.form);
     if subject_count(places) > 1 {
         return Told::Unasked;
     }

@@ -25,7 +25,7 @@ use std::alloc::Global;
 use std::sync::ledger::Ledger;
 use sx_derive::{derive, derive_list};
 use sx_expand::{Expanded, derivation_of, expand_open};
-use sx_rewrite::{Accepted, Lowered, RewriteError, places_of, rewrite_open};
+use sx_rewrite::{Accepted, Lowered, RewriteError, rewrite_open};
 use sx_rules::{Entry, Hyps, Judgement, Place, Proof, RuleSet};
 use sx_term::{Shapes, Steps, Term};
 
@@ -189,7 +189,7 @@ fn is_held(base: &RuleSet, given: &Hyps) -> bool
             if !apart.is_empty() {
                 return false;
             }
-            places_fit(base.shapes(), places_of(base, it.form), &it.places)
+            places_fit(base.shapes(), base.places_of(it.form), &it.places)
         }
         _ => false,
     }

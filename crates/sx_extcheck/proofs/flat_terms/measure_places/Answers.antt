@@ -2,7 +2,7 @@ use Rattle.std.proofs.Common.{sym, ◌∙◌, arith}
 use Rattle.sx_term.specs.Term.{tree}
 use Rattle.sx_plain.specs.Views.{table_of}
 use Rattle.sx_rewrite.specs.Rewriting.{first_over}
-use Rattle.sx_rewrite.specs.SubjectTerms.{subject_mask}
+use Rattle.sx_rules.specs.SubjectTerms.{subject_mask}
 use Rattle.sx_rewrite.proofs.PlainGood.{held-at}
 use Rattle.sx_extcheck.specs.FlatTerms.{CanMeasure}
 use Rattle.sx_extcheck.proofs.Measuring.{told, picked_from, picked-tell, picked-pass, picked-skip, picked-done}

@@ -1,7 +1,7 @@
 use Rattle.std.proofs.Common.{◌≡◌}
 use Rattle.sx_plain.specs.Views.{table_of}
 use Rattle.sx_rewrite.specs.Rewriting.{first_over}
-use Rattle.sx_rewrite.specs.SubjectTerms.{subject_mask}
+use Rattle.sx_rules.specs.SubjectTerms.{subject_mask}
 use Rattle.sx_extcheck.proofs.Measuring.{picked_from}
 use Rattle.sx_extcheck.proofs.flat_terms.measure_places.Given as goal
 

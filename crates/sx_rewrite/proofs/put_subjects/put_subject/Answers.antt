@@ -6,7 +6,7 @@ use Rattle.sx_rules.specs.Discipline.{subjects_of}
 use Rattle.sx_rules.specs.ProofView.{proof}
 use Rattle.sx_rules.specs.Sets.{forms_in, bare_rules_in}
 use Rattle.sx_rules.specs.Views.{judgement, hypotheses, subjects_in}
-use Rattle.sx_rewrite.specs.SubjectTerms.{IsSubject}
+use Rattle.sx_rules.specs.SubjectTerms.{IsSubject}
 use Rattle.sx_rewrite.proofs.SubjectTerms.{subject-shallow}
 use Rattle.sx_rewrite.proofs.PutSubjects.{subject-put, subject-lacks, nothing-put}
 use Rattle.sx_rewrite.proofs.put_subjects.put_subject.Goals as goal
