@@ -1,5 +1,6 @@
--- A language becomes one thing by extensions.
-use Rattle.std.proofs.Common.{◌≡◌, ◌≢◌, ℕ, List, [], ◌∷◌, inl, inr, ◌⊎◌}
+-- A language becomes one thing by extensions, or has one stop, but for the two readings that it
+-- shows of a line with more than two.
+use Rattle.std.proofs.Common.{◌≡◌, ◌≢◌, ℕ, ◌+◌, List, [], ◌∷◌, inl, inr, ◌⊎◌}
 use Rattle.std.proofs.Common.{refl, sym, ap, ◌∙◌, subst}
 use Rattle.std.specs.Prelude.{Result, Ok, Err, Some}
 use Rattle.sx_grammar.specs.Told.{shapes_of}
@@ -15,13 +16,14 @@ use Rattle.sx_extcheck.specs.Checks.{Check}
 use Rattle.sx_extension.specs.declared.extension.ReadExtension.{ReadExtension}
 use Rattle.sx_extension.specs.declared.extension_error.ExtensionError.{ExtensionError}
 use Rattle.sx_extension.specs.declared.extension_error.ExtensionError.TheVariants as extension
-use Rattle.sx_extension.specs.Laws.{SameExtension, ShowOtherReadings}
+use Rattle.sx_extension.specs.Alike.{ExtensionHasThree, ShowOtherReadings}
+use Rattle.sx_extension.specs.Laws.{SameExtension}
 use Rattle.sx_extension.proofs.OneExtension.{one_extension}
 use Rattle.sx_steps.specs.declared.stop.Stop.{Stop}
-use Rattle.sx_steps.specs.Agree.{Agree}
 use Rattle.sx_steps.specs.Steps.{NoTries, Untried}
-use Rattle.sx_steps.proofs.Ones.{IsNearlyOne, IsOneBy, some_same, none_some, no_tries_one}
-use Rattle.sx_steps.proofs.Ones.{trying_same, trying_nearly, and_then_by}
+use Rattle.sx_steps.proofs.Ones.{IsOneBy, some_same, none_some, no_tries_one}
+use Rattle.sx_steps.proofs.Ones.{trying_by, trying_same, and_then_by}
+use Rattle.sx_steps.proofs.Related.{IsOneAs}
 use Rattle.sx_steps.specs.declared.step_error.StepError.TheVariants as errors
 use Rattle.sx_uses.specs.ExtensionFile.{Extension, extension_file}
 use Rattle.sx_accepting.specs.AcceptanceStops.{acceptance_stop}
@@ -30,17 +32,18 @@ use Rattle.sx_accepting.specs.ExtendedLanguages.{BaseLanguage, ExtendedData, gro
 use Rattle.sx_accepting.specs.Extending.{ReadData, read_data, IsStated, HaveChecks}
 use Rattle.sx_accepting.specs.Extending.{check_after, with_extension, refusing_by, ReadsAfter}
 use Rattle.sx_accepting.specs.Extending.{Accepts, ExtendsBy, Extends}
-use Rattle.sx_accepting.specs.Laws.{IsAcceptedOver, SameButReadings, ExtendsAgree}
+use Rattle.sx_accepting.specs.Alike.{IsOfLine, StopsAtExtension, SameButReadings}
+use Rattle.sx_accepting.specs.Laws.{IsAcceptedOver, ExtendsAgree}
 use Rattle.sx_accepting.specs.ReadLanguage.{base_in}
 use Rattle.sx_accepting.proofs.OneChecked.{one_checked}
 use Rattle.sx_accepting.proofs.OneStop.{refused_rules_stop_alike}
-use Rattle.sx_accepting.proofs.SameRefusals.{not_lacking, same_refusal, line_readings}
+use Rattle.sx_accepting.proofs.SameRefusals.{not_lacking, same_refusal, same_lines, same_so}
 use Rattle.sx_accepting.proofs.AcceptedExtended.{longer_set}
 pub use Rattle.sx_accepting.proofs.AcceptedExtended.{extended_is_accepted}
 pub use Rattle.sx_accepting.proofs.AcceptedExtended.{accepted_begin, accepted_by}
 
-same_stop : (s : Stop) → SameButReadings s s
-same_stop s = inl refl
+same_stop : (IsFree : Stop → Type 0) (s : Stop) → SameButReadings IsFree s s
+same_stop IsFree s = inl refl
 
 read_same : (x y : ReadExtension) → SameExtension x y → read_data x ≡ read_data y
 read_same x y same = λ i. record {
@@ -60,34 +63,43 @@ module _ (l : BaseLanguage) (x : ExtendedData) (file : Extension) where
       e ≢ extension.Memory
   is_wanted e stop is = not_lacking (extension_stop told_of) extension.Memory refl e stop is
 
-  refused_nearly : (e d : ExtensionError) (s t : Stop) → (e ≡ d) ⊎ ShowOtherReadings e d →
+  -- the stop is about a line of the extension's file that has more than two readings
+  abbrev OfLine : Stop → Type 0
+  OfLine = IsOfLine told_of (ExtensionHasThree (ground_of l x) file.bytes)
+
+  refused_same : (e d : ExtensionError) (s t : Stop) →
+      (e ≡ d) ⊎ ShowOtherReadings (ground_of l x) file.bytes e d →
       extension_stop told_of e ≡ Some s → extension_stop told_of d ≡ Some t →
-      Agree {A = ReadData} (Err s) (Err t)
-  refused_nearly e d s t (inl same) h k =
-      inl (ap Err (same_refusal (extension_stop told_of) extension.Memory refl e d s t same h k))
-  refused_nearly e d s t (inr show) h k =
-      inr (line_readings told_of show.one show.other s t show.shown
-      (sym (ap (extension_stop told_of) show.first) ∙ h)
-      (sym (ap (extension_stop told_of) show.second) ∙ k))
+      SameButReadings OfLine s t
+  refused_same e d s t (inl same) h k =
+      inl (same_refusal (extension_stop told_of) extension.Memory refl e d s t same h k)
+  refused_same e d s t (inr show) h k =
+      same_lines told_of (ExtensionHasThree (ground_of l x) file.bytes) show.one show.other s t
+      (inr show.shown) (sym (ap (extension_stop told_of) show.first) ∙ h)
+      (sym (ap (extension_stop told_of) show.second) ∙ k)
 
-  reads_nearly : IsNearlyOne (ReadsAfter l x file)
-  reads_nearly (Ok a) (Ok b) h k f g =
-      inl (ap Ok (h.is ∙ read_same h.whole k.whole
-      (one_extension.found (ground_of l x) file.bytes h.whole k.whole h.states k.states) ∙
-      sym k.is))
-  reads_nearly (Ok a) (Err t) h k f g =
-      absurd (is_wanted k.0 t k.2 (one_extension.either (ground_of l x) file.bytes h.whole k.0
-      h.states k.1))
-  reads_nearly (Err s) (Ok b) h k f g =
-      absurd (is_wanted h.0 s h.2 (one_extension.either (ground_of l x) file.bytes k.whole h.0
-      k.states h.1))
-  reads_nearly (Err s) (Err t) h k f g =
-      refused_nearly h.0 k.0 s t (one_extension.refused (ground_of l x) file.bytes h.0 k.0 h.1 k.1
-      (is_wanted h.0 s h.2) (is_wanted k.0 t k.2)) h.2 k.2
+  module _ (IsFree : Stop → Type 0)
+      (so : (s : Stop) → ReadsAfter l x file (Err s) → OfLine s → IsFree s) where
+    reads_as : IsOneAs (SameButReadings IsFree) (ReadsAfter l x file)
+    reads_as (Ok a) (Ok b) h k f g =
+        h.is ∙ read_same h.whole k.whole
+        (one_extension.found (ground_of l x) file.bytes h.whole k.whole h.states k.states) ∙
+        sym k.is
+    reads_as (Ok a) (Err t) h k f g =
+        is_wanted k.0 t k.2 (one_extension.either (ground_of l x) file.bytes h.whole k.0 h.states
+        k.1)
+    reads_as (Err s) (Ok b) h k f g =
+        is_wanted h.0 s h.2 (one_extension.either (ground_of l x) file.bytes k.whole h.0 k.states
+        h.1)
+    reads_as (Err s) (Err t) h k f g =
+        same_so OfLine IsFree s t (so s h)
+        (refused_same h.0 k.0 s t
+        (one_extension.refused (ground_of l x) file.bytes h.0 k.0 h.1 k.1 (is_wanted h.0 s h.2)
+        (is_wanted k.0 t k.2)) h.2 k.2)
 
-  reads_by : IsOneBy SameButReadings (Untried (ReadsAfter l x file))
-  reads_by = trying_nearly SameButReadings same_stop (ReadsAfter l x file)
-      (λ s t h k show. inr show) NoTries no_tries_one reads_nearly
+    reads_by : IsOneBy (SameButReadings IsFree) (Untried (ReadsAfter l x file))
+    reads_by = trying_by (SameButReadings IsFree) NoTries (ReadsAfter l x file) no_tries_one
+        reads_as
 
 module _ (l : BaseLanguage) (budgets : Budgets) (file : List ℕ) (x : ExtendedData)
     (over : IsAcceptedOver l x) (bytes : List ℕ) (d : ReadData)
@@ -129,42 +141,85 @@ module _ (l : BaseLanguage) (budgets : Budgets) (file : List ℕ) (x : ExtendedD
       ap (λ (n : List ℕ). acceptance_stop file by (Refused n why)) same.1 in
       (some_same s t (sym is ∙ alike ∙ also), same.0)
 
-  accepts_by : IsOneBy SameButReadings (Accepts l budgets file x d)
-  accepts_by (Ok a) (Ok b) m n h k p q =
+  accepts_by : (IsFree : Stop → Type 0) →
+      IsOneBy (SameButReadings IsFree) (Accepts l budgets file x d)
+  accepts_by IsFree (Ok a) (Ok b) m n h k p q =
       let same = once m n (Ok h.0) (Ok k.0) h.1 k.1 in
       (h.2 ∙ ap (with_extension x d) same.1 ∙ sym k.2, same.0)
-  accepts_by (Ok a) (Err errors.Memory) m n h k p q = absurd q
-  accepts_by (Ok a) (Err (errors.Stopped t)) m n h k p q =
+  accepts_by IsFree (Ok a) (Err errors.Memory) m n h k p q = absurd q
+  accepts_by IsFree (Ok a) (Err (errors.Stopped t)) m n h k p q =
       absurd (not_stored m n h.0 k.0 t h.1 k.1 k.2)
-  accepts_by (Err errors.Memory) b m n h k p q = absurd p
-  accepts_by (Err (errors.Stopped s)) (Ok b) m n h k p q =
+  accepts_by IsFree (Err errors.Memory) b m n h k p q = absurd p
+  accepts_by IsFree (Err (errors.Stopped s)) (Ok b) m n h k p q =
       absurd (not_stored n m k.0 h.0 s k.1 h.1 h.2)
-  accepts_by (Err (errors.Stopped s)) (Err errors.Memory) m n h k p q = absurd q
-  accepts_by (Err (errors.Stopped s)) (Err (errors.Stopped t)) m n h k p q =
+  accepts_by IsFree (Err (errors.Stopped s)) (Err errors.Memory) m n h k p q = absurd q
+  accepts_by IsFree (Err (errors.Stopped s)) (Err (errors.Stopped t)) m n h k p q =
       let same = same_stops m n h.0 k.0 s t h.1 k.1 h.2 k.2 in
       (inl same.0, same.1)
 
 module _ (l : BaseLanguage) (budgets : Budgets) where
-  extends_one : (file : Extension) (x : ExtendedData) → IsAcceptedOver l x →
-      IsOneBy SameButReadings (ExtendsBy l budgets file x)
-  extends_one file x over =
-      and_then_by SameButReadings (Untried (ReadsAfter l x file))
-      (Accepts l budgets (extension_file file.header.name) x) (reads_by l x file)
+  extends_one : (IsFree : Stop → Type 0) (file : Extension) (x : ExtendedData) →
+      IsAcceptedOver l x →
+      ((s : Stop) → ReadsAfter l x file (Err s) → OfLine l x file s → IsFree s) →
+      IsOneBy (SameButReadings IsFree) (ExtendsBy l budgets file x)
+  extends_one IsFree file x over so =
+      and_then_by (SameButReadings IsFree) (Untried (ReadsAfter l x file))
+      (Accepts l budgets (extension_file file.header.name) x) (reads_by l x file IsFree so)
       (λ d before h. accepts_by l budgets (extension_file file.header.name) x over file.bytes d
-      h.0)
+      h.0 IsFree)
+
+  -- the first of some extensions is refused, or a later one
+  module _ (file : Extension) (files : List Extension) (x : ExtendedData) (s : Stop) where
+    at_first : ReadsAfter l x file (Err s) → OfLine l x file s →
+        StopsAtExtension l budgets x (file ∷ files) s
+    at_first stops line = record {
+      before = [];
+      this = file;
+      after = files;
+      parts = refl;
+      so_far = x;
+      tries = 0;
+      extends = (refl, refl);
+      stops = stops;
+      line = line;
+    }
+
+    at_later : (y : ExtendedData) (made : ℕ) → ExtendsBy l budgets file x (Ok y) made →
+        StopsAtExtension l budgets y files s → StopsAtExtension l budgets x (file ∷ files) s
+    at_later y made extended later = record {
+      before = file ∷ later.before;
+      this = later.this;
+      after = later.after;
+      parts = ap (λ (fs : List Extension). file ∷ fs) later.parts;
+      so_far = later.so_far;
+      tries = made + later.tries;
+      extends = record {
+        given = Ok y;
+        before = made;
+        after = later.tries;
+        begins = extended;
+        goes = later.extends;
+        sum = refl;
+      };
+      stops = later.stops;
+      line = later.line;
+    }
 
   -- extensions in order have one answer after what is accepted
-  pub extends_by : (files : List Extension) (x : ExtendedData) → IsAcceptedOver l x →
-      IsOneBy SameButReadings (Extends l budgets files x)
-  extends_by [] x over =
-      trying_same SameButReadings same_stop NoTries (λ result. result ≡ Ok x) no_tries_one
-      (λ a b h k f g. h ∙ sym k)
-  extends_by (file ∷ files) x over =
-      and_then_by SameButReadings (ExtendsBy l budgets file x) (Extends l budgets files)
-      (extends_one file x over)
-      (λ y before h. extends_by files y (accepted_by l budgets file x y before over h))
+  extends_by : (IsFree : Stop → Type 0) (files : List Extension) (x : ExtendedData) →
+      IsAcceptedOver l x → ((s : Stop) → StopsAtExtension l budgets x files s → IsFree s) →
+      IsOneBy (SameButReadings IsFree) (Extends l budgets files x)
+  extends_by IsFree [] x over so =
+      trying_same (SameButReadings IsFree) (same_stop IsFree) NoTries (λ result. result ≡ Ok x)
+      no_tries_one (λ a b h k f g. h ∙ sym k)
+  extends_by IsFree (file ∷ files) x over so =
+      and_then_by (SameButReadings IsFree) (ExtendsBy l budgets file x) (Extends l budgets files)
+      (extends_one IsFree file x over (λ s stops line. so s (at_first file files x s stops line)))
+      (λ y before h. extends_by IsFree files y (accepted_by l budgets file x y before over h)
+      (λ s later. so s (at_later file files x s y before h later)))
 
 pub extends_agree : ExtendsAgree
 extends_agree name bytes l stated budgets files a b m n h k p q =
-    extends_by (base_in l) budgets files (unextended l.language)
-    (accepted_begin name bytes l stated) a b m n h k p q
+    let start = unextended l.language in
+    extends_by (base_in l) budgets (StopsAtExtension (base_in l) budgets start files) files start
+    (accepted_begin name bytes l stated) (λ s at. at) a b m n h k p q

@@ -1,5 +1,5 @@
 -- Laws of languages with extensions.
-use Rattle.std.specs.Prelude.{◌≡◌, ◌⊎◌, ℕ, List, ◌∷◌, ◌++◌, map, Result, Ok, Err}
+use Rattle.std.specs.Prelude.{◌≡◌, ℕ, List, ◌∷◌, ◌++◌, map, Result, Ok, Err}
 use Rattle.sx_grammar.specs.Told.{shapes_of}
 use Rattle.sx_rules.specs.Views.{named}
 use Rattle.sx_rewrite.specs.declared.ext_rule.ExtRule.{ExtRule}
@@ -8,15 +8,18 @@ use Rattle.sx_rewrite.specs.Stored.{signature_of}
 use Rattle.sx_extcheck.specs.declared.budgets.Budgets.{Budgets}
 use Rattle.sx_extcheck.specs.Accepts.{HasUnsound}
 use Rattle.sx_words.specs.declared.position.Position.TheVariants.{Rule}
+use Rattle.sx_outside.specs.Files.{Files}
 use Rattle.sx_steps.specs.declared.stop.Stop.{Stop}
 use Rattle.sx_steps.specs.declared.step_error.StepError.{StepError}
 use Rattle.sx_steps.specs.declared.step_error.StepError.TheVariants as errors
-use Rattle.sx_steps.specs.Agree.{AreReadings, IsSure, AnswersBy}
+use Rattle.sx_steps.specs.Agree.{IsSure, AnswersBy}
+use Rattle.sx_steps.specs.Steps.{Untried}
 use Rattle.sx_steps.specs.TypeErrors.{IsTypeError}
 use Rattle.sx_uses.specs.ExtensionFile.{Extension, extension_file}
 use Rattle.sx_accepting.specs.ExtendedLanguages.{BaseLanguage, ExtendedData, unextended}
 use Rattle.sx_accepting.specs.Extending.{ReadData, bodies_in, ReadsAfter, check_after, Extends}
-use Rattle.sx_accepting.specs.ReadLanguage.{Stated, IsStated, base_in}
+use Rattle.sx_accepting.specs.Alike.{StopsAtLanguage, StopsAtExtension, SameButReadings}
+use Rattle.sx_accepting.specs.ReadLanguage.{Stated, IsStated, ReadsLanguage, base_in}
 
 -- the set is accepted over the shapes and the forms of the language
 pub record IsAcceptedOver (l : BaseLanguage) (x : ExtendedData) : Type 0 where
@@ -31,18 +34,23 @@ ExtendedIsAccepted = (name bytes : List ℕ) (l : Stated) → IsStated name byte
     Extends (base_in l) budgets files (unextended l.language) (Ok x) tries →
     IsAcceptedOver (base_in l) x
 
--- the stops are the same, but for the readings of a line that they show
-abbrev pub SameButReadings : Stop → Stop → Type 0
-SameButReadings s t = (s ≡ t) ⊎ AreReadings s t
+-- by the name and the files a language's file states one language or has one stop, read faults
+-- aside, but for the two readings that a stop shows of a line with more than two
+abbrev pub LanguagesAgree : Type 0
+LanguagesAgree = (name : List ℕ) (files : Files) (a b : Result Stated StepError) (m n : ℕ) →
+    Untried (ReadsLanguage name files) a m → Untried (ReadsLanguage name files) b n →
+    IsSure a → IsSure b → AnswersBy (SameButReadings (StopsAtLanguage name files)) a b × (m ≡ n)
 
 -- by the language, the files and the budgets there is one result and one number of tries, out of
--- memory aside, but for the two readings that a stop shows of a line
+-- memory aside, but for the two readings that a stop shows of a line with more than two
 abbrev pub ExtendsAgree : Type 0
 ExtendsAgree = (name bytes : List ℕ) (l : Stated) → IsStated name bytes l →
     (budgets : Budgets) (files : List Extension) (a b : Result ExtendedData StepError) (m n : ℕ) →
     Extends (base_in l) budgets files (unextended l.language) a m →
     Extends (base_in l) budgets files (unextended l.language) b n →
-    IsSure a → IsSure b → AnswersBy SameButReadings a b × (m ≡ n)
+    IsSure a → IsSure b →
+    AnswersBy (SameButReadings (StopsAtExtension (base_in l) budgets (unextended l.language) files))
+    a b × (m ≡ n)
 
 -- One of these extensions, which is read after those before it, has a rule that is sound by
 -- nothing, and the stop is about this rule, in the file of that extension.

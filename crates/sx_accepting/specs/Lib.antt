@@ -6,4 +6,5 @@ pub mod Refusals
 pub mod ExtendedLanguages
 pub mod ReadLanguage
 pub mod Extending
+pub mod Alike
 pub mod Laws

@@ -6,7 +6,8 @@ ghost use Rattle.sx_accepting.specs.Refusals.{
   RefusedExtensionsCanBeTold,
   RefusedRulesStopAlike,
 };
-ghost use Rattle.sx_accepting.specs.Laws.{ExtendedIsAccepted, ExtendsAgree, UnsoundIsFinal};
+ghost use Rattle.sx_accepting.specs.Laws.{ExtendedIsAccepted, LanguagesAgree, ExtendsAgree};
+ghost use Rattle.sx_accepting.specs.Laws.{UnsoundIsFinal};
 
 use sx_rewrite::Accepted;
 
@@ -39,8 +40,14 @@ pub fn extended_is_accepted()
     ensures { ExtendedIsAccepted }
 {}
 
+/// By the name and the files a language's file states one language or has one stop, out of memory
+/// and read faults aside, but for the two readings that a stop shows of a line with more than two.
+pub fn languages_agree()
+    ensures { LanguagesAgree }
+{}
+
 /// By the language, the files and the budgets there is one result and one number of tries, out of
-/// memory aside, but for the two readings that a stop shows of a line.
+/// memory aside, but for the two readings that a stop shows of a line with more than two.
 pub fn extends_agree()
     ensures { ExtendsAgree }
 {}

@@ -25,7 +25,7 @@ pub use extension_stops::bad_extension;
 pub use growing::extend_language;
 pub use language_stops::bad_language;
 pub use laws::{
-    extended_is_accepted, extends_agree, kept, refused_extensions_can_be_told,
+    extended_is_accepted, extends_agree, kept, languages_agree, refused_extensions_can_be_told,
     refused_rules_stop_alike, rejected_goals_are_sorted, unsound_is_final,
 };
 pub use read_language::{LanguageFile, read_language_file};

@@ -1,20 +1,22 @@
--- `build NAME` has one result, but for read faults and for readings that a stop shows where it is
--- free which these are.
-use Rattle.std.proofs.Common.{◌≡◌, ℕ, List, [], ◌∷◌, refl, inl, inr}
+-- `build NAME` has one result, but for read faults and for two readings that a stop shows of a text
+-- that has more.
+use Rattle.std.proofs.Common.{◌≡◌, ℕ, List, [], ◌∷◌, refl, ap, inl, inr}
 use Rattle.std.specs.Prelude.{Result, Ok, Err}
 use Rattle.sx_audit.specs.Meaning.{Meaning}
 use Rattle.sx_extcheck.specs.declared.budgets.Budgets.{Budgets}
 use Rattle.sx_unit.specs.Written.{UnitData}
 use Rattle.sx_outside.specs.Files.{Files}
 use Rattle.sx_steps.specs.declared.stop.Stop.{Stop}
-use Rattle.sx_steps.specs.Agree.{AreReadings, IsNoReadFault, IsSure, AnswersBy}
+use Rattle.sx_steps.specs.Agree.{IsNoReadFault, IsSure, AnswersBy}
+use Rattle.sx_steps.specs.Refusal.{status_of, line_of}
 use Rattle.sx_steps.specs.Steps.{NoTries, Untried}
 use Rattle.sx_steps.specs.Stop.{Gives}
 use Rattle.sx_steps.proofs.Ones.{IsOne, IsOneBy, then_one, and_then_by, as_answer, answers_so}
-use Rattle.sx_steps.proofs.Ones.{trying_by, trying_same, trying_nearly, no_tries_one}
+use Rattle.sx_steps.proofs.Ones.{trying_by, trying_same, no_tries_one}
 use Rattle.sx_walking.specs.Laws.{AnswerAlike}
 use Rattle.sx_accepting.specs.ReadLanguage.{Stated, ReadsLanguage}
-use Rattle.sx_accepting.proofs.OneLanguageFile.{reads_language_nearly}
+use Rattle.sx_accepting.specs.Alike.{StopsAtLanguage, SameButReadings}
+use Rattle.sx_accepting.proofs.OneLanguageFile.{languages_agree}
 use Rattle.sx_auditing.specs.Laws.{ShowsOnce}
 use Rattle.sx_auditing.specs.Shows.{Shows}
 use Rattle.sx_headers.specs.ReadModule.{Module}
@@ -72,8 +74,11 @@ module _ (units : UnitsAgree) (once : ShowsOnce) (name : List ℕ) (budgets : Bu
   abbrev Related : Stop → Stop → Type 0
   Related = SameButShown name budgets auditors files
 
+  same_alike : (s r : Stop) → s ≡ r → Related s r
+  same_alike s r e = inl (record { status = ap status_of e; line = ap line_of e })
+
   alike : (s : Stop) → Related s s
-  alike s = inl (record { status = refl; line = refl })
+  alike s = same_alike s s refl
 
   -- one module
   module _ (t : IsTurn name budgets auditors files) (language : HasLanguage (given_at t)) where
@@ -137,17 +142,21 @@ module _ (units : UnitsAgree) (once : ShowsOnce) (name : List ℕ) (budgets : Bu
 
   -- the files
   module _ (ms : List Module) (reads : ReadsModules name files (Ok ms)) where
-    of_language : (s r : Stop) → ReadsLanguage (language_in ms) files (Err s) →
-        ReadsLanguage (language_in ms) files (Err r) → AreReadings s r → Related s r
-    of_language s r h k show =
-        inr (show, inl (record { modules = ms; reads = reads; stops = h }))
+    abbrev SameLanguages : Stop → Stop → Type 0
+    SameLanguages = SameButReadings (StopsAtLanguage (language_in ms) files)
+
+    of_language : (s r : Stop) → SameLanguages s r → Related s r
+    of_language s r (inl same) = same_alike s r same
+    of_language s r (inr (are, stops)) =
+        inr (are, inl (record { modules = ms; reads = reads; stops = stops }))
 
     read_by : IsOneBy Related (BuildsRead budgets auditors files ms)
     read_by =
         and_then_by Related (Untried (ReadsLanguage (language_in ms) files))
         (BuildsOver budgets auditors files ms)
-        (trying_nearly Related alike (ReadsLanguage (language_in ms) files) of_language NoTries
-        no_tries_one (reads_language_nearly (language_in ms) files))
+        (λ a b m n h k p q.
+        let one = languages_agree (language_in ms) files a b m n h k p q in
+        (answers_so SameLanguages Related of_language a b one.0, one.1))
         (λ l before h. over_by (record {
           modules = ms;
           reads = reads;

@@ -10,6 +10,7 @@ use Rattle.sx_steps.specs.Agree.{AreReadings, IsSure, AnswersBy}
 use Rattle.sx_steps.specs.TypeErrors.{IsTypeError}
 use Rattle.sx_steps.specs.Work.{Plan}
 use Rattle.sx_walking.specs.Laws.{AnswerAlike}
+use Rattle.sx_accepting.specs.Alike.{StopsAtLanguage}
 use Rattle.sx_accepting.specs.ReadLanguage.{Stated, ReadsLanguage}
 use Rattle.sx_headers.specs.ReadModule.{Module}
 use Rattle.sx_importing.specs.ReadImports.{ImportData, ReadsImports}
@@ -52,15 +53,14 @@ given_at t = given_in t.found.language t.own t.imports
 
 -- ---- one result
 
--- the stop is that of the file of the language
+-- the stop is that of the file of the language, about a line that has more than two readings
 pub record IsOfLanguage (name : List ℕ) (files : Files) (stop : Stop) : Type 0 where
   pub modules : List Module
   pub reads : ReadsModules name files (Ok modules)
-  pub stops : ReadsLanguage (language_in modules) files (Err stop)
+  pub stops : StopsAtLanguage (language_in modules) files stop
 
--- the text of which the stop shows two readings is one where it is free which two these are: a line
--- of the language's file, or a text of the unit of one of the modules, of its imports or of its
--- extensions
+-- the text of which the stop shows two readings is one that has more than two: a line of the
+-- language's file, or a text of the unit of one of the modules, of its imports or of its extensions
 abbrev pub ShowsFree : (name : List ℕ) → Budgets → List Meaning → Files → Stop → Type 0
 ShowsFree name budgets auditors files s = IsOfLanguage name files s
     ⊎ ((t : IsTurn name budgets auditors files) × ShowsFreeOfUnit budgets files (given_at t) s)

@@ -31,8 +31,8 @@ pub fn built_have_headline()
 
 /// By the name, the budgets, the auditors and the files there is one result and one number of
 /// tries, but for read faults and out of memory. Two readings that a refusal shows of a text of a
-/// module or of an import's row are the same two in the same order, unless it has more than two; of
-/// a line of the language's or an extension's file it is free which two are shown.
+/// module, of an import's row, or of a line of the language's or an extension's file are the same
+/// two in the same order, unless it has more than two.
 pub fn builds_agree()
     ensures { BuildsAgree }
 {

@@ -12,19 +12,19 @@ use Rattle.sx_uses.specs.ExtensionFile.{Extension, extension_file}
 use Rattle.sx_uses.specs.Laws.{AnswerAlike}
 use Rattle.sx_uses.specs.ReadExtension.{ReadsFile}
 use Rattle.sx_uses.specs.ReadUses.{ReadsUses}
-use Rattle.sx_accepting.specs.ExtendedLanguages.{ExtendedData, unextended}
-use Rattle.sx_accepting.specs.Extending.{Extends}
+use Rattle.sx_accepting.specs.Alike.{StopsAtLanguage, StopsAtExtension}
+use Rattle.sx_accepting.specs.ExtendedLanguages.{unextended}
 use Rattle.sx_accepting.specs.Laws.{StopsAtUnsound}
 use Rattle.sx_accepting.specs.ReadLanguage.{Stated, ReadsLanguage, base_in}
 use Rattle.sx_check.specs.CheckExtension.{ChecksExtension}
 
 -- ---- one result
 
--- the stop is that of the file of the language
+-- the stop is that of the file of the language, about a line that has more than two readings
 pub record IsOfLanguage (name : List ℕ) (files : Files) (stop : Stop) : Type 0 where
   pub read : Extension
   pub reads : ReadsFile files name (Ok read)
-  pub stops : ReadsLanguage read.header.language files (Err stop)
+  pub stops : StopsAtLanguage read.header.language files stop
 
 -- the extensions that are reached from the one with this name, and the language of all of them
 pub record IsReached (name : List ℕ) (files : Files) : Type 0 where
@@ -36,21 +36,20 @@ pub record IsReached (name : List ℕ) (files : Files) : Type 0 where
   pub reached : ReadsUses (extension_file name) read.header.language (name ∷ []) files
       (Ok extensions)
 
--- these are read and accepted with this answer, and so many tries
-abbrev pub ExtendsReached : (name : List ℕ) (budgets : Budgets) (files : Files) →
-    IsReached name files → Result ExtendedData StepError → ℕ → Type 0
-ExtendsReached name budgets files r answer tries =
-    Extends (base_in r.language) budgets r.extensions (unextended r.language.language) answer tries
+-- one of these is refused, which is read after those before it
+abbrev pub StopsAtReached : (name : List ℕ) → Budgets → (files : Files) → IsReached name files →
+    Stop → Type 0
+StopsAtReached name budgets files r stop =
+    StopsAtExtension (base_in r.language) budgets (unextended r.language.language) r.extensions stop
 
--- the stop is that of one of the extensions, which is read or accepted after those before it
+-- the stop is that of one of the extensions, about a line that has more than two readings
 pub record IsOfExtension (name : List ℕ) (budgets : Budgets) (files : Files) (stop : Stop) : Type 0
   where
     pub from : IsReached name files
-    pub tries : ℕ
-    pub stops : ExtendsReached name budgets files from (Err (errors.Stopped stop)) tries
+    pub stops : StopsAtReached name budgets files from stop
 
--- The stops give the same status and the same line, but for the two readings that they show of a
--- line of the language's file or of an extension's, where it is free which two these are.
+-- the stops give the same status and the same line, but for the two readings that they show of a
+-- line of the language's file or of an extension's that has more than two
 abbrev pub SameButLines : (name : List ℕ) → Budgets → Files → Stop → Stop → Type 0
 SameButLines name budgets files s t =
     AnswerAlike s t

@@ -13,7 +13,7 @@ pub fn checks_keep_promise()
 
 /// By the name, the budgets and the files there is one result and one number of tries, but for read
 /// faults and out of memory; which two readings a stop shows of a line of a language's or an
-/// extension's file is free.
+/// extension's file is free where the line has more than two.
 pub fn checks_agree()
     ensures { ChecksAgree }
 {

@@ -1,5 +1,5 @@
--- `compile NAME` has one result, but for read faults and for readings that a stop shows where it is
--- free which these are.
+-- `compile NAME` has one result, but for read faults and for two readings that a stop shows of a
+-- text that has more.
 use Rattle.std.proofs.Common.{◌≡◌, ℕ, List, [], ◌∷◌, ◌++◌, refl, sym, ap, ◌∙◌, inl, inr, arith}
 use Rattle.std.specs.Prelude.{Result, Ok, Err, codes}
 use Rattle.sx_words.specs.Lines.{line_text}
@@ -11,15 +11,16 @@ use Rattle.sx_interface.specs.Headers.{HeaderParts}
 use Rattle.sx_unit.specs.Written.{UnitData}
 use Rattle.sx_outside.specs.Files.{Files}
 use Rattle.sx_steps.specs.declared.stop.Stop.{Stop}
-use Rattle.sx_steps.specs.Agree.{AreReadings, AnswersBy}
+use Rattle.sx_steps.specs.Agree.{AnswersBy}
 use Rattle.sx_steps.specs.Refusal.{status_of, line_of}
 use Rattle.sx_steps.specs.Steps.{NoTries, Untried}
 use Rattle.sx_steps.proofs.Ones.{IsOne, IsOneBy, then_one, and_then_by, as_answer, answers_so}
-use Rattle.sx_steps.proofs.Ones.{trying_by, trying_same, trying_nearly, no_tries_one}
+use Rattle.sx_steps.proofs.Ones.{trying_by, trying_same, no_tries_one}
 use Rattle.sx_uses.specs.Laws.{AnswerAlike}
 use Rattle.sx_walking.specs.Reached.{TellsCycle}
 use Rattle.sx_accepting.specs.ReadLanguage.{Stated, ReadsLanguage}
-use Rattle.sx_accepting.proofs.OneLanguageFile.{reads_language_nearly}
+use Rattle.sx_accepting.specs.Alike.{StopsAtLanguage, SameButReadings}
+use Rattle.sx_accepting.proofs.OneLanguageFile.{languages_agree}
 use Rattle.sx_auditing.specs.Laws.{ShowsOnce}
 use Rattle.sx_auditing.specs.Shows.{Shows}
 use Rattle.sx_headers.specs.ReadModule.{Module, ReadsModule}
@@ -70,8 +71,11 @@ module _ (units : UnitsAgree) (once : ShowsOnce) (name : List ℕ) (budgets : Bu
   abbrev Related : Stop → Stop → Type 0
   Related = SameButShown name budgets files
 
+  same_alike : (s t : Stop) → s ≡ t → Related s t
+  same_alike s t e = inl (record { status = ap status_of e; line = ap line_of e })
+
   alike : (s : Stop) → Related s s
-  alike s = inl (record { status = refl; line = refl })
+  alike s = same_alike s s refl
 
   -- the unit
   module _ (f : IsFound name files) where
@@ -107,16 +111,20 @@ module _ (units : UnitsAgree) (once : ShowsOnce) (name : List ℕ) (budgets : Bu
           imported = h.0;
         }))
 
-    of_language : (s t : Stop) → ReadsLanguage m.read.header.language files (Err s) →
-        ReadsLanguage m.read.header.language files (Err t) → AreReadings s t → Related s t
-    of_language s t h k show = inr (show, inl (record { from = m; stops = h }))
+    abbrev SameLanguages : Stop → Stop → Type 0
+    SameLanguages = SameButReadings (StopsAtLanguage m.read.header.language files)
+
+    of_language : (s t : Stop) → SameLanguages s t → Related s t
+    of_language s t (inl same) = same_alike s t same
+    of_language s t (inr (are, stops)) = inr (are, inl (record { from = m; stops = stops }))
 
     few_by : IsOneBy Related (CompilesFew name budgets auditors files m.read)
     few_by =
         and_then_by Related (Untried (ReadsLanguage m.read.header.language files))
         (CompilesOver name budgets auditors files m.read)
-        (trying_nearly Related alike (ReadsLanguage m.read.header.language files) of_language
-        NoTries no_tries_one (reads_language_nearly m.read.header.language files))
+        (λ a b i j h k p q.
+        let one = languages_agree m.read.header.language files a b i j h k p q in
+        (answers_so SameLanguages Related of_language a b one.0, one.1))
         (λ l before h. over_by l h.0)
 
   module _ (m : Module) (reads : ReadsModule (module_file name) name files (Ok m)) where

@@ -10,7 +10,7 @@ use Rattle.sx_steps.specs.Agree.{AreReadings, IsSure, AnswersBy}
 use Rattle.sx_steps.specs.TypeErrors.{IsTypeError}
 use Rattle.sx_steps.specs.Work.{Plan}
 use Rattle.sx_uses.specs.Laws.{AnswerAlike}
-use Rattle.sx_accepting.specs.ReadLanguage.{ReadsLanguage}
+use Rattle.sx_accepting.specs.Alike.{StopsAtLanguage}
 pub use Rattle.sx_compiling.specs.Laws.{HasNoType, HasUnsoundRule}
 use Rattle.sx_compiling.specs.Laws.{ShowsFree as ShowsFreeOfUnit}
 use Rattle.sx_compiling.specs.Reached.{HasDialect}
@@ -19,13 +19,13 @@ use Rattle.sx_compile.specs.Found.{IsModule, IsFound, given_from}
 
 -- ---- one result
 
--- the stop is that of the file of the language
+-- the stop is that of the file of the language, about a line that has more than two readings
 pub record IsOfLanguage (name : List ℕ) (files : Files) (stop : Stop) : Type 0 where
   pub from : IsModule name files
-  pub stops : ReadsLanguage from.read.header.language files (Err stop)
+  pub stops : StopsAtLanguage from.read.header.language files stop
 
--- the text of which the stop shows two readings is one where it is free which two these are: a line
--- of the language's file, or a text of the unit's module, of its imports or of its extensions
+-- the text of which the stop shows two readings is one that has more than two: a line of the
+-- language's file, or a text of the unit's module, of its imports or of its extensions
 abbrev pub ShowsFree : (name : List ℕ) → Budgets → Files → Stop → Type 0
 ShowsFree name budgets files s = IsOfLanguage name files s
     ⊎ ((f : IsFound name files) × ShowsFreeOfUnit budgets files (given_from f) s)

@@ -1,5 +1,5 @@
--- The steps that make a unit have one result, but for read faults and for readings that a stop
--- shows where it is free which these are.
+-- The steps that make a unit have one result, but for read faults and for two readings that a stop
+-- shows of a text that has more.
 use Rattle.std.proofs.Common.{◌≡◌, ◌≢◌, ℕ, List, [], refl, sym, ap, ◌∙◌, subst, inl, inr, ◌⊎◌}
 use Rattle.std.specs.Prelude.{Result, Ok, Err, Some, map, option_map, slice_get}
 use Rattle.std.proofs.lemmas.Option.{slice_get-map, get_or_from_slice_get}
@@ -22,8 +22,6 @@ use Rattle.sx_words.specs.declared.print_defect.PrintDefect.TheVariants as print
 use Rattle.sx_words.specs.declared.refusal.Defect.TheVariants as defect
 use Rattle.sx_steps.specs.Refusal.{about, status_of, line_of}
 use Rattle.sx_steps.specs.declared.stop.Stop.{Stop}
-use Rattle.sx_steps.specs.declared.step_error.StepError.{StepError}
-use Rattle.sx_steps.specs.declared.step_error.StepError.TheVariants as errors
 use Rattle.sx_steps.specs.Agree.{IsNoReadFault, AreReadings, AnswersBy}
 use Rattle.sx_steps.specs.Steps.{NoTries, Untried}
 use Rattle.sx_steps.specs.Unit.{interface_file}
@@ -32,9 +30,9 @@ use Rattle.sx_steps.proofs.Ones.{trying_same, no_tries_one, some_same}
 use Rattle.sx_uses.specs.Laws.{AnswerAlike}
 use Rattle.sx_uses.specs.ReadUses.{ReadsUses}
 use Rattle.sx_uses.proofs.Agreeing.{uses_by}
-use Rattle.sx_accepting.specs.ExtendedLanguages.{ExtendedData, unextended}
+use Rattle.sx_accepting.specs.Alike.{StopsAtExtension, SameButReadings}
+use Rattle.sx_accepting.specs.ExtendedLanguages.{unextended}
 use Rattle.sx_accepting.specs.Extending.{Extends}
-use Rattle.sx_accepting.specs.Laws.{SameButReadings}
 use Rattle.sx_accepting.specs.ReadLanguage.{base_in}
 use Rattle.sx_accepting.proofs.OneExtended.{extends_agree}
 use Rattle.sx_accepting.proofs.SameRefusals.{not_lacking, same_refusal, readings_as}
@@ -49,7 +47,7 @@ use Rattle.sx_compiling.specs.ModuleStops.{module_stop}
 use Rattle.sx_compiling.specs.CompileModule.{Compiles, CompilingTries}
 use Rattle.sx_compiling.specs.Given.{Given, interfaces_in, seen_in}
 use Rattle.sx_compiling.specs.MakeUnit.{MakesIn, MakesSeeing, MakesExtended, MakesReached}
-use Rattle.sx_compiling.specs.Reached.{HasLanguage, IsReached, ExtendsReached, HasDialect}
+use Rattle.sx_compiling.specs.Reached.{HasLanguage, IsReached, HasDialect}
 use Rattle.sx_compiling.specs.Reached.{HasGround, seen_over, module_over}
 use Rattle.sx_compiling.specs.Laws.{ShowsOfThree, SameButShown, UnitsAgree}
 use Rattle.sx_compiling.proofs.MadeUnits.{dialect_by, dialect_is}
@@ -183,24 +181,14 @@ module _ (headers : OneHeaderAnswer) (budgets : Budgets) (files : Files) (g : Gi
 
   -- the extensions
   module _ (r : IsReached files g) where
-    abbrev Extending : Result ExtendedData StepError → ℕ → Type 0
-    Extending = ExtendsReached budgets files g r
+    abbrev SameExtending : Stop → Stop → Type 0
+    SameExtending = SameButReadings (StopsAtExtension (base_in g.language) budgets
+        (unextended g.language.language) r.extensions)
 
-    of_extension : (s t : Stop) (tries : ℕ) → Extending (Err (errors.Stopped s)) tries →
-        SameButReadings s t → Related s t
-    of_extension s t tries h (inl e) = same_alike s t e
-    of_extension s t tries h (inr show) =
-        inr (show, inr (inr (record { from = r; tries = tries; stops = h })))
-
-    extended_by : (a b : Result ExtendedData StepError) (tries : ℕ) → Extending a tries →
-        AnswersBy SameButReadings a b → AnswersBy Related a b
-    extended_by (Ok x) (Ok y) tries h same = same
-    extended_by (Ok x) (Err e) tries h same = absurd same
-    extended_by (Err errors.Memory) b tries h same = absurd same
-    extended_by (Err (errors.Stopped s)) (Ok y) tries h same = absurd same
-    extended_by (Err (errors.Stopped s)) (Err errors.Memory) tries h same = absurd same
-    extended_by (Err (errors.Stopped s)) (Err (errors.Stopped t)) tries h same =
-        of_extension s t tries h same
+    of_extension : (s t : Stop) → SameExtending s t → Related s t
+    of_extension s t (inl e) = same_alike s t e
+    of_extension s t (inr (are, stops)) =
+        inr (are, inr (inr (record { from = r; stops = stops })))
 
     all_by : IsOneBy Related (MakesExtended budgets g r.extensions)
     all_by =
@@ -210,7 +198,7 @@ module _ (headers : OneHeaderAnswer) (budgets : Budgets) (files : Files) (g : Gi
         (λ a b m n h k p q.
         let one = extends_agree g.read.header.language l.bytes g.language l.states budgets
         r.extensions a b m n h k p q in
-        (extended_by a b m h one.0, one.1))
+        (answers_so SameExtending Related of_extension a b one.0, one.1))
         (λ x before h. seeing_by (dialect_by budgets files g l r x before h))
 
   -- the files

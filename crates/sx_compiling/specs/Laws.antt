@@ -21,11 +21,13 @@ use Rattle.sx_steps.specs.Agree.{AreReadings, IsSure, AnswersBy}
 use Rattle.sx_steps.specs.TypeErrors.{IsTypeError}
 use Rattle.sx_steps.specs.Unit.{interface_file}
 use Rattle.sx_uses.specs.Laws.{AnswerAlike}
+use Rattle.sx_accepting.specs.Alike.{StopsAtExtension}
+use Rattle.sx_accepting.specs.ExtendedLanguages.{unextended}
 use Rattle.sx_accepting.specs.Laws.{StopsAtUnsound}
 use Rattle.sx_accepting.specs.ReadLanguage.{base_in}
 use Rattle.sx_compiling.specs.Given.{Given, interfaces_in}
 use Rattle.sx_compiling.specs.MakeUnit.{MakesUnit}
-use Rattle.sx_compiling.specs.Reached.{HasLanguage, IsReached, ExtendsReached, HasDialect}
+use Rattle.sx_compiling.specs.Reached.{HasLanguage, IsReached, HasDialect}
 use Rattle.sx_compiling.specs.Reached.{HasGround, seen_over, module_over}
 
 -- ---- one result
@@ -53,15 +55,16 @@ pub record IsOfRow (budgets : Budgets) (files : Files) (g : Given) (stop : Stop)
   pub file : stop.file ≡ interface_file it.name
   pub three : HasRowOfThree (seen_over over) it
 
--- the stop is that of one of the extensions, which is read or accepted after those before it
+-- one of the extensions is refused, which is read after those before it, and the stop is about a
+-- line of its file that has more than two readings
 pub record IsOfExtension (budgets : Budgets) (files : Files) (g : Given) (stop : Stop) : Type 0
   where
     pub from : IsReached files g
-    pub tries : ℕ
-    pub stops : ExtendsReached budgets files g from (Err (errors.Stopped stop)) tries
+    pub stops : StopsAtExtension (base_in g.language) budgets (unextended g.language.language)
+        from.extensions stop
 
--- the text of which the stop shows two readings is one where it is free which two these are: a text
--- of the module or a row of an import that has more than two, or a line of an extension's file
+-- the text of which the stop shows two readings is one that has more than two: a text of the
+-- module, a row of an import, or a line of an extension's file
 abbrev pub ShowsFree : Budgets → Files → Given → Stop → Type 0
 ShowsFree budgets files g s = IsOfThree budgets files g s ⊎ IsOfRow budgets files g s
     ⊎ IsOfExtension budgets files g s

@@ -5,16 +5,15 @@ ghost use Rattle.sx_outside.specs.Files.{Files};
 ghost use Rattle.sx_outside.specs.Views.{clean_files_of};
 ghost use Rattle.sx_steps.specs.Stop.{Gives, IsNoFault};
 ghost use Rattle.sx_uses.specs.ExtensionFile.{Extension, extension_of, extension_file, IsStated};
-ghost use Rattle.sx_uses.specs.ReadExtension.{ReadsFile, wrong_language as stop_of_language};
+ghost use Rattle.sx_uses.specs.ReadExtension.{ReadsFile};
 ghost use Rattle.sx_compiling.specs.KeptFiles.{extensions_beside};
 
 use std::alloc::Global;
 use sx_outside::{CleanShelf, Shelf};
-use sx_steps::{StepError, Stop, refused, with_suffix};
+use sx_steps::{StepError, with_suffix};
 use sx_term::{NoMemory, Text};
-use sx_uses::{ExtensionFile, read_extension_file};
-use sx_walking::{FileKind, copies};
-use sx_words::{Defect, ExtensionDefect};
+use sx_uses::{ExtensionFile, ExtensionKind, read_extension_file};
+use sx_walking::FileKind;
 
 /// The extensions that are written for a language, with the files that were read before.
 #[derive(Clone, Copy)]
@@ -60,19 +59,6 @@ fn state_again(
     }
 }
 
-/// The refusal of an extension that is written for another language.
-fn wrong_language(alloc: Global, name: &Text, language: &Text) -> Result<Stop, NoMemory>
-    ensures { IfOk result (λ stop. stop ≡ stop_of_language (extension_file name.now) language.now) }
-{
-    let file = with_suffix(alloc, name, ".ext")?;
-    let language = language.copy(alloc)?;
-    refused(
-        alloc,
-        &file,
-        Defect::Extension(ExtensionDefect::WrongLanguage(language)),
-    )
-}
-
 impl FileKind for KeptExtensions<'_> {
     type File = ExtensionFile;
 
@@ -105,9 +91,9 @@ impl FileKind for KeptExtensions<'_> {
         name: &Text,
         file: &ExtensionFile,
     ) -> Result<Vec<Text>, StepError> {
-        if file.header.language.same(self.language) {
-            return Ok(copies(alloc, &file.header.uses)?);
-        }
-        Err(StepError::Stopped(wrong_language(alloc, name, &file.header.language)?))
+        let kind = ExtensionKind {
+            language: self.language,
+        };
+        kind.stands_on(alloc, name, file)
     }
 }

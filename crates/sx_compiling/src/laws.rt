@@ -13,9 +13,9 @@ pub fn units_keep_promise()
 {}
 
 /// By what is given, the budgets and the files there is one result and one number of tries, but for
-/// read faults and out of memory. Two readings that a refusal shows of a text of the module or of
-/// an import's row are the same two in the same order, unless it has more than two; of a line of an
-/// extension's file it is free which two are shown.
+/// read faults and out of memory. Two readings that a refusal shows of a text of the module, of an
+/// import's row, or of a line of an extension's file are the same two in the same order, unless it
+/// has more than two.
 pub fn units_agree()
     ensures { UnitsAgree }
 {

@@ -1,4 +1,5 @@
--- A line of a plain body has one term, or one refusal, but for the two readings that it may show.
+-- A line of a plain body has one term, or one refusal, but for the two readings that it may show
+-- where it has more.
 use Rattle.std.proofs.Common.{◌≡◌, ◌≢◌, ℕ, List, ◌⊎◌, inl, inr, length, Contains, refl, ap, ◌∙◌}
 use Rattle.std.proofs.Common.{sym, subst}
 use Rattle.std.specs.Prelude.{is_some}
@@ -28,9 +29,11 @@ use Rattle.sx_notation.specs.ReadAmong.{IsNamed, IsUnnamed, IsNamedCut, IsReadAm
 use Rattle.sx_notation.specs.ReadAmong.{IsRefusedAmong}
 use Rattle.sx_notation.specs.ReadText.{HasDefect}
 use Rattle.sx_notation.specs.WhyUnread.{IsUnreadAs}
+use Rattle.sx_notation.proofs.OneReasons.{one_reason, unread_or_read}
+use Rattle.sx_language.specs.Alike.{HasThree}
 use Rattle.sx_language.proofs.OneCut.{one_cut, defect_or_cut, defect_one}
-use Rattle.sx_language.proofs.OneLine.{Alike}
-use Rattle.sx_language.proofs.OneReading.{ShowTwo, reading_one, unread_or_read, unread_one}
+use Rattle.sx_language.proofs.OneLine.{Alike, unreads_alike}
+use Rattle.sx_language.proofs.OneReading.{reading_one}
 
 module _ (p : Parts) (stems : Stems) (line : Text) (names : List Text) where
   -- a line that is cut has no metavariable with an unknown stem, or with none of the names
@@ -111,45 +114,30 @@ module _ (p : Parts) (stems : Stems) (sort : Sort) (line : Text) (names : List T
         IsRefusedAmong p stems sort line names number e → IsReadAmong p stems sort line names t → ⊥
     refused_or_among t e n h k = why_or_read t e (whys e h n) k
 
-    unreads_alike : (e d : NotationError) (u v : Unread) → e ≡ Read number u → d ≡ Read number v →
-        (u ≡ v) ⊎ ShowTwo u v → Alike e d
-    unreads_alike e d u v h k (inl same) = inl (h ∙ ap (Read number) same ∙ sym k)
-    unreads_alike e d u v h k (inr two) =
-        inr (record {
-          line = number;
-          one = two.one;
-          other = two.other;
-          some = two.some;
-          more =
-              two.more;
-          first = h ∙ ap (Read number) two.first;
-          second = k ∙ ap (Read number)
-              two.second;
-        })
+    module _ (HasMore : ℕ → Type 0) (so : HasThree p stems sort line → HasMore number) where
+      why_one : (e d : NotationError) → Why e → Why d → Alike HasMore e d
+      why_one e d (inl h) (inl k) = inl (h.is ∙ ap (BadTokens number)
+          (defect_one p line h.defect k.defect h.has k.has) ∙ sym k.is)
+      why_one e d (inl h) (inr (inl k)) = absurd
+          (defect_or_cut p line h.defect k.has.0 h.has k.has.2)
+      why_one e d (inl h) (inr (inr k)) = absurd
+          (defect_or_cut p line h.defect k.tokens h.has k.cut.0.0)
+      why_one e d (inr (inl h)) (inl k) = absurd
+          (defect_or_cut p line k.defect h.has.0 k.has h.has.2)
+      why_one e d (inr (inl h)) (inr (inl k)) = inl (h.is ∙ sym k.is)
+      why_one e d (inr (inl h)) (inr (inr k)) = absurd
+          (stranger_or_cut p stems line names k.tokens h.has k.cut)
+      why_one e d (inr (inr h)) (inl k) = absurd
+          (defect_or_cut p line k.defect h.tokens k.has h.cut.0.0)
+      why_one e d (inr (inr h)) (inr (inl k)) = absurd
+          (stranger_or_cut p stems line names h.tokens k.has h.cut)
+      why_one e d (inr (inr h)) (inr (inr k)) =
+          let there = subst (λ (ts : List Token). IsUnreadAs p stems sort ts (length line) h.why)
+          (one_cut p line h.tokens k.tokens h.cut.0.0 k.cut.0.0) h.unread in
+          unreads_alike p stems sort line k.tokens k.cut.0 number HasMore so e d h.why k.why h.is k.is
+          (one_reason p stems sort k.tokens (length line) h.why k.why there k.unread)
 
-    why_one : (e d : NotationError) → Why e → Why d → Alike e d
-    why_one e d (inl h) (inl k) = inl (h.is ∙ ap (BadTokens number)
-        (defect_one p line h.defect k.defect h.has k.has) ∙ sym k.is)
-    why_one e d (inl h) (inr (inl k)) = absurd
-        (defect_or_cut p line h.defect k.has.0 h.has k.has.2)
-    why_one e d (inl h) (inr (inr k)) = absurd
-        (defect_or_cut p line h.defect k.tokens h.has k.cut.0.0)
-    why_one e d (inr (inl h)) (inl k) = absurd
-        (defect_or_cut p line k.defect h.has.0 k.has h.has.2)
-    why_one e d (inr (inl h)) (inr (inl k)) = inl (h.is ∙ sym k.is)
-    why_one e d (inr (inl h)) (inr (inr k)) = absurd
-        (stranger_or_cut p stems line names k.tokens h.has k.cut)
-    why_one e d (inr (inr h)) (inl k) = absurd
-        (defect_or_cut p line k.defect h.tokens k.has h.cut.0.0)
-    why_one e d (inr (inr h)) (inr (inl k)) = absurd
-        (stranger_or_cut p stems line names h.tokens k.has h.cut)
-    why_one e d (inr (inr h)) (inr (inr k)) =
-        let there = subst (λ (ts : List Token). IsUnreadAs p stems sort ts (length line) h.why)
-        (one_cut p line h.tokens k.tokens h.cut.0.0 k.cut.0.0) h.unread in
-        unreads_alike e d h.why k.why h.is k.is
-        (unread_one p stems sort k.tokens (length line) h.why k.why there k.unread)
-
-    pub among_refused_one : (e d : NotationError) → e ≢ Memory → d ≢ Memory →
-        IsRefusedAmong p stems sort line names number e →
-        IsRefusedAmong p stems sort line names number d → Alike e d
-    among_refused_one e d n m h k = why_one e d (whys e h n) (whys d k m)
+      pub among_refused_one : (e d : NotationError) → e ≢ Memory → d ≢ Memory →
+          IsRefusedAmong p stems sort line names number e →
+          IsRefusedAmong p stems sort line names number d → Alike HasMore e d
+      among_refused_one e d n m h k = why_one e d (whys e h n) (whys d k m)

@@ -1,4 +1,5 @@
--- A text states one extension, or has one refusal, but for the two readings that it may show.
+-- A text states one extension, or has one refusal, but for the two readings that it may show where
+-- a line has more.
 use Rattle.std.proofs.Common.{◌≡◌, ◌≢◌, ◌++◌, ◌⊎◌, inl, inr, length, map, refl, ap, ◌∙◌, sym}
 use Rattle.std.specs.Prelude.{Option}
 use Rattle.sx_grammar.specs.declared.grammar_error.GrammarError.{GrammarError}
@@ -16,7 +17,7 @@ use Rattle.sx_notation.specs.declared.notation_error.NotationError.{NotationErro
 use Rattle.sx_notation.specs.declared.notation_error.NotationError.TheVariants as notation
 use Rattle.sx_language.specs.RuleLine.{Reader}
 use Rattle.sx_language.specs.States.{name_unbound}
-use Rattle.sx_language.proofs.OneLine.{Alike}
+use Rattle.sx_language.proofs.OneLine.{Alike, alike_so}
 use Rattle.sx_language.proofs.Stepwise.{AreAlike, Step, step_alike, step_none}
 use Rattle.sx_extension.specs.declared.extension_error.ExtensionError.{ExtensionError}
 use Rattle.sx_extension.specs.declared.extension_error.ExtensionError.TheVariants.{Memory}
@@ -31,30 +32,30 @@ use Rattle.sx_extension.specs.Readings.{IsReadable, Texts}
 use Rattle.sx_extension.specs.States.{HasRuleSet, HasTable, States, HasBadText, HasNoGrammars}
 use Rattle.sx_extension.specs.States.{HasTexts, HasNoRuleSet, HasNoTable, HasBodyDefect}
 use Rattle.sx_extension.specs.States.{IsBadNotation, IsRefused}
-use Rattle.sx_extension.specs.Laws.{SameExtension, ShowOtherReadings, OneExtension}
+use Rattle.sx_extension.specs.Alike.{TextsHaveThree, ExtensionHasThree, ShowOtherReadings}
+use Rattle.sx_extension.specs.Laws.{SameExtension, OneExtension}
 use Rattle.sx_extension.proofs.OneDefect.{table_refusal_one, table_or_refusal, bad_body_one}
 use Rattle.sx_extension.proofs.OneDefect.{bodied_or_bad}
 use Rattle.sx_extension.proofs.OneGround.{defect_one, outline_or_defect}
 use Rattle.sx_extension.proofs.OneGround.{no_grammars_one, grammars_or_not}
 use Rattle.sx_extension.proofs.OneStated.{no_rules, no_grammars_there, bad_there, no_rules_there}
 use Rattle.sx_extension.proofs.OneStated.{no_table_there, bad_body_there, texts_outline}
-use Rattle.sx_extension.proofs.OneStated.{texts_same}
-use Rattle.sx_extension.proofs.OneStated.{moved}
+use Rattle.sx_extension.proofs.OneStated.{texts_same, moved, text_has_three}
 use Rattle.sx_extension.proofs.OneTable.{table_one}
 use Rattle.sx_extension.proofs.OneTexts.{readable_grammar, readable_rules}
 use Rattle.sx_extension.proofs.OneTexts.{bad_text_one, texts_or_bad}
 
--- the same refusal, but for the two readings that it shows
-abbrev Same : ExtensionError → ExtensionError → Type 0
-Same e d = (e ≡ d) ⊎ ShowOtherReadings e d
-
-same_notation : (e d : ExtensionError) (x y : NotationError) → e ≡ Notation x → d ≡ Notation y →
-    Alike x y → Same e d
-same_notation e d x y h k (inl same) = inl (h ∙ ap Notation same ∙ sym k)
-same_notation e d x y h k (inr two) = inr (record
-    { one = x; other = y; first = h; second = k; shown = two })
-
 module _ (g : Ground) (bytes : Text) where
+  -- the same refusal, but for the two readings that it shows of a line that has more
+  abbrev Same : ExtensionError → ExtensionError → Type 0
+  Same e d = (e ≡ d) ⊎ ShowOtherReadings g bytes e d
+
+  same_notation : (e d : ExtensionError) (x y : NotationError) → e ≡ Notation x →
+      d ≡ Notation y → Alike (ExtensionHasThree g bytes) x y → Same e d
+  same_notation e d x y h k (inl same) = inl (h ∙ ap Notation same ∙ sym k)
+  same_notation e d x y h k (inr two) = inr (record
+      { one = x; other = y; first = h; second = k; shown = two })
+
   -- ---- the refusals in order
 
   -- the refusal of lines that state no outline
@@ -274,8 +275,10 @@ module _ (g : Ground) (bytes : Text) where
       let b : HasBadText g bytes k.0 = k.3 in
       let p = with_own g b.outline.productions in
       same_notation e d h.0 k.0 h.2 k.2
+      (alike_so (TextsHaveThree p b.reader b.outline) (ExtensionHasThree g bytes)
+      (text_has_three g bytes k.0 b) h.0 k.0
       (bad_text_one p b.readable.grammars.is_grammar b.reader b.outline h.0 k.0 h.1 k.1
-      (bad_there g bytes h.0 h.3 b.outline b.grammar b.by_rules b.reader b.readable) b.refused)
+      (bad_there g bytes h.0 h.3 b.outline b.grammar b.by_rules b.reader b.readable) b.refused))
 
   rules_one : AreAlike Same ByRules
   rules_one e d h k = inl (h.2 ∙ (λ i. Notation (notation.Rules (why i) (unbound i))) ∙ sym k.2)

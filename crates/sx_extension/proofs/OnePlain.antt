@@ -1,17 +1,20 @@
--- The plain pairs of an extension state one list of plain bodies, or have one first bad line.
-use Rattle.std.proofs.Common.{◌≡◌, ◌≢◌, ℕ, List, [], ◌∷◌, inl, inr, Some, refl, ap, ◌∙◌, sym}
-use Rattle.std.proofs.Common.{subst}
+-- The plain pairs of an extension state one list of plain bodies, or have one first bad line, but
+-- for the two readings that its refusal may show where the line has more.
+use Rattle.std.proofs.Common.{◌≡◌, ◌≢◌, ℕ, List, [], ◌∷◌, inl, inr, Some, refl, ap}
+use Rattle.std.proofs.Common.{◌∙◌, sym, subst}
 use Rattle.sx_term.specs.declared.sort.Sort.{Sort}
 use Rattle.sx_grammar.specs.Grammar.{Text, Production}
 use Rattle.sx_grammar.specs.Parts.{Parts}
 use Rattle.sx_grammar.specs.Made.{IsGrammar}
 use Rattle.sx_grammar.specs.Told.{sort_with, IsSortOf}
+use Rattle.sx_grammar.proofs.Finding.{is_head, past_head}
 use Rattle.sx_outline.specs.Stages.{PlainData}
 use Rattle.sx_notation.specs.declared.notation_error.NotationError.{NotationError}
 use Rattle.sx_notation.specs.declared.notation_error.NotationError.TheVariants.{Memory}
 use Rattle.sx_notation.specs.ReadAmong.{IsReadAmong, IsRefusedAmong}
 use Rattle.sx_notation.specs.ReadText.{ReaderData}
-use Rattle.sx_language.proofs.OneLine.{Alike}
+use Rattle.sx_language.proofs.OneLine.{Alike, alike_so}
+use Rattle.sx_extension.specs.Alike.{PlainHasThree, PlainsHaveThree}
 use Rattle.sx_extension.specs.PlainBodies.{BodyData}
 use Rattle.sx_extension.specs.Readings.{IsProduction, IsPlainRead, ArePlainsRead, IsBadPlain}
 use Rattle.sx_extension.specs.Readings.{IsFirstBadPlain}
@@ -63,9 +66,11 @@ module _ (p : Parts) (is : IsGrammar p) (r : ReaderData) where
       (sort_one l.label h.0 n h.1 s h.2 made) h.3
 
   bad_plain_one : (l : PlainData) (e d : NotationError) → e ≢ Memory → d ≢ Memory →
-      IsBadPlain p r l e → IsBadPlain p r l d → Alike e d
-  bad_plain_one l e d n m h k = among_refused_one r.parts r.stems k.1 l.body.text l.names
-      l.body.number e d n m (at_sort l e k.0 k.1 k.2 h) k.3
+      IsBadPlain p r l e → IsBadPlain p r l d → Alike (PlainHasThree p r l) e d
+  bad_plain_one l e d n m h k =
+      among_refused_one r.parts r.stems k.1 l.body.text l.names l.body.number (PlainHasThree p r l)
+      (λ three. record { label = k.0; sort = k.1; made_by = k.2; is = refl; three = three }) e d n m
+      (at_sort l e k.0 k.1 k.2 h) k.3
 
   bad_or_plain : (l : PlainData) (b : BodyData) (e : NotationError) → e ≢ Memory →
       IsBadPlain p r l e → IsPlainRead p r l b → ⊥
@@ -73,12 +78,17 @@ module _ (p : Parts) (is : IsGrammar p) (r : ReaderData) where
       l.body.number b.term e n (at_sort l e b.label k.sort k.made_by h) k.read
 
   pub first_bad_plain_one : (ls : List PlainData) (e d : NotationError) → e ≢ Memory → d ≢ Memory →
-      IsFirstBadPlain p r ls e → IsFirstBadPlain p r ls d → Alike e d
+      IsFirstBadPlain p r ls e → IsFirstBadPlain p r ls d → Alike (PlainsHaveThree p r ls) e d
   first_bad_plain_one [] e d n m h k = absurd h
-  first_bad_plain_one (l ∷ ls) e d n m (inl h) (inl k) = bad_plain_one l e d n m h k
+  first_bad_plain_one (l ∷ ls) e d n m (inl h) (inl k) =
+      alike_so (PlainHasThree p r l) (PlainsHaveThree p r (l ∷ ls))
+      (λ number three. (l, is_head l ls, three)) e d (bad_plain_one l e d n m h k)
   first_bad_plain_one (l ∷ ls) e d n m (inl h) (inr k) = absurd (bad_or_plain l k.0 e n h k.1)
   first_bad_plain_one (l ∷ ls) e d n m (inr h) (inl k) = absurd (bad_or_plain l h.0 d m k h.1)
-  first_bad_plain_one (l ∷ ls) e d n m (inr h) (inr k) = first_bad_plain_one ls e d n m h.2 k.2
+  first_bad_plain_one (l ∷ ls) e d n m (inr h) (inr k) =
+      alike_so (PlainsHaveThree p r ls) (PlainsHaveThree p r (l ∷ ls))
+      (λ number more. (more.0, past_head l ls more.0 more.1, more.2)) e d
+      (first_bad_plain_one ls e d n m h.2 k.2)
 
   pub plains_or_bad : (ls : List PlainData) (bs : List BodyData) (e : NotationError) → e ≢ Memory →
       ArePlainsRead p r ls bs → IsFirstBadPlain p r ls e → ⊥

@@ -1,5 +1,5 @@
 -- What a text states, and what is refused of it, is of one outline and of one list of texts.
-use Rattle.std.proofs.Common.{◌≡◌, ◌≢◌, ◌++◌, length}
+use Rattle.std.proofs.Common.{◌≡◌, ◌≢◌, ◌++◌, ℕ, length}
 use Rattle.std.proofs.Common.{subst}
 use Rattle.std.specs.Prelude.{Option}
 use Rattle.sx_grammar.specs.declared.grammar_error.GrammarError.{GrammarError}
@@ -13,6 +13,7 @@ use Rattle.sx_outline.specs.ExtensionOutlined.{ExtensionOutlineData}
 use Rattle.sx_notation.specs.declared.notation_error.NotationError.{NotationError}
 use Rattle.sx_language.specs.RuleLine.{Reader}
 use Rattle.sx_extension.specs.declared.extension_error.ExtensionError.{ExtensionError}
+use Rattle.sx_extension.specs.Alike.{TextsHaveThree, ExtensionHasThree}
 use Rattle.sx_extension.specs.BodyRefusals.{HaveBadBody}
 use Rattle.sx_extension.specs.Grounds.{Ground}
 use Rattle.sx_extension.specs.Readings.{HasOutline, with_own, AreNoGrammars}
@@ -78,6 +79,18 @@ module _ (g : Ground) (bytes : Text) where
       (subst (λ (q : ExtensionOutlineData). IsBadText (with_own g q.productions) h.reader q x)
       (readable_outline g bytes h.outline o h.grammar h.by_rules a b h.reader r h.readable k)
       h.refused)
+
+  pub text_has_three : (x : NotationError) (h : HasBadText g bytes x) (number : ℕ) →
+      TextsHaveThree (with_own g h.outline.productions) h.reader h.outline number →
+      ExtensionHasThree g bytes number
+  text_has_three x h number three = record {
+    outline = h.outline;
+    grammar = h.grammar;
+    by_rules = h.by_rules;
+    reader = h.reader;
+    readable = h.readable;
+    three = three;
+  }
 
   pub no_rules_there : (x : RuleError) (unbound : Option Text) (h : HasNoRuleSet g bytes x unbound)
       (o : ExtensionOutlineData) (y : Texts) → HasTexts g bytes o y →

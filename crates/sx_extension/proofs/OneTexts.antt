@@ -1,4 +1,5 @@
--- The lines of an extension state one list of plain bodies and rules, or have one first bad line.
+-- The lines of an extension state one list of plain bodies and rules, or have one first bad line,
+-- but for the two readings that its refusal may show where the line has more.
 use Rattle.std.proofs.Common.{◌≡◌, ◌≢◌, inl, inr, ap, ◌∙◌, sym, subst}
 use Rattle.sx_grammar.specs.Grammar.{Text}
 use Rattle.sx_grammar.specs.Parts.{Parts}
@@ -7,11 +8,13 @@ use Rattle.sx_grammar.specs.Made.{IsGrammar}
 use Rattle.sx_outline.specs.ExtensionOutlined.{ExtensionOutlineData}
 use Rattle.sx_notation.specs.declared.notation_error.NotationError.{NotationError}
 use Rattle.sx_notation.specs.declared.notation_error.NotationError.TheVariants.{Memory}
+use Rattle.sx_language.specs.Alike.{RulesHaveThree}
 use Rattle.sx_language.specs.RuleLine.{Reader}
 use Rattle.sx_language.specs.States.{AreStems}
-use Rattle.sx_language.proofs.OneLine.{Alike}
+use Rattle.sx_language.proofs.OneLine.{Alike, alike_so}
 use Rattle.sx_language.proofs.OneOutline.{stems_one}
 use Rattle.sx_language.proofs.OneRules.{rules_one, first_bad_one, rules_or_bad}
+use Rattle.sx_extension.specs.Alike.{PlainsHaveThree, TextsHaveThree}
 use Rattle.sx_extension.specs.Grounds.{Ground}
 use Rattle.sx_extension.specs.Readings.{AreGrammars, IsReadable, Texts, tables, AreRead, IsBadText}
 use Rattle.sx_extension.proofs.OneGround.{outline_one, grammar_one, rule_grammar_one}
@@ -58,13 +61,17 @@ module _ (p : Parts) (is : IsGrammar p) (r : Reader) (o : ExtensionOutlineData) 
       λ i. record { plains = plains i; rules = rules.1 i; names = rules.0 i; bodies = rules.2 i }
 
   pub bad_text_one : (e d : NotationError) → e ≢ Memory → d ≢ Memory → IsBadText p r o e →
-      IsBadText p r o d → Alike e d
-  bad_text_one e d n m (inl h) (inl k) = first_bad_plain_one p is (tables r) o.plains e d n m h k
+      IsBadText p r o d → Alike (TextsHaveThree p r o) e d
+  bad_text_one e d n m (inl h) (inl k) =
+      alike_so (PlainsHaveThree p (tables r) o.plains) (TextsHaveThree p r o)
+      (λ number three. inl three) e d (first_bad_plain_one p is (tables r) o.plains e d n m h k)
   bad_text_one e d n m (inl h) (inr k) = absurd
       (plains_or_bad p is (tables r) o.plains k.0 e n k.1 h)
   bad_text_one e d n m (inr h) (inl k) = absurd
       (plains_or_bad p is (tables r) o.plains h.0 d m h.1 k)
-  bad_text_one e d n m (inr h) (inr k) = first_bad_one r o.rules e d n m h.2 k.2
+  bad_text_one e d n m (inr h) (inr k) =
+      alike_so (RulesHaveThree r o.rules) (TextsHaveThree p r o) (λ number three. inr three) e d
+      (first_bad_one r o.rules e d n m h.2 k.2)
 
   pub texts_or_bad : (x : Texts) (e : NotationError) → e ≢ Memory → AreRead p r o x →
       IsBadText p r o e → ⊥

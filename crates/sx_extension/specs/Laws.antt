@@ -7,13 +7,12 @@ use Rattle.sx_plain.specs.Views.{table_of}
 use Rattle.sx_rules.specs.Sets.{forms_in, rules_in, shapes_in}
 use Rattle.sx_rewrite.specs.ExtensionView.{named_rules}
 use Rattle.sx_notation.specs.declared.language.Language.{Language}
-use Rattle.sx_notation.specs.declared.notation_error.NotationError.{NotationError}
 use Rattle.sx_notation.specs.Language.{IsLanguage}
-use Rattle.sx_language.specs.Alike.{ShowOthers}
 use Rattle.sx_language.specs.States.{States as StatesLanguage}
 use Rattle.sx_extension.specs.declared.extension_error.ExtensionError.{ExtensionError}
-use Rattle.sx_extension.specs.declared.extension_error.ExtensionError.TheVariants.{Memory, Notation}
+use Rattle.sx_extension.specs.declared.extension_error.ExtensionError.TheVariants.{Memory}
 use Rattle.sx_extension.specs.declared.extension.ReadExtension.{ReadExtension}
+use Rattle.sx_extension.specs.Alike.{ShowOtherReadings}
 use Rattle.sx_extension.specs.Fitting.{FitsAfter}
 use Rattle.sx_extension.specs.Grounds.{Ground, HasRoomFor, IsBefore}
 use Rattle.sx_extension.specs.States.{States, IsRefused}
@@ -38,23 +37,16 @@ pub record SameExtension (x y : ReadExtension) : Type 0 where
   -- the entry of each label
   pub table : table_of x.extension.plain ≡ table_of y.extension.plain
 
--- both say that a line has more than one reading, and show two of them
-pub record ShowOtherReadings (e d : ExtensionError) : Type 0 where
-  pub one : NotationError
-  pub other : NotationError
-  pub first : e ≡ Notation one
-  pub second : d ≡ Notation other
-  pub shown : ShowOthers one other
-
--- a text states one extension, or has one refusal, but for the two readings that it shows; want of
--- memory is free
+-- A text states one extension, or has one refusal, but for the two readings that it shows of a line
+-- with more than two. Out of memory is free.
 pub record OneExtension : Type 0 where
   pub found : (g : Ground) (bytes : Text) (x y : ReadExtension) → States g bytes x →
       States g bytes y → SameExtension x y
   pub either : (g : Ground) (bytes : Text) (x : ReadExtension) (e : ExtensionError) →
       States g bytes x → IsRefused g bytes e → e ≡ Memory
   pub refused : (g : Ground) (bytes : Text) (e d : ExtensionError) → IsRefused g bytes e →
-      IsRefused g bytes d → e ≢ Memory → d ≢ Memory → (e ≡ d) ⊎ ShowOtherReadings e d
+      IsRefused g bytes d → e ≢ Memory → d ≢ Memory →
+      (e ≡ d) ⊎ ShowOtherReadings g bytes e d
 
 -- what the first extension of a language is read after: no plain constructor has a body
 abbrev pub first_ground : Language → Ground

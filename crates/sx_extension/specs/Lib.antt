@@ -13,4 +13,5 @@ pub mod BodyRefusals
 pub mod States
 pub mod Checked
 pub mod Fitting
+pub mod Alike
 pub mod Laws

@@ -2,8 +2,8 @@
 
 ghost use Rattle.sx_extension.specs.Laws.{OneExtension, LanguagesBegin, ExtensionsGoOn};
 
-/// A text states one extension, or has one refusal, out of memory and the readings that a refusal
-/// shows aside.
+/// A text states one extension, or has one refusal, out of memory aside. The two readings that a
+/// refusal shows of a line are the same two in the same order, unless the line has more than two.
 pub fn one_extension()
     ensures { OneExtension }
 {}

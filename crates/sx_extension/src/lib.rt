@@ -6,7 +6,7 @@
 //! bodies of its rules are checked (`check_bodies`).
 //!
 //! - `one_extension`: a text states one extension, or has one refusal, but for the two readings
-//!   that a refusal may show.
+//!   that a refusal may show of a line with more than two.
 //! - `languages_begin`, `extensions_go_on`: after a language, and after each extension that is read
 //!   and fits, the next one can be read.
 #![tactic(auto)]

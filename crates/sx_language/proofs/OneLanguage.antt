@@ -1,4 +1,4 @@
--- A text states one language, or has one refusal, but for the two readings that it may show.
+-- A text states one language, or has one refusal, but for the two readings that it may show where a line has more.
 use Rattle.std.proofs.Common.{◌≡◌, ◌≢◌, List, ◌⊎◌, inl, inr, length, map, refl, ap, ◌∙◌, sym, subst}
 use Rattle.std.specs.Prelude.{Option, None, Ok, Err}
 use Rattle.sx_term.specs.Tree.{Tree}
@@ -24,13 +24,14 @@ use Rattle.sx_notation.specs.declared.language.Language.{Language}
 use Rattle.sx_notation.specs.declared.notation_error.NotationError.{NotationError}
 use Rattle.sx_notation.specs.declared.notation_error.NotationError.TheVariants.{Memory, NotUtf8, Notation, Token, Grammar, Read, Rules}
 use Rattle.sx_notation.specs.RuleParts.{rule_parts}
+use Rattle.sx_language.specs.Alike.{RulesHaveThree, LanguageHasThree}
 use Rattle.sx_language.specs.RuleLine.{Reader}
 use Rattle.sx_language.specs.RuleTexts.{AreBareRules, IsFirstBad}
 use Rattle.sx_language.specs.States.{IsReadable, forms_of, States, IsNoGrammar, HasNoGrammar, HasBadRule, name_unbound, IsNoRules, HasNoRuleSet, IsRefused}
 use Rattle.sx_language.specs.Laws.{SameLanguage, OneLanguage}
 use Rattle.sx_language.proofs.Stepwise.{AreAlike, Step, step_alike, step_none}
 use Rattle.sx_language.proofs.OneGrammar.{no_grammar_one, grammar_or_not}
-use Rattle.sx_language.proofs.OneLine.{Alike}
+use Rattle.sx_language.proofs.OneLine.{Alike, alike_so}
 use Rattle.sx_language.proofs.OneRules.{rules_one, first_bad_one, rules_or_bad}
 use Rattle.sx_language.proofs.OneOutline.{outline_one, defect_one, outline_or_defect, parts_same, rule_parts_same, forms_same, reader_one}
 
@@ -175,23 +176,28 @@ module _ (name bytes : Text) where
 
   -- ---- each is one
 
-  lines_one : AreAlike Alike ByLines
+  abbrev Same : NotationError → NotationError → Type 0
+  Same = Alike (LanguageHasThree name bytes)
+
+  lines_one : AreAlike Same ByLines
   lines_one e d h k = inl (h.3 ∙ ap told (defect_one name bytes h.0 k.0 h.1 k.1 h.2 k.2) ∙ sym k.3)
 
-  grammars_alike : AreAlike Alike ByGrammars
+  grammars_alike : AreAlike Same ByGrammars
   grammars_alike e d h k =
       let a = h.2 in
       let b = k.2 in
       let here = there a.0 b.0 (outline_one name bytes a.0 b.0 a.1 b.1) h.0 a.2 in
       inl (h.1 ∙ ap Grammar (grammars_one (parts b.0.parts) (rule_parts (parts b.0.parts) b.0.forms.items) h.0 k.0 here b.2) ∙ sym k.1)
 
-  rule_lines_one : AreAlike Alike ByRuleLines
+  rule_lines_one : AreAlike Same ByRuleLines
   rule_lines_one e d h k =
       let a = h.1 in
       let b = k.1 in
-      first_bad_one b.1 (map rule_data b.0.rules.items) e d h.0 k.0 (bad_there a.0 b.0 a.1 b.1 e a.2 b.2 a.3) b.3
+      let lines = map rule_data b.0.rules.items in
+      alike_so (RulesHaveThree b.1 lines) (LanguageHasThree name bytes) (λ number three. record { outline = b.0; reader = b.1; readable = b.2; three = three }) e d
+      (first_bad_one b.1 lines e d h.0 k.0 (bad_there a.0 b.0 a.1 b.1 e a.2 b.2 a.3) b.3)
 
-  rules_alike : AreAlike Alike ByRules
+  rules_alike : AreAlike Same ByRules
   rules_alike e d h k = inl (h.2 ∙ (λ i. Rules (why i) (unbound i)) ∙ sym k.2)
     where
       a : HasNoRuleSet name bytes h.0 h.1
@@ -218,10 +224,10 @@ module _ (name bytes : Text) where
       unbound : h.1 ≡ k.1
       unbound = a.named ∙ (λ i. name_unbound (map (λ q. q.name) (stated.1 i)) (stated.0 i) (why i)) ∙ sym b.named
 
-  due_one : AreAlike Alike IsDue
+  due_one : AreAlike Same IsDue
   due_one =
-      step_alike ByLines HasOutline ByOutline not_lines Alike lines_one
-      (step_alike ByGrammars HasReader ByReader not_grammars Alike grammars_alike (step_alike ByRuleLines HasRules ByRules not_rule_lines Alike rule_lines_one rules_alike))
+      step_alike ByLines HasOutline ByOutline not_lines Same lines_one
+      (step_alike ByGrammars HasReader ByReader not_grammars Same grammars_alike (step_alike ByRuleLines HasRules ByRules not_rule_lines Same rule_lines_one rules_alike))
 
   -- ---- languages
 

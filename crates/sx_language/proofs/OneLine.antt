@@ -1,4 +1,4 @@
--- A line of a rule says one premise, or has one refusal, but for the two readings that it may show.
+-- A line of a rule says one premise, or has one refusal, but for the two readings that it may show where it has more.
 use Rattle.std.proofs.Common.{◌≡◌, ◌≢◌, ℕ, ◌+◌, ◌-◌, ◌<◌, List, [], ◌∷◌, ◌++◌, ◌⊎◌, inl, inr, length, Contains, refl, ap, ◌∙◌, sym, subst, arith}
 use Rattle.sx_term.specs.declared.sort.Sort.{Sort}
 use Rattle.sx_term.specs.Tree.{Tree, forest}
@@ -21,15 +21,30 @@ use Rattle.sx_notation.specs.declared.notation_error.NotationError.TheVariants.{
 use Rattle.sx_notation.specs.declared.unread.Unread.{Unread}
 use Rattle.sx_notation.specs.ReadText.{IsKnownCut, IsRead, HasDefect, HasUnknown, IsRefused}
 use Rattle.sx_notation.specs.WhyUnread.{IsUnreadAs}
-use Rattle.sx_language.specs.Alike.{ShowOthers}
+use Rattle.sx_notation.specs.OneReason.{HaveThree, ShowTwo}
+use Rattle.sx_notation.proofs.OneReasons.{one_reason, unread_or_read}
+use Rattle.sx_language.specs.Alike.{HasThree, ShowOthers}
 use Rattle.sx_language.specs.RuleLine.{Reader, label_of, judgements, Says, IsLine, IsBadLine}
 use Rattle.sx_language.proofs.OneCut.{one_cut, defect_or_cut, defect_one, strange_or_cut}
-use Rattle.sx_language.proofs.OneReading.{ShowTwo, reading_one, unread_or_read, unread_one}
+use Rattle.sx_language.proofs.OneReading.{reading_one}
 use Rattle.sx_language.proofs.Saying.{same_label, same_kids}
 
--- the same refusal, but for the two readings that it shows
-abbrev pub Alike : NotationError → NotationError → Type 0
-Alike e d = (e ≡ d) ⊎ ShowOthers e d
+-- the same refusal, but for the two readings that it shows of a line that has more
+abbrev pub Alike : (ℕ → Type 0) → NotationError → NotationError → Type 0
+Alike HasMore e d = (e ≡ d) ⊎ ShowOthers HasMore e d
+
+-- so where another thing follows of the line
+pub alike_so : (P Q : ℕ → Type 0) → ((line : ℕ) → P line → Q line) → (e d : NotationError) → Alike P e d → Alike Q e d
+alike_so P Q so e d (inl same) = inl same
+alike_so P Q so e d (inr show) =
+    inr (record { line = show.line; one = show.one; other = show.other; some = show.some; more = show.more; first = show.first; second = show.second; three = so show.line show.three })
+
+-- the refusals of one text by two reasons why its tokens have not one reading
+pub unreads_alike : (p : Parts) (stems : Stems) (sort : Sort) (text : Text) (ts : List Token) → IsKnownCut p stems text ts → (number : ℕ) (HasMore : ℕ → Type 0) → (HasThree p stems sort text → HasMore number) →
+    (e d : NotationError) (u v : Unread) → e ≡ Read number u → d ≡ Read number v → (u ≡ v) ⊎ (ShowTwo u v × HaveThree p stems sort ts) → Alike HasMore e d
+unreads_alike p stems sort text ts cut number HasMore so e d u v h k (inl same) = inl (h ∙ ap (Read number) same ∙ sym k)
+unreads_alike p stems sort text ts cut number HasMore so e d u v h k (inr (two, three)) =
+    inr (record { line = number; one = two.one; other = two.other; some = two.some; more = two.more; first = h ∙ ap (Read number) two.first; second = k ∙ ap (Read number) two.second; three = so (ts, cut, three) })
 
 -- ---- names
 
@@ -107,26 +122,22 @@ module _ (p : Parts) (stems : Stems) (sort : Sort) (text : Text) where
     pub refused_or_read : (old new : List Text) (t : Tree) (e : NotationError) → e ≢ Memory → IsRefused p stems sort text number e → IsRead p stems sort text old new t → ⊥
     refused_or_read old new t e n h k = why_or_read old new t e (whys e h n) k
 
-    unreads_alike : (e d : NotationError) (u v : Unread) → e ≡ Read number u → d ≡ Read number v → (u ≡ v) ⊎ ShowTwo u v → Alike e d
-    unreads_alike e d u v h k (inl same) = inl (h ∙ ap (Read number) same ∙ sym k)
-    unreads_alike e d u v h k (inr two) =
-        inr (record { line = number; one = two.one; other = two.other; some = two.some; more = two.more; first = h ∙ ap (Read number) two.first; second = k ∙ ap (Read number) two.second })
+    module _ (HasMore : ℕ → Type 0) (so : HasThree p stems sort text → HasMore number) where
+      why_one : (e d : NotationError) → Why e → Why d → Alike HasMore e d
+      why_one e d (inl h) (inl k) = inl (h.is ∙ ap (BadTokens number) (defect_one p text h.defect k.defect h.has k.has) ∙ sym k.is)
+      why_one e d (inl h) (inr (inl k)) = absurd (defect_or_cut p text h.defect k.has.0 h.has k.has.2)
+      why_one e d (inl h) (inr (inr k)) = absurd (defect_or_cut p text h.defect k.tokens h.has k.known.0)
+      why_one e d (inr (inl h)) (inl k) = absurd (defect_or_cut p text k.defect h.has.0 k.has h.has.2)
+      why_one e d (inr (inl h)) (inr (inl k)) = inl (h.is ∙ sym k.is)
+      why_one e d (inr (inl h)) (inr (inr k)) = absurd (strange_or_cut p stems text k.tokens h.has k.known)
+      why_one e d (inr (inr h)) (inl k) = absurd (defect_or_cut p text k.defect h.tokens k.has h.known.0)
+      why_one e d (inr (inr h)) (inr (inl k)) = absurd (strange_or_cut p stems text h.tokens k.has h.known)
+      why_one e d (inr (inr h)) (inr (inr k)) =
+          let there = subst (λ (ts : List Token). IsUnreadAs p stems sort ts (length text) h.why) (one_cut p text h.tokens k.tokens h.known.0 k.known.0) h.unread in
+          unreads_alike p stems sort text k.tokens k.known number HasMore so e d h.why k.why h.is k.is (one_reason p stems sort k.tokens (length text) h.why k.why there k.unread)
 
-    why_one : (e d : NotationError) → Why e → Why d → Alike e d
-    why_one e d (inl h) (inl k) = inl (h.is ∙ ap (BadTokens number) (defect_one p text h.defect k.defect h.has k.has) ∙ sym k.is)
-    why_one e d (inl h) (inr (inl k)) = absurd (defect_or_cut p text h.defect k.has.0 h.has k.has.2)
-    why_one e d (inl h) (inr (inr k)) = absurd (defect_or_cut p text h.defect k.tokens h.has k.known.0)
-    why_one e d (inr (inl h)) (inl k) = absurd (defect_or_cut p text k.defect h.has.0 k.has h.has.2)
-    why_one e d (inr (inl h)) (inr (inl k)) = inl (h.is ∙ sym k.is)
-    why_one e d (inr (inl h)) (inr (inr k)) = absurd (strange_or_cut p stems text k.tokens h.has k.known)
-    why_one e d (inr (inr h)) (inl k) = absurd (defect_or_cut p text k.defect h.tokens k.has h.known.0)
-    why_one e d (inr (inr h)) (inr (inl k)) = absurd (strange_or_cut p stems text h.tokens k.has h.known)
-    why_one e d (inr (inr h)) (inr (inr k)) =
-        let there = subst (λ (ts : List Token). IsUnreadAs p stems sort ts (length text) h.why) (one_cut p text h.tokens k.tokens h.known.0 k.known.0) h.unread in
-        unreads_alike e d h.why k.why h.is k.is (unread_one p stems sort k.tokens (length text) h.why k.why there k.unread)
-
-    pub refused_one : (e d : NotationError) → e ≢ Memory → d ≢ Memory → IsRefused p stems sort text number e → IsRefused p stems sort text number d → Alike e d
-    refused_one e d n m h k = why_one e d (whys e h n) (whys d k m)
+      pub refused_one : (e d : NotationError) → e ≢ Memory → d ≢ Memory → IsRefused p stems sort text number e → IsRefused p stems sort text number d → Alike HasMore e d
+      refused_one e d n m h k = why_one e d (whys e h n) (whys d k m)
 
 -- ---- what a term says
 
@@ -168,5 +179,6 @@ module _ (r : Reader) where
   pub bad_or_line : (l : Numbered) (old new : List Text) (q : Premise) (e : NotationError) → e ≢ Memory → IsBadLine r l e → IsLine r l.text old new q → ⊥
   bad_or_line l old new q e n h k = refused_or_read r.parts r.stems (judgements r.parts) l.text l.number old new k.term e n h k.read
 
-  pub bad_line_one : (l : Numbered) (e d : NotationError) → e ≢ Memory → d ≢ Memory → IsBadLine r l e → IsBadLine r l d → Alike e d
-  bad_line_one l e d n m h k = refused_one r.parts r.stems (judgements r.parts) l.text l.number e d n m h k
+  pub bad_line_one : (l : Numbered) (HasMore : ℕ → Type 0) → (HasThree r.parts r.stems (judgements r.parts) l.text → HasMore l.number) → (e d : NotationError) → e ≢ Memory → d ≢ Memory →
+      IsBadLine r l e → IsBadLine r l d → Alike HasMore e d
+  bad_line_one l HasMore so e d n m h k = refused_one r.parts r.stems (judgements r.parts) l.text l.number HasMore so e d n m h k

@@ -1,18 +1,20 @@
--- Lines of rules state one list of rules, or have one refusal, but for the two readings that it may show.
-use Rattle.std.proofs.Common.{◌≡◌, ◌≢◌, List, [], ◌∷◌, inl, inr, Option, Some, None, map, refl, ap, ◌∙◌, sym, subst}
+-- Lines of rules state one list of rules, or have one refusal, but for the two readings that it may show where a line has more.
+use Rattle.std.proofs.Common.{◌≡◌, ◌≢◌, ℕ, List, [], ◌∷◌, inl, inr, Option, Some, None, Contains, map, refl, ap, ◌∙◌, sym, subst}
 use Rattle.sx_term.specs.declared.sort.Sort.{Sort}
 use Rattle.sx_term.specs.Tree.{Tree}
 use Rattle.sx_grammar.specs.Grammar.{Text}
+use Rattle.sx_grammar.proofs.Finding.{is_head, past_head}
 use Rattle.sx_earley.specs.Tokens.{sort_of, without_digits}
 use Rattle.sx_rules.specs.Rules.{Premise, Judgement, holds, apart}
 use Rattle.sx_rules.specs.Views.{NamedRule}
 use Rattle.sx_outline.specs.Stages.{Numbered, RuleData}
 use Rattle.sx_notation.specs.declared.notation_error.NotationError.{NotationError}
 use Rattle.sx_notation.specs.declared.notation_error.NotationError.TheVariants.{Memory, NotUtf8, Notation, Token, Grammar, Read, Rules}
+use Rattle.sx_language.specs.Alike.{HasThree, IsSubjectSort, RuleHasThree, RulesHaveThree}
 use Rattle.sx_language.specs.Laws.{OneRules}
-use Rattle.sx_language.specs.RuleLine.{Reader, subject_sort, IsLine}
+use Rattle.sx_language.specs.RuleLine.{Reader, judgements, subject_sort, IsLine}
 use Rattle.sx_language.specs.RuleTexts.{ArePremises, IsBody, AreStated, IsRule, AreRules, IsBadPremise, IsBadConclusion, IsBadBody, IsBadEnd, IsBadRule, IsFirstBad}
-use Rattle.sx_language.proofs.OneLine.{Alike, read_one, refused_or_read, refused_one, line_one, bad_or_line, bad_line_one}
+use Rattle.sx_language.proofs.OneLine.{Alike, alike_so, read_one, refused_or_read, refused_one, line_one, bad_or_line, bad_line_one}
 
 judgement_same : (j k : Judgement) → holds j ≡ holds k → j ≡ k
 judgement_same j k e = cc
@@ -100,14 +102,34 @@ module _ (r : Reader) where
 
   -- ---- what is refused
 
-  bad_premise_one : (ls : List Numbered) (old : List Text) (e d : NotationError) → e ≢ Memory → d ≢ Memory → IsBadPremise r ls old e → IsBadPremise r ls old d → Alike e d
-  bad_premise_one [] old e d n m h k = absurd h
-  bad_premise_one (l ∷ ls) old e d n m (inl h) (inl k) = bad_line_one r l e d n m h k
-  bad_premise_one (l ∷ ls) old e d n m (inl h) (inr k) = absurd (bad_or_line r l old k.0 k.1 e n h k.2)
-  bad_premise_one (l ∷ ls) old e d n m (inr h) (inl k) = absurd (bad_or_line r l old h.0 h.1 d m k h.2)
-  bad_premise_one (l ∷ ls) old e d n m (inr h) (inr k) =
-      let line = line_one r l.text old h.0 k.0 h.1 k.1 h.2 k.2 in
-      bad_premise_one ls k.0 e d n m (subst (λ (middle : List Text). IsBadPremise r ls middle e) line.0 h.3) k.3
+  -- the line has more than two readings as a judgement
+  abbrev JudgementHasThree : Numbered → Type 0
+  JudgementHasThree l = HasThree r.parts r.stems (judgements r.parts) l.text
+
+  -- the first bad lines, of a rule of which it is known what follows of each line with more than two readings
+  module _ (HasMore : ℕ → Type 0) where
+    bad_premise_one : (ls : List Numbered) → ((l : Numbered) → Contains ls l → JudgementHasThree l → HasMore l.number) → (old : List Text) (e d : NotationError) → e ≢ Memory → d ≢ Memory →
+        IsBadPremise r ls old e → IsBadPremise r ls old d → Alike HasMore e d
+    bad_premise_one [] so old e d n m h k = absurd h
+    bad_premise_one (l ∷ ls) so old e d n m (inl h) (inl k) = bad_line_one r l HasMore (so l (is_head l ls)) e d n m h k
+    bad_premise_one (l ∷ ls) so old e d n m (inl h) (inr k) = absurd (bad_or_line r l old k.0 k.1 e n h k.2)
+    bad_premise_one (l ∷ ls) so old e d n m (inr h) (inl k) = absurd (bad_or_line r l old h.0 h.1 d m k h.2)
+    bad_premise_one (l ∷ ls) so old e d n m (inr h) (inr k) =
+        let line = line_one r l.text old h.0 k.0 h.1 k.1 h.2 k.2 in
+        bad_premise_one ls (λ p among. so p (past_head l ls p among)) k.0 e d n m (subst (λ (middle : List Text). IsBadPremise r ls middle e) line.0 h.3) k.3
+
+    bad_conclusion_one : (l : Numbered) → (JudgementHasThree l → HasMore l.number) → (old : List Text) (e d : NotationError) → e ≢ Memory → d ≢ Memory → IsBadConclusion r l old e → IsBadConclusion r l old d →
+        Alike HasMore e d
+    bad_conclusion_one l so old e d n m (inl h) (inl k) = bad_line_one r l HasMore so e d n m h k
+    bad_conclusion_one l so old e d n m (inl h) (inr k) = absurd (bad_or_line r l old k.0 (apart k.1 k.2) e n h k.3)
+    bad_conclusion_one l so old e d n m (inr h) (inl k) = absurd (bad_or_line r l old h.0 (apart h.1 h.2) d m k h.3)
+    bad_conclusion_one l so old e d n m (inr h) (inr k) = inl (h.4 ∙ sym k.4)
+
+    bad_body_one : (line : Option Numbered) (subject : Option Sort) → ((l : Numbered) (sort : Sort) → line ≡ Some l → subject ≡ Some sort → HasThree r.parts r.stems sort l.text → HasMore l.number) →
+        (e d : NotationError) → e ≢ Memory → d ≢ Memory → IsBadBody r line subject e → IsBadBody r line subject d → Alike HasMore e d
+    bad_body_one None subject so e d n m h k = absurd h
+    bad_body_one (Some l) None so e d n m h k = absurd h
+    bad_body_one (Some l) (Some sort) so e d n m h k = refused_one r.parts r.stems sort l.text l.number HasMore (so l sort refl refl) e d n m h k
 
   premises_or_bad : (ls : List Numbered) (old new : List Text) (qs : List Premise) (e : NotationError) → e ≢ Memory → ArePremises r ls old new qs → IsBadPremise r ls old e → ⊥
   premises_or_bad [] old new qs e n h k = k
@@ -117,20 +139,9 @@ module _ (r : Reader) where
       let line = line_one r l.text old k.0 h.0 k.1 q k.2 h.1 in
       premises_or_bad ls h.0 new qs e n h.2 (subst (λ (middle : List Text). IsBadPremise r ls middle e) line.0 k.3)
 
-  bad_conclusion_one : (l : Numbered) (old : List Text) (e d : NotationError) → e ≢ Memory → d ≢ Memory → IsBadConclusion r l old e → IsBadConclusion r l old d → Alike e d
-  bad_conclusion_one l old e d n m (inl h) (inl k) = bad_line_one r l e d n m h k
-  bad_conclusion_one l old e d n m (inl h) (inr k) = absurd (bad_or_line r l old k.0 (apart k.1 k.2) e n h k.3)
-  bad_conclusion_one l old e d n m (inr h) (inl k) = absurd (bad_or_line r l old h.0 (apart h.1 h.2) d m k h.3)
-  bad_conclusion_one l old e d n m (inr h) (inr k) = inl (h.4 ∙ sym k.4)
-
   conclusion_or_bad : (l : Numbered) (old new : List Text) (j : Judgement) (e : NotationError) → e ≢ Memory → IsLine r l.text old new (holds j) → IsBadConclusion r l old e → ⊥
   conclusion_or_bad l old new j e n h (inl k) = bad_or_line r l old new (holds j) e n k h
   conclusion_or_bad l old new j e n h (inr k) = judgement_apart j k.1 k.2 (line_one r l.text old new k.0 (holds j) (apart k.1 k.2) h k.3).1
-
-  bad_body_one : (line : Option Numbered) (subject : Option Sort) (e d : NotationError) → e ≢ Memory → d ≢ Memory → IsBadBody r line subject e → IsBadBody r line subject d → Alike e d
-  bad_body_one None subject e d n m h k = absurd h
-  bad_body_one (Some l) None e d n m h k = absurd h
-  bad_body_one (Some l) (Some sort) e d n m h k = refused_one r.parts r.stems sort l.text l.number e d n m h k
 
   body_or_bad : (line : Option Numbered) (subject : Option Sort) (old new : List Text) (body : Option Tree) (e : NotationError) → e ≢ Memory → IsBody r line subject old new body →
       IsBadBody r line subject e → ⊥
@@ -139,13 +150,28 @@ module _ (r : Reader) where
   body_or_bad (Some l) (Some sort) old new None e n h k = h
   body_or_bad (Some l) (Some sort) old new (Some t) e n h k = refused_or_read r.parts r.stems sort l.text l.number old new t e n k h
 
-  bad_end_one : (l : RuleData) (old : List Text) (e d : NotationError) → e ≢ Memory → d ≢ Memory → IsBadEnd r l old e → IsBadEnd r l old d → Alike e d
-  bad_end_one l old e d n m (inl h) (inl k) = bad_conclusion_one l.conclusion old e d n m h k
+  -- the lines of one rule
+  module _ (l : RuleData) where
+    of_premise : (line : Numbered) → Contains l.premises line → JudgementHasThree line → RuleHasThree r l line.number
+    of_premise line among three = record { line = line; sort = judgements r.parts; read_as = inl (among, refl); is = refl; three = three }
+
+    of_conclusion : JudgementHasThree l.conclusion → RuleHasThree r l l.conclusion.number
+    of_conclusion three = record { line = l.conclusion; sort = judgements r.parts; read_as = inr (inl (refl, refl)); is = refl; three = three }
+
+    of_body : (old new : List Text) (j : Judgement) → IsLine r l.conclusion.text old new (holds j) → (line : Numbered) (sort : Sort) → l.body ≡ Some line → subject_sort r.forms j.form ≡ Some sort →
+        HasThree r.parts r.stems sort line.text → RuleHasThree r l line.number
+    of_body old new j read line sort has subject three =
+        let sorted : IsSubjectSort r l sort = record { old = old; new = new; conclusion = j; read = read; is = subject } in
+        record { line = line; sort = sort; read_as = inr (inr (has, sorted)); is = refl; three = three }
+
+  bad_end_one : (l : RuleData) (old : List Text) (e d : NotationError) → e ≢ Memory → d ≢ Memory → IsBadEnd r l old e → IsBadEnd r l old d → Alike (RuleHasThree r l) e d
+  bad_end_one l old e d n m (inl h) (inl k) = bad_conclusion_one (RuleHasThree r l) l.conclusion (of_conclusion l) old e d n m h k
   bad_end_one l old e d n m (inl h) (inr k) = absurd (conclusion_or_bad l.conclusion old k.0 k.1 e n k.2 h)
   bad_end_one l old e d n m (inr h) (inl k) = absurd (conclusion_or_bad l.conclusion old h.0 h.1 d m h.2 k)
   bad_end_one l old e d n m (inr h) (inr k) =
       let same = conclusion_one l.conclusion old h.0 k.0 h.1 k.1 h.2 k.2 in
-      bad_body_one l.body (subject_sort r.forms k.1.form) e d n m (subst (λ (j : Judgement). IsBadBody r l.body (subject_sort r.forms j.form) e) same.1 h.3) k.3
+      bad_body_one (RuleHasThree r l) l.body (subject_sort r.forms k.1.form) (of_body l old k.0 k.1 k.2) e d n m
+      (subst (λ (j : Judgement). IsBadBody r l.body (subject_sort r.forms j.form) e) same.1 h.3) k.3
 
   end_or_bad : (l : RuleData) (old last names : List Text) (j : Judgement) (body : Option Tree) (e : NotationError) → e ≢ Memory → IsLine r l.conclusion.text old last (holds j) →
       IsBody r l.body (subject_sort r.forms j.form) last names body → IsBadEnd r l old e → ⊥
@@ -154,8 +180,8 @@ module _ (r : Reader) where
       let same = conclusion_one l.conclusion old k.0 last k.1 j k.2 h in
       body_or_bad l.body (subject_sort r.forms j.form) last names body e n b (subst (λ (c : Judgement). IsBadBody r l.body (subject_sort r.forms c.form) e) same.1 k.3)
 
-  bad_rule_one : (l : RuleData) (e d : NotationError) → e ≢ Memory → d ≢ Memory → IsBadRule r l e → IsBadRule r l d → Alike e d
-  bad_rule_one l e d n m (inl h) (inl k) = bad_premise_one l.premises [] e d n m h k
+  bad_rule_one : (l : RuleData) (e d : NotationError) → e ≢ Memory → d ≢ Memory → IsBadRule r l e → IsBadRule r l d → Alike (RuleHasThree r l) e d
+  bad_rule_one l e d n m (inl h) (inl k) = bad_premise_one (RuleHasThree r l) l.premises (of_premise l) [] e d n m h k
   bad_rule_one l e d n m (inl h) (inr k) = absurd (premises_or_bad l.premises [] k.0 k.1 e n k.2 h)
   bad_rule_one l e d n m (inr h) (inl k) = absurd (premises_or_bad l.premises [] h.0 h.1 d m h.2 k)
   bad_rule_one l e d n m (inr h) (inr k) =
@@ -168,12 +194,13 @@ module _ (r : Reader) where
       let premises = premises_one l.premises [] k.0 h.stated.middle k.1 q.rule.premises k.2 h.stated.premises in
       end_or_bad l h.stated.middle h.stated.last names q.rule.conclusion body e n h.stated.conclusion h.stated.bodied (subst (λ (middle : List Text). IsBadEnd r l middle e) premises.0 k.3)
 
-  pub first_bad_one : (ls : List RuleData) (e d : NotationError) → e ≢ Memory → d ≢ Memory → IsFirstBad r ls e → IsFirstBad r ls d → Alike e d
+  pub first_bad_one : (ls : List RuleData) (e d : NotationError) → e ≢ Memory → d ≢ Memory → IsFirstBad r ls e → IsFirstBad r ls d → Alike (RulesHaveThree r ls) e d
   first_bad_one [] e d n m h k = absurd h
-  first_bad_one (l ∷ ls) e d n m (inl h) (inl k) = bad_rule_one l e d n m h k
+  first_bad_one (l ∷ ls) e d n m (inl h) (inl k) = alike_so (RuleHasThree r l) (RulesHaveThree r (l ∷ ls)) (λ number three. (l, is_head l ls, three)) e d (bad_rule_one l e d n m h k)
   first_bad_one (l ∷ ls) e d n m (inl h) (inr k) = absurd (rule_or_bad l k.0 k.1 k.2 e n k.3 h)
   first_bad_one (l ∷ ls) e d n m (inr h) (inl k) = absurd (rule_or_bad l h.0 h.1 h.2 d m h.3 k)
-  first_bad_one (l ∷ ls) e d n m (inr h) (inr k) = first_bad_one ls e d n m h.4 k.4
+  first_bad_one (l ∷ ls) e d n m (inr h) (inr k) =
+      alike_so (RulesHaveThree r ls) (RulesHaveThree r (l ∷ ls)) (λ number more. (more.0, past_head l ls more.0 more.1, more.2)) e d (first_bad_one ls e d n m h.4 k.4)
 
   pub rules_or_bad : (ls : List RuleData) (ns : List (List Text)) (qs : List NamedRule) (bs : List (Option Tree)) (e : NotationError) → e ≢ Memory → AreRules r ls ns qs bs → IsFirstBad r ls e → ⊥
   rules_or_bad [] ns qs bs e n h k = k

@@ -29,7 +29,7 @@ use Rattle.sx_notation.specs.RuleParts.{rule_parts}
 use Rattle.sx_language.specs.RuleLine.{Reader, subject_sort, CanRead}
 use Rattle.sx_language.specs.RuleTexts.{HaveStemSorts, IsRule, AreRules, IsFirstBad}
 use Rattle.sx_language.specs.States.{AreStems, States, name_unbound, IsRefused}
-use Rattle.sx_language.specs.Alike.{ShowOthers}
+use Rattle.sx_language.specs.Alike.{RulesHaveThree, LanguageHasThree, ShowOthers}
 
 -- two languages are the same, but for where they lie in memory
 pub record SameLanguage (l k : Language) : Type 0 where
@@ -48,18 +48,19 @@ pub record SameLanguage (l k : Language) : Type 0 where
   -- the names of the variables of each rule
   pub names : l.names.items ≡ k.names.items
 
--- a text states one language, or has one refusal, but for the two readings that it shows; want of
--- memory is free
+-- A text states one language, or has one refusal, but for the two readings that it shows of a line
+-- with more than two. Out of memory is free.
 pub record OneLanguage : Type 0 where
   pub found : (name bytes : List ℕ) (l k : Language) → States name bytes l →
       States name bytes k → SameLanguage l k
   pub either : (name bytes : List ℕ) (l : Language) (e : NotationError) → States name bytes l →
       IsRefused name bytes e → e ≡ Memory
   pub refused : (name bytes : List ℕ) (e d : NotationError) → IsRefused name bytes e →
-      IsRefused name bytes d → e ≢ Memory → d ≢ Memory → (e ≡ d) ⊎ ShowOthers e d
+      IsRefused name bytes d → e ≢ Memory → d ≢ Memory →
+      (e ≡ d) ⊎ ShowOthers (LanguageHasThree name bytes) e d
 
--- lines state one list of rules with their bodies and names, or have one first bad line, but for
--- the two readings that its refusal shows
+-- Lines state one list of rules with their bodies and names, or have one first bad line, but for
+-- the two readings that its refusal shows where the line has more than two.
 pub record OneRules : Type 0 where
   pub found : (r : Reader) (ls : List RuleData) (ns ms : List (List Text)) (qs ws : List NamedRule)
       (ts us : List (Option Tree)) → AreRules r ls ns qs ts → AreRules r ls ms ws us →
@@ -68,7 +69,8 @@ pub record OneRules : Type 0 where
       (ts : List (Option Tree)) (e : NotationError) → AreRules r ls ns qs ts →
       IsFirstBad r ls e → e ≡ Memory
   pub refused : (r : Reader) (ls : List RuleData) (e d : NotationError) → IsFirstBad r ls e →
-      IsFirstBad r ls d → e ≢ Memory → d ≢ Memory → (e ≡ d) ⊎ ShowOthers e d
+      IsFirstBad r ls d → e ≢ Memory → d ≢ Memory →
+      (e ≡ d) ⊎ ShowOthers (RulesHaveThree r ls) e d
 
 -- what is read at a sort of the grammar of rules has it, where variables have the sorts of their
 -- stems

@@ -3,14 +3,15 @@
 ghost use Rattle.sx_language.specs.Laws.{OneLanguage, OneRules, ReadsAreSorted, BodiesAreSorted};
 ghost use Rattle.sx_language.specs.Laws.{RulesAreUsable, UnboundIsLater};
 
-/// A text states one language, or has one refusal, out of memory and the readings that a refusal
-/// shows aside.
+/// A text states one language, or has one refusal, out of memory aside. The two readings that a
+/// refusal shows of a line are the same two in the same order, unless the line has more than two.
 pub fn one_language()
     ensures { OneLanguage }
 {}
 
 /// Lines state one list of rules, with their bodies and the names of their variables, or have one
-/// first bad line, out of memory and the readings that its refusal shows aside.
+/// first bad line, out of memory aside. The two readings that its refusal shows are the same two in
+/// the same order, unless the line has more than two.
 pub fn one_rules()
     ensures { OneRules }
 {}

@@ -7,7 +7,7 @@
 //! - `read_rules`: the rules that lines state, with their bodies, by a `RuleReader`, or the first
 //!   bad line. `read_language` reads rules without bodies by it.
 //! - `one_language`: a text states one language, or has one refusal, but for the two readings that
-//!   a refusal may show.
+//!   a refusal may show of a line with more than two.
 #![tactic(auto)]
 
 mod language_reading;

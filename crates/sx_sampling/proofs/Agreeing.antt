@@ -1,16 +1,17 @@
--- `sample N` has one result, but for read faults and for readings that a stop shows where it is
--- free which these are.
-use Rattle.std.proofs.Common.{ℕ, refl, sym, ◌∙◌, inl, inr}
-use Rattle.std.specs.Prelude.{Ok, Err}
+-- `sample N` has one result, but for read faults and for two readings that a stop shows of a text
+-- that has more.
+use Rattle.std.proofs.Common.{◌≡◌, ℕ, refl, sym, ap, ◌∙◌, inl, inr}
+use Rattle.std.specs.Prelude.{Ok}
 use Rattle.sx_unit.specs.Written.{UnitData}
 use Rattle.sx_outside.specs.Files.{Files}
 use Rattle.sx_steps.specs.declared.stop.Stop.{Stop}
-use Rattle.sx_steps.specs.Agree.{AreReadings}
+use Rattle.sx_steps.specs.Refusal.{status_of, line_of}
 use Rattle.sx_steps.specs.Steps.{NoTries, Untried}
 use Rattle.sx_steps.proofs.Ones.{IsOne, IsOneBy, and_then_by, answers_so, trying_same}
-use Rattle.sx_steps.proofs.Ones.{trying_nearly, no_tries_one}
+use Rattle.sx_steps.proofs.Ones.{no_tries_one}
 use Rattle.sx_accepting.specs.ReadLanguage.{Stated, ReadsLanguage}
-use Rattle.sx_accepting.proofs.OneLanguageFile.{reads_language_nearly}
+use Rattle.sx_accepting.specs.Alike.{StopsAtLanguage, SameButReadings}
+use Rattle.sx_accepting.proofs.OneLanguageFile.{languages_agree}
 use Rattle.sx_headers.specs.ReadModule.{Module, ReadsModule}
 use Rattle.sx_headers.proofs.OneHeaders.{reads_module_one}
 use Rattle.sx_importing.specs.ReadImports.{ReadsImports}
@@ -35,8 +36,11 @@ module _ (units : UnitsAgree) (number : ℕ) where
   abbrev Related : Stop → Stop → Type 0
   Related = SameButShown number
 
+  same_alike : (s t : Stop) → s ≡ t → Related s t
+  same_alike s t e = inl (record { status = ap status_of e; line = ap line_of e })
+
   alike : (s : Stop) → Related s s
-  alike s = inl (record { status = refl; line = refl })
+  alike s = same_alike s s refl
 
   -- the unit
   module _ (f : IsFound number) where
@@ -70,15 +74,20 @@ module _ (units : UnitsAgree) (number : ℕ) where
           imported = h.0;
         }))
 
-    of_language : (s t : Stop) → ReadsLanguage m.header.language files (Err s) →
-        ReadsLanguage m.header.language files (Err t) → AreReadings s t → Related s t
-    of_language s t h k show = inr (show, inl (record { read = m; reads = reads; stops = h }))
+    abbrev SameLanguages : Stop → Stop → Type 0
+    SameLanguages = SameButReadings (StopsAtLanguage m.header.language files)
+
+    of_language : (s t : Stop) → SameLanguages s t → Related s t
+    of_language s t (inl same) = same_alike s t same
+    of_language s t (inr (are, stops)) =
+        inr (are, inl (record { read = m; reads = reads; stops = stops }))
 
     read_by : IsOneBy Related (MakesRead files m)
     read_by =
         and_then_by Related (Untried (ReadsLanguage m.header.language files)) (MakesOver files m)
-        (trying_nearly Related alike (ReadsLanguage m.header.language files) of_language NoTries
-        no_tries_one (reads_language_nearly m.header.language files))
+        (λ a b i j h k p q.
+        let one = languages_agree m.header.language files a b i j h k p q in
+        (answers_so SameLanguages Related of_language a b one.0, one.1))
         (λ l before h. over_by l h.0)
 
   sample_by : IsOneBy Related (MakesSample files)

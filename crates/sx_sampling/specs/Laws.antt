@@ -7,7 +7,7 @@ use Rattle.sx_steps.specs.Agree.{AreReadings, IsSure, AnswersBy}
 use Rattle.sx_steps.specs.TypeErrors.{IsTypeError}
 use Rattle.sx_steps.specs.Work.{Plan}
 use Rattle.sx_uses.specs.Laws.{AnswerAlike}
-use Rattle.sx_accepting.specs.ReadLanguage.{ReadsLanguage}
+use Rattle.sx_accepting.specs.Alike.{StopsAtLanguage}
 use Rattle.sx_headers.specs.ReadModule.{Module, ReadsModule}
 use Rattle.sx_compiling.specs.Laws.{HasNoType, HasUnsoundRule}
 use Rattle.sx_compiling.specs.Laws.{ShowsFree as ShowsFreeOfUnit}
@@ -18,14 +18,14 @@ use Rattle.sx_sampling.specs.Found.{IsFound, given_from}
 
 -- ---- one result
 
--- the stop is that of the file of the language
+-- the stop is that of the file of the language, about a line that has more than two readings
 pub record IsOfLanguage (number : ℕ) (stop : Stop) : Type 0 where
   pub read : Module
   pub reads : ReadsModule sample_file sample_name (files_of number) (Ok read)
-  pub stops : ReadsLanguage read.header.language (files_of number) (Err stop)
+  pub stops : StopsAtLanguage read.header.language (files_of number) stop
 
--- the text of which the stop shows two readings is one where it is free which two these are: a
--- line of the language's file, or a text of the sample, of its imports or of its extensions
+-- the text of which the stop shows two readings is one that has more than two: a line of the
+-- language's file, or a text of the sample, of its imports or of its extensions
 abbrev pub ShowsFree : (number : ℕ) → Stop → Type 0
 ShowsFree number s = IsOfLanguage number s
     ⊎ ((f : IsFound number) × ShowsFreeOfUnit sample_budgets (files_of number) (given_from f) s)

@@ -26,9 +26,9 @@ pub fn sampled_have_headline()
 }
 
 /// By the number of names there is one result and one number of tries, but for read faults and out
-/// of memory. Two readings that a refusal shows of a text of the sample or of an import's row are
-/// the same two in the same order, unless it has more than two; of a line of the language's or an
-/// extension's file it is free which two are shown.
+/// of memory. Two readings that a refusal shows of a text of the sample, of an import's row, or of
+/// a line of the language's or an extension's file are the same two in the same order, unless it
+/// has more than two.
 pub fn samples_agree()
     ensures { SamplesAgree }
 {

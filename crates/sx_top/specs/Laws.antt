@@ -51,8 +51,8 @@ OneCoreOutcome =
     Outcome c files a m → Outcome c files b n → IsSure a → IsSure b → (a ≡ b) × (m ≡ n)
 
 -- the stops of the command with these auditors are the same; for a module or an extension they give
--- the same status and the same line, but for readings that they show where it is free which these
--- are
+-- the same status and the same line, but for two readings that they show of a text with more than
+-- two
 abbrev pub SameFor : Meant → List Meaning → Files → Stop → Stop → Type 0
 SameFor (builds false name tries nodes audits) named files s t =
     SameButShown name (budgets_of tries nodes) named files s t

@@ -13,8 +13,8 @@ use sx_verify::verifies_agree;
 
 /// By the words and the files there is one outcome, but for read faults and out of memory: what is
 /// to be written, or one refusal, and one number of tries. Two readings that a refusal shows of a
-/// text of a module are the same two in the same order, unless it has more than two; of a line of a
-/// language's or an extension's file it is free which two are shown.
+/// text of a module, of an import's row, or of a line of a language's or an extension's file are
+/// the same two in the same order, unless it has more than two.
 pub fn one_outcome()
     ensures core { OneCoreOutcome }
     ensures whole { OneOutcome }

@@ -1,11 +1,9 @@
 -- A printed text is cut into the printed tokens, and they are read as the term.
-use Rattle.std.proofs.Common.{◌≡◌, ℕ, zero, suc, ◌+◌, ◌-◌, ◌^◌, ◌<◌, ◌≤◌, false, List, [], ◌∷◌}
-use Rattle.std.proofs.Common.{◌++◌, Contains, length, map, get_or, min, sym, refl, ap, ◌∙◌, subst}
+use Rattle.std.proofs.Common.{◌≡◌, ℕ, ◌+◌, ◌-◌, ◌^◌, ◌<◌, ◌≤◌, false, List, [], ◌∷◌}
+use Rattle.std.proofs.Common.{◌++◌, length, map, get_or, min, sym, refl, ap, ◌∙◌, subst}
 use Rattle.std.proofs.Common.{inl, arith, length-append, lit<}
-use Rattle.std.specs.List.{AllByRecursion}
 use Rattle.std.specs.Str.{IsUtf8}
 use Rattle.std.proofs.lemmas.List.{append-nil, length-map}
-use Rattle.std.proofs.lemmas.Bool.{false≢true}
 use Rattle.std.proofs.lemmas.Option.{none-some}
 use Rattle.std.proofs.lemmas.Str.{IsUtf8-take, IsUtf8-drop, IsCharBoundary-before_ascii}
 use Rattle.std.proofs.lemmas.Str.{IsCharBoundary-after_ascii}
@@ -13,7 +11,7 @@ use Rattle.std.proofs.Math.Seq.{take-append_seam, drop-append-add, get_or-append
 use Rattle.sx_term.specs.declared.mark.Mark as marks
 use Rattle.sx_term.specs.declared.mark.Mark.TheVariants.{Lit, Lex, Meta}
 use Rattle.sx_term.specs.declared.sort.Sort.{Sort}
-use Rattle.sx_term.specs.Cutting.{Piece, Stands, Cuts, done, skip, piece, IsOutcome, tokens}
+use Rattle.sx_term.specs.Cutting.{Piece, Cuts, IsOutcome, tokens}
 use Rattle.sx_term.specs.Spaced.{AreBlanks}
 use Rattle.sx_term.specs.Tree.{Tree}
 use Rattle.sx_term.proofs.CutLaws.{Cuts-same, IsStuck-nil}
@@ -31,9 +29,9 @@ use Rattle.sx_grammar.specs.ReadOne.{IsAnswer, only}
 use Rattle.sx_grammar.specs.Print.{print, term_of, Fits, node_fits, lexeme_fits, hole_fits}
 use Rattle.sx_grammar.specs.Print.{BracketsWhereAsked}
 use Rattle.sx_earley.specs.Tokens.{stem_of, sort_of, found_stem, shown as shown_token, plain_tokens}
-use Rattle.sx_earley.specs.Tokens.{AreKnown}
+use Rattle.sx_earley.specs.Unknown.{HaveStems}
 use Rattle.sx_earley.specs.Completed.{number_of}
-use Rattle.sx_earley.proofs.Known.{cut_known}
+use Rattle.sx_earley.proofs.NoMetas.{cut_has_stems}
 use Rattle.sx_print.specs.Tokens.{shown, shown_mark}
 use Rattle.sx_print.specs.Printed.{text_of, HaveUtf8}
 use Rattle.sx_print.specs.Cut.{HasLexemes, IsCutInto, HasReading}
@@ -209,29 +207,8 @@ module _ (p : Parts) (sort : Sort) (t : Tree) (text blanks : List ℕ) (is : IsG
 
 -- ---- tokens of a text without metavariables
 
-no_meta : (literals : List Text) (m : marks.Mark) (text rest : Text) → Stands literals false m text
-    rest → m ≡ Meta → ⊥
-no_meta literals (Lit n) text rest h e = cc
-no_meta literals (Lex kind) text rest h e = cc
-no_meta literals Meta text rest h e = false≢true h.0
-
-pieces_closed : {literals : List Text} {size : ℕ} {text rest : Text} {ps : List Piece} →
-    Cuts literals false size text ps rest → AllByRecursion (λ p. p.mark ≡ Meta → ⊥) ps
-pieces_closed done = tt
-pieces_closed (skip blank more) = pieces_closed more
-pieces_closed {literals = literals} (piece {more = more} {t = t} at rest) =
-    (no_meta literals t.mark t.text more at.stands, pieces_closed rest)
-
-closed_at : (ts : List Token) (t : Token) → AllByRecursion (λ p. p.mark ≡ Meta → ⊥) (pieces ts) →
-    Contains ts t → t.mark ≡ Meta → ⊥
-closed_at [] t all h e = absurd (omega (arith, h.1))
-closed_at (u ∷ us) t all (zero, h, here) e = all.0 (ap (λ x. x.mark) here ∙ e)
-closed_at (u ∷ us) t all (suc k, h, here) e = closed_at us t all.1 (k, omega (arith, h), here) e
-
 pub cut_short : (p : Parts) (text : Text) (ts : List Token) → IsCut p text ts → length ts ≤ 10000
 cut_short p text ts cut = omega (arith, cut.1, length-map ts piece_of)
 
-pub cut_tokens_known : (p : Parts) (text : Text) (ts : List Token) → IsCut p text ts →
-    AreKnown (literals_of p) [] ts
-cut_tokens_known p text ts cut = cut_known [] ts cut.2
-    (λ t there e. absurd (closed_at ts t (pieces_closed cut.2) there e))
+pub cut_stems : (p : Parts) (text : Text) (ts : List Token) → IsCut p text ts → HaveStems [] ts
+cut_stems p text ts cut = cut_has_stems [] ts cut.2

@@ -16,7 +16,8 @@ ghost use Rattle.sx_grammar.specs.Reading.{Reading, ReadsWhole};
 ghost use Rattle.sx_grammar.specs.ReadOne.{IsAnswer, only};
 ghost use Rattle.sx_grammar.specs.Tables.{literals_of};
 ghost use Rattle.sx_earley.specs.Completed.{IsSort, number_of};
-ghost use Rattle.sx_earley.specs.Tokens.{plain_tokens, AreKnown};
+ghost use Rattle.sx_earley.specs.Tokens.{plain_tokens};
+ghost use Rattle.sx_earley.specs.Unknown.{HaveStems};
 ghost use Rattle.sx_print.specs.Cut.{HasLexemes};
 ghost use Rattle.sx_notation.specs.WhyUnread.{IsReadError};
 ghost use Rattle.sx_typing.specs.Body.{IsCut};
@@ -113,7 +114,7 @@ fn read_print(
 ) -> Result<(), PrintRefusal>
     requires sort { IsSort grammar.now.parts sort }
     requires short { length tokens.now ≤ 10000 }
-    requires known { AreKnown (literals_of grammar.now.parts) [] tokens.now }
+    requires stems { HaveStems [] tokens.now }
     requires read { (r : Reading) ×
         ReadsWhole (numbered grammar.now.parts) (plain_tokens [] tokens.now) (number_of sort) r }
     ensures only { IfOk result (λ _. (r : Reading) ×

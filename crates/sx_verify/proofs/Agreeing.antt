@@ -1,7 +1,7 @@
--- `verify NAME` has one result, but for read faults and for readings that a stop shows where it is
--- free which these are.
+-- `verify NAME` has one result, but for read faults and for two readings that a stop shows of a text
+-- that has more.
 use Rattle.std.proofs.Common.{◌≡◌, ℕ, List, [], length, map, refl, inl, inr}
-use Rattle.std.specs.Prelude.{Result, Ok, Err}
+use Rattle.std.specs.Prelude.{Result, Ok}
 use Rattle.sha2.specs.Sha256.{sha256}
 use Rattle.sx_term.specs.Tree.{Tree}
 use Rattle.sx_grammar.specs.Tables.{literals_of}
@@ -21,15 +21,16 @@ use Rattle.sx_environment.specs.Environments.{IsEnvironment}
 use Rattle.sx_outside.specs.Files.{Files}
 use Rattle.sx_words.specs.declared.closure_defect.Kept.TheVariants as kept
 use Rattle.sx_steps.specs.declared.stop.Stop.{Stop}
-use Rattle.sx_steps.specs.Agree.{IsNoReadFault, Agree, AnswersBy}
+use Rattle.sx_steps.specs.Agree.{IsNoReadFault}
 use Rattle.sx_steps.specs.Held.{Held, most_bytes}
 use Rattle.sx_steps.specs.Steps.{NoTries}
 use Rattle.sx_steps.specs.Unit.{base_file, list_file, interface_file}
-use Rattle.sx_steps.proofs.Ones.{as_answer, held_one, trying_by, no_tries_one, ok_same, err_same}
-use Rattle.sx_steps.proofs.Ones.{ok_no_err, answers_so}
+use Rattle.sx_steps.proofs.Ones.{as_answer, held_one, trying_by, no_tries_one, answers_so}
+use Rattle.sx_steps.proofs.Related.{IsOneAs, one_as, then_as}
 use Rattle.sx_accepting.specs.LanguageFiles.{language_file}
 use Rattle.sx_accepting.specs.ReadLanguage.{Stated, IsStated, StatesLanguage}
-use Rattle.sx_accepting.proofs.OneLanguageFile.{reads_language_nearly}
+use Rattle.sx_accepting.specs.Alike.{StopsAtLanguage, SameButReadings}
+use Rattle.sx_accepting.proofs.OneLanguageFile.{reads_language_as}
 use Rattle.sx_dialects.specs.Dialects.{ExtendedIsDialect}
 use Rattle.sx_headers.specs.FreeImports.{HasFreeImports}
 use Rattle.sx_headers.proofs.OneHeaders.{free_imports_one}
@@ -52,7 +53,6 @@ use Rattle.sx_verify.proofs.NamedRules.{stated_named}
 use Rattle.sx_verify.proofs.OneBodies.{SameButBody, bodies}
 use Rattle.sx_verify.proofs.OneSteps.{written_one, all_kept_one, list_one, replays_one}
 use Rattle.sx_verify.proofs.Promise.{are_written, holds}
-use Rattle.sx_verify.proofs.Related.{IsOneAs, one_as, then_as}
 
 module _ (environments : OneEnvironment) (dialects : ExtendedIsDialect) (name : List ℕ)
     (files : Files) where
@@ -70,35 +70,19 @@ module _ (environments : OneEnvironment) (dialects : ExtendedIsDialect) (name : 
     own = w.interface.language.name
 
     -- the language
-    language_nearly : (x y : Result Stated Stop) → StatesLanguage own bytes x →
-        StatesLanguage own bytes y → IsNoReadFault x → IsNoReadFault y → Agree x y
-    language_nearly x y h k n m =
-        reads_language_nearly own files x y (record { given = Ok bytes; begins = held; goes = h })
-        (record { given = Ok bytes; begins = held; goes = k }) n m
+    abbrev SameLanguages : Stop → Stop → Type 0
+    SameLanguages = SameButReadings (StopsAtLanguage own files)
 
-    agreed : (x y : Result Stated Stop) → StatesLanguage own bytes x → Agree x y →
-        AnswersBy Related (as_answer x) (as_answer y)
-    agreed (Ok l) (Ok k) h (inl e) = ok_same l k e
-    agreed (Ok l) (Ok k) h (inr none) = absurd none
-    agreed (Ok l) (Err t) h (inl e) = ok_no_err l t e
-    agreed (Ok l) (Err t) h (inr none) = none
-    agreed (Err s) (Ok k) h (inl e) = absurd cc
-    agreed (Err s) (Ok k) h (inr none) = none
-    agreed (Err s) (Err t) h (inl e) = inl (err_same {A = Stated} s t e)
-    agreed (Err s) (Err t) h (inr show) =
-        inr (
-          show,
-          inl (record {
-            written = w;
-            reads = read;
-            bytes = bytes;
-            held = held.0;
-            stops = h;
-          }),
-        )
+    of_language : (x y : Stop) → SameLanguages x y → Related x y
+    of_language x y (inl same) = inl same
+    of_language x y (inr (are, stops)) =
+        inr (are, inl (record { written = w; reads = read; stops = stops }))
 
     language_as : IsOneAs Related (StatesLanguage own bytes)
-    language_as x y h k n m = agreed x y h (language_nearly x y h k n m)
+    language_as x y h k n m =
+        answers_so SameLanguages Related of_language (as_answer x) (as_answer y)
+        (reads_language_as own files x y (record { given = Ok bytes; begins = held; goes = h })
+        (record { given = Ok bytes; begins = held; goes = k }) n m)
 
     module _ (digest : w.interface.language.digest ≡ sha256 bytes) (its : List InterfaceParts)
         (kept_all : ReadsAllKept (interface_file name) files w.interface.imports (Ok its))

@@ -13,7 +13,6 @@ pub mod KeptDigests
 pub mod OverTerms
 pub mod OwnDialects
 pub mod DistinctRules
-pub mod Related
 pub mod OneSteps
 pub mod OneBodies
 pub mod Agreeing

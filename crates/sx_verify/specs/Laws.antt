@@ -1,5 +1,5 @@
 -- What is proved of `verify NAME`.
-use Rattle.std.specs.Prelude.{◌≡◌, ◌⊎◌, ℕ, List, Ok, Err, Some, Result}
+use Rattle.std.specs.Prelude.{◌≡◌, ◌⊎◌, ℕ, List, Ok, Err, Result}
 use Rattle.sx_typing.specs.Alike.{BodyHasThree}
 use Rattle.sx_term.specs.Tree.{Tree}
 use Rattle.sx_outside.specs.Files.{Files}
@@ -10,20 +10,17 @@ use Rattle.sx_steps.specs.Steps.{Untried}
 use Rattle.sx_steps.specs.TypeErrors.{IsTypeError}
 use Rattle.sx_steps.specs.Unit.{base_file}
 use Rattle.sx_steps.specs.Work.{Plan}
-use Rattle.sx_accepting.specs.LanguageFiles.{language_file}
-use Rattle.sx_accepting.specs.ReadLanguage.{StatesLanguage}
+use Rattle.sx_accepting.specs.Alike.{StopsAtLanguage}
 use Rattle.sx_importing.specs.Laws.{IsOfImport}
 use Rattle.sx_verify.specs.Ground.{seen_in, source_in}
 use Rattle.sx_verify.specs.VerifiedModule.{HoldsFiles, IsEnvironmentOf}
 use Rattle.sx_verify.specs.VerifyModule.{Written, ReadsWritten, VerifiesModule}
 
--- the stop is that of the language's file
+-- the stop is that of the language's file, about a line that has more than two readings
 pub record IsOfLanguage (name : List ℕ) (files : Files) (stop : Stop) : Type 0 where
   pub written : Written
   pub reads : ReadsWritten name files (Ok written)
-  pub bytes : List ℕ
-  pub held : files (language_file written.interface.language.name) ≡ Some bytes
-  pub stops : StatesLanguage written.interface.language.name bytes (Err stop)
+  pub stops : StopsAtLanguage written.interface.language.name files stop
 
 -- the stop names the file of one of the imports, of which a signature has more than two readings
 pub record IsOfSignature (name : List ℕ) (files : Files) (stop : Stop) : Type 0 where
@@ -38,8 +35,8 @@ pub record IsOfBody (name : List ℕ) (files : Files) (stop : Stop) : Type 0 whe
   pub file : stop.file ≡ base_file name
   pub three : BodyHasThree (source_in from.language from.base environment)
 
--- the text of which the stop shows two readings is one where it is free which two these are: a line
--- of the language's file, or a signature or the body that has more than two
+-- the text of which the stop shows two readings is one that has more than two: a line of the
+-- language's file, a signature, or the body
 abbrev pub ShowsFree : (name : List ℕ) → Files → Stop → Type 0
 ShowsFree name files s =
     IsOfLanguage name files s ⊎ IsOfSignature name files s ⊎ IsOfBody name files s

@@ -15,8 +15,8 @@ pub fn verifies_keep_promise()
 {}
 
 /// The steps have one result, read faults and out of memory aside, and make no try. Two readings
-/// that a stop shows are free where it is a line of the language's file that has more than one, or
-/// a signature of an import or the body that has more than two.
+/// that a stop shows of a line of the language's file, of a signature of an import, or of the body
+/// are the same two in the same order, unless it has more than two.
 pub fn verifies_agree()
     ensures { VerifiesAgree }
 {

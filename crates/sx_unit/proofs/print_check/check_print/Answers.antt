@@ -5,7 +5,7 @@ use Rattle.sx_notation.proofs.TextReading.{err_if}
 use Rattle.sx_typing.specs.Body.{IsCut}
 use Rattle.sx_unit.specs.PrintRefused.{IsPrintRefusal}
 use Rattle.sx_unit.proofs.Reread.{exact_count, few_enough, many_uncut, print_outcome, print_reads}
-use Rattle.sx_unit.proofs.Reread.{reads_only, cut_tokens_known}
+use Rattle.sx_unit.proofs.Reread.{reads_only, cut_stems}
 use Rattle.sx_unit.proofs.Refusing.{refused}
 use Rattle.sx_unit.proofs.print_check.check_print.Goals as goal
 
@@ -35,9 +35,9 @@ cut_print-requires-clause-cut c =
     c.facts.ensures.brackets c.requires.fits c.requires.lexemes c.requires.text.1
     c.requires.text.2 c.requires.utf8 few
 
-pub read_print-requires-clause-known : goal.read_print-requires-clause-known
-read_print-requires-clause-known c =
-    cut_tokens_known c.args.grammar.now.parts c.args.shown.now c.deref.result.now
+pub read_print-requires-clause-stems : goal.read_print-requires-clause-stems
+read_print-requires-clause-stems c =
+    cut_stems c.args.grammar.now.parts c.args.shown.now c.deref.result.now
     (subst (IsCut c.args.grammar.now.parts c.args.shown.now) (sym c.deref.ensures.value)
     c.in_ok-tokens.ensures.cut)
 
