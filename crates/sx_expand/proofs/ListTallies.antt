@@ -1,68 +1,24 @@
 -- What is counted of lowered derivations by their entries.
-use Rattle.std.proofs.Common.{◌≡◌, ℕ, ◌+◌, ◌-◌, ◌*◌, ◌<◌, ◌≤◌, max, List, length, drop, get_or, Bool, Option, Some, None, refl, sym, ap, ◌∙◌, subst, arith, if◌then◌else◌}
-use Rattle.std.specs.Prelude.{nat_lt, slice_get}
-use Rattle.std.proofs.lemmas.Bool.{lt-ltb}
+use Rattle.std.proofs.Common.{◌≡◌, ℕ, ◌+◌, ◌-◌, ◌*◌, ◌<◌, ◌≤◌, max, List, length, drop, get_or, refl, sym, ap, subst, arith, if◌then◌else◌}
+use Rattle.std.specs.Prelude.{nat_lt}
 use Rattle.std.proofs.lemmas.List.{drop_all}
-use Rattle.sx_term.specs.Tree.{Tree}
-use Rattle.sx_rules.specs.Derivations.{Proof, Proofs, by, given, no_more, ◌⊳◌, height_of, most_height}
+use Rattle.sx_rules.specs.Derivations.{Proof, Proofs, no_more, ◌⊳◌, height_of, most_height}
 use Rattle.sx_rules.specs.Orders.{Entry}
 use Rattle.sx_plain.specs.Measures.{total, greatest}
 use Rattle.sx_rewrite.specs.declared.certificate_size.CertificateSize.{CertificateSize}
 use Rattle.sx_rewrite.specs.declared.given_use.GivenUse.{GivenUse}
 use Rattle.sx_rewrite.specs.declared.tally.Tally.{Tally}
-use Rattle.sx_rewrite.specs.Accepted.{Known, basic, checked, Accepted, known_of}
+use Rattle.sx_rewrite.specs.Accepted.{Accepted}
 use Rattle.sx_rewrite.specs.Copied.{copied, copied_of}
-use Rattle.sx_rewrite.specs.LoweredSizes.{FitKids, number_of}
-use Rattle.sx_rewrite.specs.Sizes.{in_u64, in_u128, IsSizeIn, UsesPremises, used_sum, used_most, used_copies}
-use Rattle.sx_rewrite.specs.Stored.{stored_in}
+use Rattle.sx_rewrite.specs.LoweredSizes.{number_of}
+use Rattle.sx_rewrite.specs.Sizes.{in_u64, in_u128, used_sum, used_most, used_copies}
+use Rattle.sx_rewrite.specs.Tallies.{IsSizedTally, IsBaseTally, IsWithKid}
 use Rattle.sx_rewrite.specs.Used.{lowered_nodes, lowered_nodes_of, lowered_height, lowered_heights_of}
-use Rattle.sx_rewrite.proofs.SizeLaws.{kid-nodes, kid-copied, uses-drop}
-use Rattle.sx_rewrite.proofs.Tallied.{node-by, base-node}
+use Rattle.sx_rewrite.proofs.SizeLaws.{uses-drop}
+use Rattle.sx_rewrite.proofs.Tallied.{one_time, no_time}
 use Rattle.sx_expand.specs.Standing.{IsListed, AreListed, AreEnds}
-use Rattle.sx_expand.specs.Tallies.{IsTallyOf, IsSizedTally, IsBaseTally, IsWithKid}
 use Rattle.sx_expand.proofs.Standing.{nodes-some, stands-within, listed-first}
 use Rattle.sx_expand.proofs.Rows.{UpTo, head-is, row-ended}
-
--- a rule with a certificate has as many kids as uses are kept
-pub sized-many : (a : Accepted) (r : ℕ) (size : CertificateSize) (kids : Proofs) → IsSizeIn (stored_in (slice_get (known_of a) r)) size → FitKids (slice_get (known_of a) r) kids → number_of kids ≡ length size.uses.items
-sized-many a r size kids s f = go (slice_get (known_of a) r) s f
-  where
-    go : (o : Option Known) → IsSizeIn (stored_in o) size → FitKids o kids → number_of kids ≡ length size.uses.items
-    go None s f = absurd s
-    go (Some (basic rule)) s f = absurd s
-    go (Some (checked c)) s f = let m = s.many in omega (arith, m, f)
-
--- a node by its rule
-module _ (a : Accepted) (p : Proof) (r : ℕ) (binds : List Tree) (kids : Proofs) (is : p ≡ by r binds kids) where
-  pub by-height : height_of p ≡ most_height kids + 1
-  by-height = ap height_of is
-
-  pub sized-tally : (size : CertificateSize) → IsSizeIn (stored_in (slice_get (known_of a) r)) size → UsesPremises (stored_in (slice_get (known_of a) r)) → FitKids (slice_get (known_of a) r) kids → (t : Tally) → IsSizedTally a size kids t → IsTallyOf a p t
-  sized-tally size sized only fit t h =
-      let b = node-by a (slice_get (known_of a) r) size kids sized only fit in
-      let e = ap height_of is in
-      let s = h.small in
-      record {
-        nodes = h.nodes ∙ b.nodes ∙ ap (λ (q : Proof). in_u128 (lowered_nodes a q)) (sym is);
-        height = h.height ∙ b.height ∙ ap (lowered_height a) (sym is);
-        small = omega (arith, e, s);
-        copied = h.copied ∙ b.copied ∙ ap (λ (q : Proof). in_u64 (copied a q)) (sym is);
-      }
-
-  pub base-tally : stored_in (slice_get (known_of a) r) ≡ None → FitKids (slice_get (known_of a) r) kids → (t : Tally) → IsBaseTally a kids t → IsTallyOf a p t
-  base-tally none fit t h =
-      let b = base-node (slice_get (known_of a) r) kids (lowered_nodes_of a kids) (lowered_heights_of a kids) (copied_of a kids) none fit in
-      let e = ap height_of is in
-      let s = h.small in
-      record {
-        nodes = h.nodes ∙ ap in_u128 (b.nodes ∙ ap (lowered_nodes a) (sym is));
-        height = h.height ∙ b.height ∙ ap (lowered_height a) (sym is);
-        small = omega (arith, e, s);
-        copied = h.copied ∙ ap in_u64 (b.copied ∙ ap (copied a) (sym is));
-      }
-
-pub given-tally : (a : Accepted) (p : Proof) (n : ℕ) (t : Tally) → p ≡ given n → t ≡ record { nodes = 1; height = 1; copied = 0 } → IsTallyOf a p t
-given-tally a p n t is e = subst (λ (x : Tally). IsTallyOf a p x) (sym e) (subst (λ (q : Proof). IsTallyOf a q (record { nodes = 1; height = 1; copied = 0 })) (sym is) (record { nodes = refl; height = refl; small = omega arith; copied = refl }))
 
 -- what is counted of those before a place, by the uses of their givens
 pub record SizedSoFar (a : Accepted) (list : List Entry) (size : CertificateSize) (here i : ℕ) (all : Tally) (ps : Proofs) : Type 0 where
@@ -212,12 +168,6 @@ basing-first a list first end all e ps up =
       copied = (let z : 0 + total (copied_of a ps) ≡ total (copied_of a ps) = omega arith in ap in_u64 z);
     })
 
-one_time : (n : ℕ) → 1 * n ≡ n
-one_time n = grind arith
-
-no_time : (n : ℕ) → 0 * n ≡ 0
-no_time n = grind arith
-
 pub basing-more : (a : Accepted) (list : List Entry) (ends : List ℕ) (first end here : ℕ) (old new : Tally) → AreEnds a list ends → here < end →
     ((p : Proof) → IsListed a list here p → IsWithKid a (record { times = 1; above = 1 }) p old new) → Basing a list first end here old → Basing a list first end (get_or ends here 0) new
 basing-more a list ends first end here old new known l one so ps up =
@@ -270,38 +220,4 @@ basing-last a list first end here all l so ps up =
       height = omega (arith, zh, h, o);
       small = s.small;
       copied = omega (arith, zc, c);
-    }
-
--- a kid that is used adds what is counted of it
-pub with-used : (a : Accepted) (u : GivenUse) (p : Proof) (so size new : Tally) → 0 < u.times → IsTallyOf a p size →
-    new.nodes ≡ in_u128 (so.nodes + in_u128 (u.times * size.nodes)) → new.height ≡ max so.height (u.above + size.height) → u.above ≤ 3000 →
-    new.copied ≡ in_u128 (in_u128 (so.copied + in_u128 ((u.times - 1) * size.nodes)) + size.copied) → IsWithKid a u p so new
-with-used a u p so size new some h n hh near c =
-    let b = lt-ltb 0 u.times some in
-    let e = h.height in
-    let s = h.small in
-    let low = lowered_height a p in
-    let times : ℕ → ℕ = (λ x. in_u128 (so.nodes + in_u128 (u.times * x))) in
-    record {
-      nodes = n ∙ ap times h.nodes ∙ kid-nodes so.nodes u.times (lowered_nodes a p);
-      height = hh ∙ ap (λ (x : ℕ). max so.height (u.above + x)) e ∙ ap (λ (x : Bool). max so.height (if x then u.above + low else 0)) (sym b);
-      small = omega (arith, hh, s, near);
-      copied =
-          ap in_u64 (c ∙ ap (λ (x : ℕ). in_u128 (in_u128 (so.copied + in_u128 ((u.times - 1) * x)) + size.copied)) h.nodes)
-          ∙ kid-copied so.copied (u.times - 1) (lowered_nodes a p) size.copied (copied a p) h.copied
-          ∙ ap (λ (x : Bool). in_u64 (so.copied + ((u.times - 1) * lowered_nodes a p + (if x then copied a p else 0)))) (sym b);
-    }
-
--- one that is not used adds nothing
-pub with-unused : (a : Accepted) (u : GivenUse) (p : Proof) (so : Tally) → u.times ≡ 0 → in_u128 so.nodes ≡ so.nodes → IsWithKid a u p so so
-with-unused a u p so none fits =
-    let z = no_time (lowered_nodes a p) in
-    let e = ap (λ (x : ℕ). x * lowered_nodes a p) none in
-    let f = ap (λ (x : ℕ). (x - 1) * lowered_nodes a p) none in
-    let b = ap (λ (x : ℕ). nat_lt 0 x) none in
-    record {
-      nodes = omega (arith, z, e, fits);
-      height = (let m : so.height ≡ max so.height 0 = omega arith in m ∙ ap (λ (x : Bool). max so.height (if x then u.above + lowered_height a p else 0)) (sym b));
-      small = omega arith;
-      copied = (let m : so.copied ≡ so.copied + ((u.times - 1) * lowered_nodes a p + 0) = omega (arith, z, f) in ap in_u64 m ∙ ap (λ (x : Bool). in_u64 (so.copied + ((u.times - 1) * lowered_nodes a p + (if x then copied a p else 0)))) (sym b));
     }

@@ -3,7 +3,6 @@ pub mod Steps
 pub mod LoweredOrders
 pub mod Laws
 pub mod Listed
-pub mod Tallies
 pub mod LoweredLists
 pub mod Readers
 pub mod Readings

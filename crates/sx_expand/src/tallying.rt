@@ -5,8 +5,8 @@ ghost use Rattle.sx_rules.specs.Derivations as spec;
 ghost use Rattle.sx_rules.specs.Derivations.{height_of, most_height, nodes_of_all};
 ghost use Rattle.sx_rewrite.specs.LoweredSizes.{IsLoweredSize, number_of};
 ghost use Rattle.sx_rewrite.specs.Sizes.{IsSmall};
+ghost use Rattle.sx_rewrite.specs.Tallies.{IsTallyOf, IsSizedTally, IsBaseTally, IsWithKid};
 ghost use Rattle.sx_expand.specs.Listed.{HasEnds, StandsIn, StandInRow, set_in};
-ghost use Rattle.sx_expand.specs.Tallies.{IsTallyOf, IsSizedTally, IsBaseTally, IsWithKid};
 
 use crate::ends::{entry_at, number_at};
 use crate::listing::Listing;
@@ -22,15 +22,7 @@ pub(crate) fn listed_size(listing: &Listing, budget: u64) -> Option<LoweredSize>
     ensures { (p : spec.Proof) → StandsIn listing.now 0 p →
         IsLoweredSize (set_in listing.now) p budget result }
 {
-    let all = tally(listing, 0);
-    if all.nodes > u128::from(budget) {
-        return None;
-    }
-    Some(LoweredSize {
-        nodes: all.nodes as u64,
-        height: all.height,
-        copied: all.copied.min(u128::from(u64::MAX)) as u64,
-    })
+    tally(listing, 0).within(budget)
 }
 
 /// What is counted of the derivation that begins with the entry at the place.
@@ -49,11 +41,7 @@ fn tally(listing: &Listing, at: usize) -> Tally
                 None => base_tally(listing, at + 1, end),
             }
         }
-        Entry::Given(_) => Tally {
-            nodes: 1,
-            height: 1,
-            copied: 0,
-        },
+        Entry::Given(_) => Tally::of_one(),
     }
 }
 
@@ -69,11 +57,7 @@ fn certificate_tally(listing: &Listing, size: &CertificateSize, first: usize) ->
         number_of ps ≡ length size.now.uses.items →
         IsSizedTally (set_in listing.now) size.now ps result }
 {
-    let mut all = Tally {
-        nodes: size.nodes,
-        height: u64::from(size.height),
-        copied: 0,
-    };
+    let mut all = size.own_tally();
     let mut at = first;
     for given in &size.uses {
         all = with_kid(listing, all, *given, at);
@@ -92,11 +76,7 @@ fn base_tally(listing: &Listing, first: usize, end: usize) -> Tally
     ensures { (ps : spec.Proofs) → StandInRow listing.now first ps →
         first + nodes_of_all ps ≡ end → IsBaseTally (set_in listing.now) ps result }
 {
-    let mut all = Tally {
-        nodes: 1,
-        height: 1,
-        copied: 0,
-    };
+    let mut all = Tally::of_one();
     let mut at = first;
     while at < end {
         all = with_kid(listing, all, GivenUse { times: 1, above: 1 }, at);
@@ -117,15 +97,5 @@ fn with_kid(listing: &Listing, so_far: Tally, given: GivenUse, at: usize) -> Tal
     if given.times == 0 {
         return so_far;
     }
-    let size = tally(listing, at);
-    let nodes = given.times.saturating_mul(size.nodes);
-    let more = (given.times - 1).saturating_mul(size.nodes);
-    Tally {
-        nodes: so_far.nodes.saturating_add(nodes),
-        height: so_far.height.max(u64::from(given.above) + size.height),
-        copied: so_far
-            .copied
-            .saturating_add(more)
-            .saturating_add(size.copied),
-    }
+    so_far.with_kid(given, tally(listing, at))
 }

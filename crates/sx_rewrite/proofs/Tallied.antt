@@ -1,11 +1,13 @@
 -- What is counted of lowered derivations.
-use Rattle.std.proofs.Common.{◌≡◌, ℕ, zero, suc, ◌+◌, ◌-◌, ◌*◌, ◌<◌, ◌≤◌, max, List, [], ◌∷◌, length, drop, get_or, map, Box, Vec, Option, Some, None, refl, sym, ap, ◌∙◌, subst, arith, if◌then◌else◌}
+use Rattle.std.proofs.Common.{◌≡◌, ℕ, zero, suc, ◌+◌, ◌-◌, ◌*◌, ◌<◌, ◌≤◌, max, List, [], ◌∷◌, length, drop, get_or, map, Box, Vec, Option, Some, None, refl, sym, ap, ◌∙◌, subst, arith, Bool, if◌then◌else◌}
 use Rattle.std.specs.Prelude.{nat_lt, slice_get}
 use Rattle.std.specs.declared.alloc.Global.{Global}
+use Rattle.std.proofs.lemmas.Bool.{lt-ltb}
 use Rattle.std.proofs.lemmas.List.{drop_all}
 use Rattle.std.proofs.Math.ListN.{length-map}
 use Rattle.sx_term.specs.declared.term.Term.{Term}
 use Rattle.sx_term.specs.Term.{tree}
+use Rattle.sx_term.specs.Tree.{Tree}
 use Rattle.sx_rules.specs.declared.proof.Proof.{Proof as ProofOf, By}
 use Rattle.sx_rules.specs.Instances.{bound_by}
 use Rattle.sx_rules.specs.Rules.{Judgement, Rule, Hypotheses, judgement_instance, judgements_of}
@@ -21,10 +23,11 @@ use Rattle.sx_rewrite.specs.Stored.{stored_in}
 use Rattle.sx_rewrite.specs.Used.{lowered_nodes, lowered_nodes_of, lowered_height, lowered_heights_of, nodes_at, height_at}
 use Rattle.sx_rewrite.specs.Copied.{copied, copied_of, copied_at}
 use Rattle.sx_rewrite.specs.Sizes.{in_u128, in_u64, IsSizeIn, UsesPremises, used_sum, used_most, used_copies}
+use Rattle.sx_rewrite.specs.Tallies.{IsTallyOf, IsSizedTally, IsBaseTally, IsWithKid}
 use Rattle.sx_rewrite.specs.LoweredSizes.{number_of, FitKids, HasFitKids, HaveFitKids}
 use Rattle.sx_rewrite.proofs.Known.{known-at}
 use Rattle.sx_rewrite.proofs.Summed.{nodes_are_summed, height_is_greatest}
-use Rattle.sx_rewrite.proofs.SizeLaws.{used-nodes, used-height, used-copied, uses-drop}
+use Rattle.sx_rewrite.proofs.SizeLaws.{kid-nodes, kid-copied, used-nodes, used-height, used-copied, uses-drop}
 use Rattle.sx_rewrite.proofs.Noted.{kids-drop}
 
 -- a derivation has the kids that its rules ask for
@@ -114,6 +117,47 @@ base-node (Some (checked c)) ps ns hs cs e fit = absurd (some-none c e)
     some-none : (d : Checked) → Some d ≡ None → ⊥
     some-none d f = cc
 
+-- a rule with a certificate has as many kids as uses are kept
+pub sized-many : (a : Accepted) (r : ℕ) (size : CertificateSize) (kids : Proofs) → IsSizeIn (stored_in (slice_get (known_of a) r)) size → FitKids (slice_get (known_of a) r) kids → number_of kids ≡ length size.uses.items
+sized-many a r size kids s f = go (slice_get (known_of a) r) s f
+  where
+    go : (o : Option Known) → IsSizeIn (stored_in o) size → FitKids o kids → number_of kids ≡ length size.uses.items
+    go None s f = absurd s
+    go (Some (basic rule)) s f = absurd s
+    go (Some (checked c)) s f = let m = s.many in omega (arith, m, f)
+
+-- a node by its rule
+module _ (a : Accepted) (p : Proof) (r : ℕ) (binds : List Tree) (kids : Proofs) (is : p ≡ by r binds kids) where
+  pub by-height : height_of p ≡ most_height kids + 1
+  by-height = ap height_of is
+
+  pub sized-tally : (size : CertificateSize) → IsSizeIn (stored_in (slice_get (known_of a) r)) size → UsesPremises (stored_in (slice_get (known_of a) r)) → FitKids (slice_get (known_of a) r) kids → (t : Tally) → IsSizedTally a size kids t → IsTallyOf a p t
+  sized-tally size sized only fit t h =
+      let b = node-by a (slice_get (known_of a) r) size kids sized only fit in
+      let e = ap height_of is in
+      let s = h.small in
+      record {
+        nodes = h.nodes ∙ b.nodes ∙ ap (λ (q : Proof). in_u128 (lowered_nodes a q)) (sym is);
+        height = h.height ∙ b.height ∙ ap (lowered_height a) (sym is);
+        small = omega (arith, e, s);
+        copied = h.copied ∙ b.copied ∙ ap (λ (q : Proof). in_u64 (copied a q)) (sym is);
+      }
+
+  pub base-tally : stored_in (slice_get (known_of a) r) ≡ None → FitKids (slice_get (known_of a) r) kids → (t : Tally) → IsBaseTally a kids t → IsTallyOf a p t
+  base-tally none fit t h =
+      let b = base-node (slice_get (known_of a) r) kids (lowered_nodes_of a kids) (lowered_heights_of a kids) (copied_of a kids) none fit in
+      let e = ap height_of is in
+      let s = h.small in
+      record {
+        nodes = h.nodes ∙ ap in_u128 (b.nodes ∙ ap (lowered_nodes a) (sym is));
+        height = h.height ∙ b.height ∙ ap (lowered_height a) (sym is);
+        small = omega (arith, e, s);
+        copied = h.copied ∙ ap in_u64 (b.copied ∙ ap (copied a) (sym is));
+      }
+
+pub given-tally : (a : Accepted) (p : Proof) (n : ℕ) (t : Tally) → p ≡ given n → t ≡ record { nodes = 1; height = 1; copied = 0 } → IsTallyOf a p t
+given-tally a p n t is e = subst (λ (x : Tally). IsTallyOf a p x) (sym e) (subst (λ (q : Proof). IsTallyOf a q (record { nodes = 1; height = 1; copied = 0 })) (sym is) (record { nodes = refl; height = refl; small = omega arith; copied = refl }))
+
 -- a node and its kids
 module _ (a : Accepted) (p : ProofOf) (r : ℕ) (binds : Vec Term Global) (kids : Vec (Box ProofOf Global) Global) (ks : List (Box ProofOf Global)) (is : p ≡ By r binds kids) (same : ks ≡ kids.items) where
   node-is : proof p ≡ by r (map tree binds.items) (boxed ks)
@@ -122,56 +166,17 @@ module _ (a : Accepted) (p : ProofOf) (r : ℕ) (binds : Vec Term Global) (kids 
   pub node-less : most_height (boxed ks) < height_of (proof p)
   node-less = let h = ap height_of node-is in omega (arith, h)
 
-  pub node-height : height_of (proof p) ≡ most_height (boxed ks) + 1
-  node-height = ap height_of node-is
-
   pub node-fit : HasFitKids a (proof p) → FitKids (slice_get (known_of a) r) (boxed ks) × HaveFitKids a (boxed ks)
   node-fit h = subst (λ (x : Proof). HasFitKids a x) node-is h
 
-  node-nodes : lowered_nodes a (proof p) ≡ nodes_at (slice_get (known_of a) r) (lowered_nodes_of a (boxed ks))
-  node-nodes = ap (lowered_nodes a) node-is
+  pub node-many : (size : CertificateSize) → IsSizeIn (stored_in (slice_get (known_of a) r)) size → HasFitKids a (proof p) → length ks ≡ length size.uses.items
+  node-many size sized fit = sym (number-boxed ks) ∙ sized-many a r size (boxed ks) sized (node-fit fit).0
 
-  node-heights : lowered_height a (proof p) ≡ height_at (slice_get (known_of a) r) (lowered_heights_of a (boxed ks))
-  node-heights = ap (lowered_height a) node-is
+  pub node-sized : (size : CertificateSize) → IsSizeIn (stored_in (slice_get (known_of a) r)) size → UsesPremises (stored_in (slice_get (known_of a) r)) → HasFitKids a (proof p) → (t : Tally) → IsSizedTally a size (boxed ks) t → IsTallyOf a (proof p) t
+  node-sized size sized only fit t h = sized-tally a (proof p) r (map tree binds.items) (boxed ks) node-is size sized only (node-fit fit).0 t h
 
-  node-copied : copied a (proof p) ≡ copied_at (slice_get (known_of a) r) (lowered_nodes_of a (boxed ks)) (copied_of a (boxed ks))
-  node-copied = ap (copied a) node-is
-
-  module _ (size : CertificateSize) (sized : IsSizeIn (stored_in (slice_get (known_of a) r)) size) (only : UsesPremises (stored_in (slice_get (known_of a) r))) (fit : HasFitKids a (proof p)) where
-    by-size : IsNodeBy (slice_get (known_of a) r) size (lowered_nodes_of a (boxed ks)) (lowered_heights_of a (boxed ks)) (copied_of a (boxed ks))
-    by-size = node-by a (slice_get (known_of a) r) size (boxed ks) sized only (node-fit fit).0
-
-    pub sized-nodes : in_u128 (size.nodes + used_sum size.uses.items (lowered_nodes_of a (boxed ks))) ≡ in_u128 (lowered_nodes a (proof p))
-    sized-nodes = by-size.nodes ∙ ap in_u128 (sym node-nodes)
-
-    pub sized-height : max size.height (used_most size.uses.items (lowered_heights_of a (boxed ks))) ≡ lowered_height a (proof p)
-    sized-height = by-size.height ∙ sym node-heights
-
-    pub sized-copied : in_u64 (used_copies size.uses.items (lowered_nodes_of a (boxed ks)) (copied_of a (boxed ks))) ≡ in_u64 (copied a (proof p))
-    sized-copied = by-size.copied ∙ ap in_u64 (sym node-copied)
-
-    pub sized-many : length ks ≡ length size.uses.items
-    sized-many = go (slice_get (known_of a) r) sized (node-fit fit).0
-      where
-        go : (o : Option Known) → IsSizeIn (stored_in o) size → FitKids o (boxed ks) → length ks ≡ length size.uses.items
-        go None s f = absurd s
-        go (Some (basic rule)) s f = absurd s
-        go (Some (checked c)) s f =
-            let m = s.many in
-            let n = number-boxed ks in omega (arith, m, n, f)
-
-  module _ (none : stored_in (slice_get (known_of a) r) ≡ None) (fit : HasFitKids a (proof p)) where
-    by-base : IsBaseNode (slice_get (known_of a) r) (lowered_nodes_of a (boxed ks)) (lowered_heights_of a (boxed ks)) (copied_of a (boxed ks))
-    by-base = base-node (slice_get (known_of a) r) (boxed ks) (lowered_nodes_of a (boxed ks)) (lowered_heights_of a (boxed ks)) (copied_of a (boxed ks)) none (node-fit fit).0
-
-    pub base-nodes : total (lowered_nodes_of a (boxed ks)) + 1 ≡ lowered_nodes a (proof p)
-    base-nodes = by-base.nodes ∙ sym node-nodes
-
-    pub base-height : greatest (lowered_heights_of a (boxed ks)) + 1 ≡ lowered_height a (proof p)
-    base-height = by-base.height ∙ sym node-heights
-
-    pub base-copied : total (copied_of a (boxed ks)) ≡ copied a (proof p)
-    base-copied = by-base.copied ∙ sym node-copied
+  pub node-based : stored_in (slice_get (known_of a) r) ≡ None → HasFitKids a (proof p) → (t : Tally) → IsBaseTally a (boxed ks) t → IsTallyOf a (proof p) t
+  node-based none fit t h = base-tally a (proof p) r (map tree binds.items) (boxed ks) node-is none (node-fit fit).0 t h
 
 -- the kid at a place
 pub kid-height : (ks : List (Box ProofOf Global)) (i : ℕ) (k : Box ProofOf Global) (q : ProofOf) → i < length ks → k ≡ get_or ks i k → q ≡ k.value → height_of (proof q) ≤ most_height (boxed ks)
@@ -196,15 +201,9 @@ pub record KidsSoFar (a : Accepted) (size : CertificateSize) (ks : List (Box Pro
       ≡ in_u64 (used_copies size.uses.items (lowered_nodes_of a (boxed ks)) (copied_of a (boxed ks)))
 
 -- what one kid more adds
-pub record IsKidAdded (a : Accepted) (u : GivenUse) (q : Proof) (old new : Tally) : Type 0 where
-  pub nodes : new.nodes ≡ in_u128 (old.nodes + u.times * lowered_nodes a q)
-  pub height : new.height ≡ max old.height (if nat_lt 0 u.times then u.above + lowered_height a q else 0)
-  pub small : new.height ≤ max old.height (3000 * (height_of q + 1))
-  pub copied : in_u64 new.copied ≡ in_u64 (old.copied + ((u.times - 1) * lowered_nodes a q + (if nat_lt 0 u.times then copied a q else 0)))
-
 pub kids-on : (a : Accepted) (size : CertificateSize) (ks : List (Box ProofOf Global)) (i : ℕ) (old new : Tally) (u : GivenUse) (k : Box ProofOf Global) (q : ProofOf) →
     i < length ks → length ks ≡ length size.uses.items → u ≡ get_or size.uses.items i u → k ≡ get_or ks i k → q ≡ k.value →
-    IsKidAdded a u (proof q) old new → KidsSoFar a size ks i old → KidsSoFar a size ks (i + 1) new
+    IsWithKid a u (proof q) old new → KidsSoFar a size ks i old → KidsSoFar a size ks (i + 1) new
 kids-on a size ks i old new u k q l many at_u at_k same h so =
     let us = uses-drop size.uses.items i u (omega (arith, l, many)) at_u in
     let ps = kids-drop ks i k q l at_k same in
@@ -232,6 +231,16 @@ kids-on a size ks i old new u k q l many at_u at_k same h so =
       copied = omega (arith, c, hc, sc);
     }
 
+pub kids-first : (a : Accepted) (size : CertificateSize) (ks : List (Box ProofOf Global)) (all : Tally) → all ≡ record { nodes = size.nodes; height = size.height; copied = 0 } → in_u128 size.nodes ≡ size.nodes → size.height ≤ 3000 → KidsSoFar a size ks 0 all
+kids-first a size ks all e within small =
+    subst (λ (x : Tally). KidsSoFar a size ks 0 x) (sym e) (record {
+      nodes = refl;
+      within = within;
+      height = refl;
+      small = omega (arith, small);
+      copied = (let z : 0 + used_copies size.uses.items (lowered_nodes_of a (boxed ks)) (copied_of a (boxed ks)) ≡ used_copies size.uses.items (lowered_nodes_of a (boxed ks)) (copied_of a (boxed ks)) = omega arith in ap in_u64 z);
+    })
+
 -- past the last kid
 used_sum-none : (us : List GivenUse) → used_sum us [] ≡ 0
 used_sum-none [] = refl
@@ -249,21 +258,24 @@ module _ (a : Accepted) (size : CertificateSize) (ks : List (Box ProofOf Global)
   none-left : drop i ks ≡ []
   none-left = drop_all i ks end
 
-  pub kids-nodes : all.nodes ≡ in_u128 (size.nodes + used_sum size.uses.items (lowered_nodes_of a (boxed ks)))
+  kids-nodes : all.nodes ≡ in_u128 (size.nodes + used_sum size.uses.items (lowered_nodes_of a (boxed ks)))
   kids-nodes =
       let z = ap (λ (x : List (Box ProofOf Global)). used_sum (drop i size.uses.items) (lowered_nodes_of a (boxed x))) none-left ∙ used_sum-none (drop i size.uses.items) in
       let n = so.nodes in
       let w = so.within in omega (arith, z, n, w)
 
-  pub kids-heights : all.height ≡ max size.height (used_most size.uses.items (lowered_heights_of a (boxed ks)))
+  kids-heights : all.height ≡ max size.height (used_most size.uses.items (lowered_heights_of a (boxed ks)))
   kids-heights =
       let z = ap (λ (x : List (Box ProofOf Global)). used_most (drop i size.uses.items) (lowered_heights_of a (boxed x))) none-left ∙ used_most-none (drop i size.uses.items) in
       let n = so.height in omega (arith, z, n)
 
-  pub kids-copied : in_u64 all.copied ≡ in_u64 (used_copies size.uses.items (lowered_nodes_of a (boxed ks)) (copied_of a (boxed ks)))
+  kids-copied : in_u64 all.copied ≡ in_u64 (used_copies size.uses.items (lowered_nodes_of a (boxed ks)) (copied_of a (boxed ks)))
   kids-copied =
       let z = ap (λ (x : List (Box ProofOf Global)). used_copies (drop i size.uses.items) (lowered_nodes_of a (boxed x)) (copied_of a (boxed x))) none-left ∙ used_copies-none (drop i size.uses.items) in
       let n = so.copied in omega (arith, z, n)
+
+  pub kids-last : IsSizedTally a size (boxed ks) all
+  kids-last = record { nodes = kids-nodes; height = kids-heights; small = so.small; copied = kids-copied }
 
 -- the same of kids that are all used once, under one node
 pub record BaseSoFar (a : Accepted) (ks : List (Box ProofOf Global)) (i : ℕ) (all : Tally) : Type 0 where
@@ -274,14 +286,25 @@ pub record BaseSoFar (a : Accepted) (ks : List (Box ProofOf Global)) (i : ℕ) (
   pub small : all.height ≤ 3000 * (most_height (boxed ks) + 1)
   pub copied : in_u64 (all.copied + total (copied_of a (boxed (drop i ks)))) ≡ in_u64 (total (copied_of a (boxed ks)))
 
-one_time : (n : ℕ) → 1 * n ≡ n
+pub base-first : (a : Accepted) (ks : List (Box ProofOf Global)) (all : Tally) → all ≡ record { nodes = 1; height = 1; copied = 0 } → BaseSoFar a ks 0 all
+base-first a ks all e =
+    subst (λ (x : Tally). BaseSoFar a ks 0 x) (sym e) (record {
+      nodes = ap in_u128 (omega arith);
+      within = refl;
+      height = omega arith;
+      low = omega arith;
+      small = omega arith;
+      copied = (let z : 0 + total (copied_of a (boxed ks)) ≡ total (copied_of a (boxed ks)) = omega arith in ap in_u64 z);
+    })
+
+pub one_time : (n : ℕ) → 1 * n ≡ n
 one_time n = grind arith
 
-no_time : (n : ℕ) → 0 * n ≡ 0
+pub no_time : (n : ℕ) → 0 * n ≡ 0
 no_time n = grind arith
 
 pub base-on : (a : Accepted) (ks : List (Box ProofOf Global)) (i : ℕ) (old new : Tally) (k : Box ProofOf Global) (q : ProofOf) → i < length ks → k ≡ get_or ks i k → q ≡ k.value →
-    IsKidAdded a (record { times = 1; above = 1 }) (proof q) old new → BaseSoFar a ks i old → BaseSoFar a ks (i + 1) new
+    IsWithKid a (record { times = 1; above = 1 }) (proof q) old new → BaseSoFar a ks i old → BaseSoFar a ks (i + 1) new
 base-on a ks i old new k q l at_k same h so =
     let ps = kids-drop ks i k q l at_k same in
     let hn = h.nodes in
@@ -312,19 +335,56 @@ module _ (a : Accepted) (ks : List (Box ProofOf Global)) (i : ℕ) (all : Tally)
   none_left : drop i ks ≡ []
   none_left = drop_all i ks end
 
-  pub all_base-nodes : all.nodes ≡ in_u128 (total (lowered_nodes_of a (boxed ks)) + 1)
+  all_base-nodes : all.nodes ≡ in_u128 (total (lowered_nodes_of a (boxed ks)) + 1)
   all_base-nodes =
       let z = ap (λ (x : List (Box ProofOf Global)). total (lowered_nodes_of a (boxed x))) none_left in
       let n = so.nodes in
       let w = so.within in omega (arith, z, n, w)
 
-  pub all_base-height : all.height ≡ greatest (lowered_heights_of a (boxed ks)) + 1
+  all_base-height : all.height ≡ greatest (lowered_heights_of a (boxed ks)) + 1
   all_base-height =
       let z = ap (λ (x : List (Box ProofOf Global)). greatest (lowered_heights_of a (boxed x))) none_left in
       let n = so.height in
       let l = so.low in omega (arith, z, n, l)
 
-  pub all_base-copied : in_u64 all.copied ≡ in_u64 (total (copied_of a (boxed ks)))
+  all_base-copied : in_u64 all.copied ≡ in_u64 (total (copied_of a (boxed ks)))
   all_base-copied =
       let z = ap (λ (x : List (Box ProofOf Global)). total (copied_of a (boxed x))) none_left in
       let n = so.copied in omega (arith, z, n)
+
+  pub base-last : IsBaseTally a (boxed ks) all
+  base-last = record { nodes = all_base-nodes; height = all_base-height; small = so.small; copied = all_base-copied }
+
+-- a kid that is used adds what is counted of it
+pub with-used : (a : Accepted) (u : GivenUse) (p : Proof) (so size new : Tally) → 0 < u.times → IsTallyOf a p size →
+    new.nodes ≡ in_u128 (so.nodes + in_u128 (u.times * size.nodes)) → new.height ≡ max so.height (u.above + size.height) → u.above ≤ 3000 →
+    new.copied ≡ in_u128 (in_u128 (so.copied + in_u128 ((u.times - 1) * size.nodes)) + size.copied) → IsWithKid a u p so new
+with-used a u p so size new some h n hh near c =
+    let b = lt-ltb 0 u.times some in
+    let e = h.height in
+    let s = h.small in
+    let low = lowered_height a p in
+    let times : ℕ → ℕ = (λ x. in_u128 (so.nodes + in_u128 (u.times * x))) in
+    record {
+      nodes = n ∙ ap times h.nodes ∙ kid-nodes so.nodes u.times (lowered_nodes a p);
+      height = hh ∙ ap (λ (x : ℕ). max so.height (u.above + x)) e ∙ ap (λ (x : Bool). max so.height (if x then u.above + low else 0)) (sym b);
+      small = omega (arith, hh, s, near);
+      copied =
+          ap in_u64 (c ∙ ap (λ (x : ℕ). in_u128 (in_u128 (so.copied + in_u128 ((u.times - 1) * x)) + size.copied)) h.nodes)
+          ∙ kid-copied so.copied (u.times - 1) (lowered_nodes a p) size.copied (copied a p) h.copied
+          ∙ ap (λ (x : Bool). in_u64 (so.copied + ((u.times - 1) * lowered_nodes a p + (if x then copied a p else 0)))) (sym b);
+    }
+
+-- one that is not used adds nothing
+pub with-unused : (a : Accepted) (u : GivenUse) (p : Proof) (so : Tally) → u.times ≡ 0 → in_u128 so.nodes ≡ so.nodes → IsWithKid a u p so so
+with-unused a u p so none fits =
+    let z = no_time (lowered_nodes a p) in
+    let e = ap (λ (x : ℕ). x * lowered_nodes a p) none in
+    let f = ap (λ (x : ℕ). (x - 1) * lowered_nodes a p) none in
+    let b = ap (λ (x : ℕ). nat_lt 0 x) none in
+    record {
+      nodes = omega (arith, z, e, fits);
+      height = (let m : so.height ≡ max so.height 0 = omega arith in m ∙ ap (λ (x : Bool). max so.height (if x then u.above + lowered_height a p else 0)) (sym b));
+      small = omega arith;
+      copied = (let m : so.copied ≡ so.copied + ((u.times - 1) * lowered_nodes a p + 0) = omega (arith, z, f) in ap in_u64 m ∙ ap (λ (x : Bool). in_u64 (so.copied + ((u.times - 1) * lowered_nodes a p + (if x then copied a p else 0)))) (sym b));
+    }

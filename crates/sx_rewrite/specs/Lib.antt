@@ -30,6 +30,7 @@ pub mod Adds
 pub mod Joins
 pub mod Sizes
 pub mod LoweredSizes
+pub mod Tallies
 pub mod SizeLaws
 pub mod Puts
 pub mod Put

@@ -1,17 +1,12 @@
 //! The size of lowered derivations, counted before they are made.
 
-ghost use Rattle.std.specs.Prelude.{◌≡◌, ◌+◌, ◌-◌, ◌*◌, ◌<◌, ◌≤◌, length, max, nat_lt};
-ghost use Rattle.std.specs.Prelude.{if◌then◌else◌};
+ghost use Rattle.std.specs.Prelude.{◌≡◌, ◌<◌, ◌≤◌, length};
 ghost use Rattle.sx_rules.specs.Derivations.{height_of, most_height};
 ghost use Rattle.sx_rules.specs.ProofView as view;
-ghost use Rattle.sx_plain.specs.Measures.{total, greatest};
 ghost use Rattle.sx_rewrite.specs.AcceptedView.{accepted};
-ghost use Rattle.sx_rewrite.specs.Used.{lowered_nodes, lowered_nodes_of, lowered_height};
-ghost use Rattle.sx_rewrite.specs.Used.{lowered_heights_of};
-ghost use Rattle.sx_rewrite.specs.Copied as copies;
-ghost use Rattle.sx_rewrite.specs.Sizes.{in_u64, in_u128, IsSmall, used_sum, used_most};
-ghost use Rattle.sx_rewrite.specs.Sizes.{used_copies};
+ghost use Rattle.sx_rewrite.specs.Sizes.{IsSmall};
 ghost use Rattle.sx_rewrite.specs.LoweredSizes.{HasFitKids, HaveFitKids, IsLoweredSize};
+ghost use Rattle.sx_rewrite.specs.Tallies.{IsTallyOf, IsSizedTally, IsBaseTally, IsWithKid};
 
 use crate::accepted::Accepted;
 use crate::certificate_size::CertificateSize;
@@ -29,15 +24,7 @@ pub(crate) fn lowered_size(set: &Accepted, proof: &Proof, budget: u64) -> Option
     requires kids { HasFitKids (accepted set.now) (view.proof proof.now) }
     ensures { IsLoweredSize (accepted set.now) (view.proof proof.now) budget result }
 {
-    let all = tally(set, proof);
-    if all.nodes > u128::from(budget) {
-        return None;
-    }
-    Some(LoweredSize {
-        nodes: all.nodes as u64,
-        height: all.height,
-        copied: all.copied.min(u128::from(u64::MAX)) as u64,
-    })
+    tally(set, proof).within(budget)
 }
 
 /// What is counted of the lowered proof.
@@ -45,12 +32,7 @@ pub(crate) fn lowered_size(set: &Accepted, proof: &Proof, budget: u64) -> Option
 fn tally(set: &Accepted, proof: &Proof) -> Tally
     requires shallow { height_of (view.proof proof.now) ≤ 3000 }
     requires kids { HasFitKids (accepted set.now) (view.proof proof.now) }
-    ensures nodes { result.nodes
-        ≡ in_u128 (lowered_nodes (accepted set.now) (view.proof proof.now)) }
-    ensures height { result.height ≡ lowered_height (accepted set.now) (view.proof proof.now) }
-    ensures small { result.height ≤ 3000 * height_of (view.proof proof.now) }
-    ensures copied { in_u64 result.copied
-        ≡ in_u64 (copies.copied (accepted set.now) (view.proof proof.now)) }
+    ensures { IsTallyOf (accepted set.now) (view.proof proof.now) result }
 {
     match proof {
         Proof::By {
@@ -61,11 +43,7 @@ fn tally(set: &Accepted, proof: &Proof) -> Tally
             Some(size) => certificate_tally(set, size, kids),
             None => base_tally(set, kids),
         },
-        Proof::Given(_) => Tally {
-            nodes: 1,
-            height: 1,
-            copied: 0,
-        },
+        Proof::Given(_) => Tally::of_one(),
     }
 }
 
@@ -76,24 +54,9 @@ fn certificate_tally(set: &Accepted, size: &CertificateSize, kids: &[Box<Proof>]
     requires fit { HaveFitKids (accepted set.now) (view.boxed kids.now) }
     requires many { length kids.now ≡ length size.now.uses.items }
     requires small { IsSmall size.now }
-    ensures nodes { result.nodes
-        ≡ in_u128 (size.now.nodes + used_sum size.now.uses.items
-        (lowered_nodes_of (accepted set.now) (view.boxed kids.now))) }
-    ensures height { result.height
-        ≡ max size.now.height
-        (used_most size.now.uses.items
-        (lowered_heights_of (accepted set.now) (view.boxed kids.now))) }
-    ensures small { result.height ≤ 3000 * (most_height (view.boxed kids.now) + 1) }
-    ensures copied { in_u64 result.copied
-        ≡ in_u64 (used_copies size.now.uses.items
-        (lowered_nodes_of (accepted set.now) (view.boxed kids.now))
-        (copies.copied_of (accepted set.now) (view.boxed kids.now))) }
+    ensures { IsSizedTally (accepted set.now) size.now (view.boxed kids.now) result }
 {
-    let mut all = Tally {
-        nodes: size.nodes,
-        height: u64::from(size.height),
-        copied: 0,
-    };
+    let mut all = size.own_tally();
     for i in 0..kids.len() {
         let given = use_at(&size.uses, i);
         all = with_kid(set, all, given, &kids[i]);
@@ -106,19 +69,9 @@ fn certificate_tally(set: &Accepted, size: &CertificateSize, kids: &[Box<Proof>]
 fn base_tally(set: &Accepted, kids: &[Box<Proof>]) -> Tally
     requires shallow { most_height (view.boxed kids.now) < 3000 }
     requires fit { HaveFitKids (accepted set.now) (view.boxed kids.now) }
-    ensures nodes { result.nodes
-        ≡ in_u128 (total (lowered_nodes_of (accepted set.now) (view.boxed kids.now)) + 1) }
-    ensures height { result.height
-        ≡ greatest (lowered_heights_of (accepted set.now) (view.boxed kids.now)) + 1 }
-    ensures small { result.height ≤ 3000 * (most_height (view.boxed kids.now) + 1) }
-    ensures copied { in_u64 result.copied
-        ≡ in_u64 (total (copies.copied_of (accepted set.now) (view.boxed kids.now))) }
+    ensures { IsBaseTally (accepted set.now) (view.boxed kids.now) result }
 {
-    let mut all = Tally {
-        nodes: 1,
-        height: 1,
-        copied: 0,
-    };
+    let mut all = Tally::of_one();
     for i in 0..kids.len() {
         all = with_kid(set, all, GivenUse { times: 1, above: 1 }, &kids[i]);
     }
@@ -131,34 +84,10 @@ fn with_kid(set: &Accepted, so_far: Tally, given: GivenUse, kid: &Proof) -> Tall
     requires shallow { height_of (view.proof kid.now) < 3000 }
     requires kids { HasFitKids (accepted set.now) (view.proof kid.now) }
     requires near { given.above ≤ 3000 }
-    ensures nodes { result.nodes
-        ≡ in_u128 (so_far.nodes
-        + given.times * lowered_nodes (accepted set.now) (view.proof kid.now)) }
-    ensures height { result.height
-        ≡ max so_far.height (if nat_lt 0 given.times
-        then given.above + lowered_height (accepted set.now) (view.proof kid.now)
-        else 0) }
-    ensures small { result.height
-        ≤ max so_far.height (3000 * (height_of (view.proof kid.now) + 1)) }
-    ensures copied { in_u64 result.copied
-        ≡ in_u64 (so_far.copied
-        + ((given.times - 1) * lowered_nodes (accepted set.now) (view.proof kid.now)
-        + (if nat_lt 0 given.times
-        then copies.copied (accepted set.now) (view.proof kid.now)
-        else 0))) }
+    ensures { IsWithKid (accepted set.now) given (view.proof kid.now) so_far result }
 {
     if given.times == 0 {
         return so_far;
     }
-    let size = tally(set, kid);
-    let nodes = given.times.saturating_mul(size.nodes);
-    let more = (given.times - 1).saturating_mul(size.nodes);
-    Tally {
-        nodes: so_far.nodes.saturating_add(nodes),
-        height: so_far.height.max(u64::from(given.above) + size.height),
-        copied: so_far
-            .copied
-            .saturating_add(more)
-            .saturating_add(size.copied),
-    }
+    so_far.with_kid(given, tally(set, kid))
 }

@@ -1,16 +1,16 @@
-use Rattle.std.proofs.Common.{rules, arith, ◌≡◌, ℕ, ◌+◌, ◌-◌, ◌<◌, List, length, get_or, max, ap, sym, refl, subst, ◌∙◌}
+use Rattle.std.proofs.Common.{rules, arith, ◌≡◌, ℕ, ◌+◌, ◌-◌, ◌<◌, List, length, get_or, max, ap, sym, subst, ◌∙◌}
 use Rattle.std.proofs.lemmas.List.{length-map, get_or_default}
 use Rattle.sx_rules.specs.Derivations.{height_of, most_height}
 use Rattle.sx_rules.specs.EntryView.{entry}
 use Rattle.sx_rewrite.specs.declared.given_use.GivenUse.{GivenUse}
-use Rattle.sx_rewrite.specs.Sizes.{in_u128}
 use Rattle.sx_rewrite.proofs.SizeLaws.{near-at}
+use Rattle.sx_rewrite.proofs.Tallied.{sized-many, by-height, sized-tally, base-tally, given-tally, with-unused}
 use Rattle.sx_expand.specs.Listed.{set_in, entries_in}
 use Rattle.sx_expand.proofs.Standing.{given-stands}
 use Rattle.sx_expand.proofs.EndsAt.{listed-within}
 use Rattle.sx_expand.proofs.Rows.{head-is}
 use Rattle.sx_expand.proofs.Emitting.{rule-at}
-use Rattle.sx_expand.proofs.ListTallies.{Sizing, Basing, sized-many, by-height, sized-tally, base-tally, given-tally, next-kid, some-left, sizing-more, sizing-last, basing-more, basing-last, with-used}
+use Rattle.sx_expand.proofs.ListTallies.{Sizing, Basing, next-kid, some-left, sizing-more, sizing-last, basing-more, basing-last}
 use Rattle.sx_expand.proofs.tallying.+tallied.Goals as goal
 
 pub tally-entry_at-requires : goal.tally-entry_at-requires
@@ -66,7 +66,7 @@ tally-returns-in-None t c = λ p q.
 
 pub tally-returns-in-Given : goal.tally-returns-in-Given
 tally-returns-in-Given t c = λ p q.
-    given-tally (set_in c.args.listing.now) p _ _ (given-stands c.args.listing.now.list.now c.args.at c.entry_at.result _ p (listed-within (set_in c.args.listing.now) c.args.listing.now.list.now c.args.at p q) c.entry_at.ensures c.in-Given.is q.stands) refl
+    given-tally (set_in c.args.listing.now) p _ _ (given-stands c.args.listing.now.list.now c.args.at c.entry_at.result _ p (listed-within (set_in c.args.listing.now) c.args.listing.now.list.now c.args.at p q) c.entry_at.ensures c.in-Given.is q.stands) c.of_one.ensures
 
 pub certificate_tally-with_kid-all-requires : goal.certificate_tally-with_kid-all-requires
 certificate_tally-with_kid-all-requires t c =
@@ -185,14 +185,16 @@ certificate_tally-returns t c = λ ps row many.
     let b = c.loop-given-test.false in
     sizing-last (set_in c.args.listing.now) (entries_in c.args.listing.now) c.args.size.now c.args.first c.loop-given.at c.loop-given.given-index c.loop-given.all (omega (arith, v, b)) c.loop-given.invariant.sizing ps row many
 
-pub with_kid-returns : goal.with_kid-returns
-with_kid-returns t c = λ p h.
+pub with_kid-with_kid-requires : goal.with_kid-with_kid-requires
+with_kid-with_kid-requires t c =
     let q = c.if-given-eq0.false in
-    let f = c.from.ensures in
-    let e = c.max.ensures in
-    let so = c.args.so_far in
-    let size = c.tally-size.result in
-    let high : c.max.result ≡ max so.height (c.args.given.above + size.height) = omega arith in
-    with-used (set_in c.args.listing.now) c.args.given p so size _ (omega (arith, q)) (c.tally-size.ensures p h)
-    (c.saturating_add.ensures ∙ ap (λ (x : ℕ). in_u128 (so.nodes + x)) c.saturating_mul-nodes.ensures) high c.requires.near
-    (c.saturating_add-3.ensures ∙ ap (λ (x : ℕ). in_u128 (x + size.copied)) (c.saturating_add-2.ensures ∙ ap (λ (x : ℕ). in_u128 (so.copied + x)) c.saturating_mul-more.ensures))
+    let r = c.requires.stands in
+    let s = (c.tally.ensures r.0 r.1).small in
+    let l = r.2 in
+    record { used = omega (arith, q); near = c.requires.near; low = omega (arith, s, l) }
+
+pub with_kid-returns-then-given-eq0 : goal.with_kid-returns-then-given-eq0
+with_kid-returns-then-given-eq0 t c = λ p h. with-unused (set_in c.args.listing.now) c.args.given p c.args.so_far c.if-given-eq0.true (omega arith)
+
+pub with_kid-returns : goal.with_kid-returns
+with_kid-returns t c = λ p h. c.with_kid.ensures (set_in c.args.listing.now) p (c.tally.ensures p h)

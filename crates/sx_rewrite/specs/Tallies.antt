@@ -1,4 +1,4 @@
--- What is counted of lowered derivations by their entries.
+-- What is counted of lowered derivations.
 use Rattle.std.specs.Prelude.{◌≡◌, ◌+◌, ◌-◌, ◌*◌, ◌≤◌, max, nat_lt, if◌then◌else◌}
 use Rattle.sx_rules.specs.Derivations.{Proof, Proofs, height_of, most_height}
 use Rattle.sx_plain.specs.Measures.{total, greatest}
