@@ -1,5 +1,5 @@
 -- The rows of core files as they are read.
-use Rattle.std.specs.Prelude.{◌≡◌, ℕ, List}
+use Rattle.std.specs.Prelude.{◌≡◌, ℕ, List, MatchResult, Result}
 use Rattle.sx_term.specs.Term.{tree}
 use Rattle.sx_term.specs.Shapes.{shape, shapes}
 use Rattle.sx_rules.specs.Views.{form, goal, judgement}
@@ -9,9 +9,11 @@ use Rattle.sx_core.specs.Rows.{sort_row, con_row}
 use Rattle.sx_core.specs.Resolving.{rows_in, IsSortTable, IsConOf, IsFormOf}
 use Rattle.sx_core.specs.Statements.{known_in, IsFormTable}
 use Rattle.sx_core.specs.Table.{row, RuleRow}
-use Rattle.sx_core.specs.Fitting.{Context, IsFull, IsFitting}
+use Rattle.sx_core.specs.TermsText.{RefusedAs}
+use Rattle.sx_core.specs.Fitting.{Context, IsDeepLine, IsFull, IsFitting}
 use Rattle.sx_core.specs.declared.found.Found.{Found}
 use Rattle.sx_core.specs.declared.line_read.LineRead.{LineRead}
+use Rattle.sx_core.specs.declared.terms_row.RowError.{RowError}
 use Rattle.sx_core.specs.declared.line_read.LineRead.TheVariants.{Head as HeadRead}
 use Rattle.sx_core.specs.declared.line_read.LineRead.TheVariants.{Sort as SortRead, Con as ConRead}
 use Rattle.sx_core.specs.declared.line_read.LineRead.TheVariants.{Form as FormRead}
@@ -56,3 +58,8 @@ IsRead c text (ThenRead j) = (r : JudgementRow) × IsFitting c text (row Then r)
 IsRead c text EndRead = IsFitting c text (row End tt)
 IsRead c text (GoalRead g) = (r : JudgementRow) × IsFitting c text (row Goal r) ×
     IsGoal c.shapes c.forms r (goal g)
+
+-- what a line is read as in this context, or why it is refused
+abbrev pub IsLineAnswer : Context → List ℕ → Result LineRead RowError → Type 0
+IsLineAnswer c text result =
+    MatchResult result (IsRead c text) (RefusedAs (IsFitting c text) (IsDeepLine c text))

@@ -1,10 +1,8 @@
 //! Reading one line of a core file.
 
-ghost use Rattle.std.specs.Prelude.{◌≡◌, ℕ, List, codes, MatchResult};
+ghost use Rattle.std.specs.Prelude.{◌≡◌, ℕ, List, codes};
 ghost use Rattle.sx_core.specs.Table.{IsKeyword};
-ghost use Rattle.sx_core.specs.Fitting.{IsFitting, IsDeepLine};
-ghost use Rattle.sx_core.specs.TermsText.{RefusedAs};
-ghost use Rattle.sx_core.specs.Reading.{context, IsFound, IsRead};
+ghost use Rattle.sx_core.specs.Reading.{context, IsFound, IsLineAnswer};
 ghost use Rattle.sx_core.specs.declared.keyword.Keyword.TheVariants as keyword;
 
 use crate::found::Found;
@@ -20,9 +18,7 @@ use std::alloc::Global;
 /// The first line, after its first word.
 fn head_line(found: &Found, text: &[u8], rest: &[u8]) -> Result<LineRead, RowError>
     requires { IsKeyword text.now keyword.Head rest.now }
-    ensures { MatchResult result (λ x. IsRead (context found.now) text.now x)
-        (λ e. RefusedAs (IsFitting (context found.now) text.now)
-        (IsDeepLine (context found.now) text.now) e) }
+    ensures { IsLineAnswer (context found.now) text.now result }
 {
     if rest == b" 1".as_slice() {
         return Ok(LineRead::Head);
@@ -34,9 +30,7 @@ fn head_line(found: &Found, text: &[u8], rest: &[u8]) -> Result<LineRead, RowErr
 fn sort_line(alloc: Global, found: &Found, text: &[u8], rest: &[u8]) -> Result<LineRead, RowError>
     requires found { IsFound found.now }
     requires line { IsKeyword text.now keyword.Sort rest.now }
-    ensures { MatchResult result (λ x. IsRead (context found.now) text.now x)
-        (λ e. RefusedAs (IsFitting (context found.now) text.now)
-        (IsDeepLine (context found.now) text.now) e) }
+    ensures { IsLineAnswer (context found.now) text.now result }
 {
     match read_sort(alloc, rest) {
         Ok(row) => {
@@ -53,9 +47,7 @@ fn sort_line(alloc: Global, found: &Found, text: &[u8], rest: &[u8]) -> Result<L
 fn con_line(alloc: Global, found: &Found, text: &[u8], rest: &[u8]) -> Result<LineRead, RowError>
     requires found { IsFound found.now }
     requires line { IsKeyword text.now keyword.Con rest.now }
-    ensures { MatchResult result (λ x. IsRead (context found.now) text.now x)
-        (λ e. RefusedAs (IsFitting (context found.now) text.now)
-        (IsDeepLine (context found.now) text.now) e) }
+    ensures { IsLineAnswer (context found.now) text.now result }
 {
     match read_con(alloc, rest) {
         Ok(row) => {
@@ -79,9 +71,7 @@ fn con_line(alloc: Global, found: &Found, text: &[u8], rest: &[u8]) -> Result<Li
 fn form_line(alloc: Global, found: &Found, text: &[u8], rest: &[u8]) -> Result<LineRead, RowError>
     requires found { IsFound found.now }
     requires line { IsKeyword text.now keyword.Form rest.now }
-    ensures { MatchResult result (λ x. IsRead (context found.now) text.now x)
-        (λ e. RefusedAs (IsFitting (context found.now) text.now)
-        (IsDeepLine (context found.now) text.now) e) }
+    ensures { IsLineAnswer (context found.now) text.now result }
 {
     match read_form(alloc, rest) {
         Ok(row) => {
@@ -104,9 +94,7 @@ fn form_line(alloc: Global, found: &Found, text: &[u8], rest: &[u8]) -> Result<L
 fn rule_line(alloc: Global, found: &Found, text: &[u8], rest: &[u8]) -> Result<LineRead, RowError>
     requires found { IsFound found.now }
     requires line { IsKeyword text.now keyword.Rule rest.now }
-    ensures { MatchResult result (λ x. IsRead (context found.now) text.now x)
-        (λ e. RefusedAs (IsFitting (context found.now) text.now)
-        (IsDeepLine (context found.now) text.now) e) }
+    ensures { IsLineAnswer (context found.now) text.now result }
 {
     match read_name(alloc, rest) {
         Ok((name, more)) => match read_names(alloc, more) {
@@ -124,9 +112,7 @@ fn rule_line(alloc: Global, found: &Found, text: &[u8], rest: &[u8]) -> Result<L
 fn if_line(alloc: Global, found: &Found, text: &[u8], rest: &[u8]) -> Result<LineRead, RowError>
     requires found { IsFound found.now }
     requires line { IsKeyword text.now keyword.If rest.now }
-    ensures { MatchResult result (λ x. IsRead (context found.now) text.now x)
-        (λ e. RefusedAs (IsFitting (context found.now) text.now)
-        (IsDeepLine (context found.now) text.now) e) }
+    ensures { IsLineAnswer (context found.now) text.now result }
 {
     match read_judgement(alloc, &found.forms, rest) {
         Ok(judgement) => Ok(LineRead::If(judgement)),
@@ -138,9 +124,7 @@ fn if_line(alloc: Global, found: &Found, text: &[u8], rest: &[u8]) -> Result<Lin
 fn not_line(alloc: Global, found: &Found, text: &[u8], rest: &[u8]) -> Result<LineRead, RowError>
     requires found { IsFound found.now }
     requires line { IsKeyword text.now keyword.Not rest.now }
-    ensures { MatchResult result (λ x. IsRead (context found.now) text.now x)
-        (λ e. RefusedAs (IsFitting (context found.now) text.now)
-        (IsDeepLine (context found.now) text.now) e) }
+    ensures { IsLineAnswer (context found.now) text.now result }
 {
     match read_pair(alloc, rest) {
         Ok((left, right)) => Ok(LineRead::Not(left, right)),
@@ -152,9 +136,7 @@ fn not_line(alloc: Global, found: &Found, text: &[u8], rest: &[u8]) -> Result<Li
 fn then_line(alloc: Global, found: &Found, text: &[u8], rest: &[u8]) -> Result<LineRead, RowError>
     requires found { IsFound found.now }
     requires line { IsKeyword text.now keyword.Then rest.now }
-    ensures { MatchResult result (λ x. IsRead (context found.now) text.now x)
-        (λ e. RefusedAs (IsFitting (context found.now) text.now)
-        (IsDeepLine (context found.now) text.now) e) }
+    ensures { IsLineAnswer (context found.now) text.now result }
 {
     match read_judgement(alloc, &found.forms, rest) {
         Ok(judgement) => Ok(LineRead::Then(judgement)),
@@ -165,9 +147,7 @@ fn then_line(alloc: Global, found: &Found, text: &[u8], rest: &[u8]) -> Result<L
 /// The line that ends a rule, after its first word.
 fn end_line(found: &Found, text: &[u8], rest: &[u8]) -> Result<LineRead, RowError>
     requires { IsKeyword text.now keyword.End rest.now }
-    ensures { MatchResult result (λ x. IsRead (context found.now) text.now x)
-        (λ e. RefusedAs (IsFitting (context found.now) text.now)
-        (IsDeepLine (context found.now) text.now) e) }
+    ensures { IsLineAnswer (context found.now) text.now result }
 {
     if rest.is_empty() {
         return Ok(LineRead::End);
@@ -179,9 +159,7 @@ fn end_line(found: &Found, text: &[u8], rest: &[u8]) -> Result<LineRead, RowErro
 fn goal_line(alloc: Global, found: &Found, text: &[u8], rest: &[u8]) -> Result<LineRead, RowError>
     requires found { IsFound found.now }
     requires line { IsKeyword text.now keyword.Goal rest.now }
-    ensures { MatchResult result (λ x. IsRead (context found.now) text.now x)
-        (λ e. RefusedAs (IsFitting (context found.now) text.now)
-        (IsDeepLine (context found.now) text.now) e) }
+    ensures { IsLineAnswer (context found.now) text.now result }
 {
     match read_goal(alloc, &found.forms, &found.shapes, rest) {
         Ok(goal) => Ok(LineRead::Goal(goal)),
@@ -199,9 +177,7 @@ pub(crate) fn read_line(
 ) -> Result<LineRead, RowError>
     requires found { IsFound found.now }
     requires line { IsKeyword text.now keyword rest.now }
-    ensures { MatchResult result (λ x. IsRead (context found.now) text.now x)
-        (λ e. RefusedAs (IsFitting (context found.now) text.now)
-        (IsDeepLine (context found.now) text.now) e) }
+    ensures { IsLineAnswer (context found.now) text.now result }
 {
     match keyword {
         Keyword::Head => head_line(found, text, rest),
