@@ -132,6 +132,11 @@ whole_rule o j = record {
 abbrev pub MayBegin : Stage → Type 0
 MayBegin stage = (stage ≡ Declaring) ⊎ (stage ≡ Between)
 
+-- one more premise of the rule that is open
+abbrev pub TakesPremise : Reader → Premise → Reader → Type 0
+TakesPremise old one new = (o p : Open) × (old.stage ≡ Premising o) ×
+    (new.stage ≡ Premising p) × AddsPremise o p one × IsKept old new
+
 -- the reading of this line of this number leads from one reader to the other
 abbrev pub Steps : Reader → ℕ → LineRead → Reader → Type 0
 Steps old number HeadRead new = (old.stage ≡ Start) × (new.stage ≡ Declaring) × IsKept old new
@@ -144,10 +149,8 @@ Steps old number (FormRead f) new = (old.stage ≡ Declaring) × (new.stage ≡ 
 Steps old number (RuleRead name sorts) new =
     MayBegin old.stage × (o : Open) × (new.stage ≡ Premising o) × Begins o number name sorts.items ×
     IsKept old new
-Steps old number (IfRead j) new = (o p : Open) × (old.stage ≡ Premising o) ×
-    (new.stage ≡ Premising p) × AddsPremise o p (holds (judgement j)) × IsKept old new
-Steps old number (NotRead left right) new = (o p : Open) × (old.stage ≡ Premising o) ×
-    (new.stage ≡ Premising p) × AddsPremise o p (apart (tree left) (tree right)) × IsKept old new
+Steps old number (IfRead j) new = TakesPremise old (holds (judgement j)) new
+Steps old number (NotRead left right) new = TakesPremise old (apart (tree left) (tree right)) new
 Steps old number (ThenRead j) new = (o : Open) × (old.stage ≡ Premising o) ×
     (new.stage ≡ Concluded o j) × IsKept old new
 Steps old number EndRead new =

@@ -128,12 +128,7 @@ pub(crate) fn finish(
             drop(rules);
             Err(bad_line(number, Kind::Head))
         }
-        Stage::Declaring => {
-            drop(found);
-            drop(rules);
-            Err(bad_line(number, Kind::Main))
-        }
-        Stage::Between => {
+        Stage::Declaring | Stage::Between => {
             drop(found);
             drop(rules);
             Err(bad_line(number, Kind::Main))

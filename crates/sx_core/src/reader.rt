@@ -1,10 +1,12 @@
 //! The reading of a core file, line by line.
 
-ghost use Rattle.std.specs.Prelude.{◌≡◌, ℕ, ◌++◌, [], ◌∷◌, Contains, MatchResult};
-ghost use Rattle.sx_core.specs.Machine.{IsFresh, Steps, StepRefused, keyword_of};
+ghost use Rattle.std.specs.Prelude.{◌≡◌, ℕ, ◌++◌, [], ◌∷◌, Contains, IsOk, MatchResult};
+ghost use Rattle.sx_rules.specs.Views.{premise};
+ghost use Rattle.sx_core.specs.Machine.{IsFresh, Steps, StepRefused, TakesPremise, keyword_of};
 ghost use Rattle.sx_core.specs.declared.line_read.LineRead.TheVariants as line;
 ghost use Rattle.sx_core.specs.declared.keyword.Keyword.TheVariants as keyword;
-ghost use Rattle.sx_core.specs.declared.step_error.StepError.TheVariants.{Order};
+ghost use Rattle.sx_core.specs.declared.stage.Stage.TheVariants.{Declaring};
+ghost use Rattle.sx_core.specs.declared.step_error.StepError.TheVariants.{Memory, Order};
 
 use crate::found::{Found, add_con, add_form, add_sort};
 use crate::line_read::LineRead;
@@ -13,7 +15,7 @@ use crate::stage::{Open, Stage};
 use crate::step_error::StepError;
 use std::alloc::Global;
 use sx_rules::{Form, Goal, Judgement, Premise, Rule};
-use sx_term::{Con, Sort, Term, Text};
+use sx_term::{Con, NoMemory, Sort, Text};
 
 /// What has been read of a core file: what was found, the rules that are ended, and where the
 /// reading stands.
@@ -32,6 +34,30 @@ fn out_of_order(found: Found, rules: Vec<Rule>, stage: Stage) -> StepError
     drop(rules);
     drop(found);
     StepError::Order
+}
+
+/// What is read after a declaration that was added, where there was room for it.
+fn declared(
+    found: Found,
+    rules: Vec<Rule>,
+    added: Result<(), NoMemory>,
+) -> Result<Reader, StepError>
+    ensures { MatchResult result
+        (λ r. IsOk added × (r.found ≡ found) × (r.rules ≡ rules) × (r.stage ≡ Declaring))
+        (λ e. e ≡ Memory) }
+{
+    match added {
+        Ok(()) => Ok(Reader {
+            found,
+            rules,
+            stage: Stage::Declaring,
+        }),
+        Err(_) => {
+            drop(found);
+            drop(rules);
+            Err(StepError::Memory)
+        }
+    }
 }
 
 impl Reader {
@@ -70,18 +96,7 @@ impl Reader {
             Stage::Declaring => {
                 let added = add_sort(alloc, &mut found, &row);
                 drop(row);
-                match added {
-                    Ok(_) => Ok(Reader {
-                        found,
-                        rules,
-                        stage: Stage::Declaring,
-                    }),
-                    Err(_) => {
-                        drop(found);
-                        drop(rules);
-                        Err(StepError::Memory)
-                    }
-                }
+                declared(found, rules, added)
             }
             _ => {
                 drop(row);
@@ -105,18 +120,7 @@ impl Reader {
             Stage::Declaring => {
                 let added = add_con(alloc, &mut found, &row, con);
                 drop(row);
-                match added {
-                    Ok(_) => Ok(Reader {
-                        found,
-                        rules,
-                        stage: Stage::Declaring,
-                    }),
-                    Err(_) => {
-                        drop(found);
-                        drop(rules);
-                        Err(StepError::Memory)
-                    }
-                }
+                declared(found, rules, added)
             }
             _ => {
                 drop(row);
@@ -139,18 +143,8 @@ impl Reader {
         } = self;
         match stage {
             Stage::Declaring => {
-                match add_form(alloc, &mut found, one) {
-                    Ok(_) => Ok(Reader {
-                        found,
-                        rules,
-                        stage: Stage::Declaring,
-                    }),
-                    Err(_) => {
-                        drop(found);
-                        drop(rules);
-                        Err(StepError::Memory)
-                    }
-                }
+                let added = add_form(alloc, &mut found, one);
+                declared(found, rules, added)
             }
             _ => {
                 drop(one);
@@ -182,12 +176,7 @@ impl Reader {
             premises: Vec::new(alloc),
         };
         match stage {
-            Stage::Declaring => Ok(Reader {
-                found,
-                rules,
-                stage: Stage::Premising(open),
-            }),
-            Stage::Between => Ok(Reader {
+            Stage::Declaring | Stage::Between => Ok(Reader {
                 found,
                 rules,
                 stage: Stage::Premising(open),
@@ -199,10 +188,10 @@ impl Reader {
         }
     }
 
-    /// Takes the line of a judgement premise.
-    fn take_if(self, one: Judgement) -> Result<Reader, StepError>
-        ensures { (n : ℕ) → MatchResult result (λ r. Steps self n (line.If one) r)
-            (λ e. StepRefused self keyword.If e) }
+    /// Takes the line of a premise.
+    fn take_premise(self, one: Premise) -> Result<Reader, StepError>
+        ensures { MatchResult result (TakesPremise self (premise one))
+            (λ e. StepRefused self keyword.If e × StepRefused self keyword.Not e) }
     {
         let Reader {
             found,
@@ -211,7 +200,7 @@ impl Reader {
         } = self;
         match stage {
             Stage::Premising(mut open) => {
-                match open.premises.push(Premise::Holds(one)) {
+                match open.premises.push(one) {
                     Ok(_) => {}
                     Err(_) => {
                         drop(found);
@@ -228,41 +217,6 @@ impl Reader {
             }
             _ => {
                 drop(one);
-                Err(out_of_order(found, rules, stage))
-            }
-        }
-    }
-
-    /// Takes the line of two terms that are to be apart.
-    fn take_not(self, left: Term, right: Term) -> Result<Reader, StepError>
-        ensures { (n : ℕ) → MatchResult result (λ r. Steps self n (line.Not left right) r)
-            (λ e. StepRefused self keyword.Not e) }
-    {
-        let Reader {
-            found,
-            rules,
-            stage,
-        } = self;
-        match stage {
-            Stage::Premising(mut open) => {
-                match open.premises.push(Premise::Apart(left, right)) {
-                    Ok(_) => {}
-                    Err(_) => {
-                        drop(found);
-                        drop(rules);
-                        drop(open);
-                        return Err(StepError::Memory);
-                    }
-                }
-                Ok(Reader {
-                    found,
-                    rules,
-                    stage: Stage::Premising(open),
-                })
-            }
-            _ => {
-                drop(left);
-                drop(right);
                 Err(out_of_order(found, rules, stage))
             }
         }
@@ -344,12 +298,7 @@ impl Reader {
             stage,
         } = self;
         match stage {
-            Stage::Declaring => Ok(Reader {
-                found,
-                rules,
-                stage: Stage::Over(goal),
-            }),
-            Stage::Between => Ok(Reader {
+            Stage::Declaring | Stage::Between => Ok(Reader {
                 found,
                 rules,
                 stage: Stage::Over(goal),
@@ -378,8 +327,8 @@ impl Reader {
             LineRead::Con(row, con) => self.take_con(alloc, row, con),
             LineRead::Form(one) => self.take_form(alloc, one),
             LineRead::Rule(name, sorts) => self.take_rule(alloc, number, name, sorts),
-            LineRead::If(one) => self.take_if(one),
-            LineRead::Not(left, right) => self.take_not(left, right),
+            LineRead::If(one) => self.take_premise(Premise::Holds(one)),
+            LineRead::Not(left, right) => self.take_premise(Premise::Apart(left, right)),
             LineRead::Then(one) => self.take_then(one),
             LineRead::End => self.take_end(),
             LineRead::Goal(goal) => self.take_goal(goal),

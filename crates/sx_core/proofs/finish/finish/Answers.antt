@@ -6,10 +6,7 @@ pub returns-in-Start : goal.returns-in-Start
 returns-in-Start c = rw c.bad_line.ensures (c.in-Start.is, refl)
 
 pub returns-in-Declaring : goal.returns-in-Declaring
-returns-in-Declaring c = rw c.bad_line-in-Declaring.ensures (inl c.in-Declaring.is, refl)
-
-pub returns-in-Between : goal.returns-in-Between
-returns-in-Between c = rw c.bad_line-in-Between.ensures (inr c.in-Between.is, refl)
+returns-in-Declaring c = rw c.bad_line-in-Declaring.ensures (c.in-Declaring.is, refl)
 
 pub returns-in-Premising : goal.returns-in-Premising
 returns-in-Premising c = rw c.bad_line-in-Premising.ensures (c.in-Premising.open, inl c.in-Premising.is, refl)

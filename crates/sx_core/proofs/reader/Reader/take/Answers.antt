@@ -1,6 +1,7 @@
 use Rattle.std.proofs.Common.{subst, sym}
 use Rattle.std.specs.Prelude.{MatchResult}
 use Rattle.sx_core.specs.Machine.{Steps, StepRefused, keyword_of}
+use Rattle.sx_core.proofs.StageLaws.{if_refused, not_refused}
 use Rattle.sx_core.proofs.reader.Reader.take.Goals as goal
 
 pub returns-in-Head : goal.returns-in-Head
@@ -21,11 +22,11 @@ returns-in-Form c =
 
 pub returns-in-If : goal.returns-in-If
 returns-in-If c =
-    subst (λ x. MatchResult c.take_if.result (λ r. Steps c.args.self c.args.number x r) (λ e. StepRefused c.args.self (keyword_of x) e)) (sym c.in-If.is) (c.take_if.ensures c.args.number)
+    subst (λ x. MatchResult c.take_premise.result (λ r. Steps c.args.self c.args.number x r) (λ e. StepRefused c.args.self (keyword_of x) e)) (sym c.in-If.is) (if_refused c.args.self _ _ c.take_premise.ensures)
 
 pub returns-in-Not : goal.returns-in-Not
 returns-in-Not c =
-    subst (λ x. MatchResult c.take_not.result (λ r. Steps c.args.self c.args.number x r) (λ e. StepRefused c.args.self (keyword_of x) e)) (sym c.in-Not.is) (c.take_not.ensures c.args.number)
+    subst (λ x. MatchResult c.take_premise-in-Not.result (λ r. Steps c.args.self c.args.number x r) (λ e. StepRefused c.args.self (keyword_of x) e)) (sym c.in-Not.is) (not_refused c.args.self _ _ c.take_premise-in-Not.ensures)
 
 pub returns-in-Then : goal.returns-in-Then
 returns-in-Then c =

@@ -1,8 +1,13 @@
 use Rattle.std.proofs.Common.{subst, sym}
-use Rattle.sx_core.specs.Machine.{StepRefused}
+use Rattle.sx_term.specs.Shapes.{shape}
+use Rattle.sx_core.specs.Machine.{StepRefused, AddsCon}
+use Rattle.sx_core.specs.declared.found.Found.{Found}
 use Rattle.sx_core.specs.declared.keyword.Keyword.TheVariants as keyword
-use Rattle.sx_core.proofs.StageLaws.{no_con}
+use Rattle.sx_core.proofs.StageLaws.{no_con, declared_so}
 use Rattle.sx_core.proofs.reader.Reader.take_con.Goals as goal
 
 pub returns-in_default : goal.returns-in_default
 returns-in_default c = λ n. subst (StepRefused c.args.self keyword.Con) (sym c.out_of_order.ensures) (no_con c.args.self.stage c.in_default.not-Declaring)
+
+pub returns-in-Declaring : goal.returns-in-Declaring
+returns-in-Declaring c = λ n. declared_so c.args.self keyword.Con _ _ (λ (x : Found). AddsCon c.args.self.found x c.args.row.name (shape c.args.con)) _ c.in-Declaring.is c.add_con-added.ensures c.declared.ensures
