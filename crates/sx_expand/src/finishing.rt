@@ -1,6 +1,6 @@
 //! Nodes whose kids are read.
 
-ghost use Rattle.std.specs.Prelude.{◌≡◌, true, List, [], OnOk, IfOk, length, map};
+ghost use Rattle.std.specs.Prelude.{◌≡◌, List, [], OnOk, IfOk, length, map};
 ghost use Rattle.sx_arena.specs.Arena.{tree_at, AreBelow};
 ghost use Rattle.sx_expand.specs.Followed.{IsWork, bindings_of};
 ghost use Rattle.sx_expand.specs.ReadDerivations.{IsRead};
@@ -75,29 +75,6 @@ fn node_subject(
     if !node.is_needed {
         return Ok(None);
     }
-    needed_subject(alloc, reading, reader, work, node, subjects)
-}
-
-/// The number of the subject of what the node is lowered to, which is needed.
-fn needed_subject(
-    alloc: Global,
-    reading: &Reading,
-    reader: &mut Reader,
-    work: &Work,
-    node: &Node,
-    subjects: &[Option<usize>],
-) -> Result<Option<usize>, RewriteError>
-    requires reading { IsReading reading.now }
-    requires reader { IsReader (set_by reading.now).table reader.old }
-    requires work { IsWork (terms_in reader.old) work.now }
-    requires needed { node.now.is_needed ≡ true }
-    requires node { (d : NodeData) × IsNodeIn reading.now node.now d
-        × IsNodeRead reading.now node.now (terms_in reader.old) work.now subjects.now d }
-    ensures on { OnOk result (GoesOn (set_by reading.now).table reader.old reader.new) }
-    ensures read { (d : NodeData) → IsNodeIn reading.now node.now d →
-        IsNodeRead reading.now node.now (terms_in reader.old) work.now subjects.now d →
-        IsSubjectRead reading.now node.now (terms_in reader.new) d result }
-{
     let bound = node_terms(alloc, reading, reader, work, node)?;
     let subject = lower_node(alloc, reading, reader, node.number, &bound, subjects);
     drop(bound);

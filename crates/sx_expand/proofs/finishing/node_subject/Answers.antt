@@ -9,8 +9,8 @@ use Rattle.sx_expand.specs.Readings.{set_by}
 use Rattle.sx_expand.specs.ReadNodes.{NodeData, IsNodeIn, IsNodeRead}
 use Rattle.sx_expand.specs.Readers.{terms_in}
 use Rattle.sx_expand.proofs.NodeAnswers.{kids-have-subjects, node-of, subject-read}
-use Rattle.sx_expand.proofs.finishing.needed_subject.Goals.{After-deref}
-use Rattle.sx_expand.proofs.finishing.needed_subject.Goals as goal
+use Rattle.sx_expand.proofs.finishing.node_subject.Goals.{After-deref}
+use Rattle.sx_expand.proofs.finishing.node_subject.Goals as goal
 
 -- the terms that are bound
 bound-are : (c : After-deref) → (d : NodeData) → IsNodeIn c.args.reading.now c.args.node.now d → IsNodeRead c.args.reading.now c.args.node.now (terms_in c.args.reader.now) c.args.work.now c.args.subjects.now d →
@@ -21,7 +21,7 @@ pub lower_node-subject-requires-clause-node : goal.lower_node-subject-requires-c
 lower_node-subject-requires-clause-node c =
     let l = c.args.reading.now in
     let n = c.requires.node in
-    node-of l c.requires.reading c.args.node.now c.requires.needed n.0 n.1 (terms_in c.args.reader.now) c.args.work.now c.args.subjects.now n.2 (bare_rules_in l.rules.now) c.requires.reading.rules.rules_are
+    node-of l c.requires.reading c.args.node.now c.if-not-node.false n.0 n.1 (terms_in c.args.reader.now) c.args.work.now c.args.subjects.now n.2 (bare_rules_in l.rules.now) c.requires.reading.rules.rules_are
     (length c.deref.result.now) (sym (length-map c.deref.result.now (tree_at (terms_in c.args.reader.now))) ∙ ap length (bound-are c n.0 n.1 n.2))
 
 pub lower_node-subject-requires-clause-shallow : goal.lower_node-subject-requires-clause-shallow
@@ -34,10 +34,10 @@ pub lower_node-subject-requires-clause-kids : goal.lower_node-subject-requires-c
 lower_node-subject-requires-clause-kids c =
     let l = c.args.reading.now in
     let n = c.requires.node in
-    kids-have-subjects l c.requires.reading c.args.node.now c.requires.needed n.0 n.1 (terms_in c.args.reader.now) c.args.work.now c.args.subjects.now n.2
+    kids-have-subjects l c.requires.reading c.args.node.now c.if-not-node.false n.0 n.1 (terms_in c.args.reader.now) c.args.work.now c.args.subjects.now n.2
 
 pub returns-clause-read : goal.returns-clause-read
 returns-clause-read c = λ d is read.
     let l = c.args.reading.now in
-    subject-read l c.requires.reading c.args.node.now c.requires.needed d is (terms_in c.args.reader.now) c.args.work.now c.args.subjects.now read
+    subject-read l c.requires.reading c.args.node.now c.if-not-node.false d is (terms_in c.args.reader.now) c.args.work.now c.args.subjects.now read
     (terms_in c.lower_node-subject.new.reader) (map (tree_at (terms_in c.args.reader.now)) c.deref.result.now) (bound-are c.before.before d is read) c.lower_node-subject.result c.lower_node-subject.ensures.lowered
