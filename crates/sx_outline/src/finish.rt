@@ -7,6 +7,7 @@ ghost use Rattle.sx_outline.specs.View as view;
 
 use crate::known::Known;
 use crate::main_form::MainForm;
+use crate::open_line::open_line;
 use crate::outline::Outline;
 use crate::outline_error::{OutlineError, bad_line};
 use crate::read_lines::ReadLines;
@@ -61,42 +62,23 @@ pub(crate) fn finish(known: Known, reader: Reader, number: u32) -> Result<Outlin
     } = reader;
     let ReadLines { plains, rules } = read;
     drop(plains);
-    match stage {
-        Stage::Start => {
-            drop(rules);
+    match open_line(&stage) {
+        Some(first) => {
             drop(known);
-            Err(bad_line(number, Kind::Head))
-        }
-        Stage::Declarations => finish_whole(known, main, rules, number),
-        Stage::Plains => finish_whole(known, main, rules, number),
-        Stage::Rules => finish_whole(known, main, rules, number),
-        Stage::Body(begun) => {
-            let first = begun.number;
-            drop(begun);
             drop(rules);
-            drop(known);
+            drop(stage);
             Err(bad_line(first, Kind::Unfinished))
         }
-        Stage::Premises(begun) => {
-            let first = begun.number;
-            drop(begun);
-            drop(rules);
-            drop(known);
-            Err(bad_line(first, Kind::Unfinished))
-        }
-        Stage::Conclusion(begun) => {
-            let first = begun.number;
-            drop(begun);
-            drop(rules);
-            drop(known);
-            Err(bad_line(first, Kind::Unfinished))
-        }
-        Stage::End(rule) => {
-            let first = rule.number;
-            drop(rule);
-            drop(rules);
-            drop(known);
-            Err(bad_line(first, Kind::Unfinished))
-        }
+        None => match stage {
+            Stage::Start => {
+                drop(known);
+                drop(rules);
+                Err(bad_line(number, Kind::Head))
+            }
+            _ => {
+                drop(stage);
+                finish_whole(known, main, rules, number)
+            }
+        },
     }
 }

@@ -66,8 +66,7 @@ fn with_plain(stage: Stage, number: u32, plain: PlainLine) -> Option<Stage>
         names,
     };
     match stage {
-        Stage::Declarations => Some(Stage::Body(begun)),
-        Stage::Plains => Some(Stage::Body(begun)),
+        Stage::Declarations | Stage::Plains => Some(Stage::Body(begun)),
         _ => {
             drop(begun);
             drop(stage);
@@ -173,21 +172,7 @@ impl Reader {
             premises: Vec::new(alloc),
         };
         match stage {
-            Stage::Declarations => Ok(Reader {
-                stage: Stage::Premises(begun),
-                forms,
-                vars,
-                main,
-                read,
-            }),
-            Stage::Plains => Ok(Reader {
-                stage: Stage::Premises(begun),
-                forms,
-                vars,
-                main,
-                read,
-            }),
-            Stage::Rules => Ok(Reader {
+            Stage::Declarations | Stage::Plains | Stage::Rules => Ok(Reader {
                 stage: Stage::Premises(begun),
                 forms,
                 vars,
@@ -324,22 +309,12 @@ impl Reader {
             Row::Main(line) => self.take_main(known, number, line),
             Row::Rule(name) => self.take_rule(alloc, number, name),
             Row::End => self.take_end(number),
-            Row::Language(name) => {
+            Row::Language(name) | Row::Extension(name) | Row::Use(name) => {
                 drop(name);
                 drop(self);
                 Err(out_of_order(number))
             }
             Row::Bar => {
-                drop(self);
-                Err(out_of_order(number))
-            }
-            Row::Extension(name) => {
-                drop(name);
-                drop(self);
-                Err(out_of_order(number))
-            }
-            Row::Use(name) => {
-                drop(name);
                 drop(self);
                 Err(out_of_order(number))
             }
