@@ -105,11 +105,7 @@ fn image_number(
     match reader.images.lower(alloc, table, &mut reader.arena, term) {
         Ok(number) => Ok(PutNumber { number, measure }),
         Err(TermError::Memory) => Err(NoMemory::Memory),
-        Err(TermError::TooDeep(_)) => Ok(PutNumber {
-            number: term,
-            measure,
-        }),
-        Err(TermError::TooBig(_)) => Ok(PutNumber {
+        Err(TermError::TooDeep(_) | TermError::TooBig(_)) => Ok(PutNumber {
             number: term,
             measure,
         }),

@@ -85,11 +85,7 @@ fn image_put(alloc: Global, table: &PlainTable, term: &Term) -> Result<PutTerm, 
             measure,
         }),
         Err(TermError::Memory) => Err(NoMemory::Memory),
-        Err(TermError::TooDeep(_)) => Ok(PutTerm {
-            term: blank(alloc),
-            measure,
-        }),
-        Err(TermError::TooBig(_)) => Ok(PutTerm {
+        Err(TermError::TooDeep(_) | TermError::TooBig(_)) => Ok(PutTerm {
             term: blank(alloc),
             measure,
         }),
