@@ -28,8 +28,6 @@ mod shown;
 #[cfg(test)]
 mod shown_units;
 #[cfg(test)]
-mod stop;
-#[cfg(test)]
 mod stuck_goals;
 #[cfg(test)]
 mod taken_up_again;

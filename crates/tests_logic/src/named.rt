@@ -1,12 +1,12 @@
 //! Auditors that words name.
 
-use crate::stop::Stop;
 use std::alloc::Global;
 use sx_audit::{Auditor, makers};
 use sx_auditing::{name_auditors, put_texts};
 use sx_steps::{StepError, Stop as Stopped};
 use sx_term::{NoMemory, Text};
 use sx_words::{Audit, Defect, FileDefect};
+use tests_given::Stop;
 
 /// An option that names an auditor, at this place among the words.
 fn audit(alloc: Global, kind: &str, setting: &str, word: u32) -> Result<Audit, NoMemory> {

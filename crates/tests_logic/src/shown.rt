@@ -12,7 +12,6 @@ ghost use Rattle.sx_rules.specs.Views.{goal as goal_of};
 
 use crate::auditors::{says, takes};
 use crate::samples::{PAIR, W, Z, rules};
-use crate::stop::Stop;
 use crate::terms::goal;
 use std::alloc::Global;
 use std::marker::Brand;
@@ -21,6 +20,7 @@ use sx_audit::{Auditor, ShowError, derivations_are_by_rules, makers, show, show_
 use sx_derive::derive;
 use sx_rules::{Entry, Goal, Hyps, Proof, RuleSet, preorder};
 use sx_term::Steps;
+use tests_given::Stop;
 
 /// Whether the derivation is no deeper than so many levels.
 pub(crate) fn is_shallow(proof: &Proof, levels: u32) -> bool

@@ -10,7 +10,6 @@ ghost use Rattle.sx_rules.specs.Views.{goal as goal_of};
 
 use crate::samples::{PAIR, W, Z, rules};
 use crate::shown::is_shallow;
-use crate::stop::Stop;
 use crate::terms::goal;
 use std::alloc::Global;
 use std::marker::Brand;
@@ -22,6 +21,7 @@ use sx_rules::{Goal, Hyps, Proof, RuleSet, preorder};
 use sx_steps::StepError;
 use sx_term::{Steps, Text};
 use sx_words::Defect;
+use tests_given::Stop;
 
 /// The number of the node by this rule to which the auditor of this name objects; 0 where none
 /// objects, and the greatest number where it is another objection or memory is lacking.

@@ -9,14 +9,14 @@ use sx_term::{NoMemory, Text};
 
 /// Objects to its third node and to each after it. It takes every setting, and then begins anew.
 #[derive(Drop)]
-pub(crate) struct Stop {
+pub struct Stop {
     name: Text,
     seen: u64,
 }
 
 impl Stop {
     /// The auditor `stop`, which has seen no node.
-    pub(crate) fn new(alloc: Global) -> Result<Stop, NoMemory> {
+    pub fn new(alloc: Global) -> Result<Stop, NoMemory> {
         Ok(Stop {
             name: Text::of_str(alloc, "stop")?,
             seen: 0,
