@@ -1,14 +1,41 @@
 //! Texts that state no extension of the language `Lam`, one for each reason.
 
-use crate::extension_samples::{CUT_LET, PAIR_OF_ONE, SHOW_TWICE};
 use crate::extensions::read;
-use crate::refusals::{Told, refusal};
 use std::alloc::Global;
 use std::test::*;
 use sx_extension::{ExtensionError, PlainDefect};
 use sx_lines::Kind;
 use sx_notation::NotationError;
 use sx_rules::RuleError;
+use sx_sample::LET_EXT;
+use tests_given::{Told, refusal};
+
+/// Two rules for one production, of which the first asks for its part twice.
+const SHOW_TWICE: &[u8] = b"extension Show
+language Lam
+prod show Exp 50 : \"show\" Exp@51
+rule T-ShowInt
+~C |- ~e : Int
+~C |- ~e : Str
+---
+~C |- show ~e : Str
+to itoa ~e
+end
+rule T-ShowStr
+~C |- ~e : Str
+---
+~C |- show ~e : Str
+to ~e
+end
+";
+
+/// A plain production whose second part is dropped.
+const PAIR_OF_ONE: &[u8] = b"extension Pair
+language Lam
+prod pair Ty 50 : \"Pair\" Ty@90 Ty@90
+plain pair T1 T2
+~T1 -> Str
+";
 
 /// What comes of the text.
 fn told(alloc: Global, bytes: &[u8]) -> Told {
@@ -25,6 +52,14 @@ fn told(alloc: Global, bytes: &[u8]) -> Told {
 /// Whether the line with this number is bad, and this about it.
 fn is_bad(alloc: Global, bytes: &[u8], line: u32, kind: Kind) -> bool {
     told(alloc, bytes) == Told::BadLine(line, kind)
+}
+
+/// The extension `Let` without its last line.
+fn cut_let() -> &'static [u8] {
+    match LET_EXT.strip_suffix(b"end\n") {
+        Some(cut) => cut,
+        None => b"",
+    }
 }
 
 #[test]
@@ -49,7 +84,7 @@ fn bad_lines(rt: HostRuntime) {
         is_bad(alloc, late, 4, Kind::Order),
         is_bad(alloc, after, 7, Kind::Order),
         is_bad(alloc, pair, 4, Kind::Unfinished),
-        is_bad(alloc, CUT_LET, 4, Kind::Unfinished),
+        is_bad(alloc, cut_let(), 4, Kind::Unfinished),
     ];
     assert_eq!(rt; hold, [true; 10]);
 }

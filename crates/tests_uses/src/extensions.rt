@@ -11,7 +11,6 @@ ghost use Rattle.sx_plain.specs.Views.{table_of};
 ghost use Rattle.sx_rewrite.specs.ExtensionView.{ext_rule};
 ghost use Rattle.sx_extension.specs.Fitting.{ExtensionIsUsable};
 
-use crate::extension_samples::{FOR, LAM, LET, NULL, PAIR, SHOW, TWICE};
 use std::alloc::Global;
 use std::test::*;
 use sx_extension::{Before, ExtensionError, ReadExtension, languages_begin, read_extension};
@@ -19,7 +18,9 @@ use sx_language::read_language;
 use sx_notation::{Language, NotationError};
 use sx_plain::PlainTable;
 use sx_rewrite::ExtRule;
+use sx_sample::{LAM_LANG, LET_EXT};
 use sx_term::{Term, Text, read_core};
+use tests_given::extensions::{FOR, NULL, PAIR, SHOW, TWICE};
 
 /// The language.
 fn lam(alloc: Global) -> Result<Language, NotationError>
@@ -27,7 +28,7 @@ fn lam(alloc: Global) -> Result<Language, NotationError>
     ensures stated { IfOk result (λ l. (name : List ℕ) × (bytes : List ℕ) × States name bytes l
         × (length bytes ≤ 262144)) }
 {
-    let bytes = LAM;
+    let bytes = LAM_LANG;
     if bytes.len() > 10_000 {
         return Err(NotationError::Memory);
     }
@@ -191,12 +192,12 @@ fn what_extensions_state(rt: HostRuntime) {
     ];
     let twice_rules = [wants("T-Twice", 1, "(14 ?1 ?1)")];
     let hold = [
-        states(alloc, LET, "Let", "", &let_rules),
-        states(alloc, FOR, "For", "", &for_rules),
-        states(alloc, SHOW, "Show", "", &show_rules),
-        states(alloc, NULL, "Null", "", &null_rules),
-        states(alloc, TWICE, "Twice", "", &twice_rules),
-        states(alloc, PAIR, "Pair", "(5 (5 ?0 (5 ?1 (3))) (3))", &[]),
+        states(alloc, LET_EXT, "Let", "", &let_rules),
+        states(alloc, FOR.text, "For", "", &for_rules),
+        states(alloc, SHOW.text, "Show", "", &show_rules),
+        states(alloc, NULL.text, "Null", "", &null_rules),
+        states(alloc, TWICE.text, "Twice", "", &twice_rules),
+        states(alloc, PAIR.text, "Pair", "(5 (5 ?0 (5 ?1 (3))) (3))", &[]),
     ];
     assert_eq!(rt; hold, [true; 6]);
 }

@@ -7,15 +7,11 @@ mod bad_extensions;
 #[cfg(test)]
 mod expanded;
 #[cfg(test)]
-mod extension_samples;
-#[cfg(test)]
 mod extensions;
 #[cfg(test)]
 mod goals;
 #[cfg(test)]
 mod opened;
-#[cfg(test)]
-mod refusals;
 #[cfg(test)]
 mod samples;
 #[cfg(test)]
