@@ -1,10 +1,10 @@
 //! Runs of `build --core`: what is written, and within how many tries.
 
-use crate::files::{holds, lack, put};
-use crate::run::ends;
 use crate::samples::{LEAVES, LISTS, ONE, PAIR, REPEAT, SIGNATURE};
 use std::alloc::Global;
 use sx_outside::{MemShelf, MemSink};
+use tests_runs::files::{holds, lack, put};
+use tests_runs::run::ends;
 
 /// The three texts that a run writes.
 #[derive(Clone, Copy)]

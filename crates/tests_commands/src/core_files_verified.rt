@@ -1,10 +1,10 @@
 //! Runs of `verify --core`.
 
-use crate::files::{holds, put};
-use crate::run::ends;
 use crate::samples::PAIRS;
 use std::alloc::Global;
 use sx_outside::{MemShelf, MemSink};
+use tests_runs::files::{holds, put};
+use tests_runs::run::ends;
 
 const BASE: &[u8] = b"(2 (0) (0))\n";
 

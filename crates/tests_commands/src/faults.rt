@@ -1,10 +1,10 @@
 //! Runs in which a call of the shelf or of the sink fails.
 
-use crate::files::{fail, holds, lack, put};
-use crate::run::ends;
 use crate::samples::{LAM, ONE};
 use std::alloc::Global;
 use sx_outside::{MemShelf, MemSink};
+use tests_runs::files::{fail, holds, lack, put};
+use tests_runs::run::ends;
 
 /// Whether building `One` ends so where the shelf's call with this number fails.
 fn ends_core(alloc: Global, call: u64, code: u8, told: &[u8], shelf: &mut MemShelf) -> bool {

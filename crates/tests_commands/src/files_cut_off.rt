@@ -1,13 +1,14 @@
 //! Runs over each front of a file: each is done, or refused with a line.
 
-use crate::extension_files::{File, LET};
-use crate::files::put;
-use crate::run::code_of;
 use crate::samples::ONE;
-use crate::scenes::{language, put_files};
 use std::alloc::Global;
 use sx_outside::{MemShelf, MemSink};
 use sx_term::Text;
+use tests_given::File;
+use tests_given::extensions::LET;
+use tests_given::languages::LAM;
+use tests_runs::files::{put, put_files};
+use tests_runs::run::code_of;
 
 /// A module that uses an extension.
 const NAMED: File = File {
@@ -50,12 +51,11 @@ fn are_answered(alloc: Global, files: &[&File], name: &str, text: &[u8], line: &
 #[test]
 fn sources_that_are_cut_off(rt: HostRuntime) {
     let alloc = rt.alloc();
-    let lam = language();
     let hold = [
         are_answered(alloc, &[], "One.core", ONE, "build --core One"),
-        are_answered(alloc, &[&LET, &NAMED], lam.name, lam.text, "build Main"),
-        are_answered(alloc, &[&lam], LET.name, LET.text, "check Let"),
-        are_answered(alloc, &[&lam, &LET], NAMED.name, NAMED.text, "build Main"),
+        are_answered(alloc, &[&LET, &NAMED], LAM.name, LAM.text, "build Main"),
+        are_answered(alloc, &[&LAM], LET.name, LET.text, "check Let"),
+        are_answered(alloc, &[&LAM, &LET], NAMED.name, NAMED.text, "build Main"),
     ];
     assert_eq!(rt; hold, [true; 4]);
 }
@@ -90,7 +90,7 @@ fn are_verified_over(alloc: Global, name: &str, bytes: &[u8], shelf: &mut MemShe
 
 /// Puts the files of the module, and builds it.
 fn build(alloc: Global, shelf: &mut MemShelf) -> bool {
-    put_files(alloc, &[&language(), &LET, &NAMED], shelf) && is_answered(alloc, "build Main", shelf)
+    put_files(alloc, &[&LAM, &LET, &NAMED], shelf) && is_answered(alloc, "build Main", shelf)
 }
 
 #[test]

@@ -1,22 +1,23 @@
 //! Languages, and modules of them.
 
-use crate::files::{holds, holds_module, lack, put, put_module};
-use crate::run::ends;
 use std::alloc::Global;
 use sx_outside::{MemShelf, MemSink};
+use tests_runs::files::{holds, holds_module, lack, put, put_module};
+use tests_runs::run::ends;
 
-/// A language: its file, the header of a module of it, which is called Main, and its text.
+/// A language: its file, the header of a module of it, which is called Main, and the two parts of
+/// its text.
 #[derive(Clone, Copy)]
 pub struct Language {
     pub file: &'static str,
     pub header: &'static [u8],
-    pub text: &'static [u8],
+    pub text: [&'static [u8]; 2],
 }
 
 impl Language {
     /// Puts the language and a module of it with this body; whether memory was there for that.
     pub fn put(&self, alloc: Global, body: &[u8], shelf: &mut MemShelf) -> bool {
-        put(alloc, self.file, &[self.text], shelf) && put_module(alloc, self.header, body, shelf)
+        put(alloc, self.file, &self.text, shelf) && put_module(alloc, self.header, body, shelf)
     }
 
     /// Whether a module with this body is built with this line, this list and this printed body.

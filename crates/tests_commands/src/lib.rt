@@ -6,17 +6,7 @@ mod core_files_built;
 #[cfg(test)]
 mod core_files_verified;
 #[cfg(test)]
-mod extended_modules;
-#[cfg(test)]
-mod extension_files;
-#[cfg(test)]
-mod extensions_checked;
-#[cfg(test)]
 mod faults;
-#[cfg(test)]
-mod faults_of_builds;
-#[cfg(test)]
-mod files;
 #[cfg(test)]
 mod files_cut_off;
 #[cfg(test)]
@@ -28,37 +18,15 @@ mod interfaces;
 #[cfg(test)]
 mod language;
 #[cfg(test)]
-mod modules_audited;
-#[cfg(test)]
 mod modules_built;
-#[cfg(test)]
-mod modules_compiled;
-#[cfg(test)]
-mod modules_imported;
-#[cfg(test)]
-mod modules_planned;
 #[cfg(test)]
 mod modules_refused;
 #[cfg(test)]
-mod modules_rewritten;
-#[cfg(test)]
-mod modules_sampled;
-#[cfg(test)]
-mod modules_verified;
-#[cfg(test)]
-mod own_auditor;
-#[cfg(test)]
-mod reads_counted;
-#[cfg(test)]
 mod refusal_lines;
-#[cfg(test)]
-mod run;
 #[cfg(test)]
 mod runs_refused;
 #[cfg(test)]
 mod samples;
-#[cfg(test)]
-mod scenes;
 #[cfg(test)]
 mod shelves;
 #[cfg(test)]

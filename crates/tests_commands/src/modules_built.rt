@@ -1,11 +1,11 @@
 //! Runs of `build` on modules that are built.
 
-use crate::files::{append, holds, holds_module};
 use crate::interface_samples::{ARROWS_INTERFACE, LAM_INTERFACE};
-use crate::run::ends;
 use crate::samples::{LAM, LAST, LEFT};
 use std::alloc::Global;
 use sx_outside::{MemShelf, MemSink};
+use tests_runs::files::{append, holds, holds_module};
+use tests_runs::run::ends;
 
 #[test]
 fn modules_that_are_built(rt: HostRuntime) {

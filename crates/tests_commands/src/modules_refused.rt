@@ -1,12 +1,12 @@
 //! Runs of `build` that are refused, or whose derivation passes a budget.
 
-use crate::files::{lack, put};
 use crate::language::Language;
 use crate::modules_built::put_bracketed;
-use crate::run::ends;
 use crate::samples::{AMB, CYCLIC, LAM, LOOP};
 use std::alloc::Global;
 use sx_outside::{MemShelf, MemSink};
+use tests_runs::files::{lack, put};
+use tests_runs::run::ends;
 
 /// Whether a module of the language of functions with this body is refused with this line.
 fn is_refused(alloc: Global, body: &[u8], told: &[u8]) -> bool {
@@ -34,7 +34,7 @@ fn modules_that_are_refused(rt: HostRuntime) {
 fn is_file_refused(alloc: Global, line: &str, module: &[u8], told: &[u8]) -> bool {
     let mut shelf = MemShelf::new(alloc);
     let mut out = MemSink::new(alloc);
-    let is = put(alloc, LAM.file, &[LAM.text], &mut shelf)
+    let is = put(alloc, LAM.file, &LAM.text, &mut shelf)
         && put(alloc, "Main.mod", &[module], &mut shelf)
         && ends(alloc, line, &mut shelf, &mut out, 1, told)
         && lack(alloc, &["Main.base", "Main.der", "Main.int"], &shelf);
@@ -104,7 +104,7 @@ fn modules_with_two_readings(rt: HostRuntime) {
 fn is_language_refused(alloc: Global, text: &'static [u8], told: &[u8]) -> bool {
     let few = Language {
         file: "Few.lang",
-        text,
+        text: [text, b""],
         header: b"module Main\nlanguage Few\n---\n",
     };
     few.stops(alloc, "build Main", b"1", 1, told)

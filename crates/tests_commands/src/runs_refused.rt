@@ -1,10 +1,10 @@
 //! Runs that are refused: by their words, by bad lines of core files, and by stuck goals.
 
-use crate::files::{lack, put};
-use crate::run::ends;
 use crate::samples::{LEAVES, PAIR, SIGNATURE};
 use std::alloc::Global;
 use sx_outside::{MemShelf, MemSink};
+use tests_runs::files::{lack, put};
+use tests_runs::run::ends;
 
 /// Whether building the core file of these parts is refused with this line, and nothing is written.
 fn is_refused(alloc: Global, parts: &[&[u8]], told: &[u8]) -> bool {

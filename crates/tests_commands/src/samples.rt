@@ -1,6 +1,8 @@
 //! The files that the tests are about: core files and languages.
 
 use crate::language::Language;
+use sx_sample::LAM_LANG;
+use tests_given::languages::{AMB as AMB_TEXT, LOOP as LOOP_TEXT, LOOP_RULES};
 
 /// A core file whose goal has a derivation by one rule.
 pub const ONE: &[u8] = br#"sxcore 1
@@ -105,167 +107,36 @@ goal typing (2 (0) (0))
 pub const LAM: Language = Language {
     file: "Lam.lang",
     header: b"module Main\nlanguage Lam\n---\n",
-    text: br#"language Lam
-sort Env plain
-sort Ty plain "(" ")"
-sort Exp typed "(" ")"
-prod nilenv Env 90 : "[]"
-prod bind Env 10 : Env@10 "," id ":" Ty
-prod int Ty 90 : "Int"
-prod strty Ty 90 : "Str"
-prod list Ty 50 : "List" Ty@90
-prod arrow Ty 10 : Ty@11 "->" Ty@10
-prod var Exp 90 : id
-prod num Exp 90 : num
-prod str Exp 90 : str
-prod nil Exp 90 : "nil" Ty@90
-prod app Exp 50 : Exp@50 Exp@51
-prod cons Exp 50 : "cons" Exp@51 Exp@51
-prod map Exp 50 : "map" Exp@51 Exp@51
-prod itoa Exp 50 : "itoa" Exp@51
-prod cat Exp 40 : Exp@40 "++" Exp@41
-prod lam Exp 10 : "\" id ":" Ty "." Exp
-var C : Env
-var T : Ty
-var e : Exp
-var x : id
-var y : id
-var n : num
-var s : str
-form typing : in:Env "|-" sub:Exp ":" out:Ty
-form lookup : in:Env "@" in:id ":" out:Ty
-main typing nilenv bind
-rule L-Here
----
-~C , ~x : ~T @ ~x : ~T
-end
-rule L-There
-~x != ~y
-~C @ ~x : ~T1
----
-~C , ~y : ~T2 @ ~x : ~T1
-end
-rule T-Var
-~C @ ~x : ~T
----
-~C |- ~x : ~T
-end
-rule T-Num
----
-~C |- ~n : Int
-end
-rule T-Str
----
-~C |- ~s : Str
-end
-rule T-Lam
-~C , ~x : ~T1 |- ~e : ~T2
----
-~C |- \ ~x : ~T1 . ~e : ~T1 -> ~T2
-end
-rule T-App
-~C |- ~e1 : ~T1 -> ~T2
-~C |- ~e2 : ~T1
----
-~C |- ~e1 ~e2 : ~T2
-end
-rule T-Nil
----
-~C |- nil ~T : List ~T
-end
-rule T-Cons
-~C |- ~e1 : ~T
-~C |- ~e2 : List ~T
----
-~C |- cons ~e1 ~e2 : List ~T
-end
-rule T-Map
-~C |- ~e1 : ~T1 -> ~T2
-~C |- ~e2 : List ~T1
----
-~C |- map ~e1 ~e2 : List ~T2
-end
-rule T-Cat
-~C |- ~e1 : Str
-~C |- ~e2 : Str
----
-~C |- ~e1 ++ ~e2 : Str
-end
-rule T-Itoa
-~C |- ~e : Int
----
-~C |- itoa ~e : Str
-end
-"#,
+    text: [LAM_LANG, b""],
 };
 
 /// A language whose first rule asks for its own goal again.
 pub const LOOP: Language = Language {
     file: "Loop.lang",
     header: b"module Main\nlanguage Loop\n---\n",
-    text: br#"language Loop
-sort Env plain
-sort Ty plain
-sort Exp typed
-prod nilenv Env 90 : "[]"
-prod bind Env 10 : Env@10 "," id ":" Ty
-prod int Ty 90 : "Int"
-prod num Exp 90 : num
-var C : Env
-var T : Ty
-var e : Exp
-var n : num
-form typing : in:Env "|-" sub:Exp ":" out:Ty
-main typing nilenv bind
-rule T-Loop
-~C |- ~e : ~T
----
-~C |- ~e : ~T
-end
-rule T-Num
----
-~C |- ~n : Int
-end
-"#,
+    text: [LOOP_TEXT, LOOP_RULES],
 };
 
 /// A language whose sums group both ways.
 pub const AMB: Language = Language {
     file: "Amb.lang",
     header: b"module Main\nlanguage Amb\n---\n",
-    text: br#"language Amb
-sort Env plain
-sort Ty plain
-sort Exp typed "(" ")"
-prod nilenv Env 90 : "[]"
-prod bind Env 10 : Env@10 "," id ":" Ty
-prod int Ty 90 : "Int"
-prod num Exp 90 : num
-prod plus Exp 50 : Exp "+" Exp
-var C : Env
-var T : Ty
-var e : Exp
-var n : num
-form typing : in:Env "|-" sub:Exp ":" out:Ty
-main typing nilenv bind
-rule T-Plus
-~C |- ~e1 : Int
-~C |- ~e2 : Int
----
-~C |- ~e1 + ~e2 : Int
-end
-rule T-Num
+    text: [AMB_TEXT, b""],
+};
+
+/// The rule of numbers.
+const T_NUM: &[u8] = br#"rule T-Num
 ---
 ~C |- ~n : Int
 end
-"#,
-};
+"#;
 
 /// A language whose sums group to the left.
 pub const LEFT: Language = Language {
     file: "Left.lang",
     header: b"module Main\nlanguage Left\n---\n",
-    text: br#"language Left
+    text: [
+        br#"language Left
 sort Env plain
 sort Ty plain
 sort Exp typed "(" ")"
@@ -286,18 +157,17 @@ rule T-Plus
 ---
 ~C |- ~e1 + ~e2 : Int
 end
-rule T-Num
----
-~C |- ~n : Int
-end
 "#,
+        T_NUM,
+    ],
 };
 
 /// A language whose last rule asks for its own goal again.
 pub const LAST: Language = Language {
     file: "Last.lang",
     header: b"module Main\nlanguage Last\n---\n",
-    text: br#"language Last
+    text: [
+        br#"language Last
 sort Env plain
 sort Ty plain
 sort Exp typed
@@ -321,13 +191,16 @@ rule T-Loop
 ~C |- ~e : ~T
 end
 "#,
+        b"",
+    ],
 };
 
 /// A language with a sort that derives itself.
 pub const CYCLIC: Language = Language {
     file: "Lam.lang",
     header: b"module Main\nlanguage Lam\n---\n",
-    text: br#"language Lam
+    text: [
+        br#"language Lam
 sort Env plain
 sort Ty plain
 sort Exp typed
@@ -340,29 +213,7 @@ var C : Env
 var n : num
 form typing : in:Env "|-" sub:Exp ":" out:Ty
 main typing nilenv bind
-rule T-Num
----
-~C |- ~n : Int
-end
 "#,
+        T_NUM,
+    ],
 };
-
-/// A language of numbers.
-pub const NUMBERS: &[u8] = br#"language Numbers
-sort Env plain
-sort Ty plain
-sort Exp typed
-prod nilenv Env 90 : "[]"
-prod bind Env 10 : Env@10 "," id ":" Ty
-prod int Ty 90 : "Int"
-prod num Exp 90 : num
-prod neg Exp 90 : "-" Exp@90
-var C : Env
-var n : num
-form typing : in:Env "|-" sub:Exp ":" out:Ty
-main typing nilenv bind
-rule T-Num
----
-~C |- ~n : Int
-end
-"#;

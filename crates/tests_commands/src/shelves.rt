@@ -1,9 +1,9 @@
 //! Shelves in memory, whose calls fail where a test says so, or never.
 
-use crate::files::{fail, holds, put};
 use std::alloc::Global;
 use sx_outside::{CleanShelf, MemShelf, ReadAnswer, Shelf, WriteAnswer};
 use sx_term::Text;
+use tests_runs::files::{fail, holds, put};
 
 /// What reading at most so many bytes under the name answers.
 fn read<S: Shelf>(

@@ -1,22 +1,11 @@
 //! A file that is read, one that is not there, and the files of a unit.
 
-use crate::files::put;
 use std::alloc::Global;
 use sx_outside::MemShelf;
-use sx_steps::{MOST_BYTES, StepError, Stop, Work, built_work, read_file};
+use sx_steps::{MOST_BYTES, StepError, Work, built_work, read_file};
 use sx_term::Text;
-
-/// Whether this is the line of the stop.
-pub fn is_line(alloc: Global, stop: &Stop, line: &[u8]) -> bool {
-    match stop.line(alloc) {
-        Ok(told) => {
-            let is = told.as_slice() == line;
-            drop(told);
-            is
-        }
-        Err(_) => false,
-    }
-}
+use tests_runs::files::put;
+use tests_runs::plans::{is_file, is_line};
 
 /// Whether reading at most so many bytes of the file answers these, or a stop with this line.
 fn reads(alloc: Global, shelf: &mut MemShelf, name: &[u8], limit: u32, told: &[u8]) -> bool {
@@ -72,14 +61,6 @@ fn bytes(alloc: Global, from: &[u8]) -> Option<Vec<u8>> {
     match Vec::from_slice(alloc, from) {
         Ok(bytes) => Some(bytes),
         Err(_) => None,
-    }
-}
-
-/// Whether the plan's file with this number has this name and these bytes.
-pub fn is_file(work: &Work, number: usize, name: &str, bytes: &[u8]) -> bool {
-    match work.files.get(number) {
-        Some(file) => file.name.as_str() == name && file.bytes.as_slice() == bytes,
-        None => false,
     }
 }
 

@@ -1,13 +1,14 @@
 //! Texts that state no language, one for each reason.
 
-use crate::refusals::{Told, has_readings, read, refusal};
-use crate::samples::{AMB, LOOP, joined};
+use crate::reading::{has_readings, joined, read};
 use std::alloc::Global;
 use std::test::*;
 use sx_grammar::GrammarError;
 use sx_lines::Kind;
 use sx_notation::{Language, NotationError};
 use sx_rules::RuleError;
+use tests_given::languages::{AMB, LOOP};
+use tests_given::{Told, refusal};
 
 /// What comes of the text of a language with this name.
 fn told(alloc: Global, name: &[u8], bytes: &[u8]) -> Told {

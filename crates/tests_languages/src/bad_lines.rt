@@ -1,6 +1,6 @@
 //! Language files without an outline, one for each reason.
 
-use crate::samples::joined;
+use crate::reading::joined;
 use std::alloc::Global;
 use std::test::*;
 use sx_lines::Kind;

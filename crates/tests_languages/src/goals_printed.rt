@@ -11,13 +11,13 @@ ghost use Rattle.sx_rules.specs.Sets.{forms_in};
 ghost use Rattle.sx_rules.specs.Views.{form as form_data, is_out};
 ghost use Rattle.sx_notation.specs.Language.{IsLanguage};
 
-use crate::refusals::read;
-use crate::samples::SUMS;
+use crate::reading::read;
 use std::alloc::Global;
 use std::test::*;
 use sx_notation::{Language, print_goal};
 use sx_rules::{Form, Goal, Place};
 use sx_term::{NoMemory, Role, Shapes, Sort, Term, Text, Vars, read_core};
+use tests_given::languages::SUMS;
 
 /// The term with this core text.
 fn term_of(alloc: Global, core: &str) -> Result<Term, NoMemory>

@@ -1,12 +1,13 @@
 //! Languages that are read.
 
-use crate::refusals::read;
-use crate::samples::{AMB, LAM, LOOP, LOOP_RULES, joined};
+use crate::reading::{joined, read};
 use std::alloc::Global;
 use std::test::*;
 use sx_notation::Language;
 use sx_rules::{Premise, Rule};
+use sx_sample::LAM_LANG;
 use sx_term::{LexKind, Sort, Term};
+use tests_given::languages::{AMB, LOOP, LOOP_RULES};
 
 /// Whether the language has so many rules, each with names, and this is the number of the last
 /// variable of its rule with this number.
@@ -97,7 +98,7 @@ fn says_there(language: &Language) -> bool {
 
 #[test]
 fn a_language_is_read(rt: HostRuntime) {
-    let read = read(rt.alloc(), b"Lam", LAM);
+    let read = read(rt.alloc(), b"Lam", LAM_LANG);
     let (is_lam, says_there) = match &read {
         Ok(language) => (is_lam(language), says_there(language)),
         Err(_) => (false, false),

@@ -15,14 +15,10 @@ mod languages;
 #[cfg(test)]
 mod lines_read;
 #[cfg(test)]
-mod modules;
-#[cfg(test)]
 mod outlines;
 #[cfg(test)]
-mod refusals;
+mod reading;
 #[cfg(test)]
 mod rows;
 #[cfg(test)]
 mod rule_grammars;
-#[cfg(test)]
-mod samples;

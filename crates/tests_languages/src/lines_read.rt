@@ -5,14 +5,15 @@ ghost use Rattle.sx_earley.specs.Completed.{IsSort};
 ghost use Rattle.sx_term.specs.Term.{tree};
 ghost use Rattle.sx_term.specs.Tree.{depth_of};
 
-use crate::refusals::{Told, has_readings, read, refusal};
-use crate::samples::{AMB, SUMS};
+use crate::reading::{has_readings, read};
 use std::alloc::Global;
 use std::test::*;
 use sx_earley::Metas;
 use sx_grammar::Grammar;
 use sx_notation::{Directive, Kind, Language, NotationError, read_directive, read_text};
 use sx_term::{NoMemory, Sort, Term, Text, Vars, read_core};
+use tests_given::languages::{AMB, SUMS};
+use tests_given::{Told, refusal};
 
 /// The sort with this number, if there is one.
 fn sort_at(grammar: &Grammar, number: u32) -> Option<Sort>

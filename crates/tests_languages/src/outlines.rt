@@ -1,10 +1,12 @@
 //! The outlines of language files.
 
-use crate::samples::{AMB, LAM, LOOP, LOOP_RULES, joined};
+use crate::reading::joined;
 use std::alloc::Global;
 use std::test::*;
 use sx_outline::{MainForm, Outline, OutlineError, RuleLine, RuleLines, read_outline};
+use sx_sample::LAM_LANG;
 use sx_term::Text;
+use tests_given::languages::{AMB, LOOP, LOOP_RULES};
 
 /// The outline of a file of the language with this name.
 fn read(alloc: Global, name: &[u8], bytes: &[u8]) -> Result<Outline, OutlineError> {
@@ -88,8 +90,8 @@ fn what_a_language_declares(rt: HostRuntime) {
         add: 1,
     };
     let hold = [
-        sizes_read(alloc, b"Lam", LAM) == Some(sizes),
-        main_of(alloc, LAM) == Some(main),
+        sizes_read(alloc, b"Lam", LAM_LANG) == Some(sizes),
+        main_of(alloc, LAM_LANG) == Some(main),
     ];
     assert_eq!(rt; hold, [true; 2]);
 }
@@ -114,7 +116,7 @@ fn is_there(rule: &RuleLines) -> bool {
 
 #[test]
 fn the_lines_of_a_rule(rt: HostRuntime) {
-    let read = read(rt.alloc(), b"Lam", LAM);
+    let read = read(rt.alloc(), b"Lam", LAM_LANG);
     let is_read = match &read {
         Ok(o) => match o.rules.get(1) {
             Some(rule) => o.rules.len() == 12 && is_there(rule),

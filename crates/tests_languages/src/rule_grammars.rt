@@ -1,7 +1,6 @@
 //! The grammar by which rules of a language of sums are read, and the forms that its lines spell.
 
-use crate::refusals::read;
-use crate::samples::SUMS;
+use crate::reading::read;
 use std::alloc::Global;
 use std::test::*;
 use sx_directives::{FileKind, FormLine, Row, read_row};
@@ -9,6 +8,7 @@ use sx_grammar::{Grammar, GrammarParts};
 use sx_notation::forms_of;
 use sx_rules::{Form, Place};
 use sx_term::{NoMemory, Role, Sort};
+use tests_given::languages::SUMS;
 
 /// The form of the row, alone.
 fn form_alone(alloc: Global, row: Row) -> Result<Vec<FormLine>, NoMemory> {

@@ -1,11 +1,10 @@
 //! Several runs, one after another, over the files of one shelf.
 
-use crate::extension_files::File;
-use crate::files::put;
-use crate::run::ends;
-use crate::samples::LAM;
 use std::alloc::Global;
 use sx_outside::{MemShelf, MemSink};
+use tests_given::File;
+use tests_runs::files::{lack, put_files};
+use tests_runs::run::ends;
 
 /// The run of a command line: its exit code, and what its sink gets.
 #[derive(Clone, Copy)]
@@ -23,21 +22,6 @@ pub fn ending(line: &'static str, code: u8, told: &'static [u8]) -> Turn {
 /// A file with this text.
 pub fn file(name: &'static str, text: &'static [u8]) -> File {
     File { name, text }
-}
-
-/// The language of functions.
-pub fn language() -> File {
-    file(LAM.file, LAM.text)
-}
-
-/// Puts the files on the shelf, each in the place of one that has its name.
-pub fn put_files(alloc: Global, files: &[&File], shelf: &mut MemShelf) -> bool {
-    for file in files {
-        if !put(alloc, file.name, &[file.text], shelf) {
-            return false;
-        }
-    }
-    true
 }
 
 /// Whether the run ends so.
@@ -80,6 +64,29 @@ pub fn plays_on(
         && all_end(alloc, turns, &mut shelf)
         && put_files(alloc, &[other], &mut shelf)
         && all_end(alloc, more, &mut shelf);
+    drop(shelf);
+    is
+}
+
+/// Whether the run of the command line over these files ends with this exit code and these lines.
+pub fn tells(alloc: Global, files: &[&File], line: &str, code: u8, told: &[u8]) -> bool {
+    let mut shelf = MemShelf::new(alloc);
+    let mut out = MemSink::new(alloc);
+    let is = put_files(alloc, files, &mut shelf)
+        && ends(alloc, line, &mut shelf, &mut out, code, told);
+    drop(out);
+    drop(shelf);
+    is
+}
+
+/// Whether the build of `Main` over these files ends so, and nothing is written.
+pub fn stops(alloc: Global, files: &[&File], code: u8, told: &[u8]) -> bool {
+    let mut shelf = MemShelf::new(alloc);
+    let mut out = MemSink::new(alloc);
+    let is = put_files(alloc, files, &mut shelf)
+        && ends(alloc, "build Main", &mut shelf, &mut out, code, told)
+        && lack(alloc, &["Main.base", "Main.der", "Main.int"], &shelf);
+    drop(out);
     drop(shelf);
     is
 }

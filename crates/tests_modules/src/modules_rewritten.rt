@@ -1,13 +1,14 @@
 //! Runs of `build`: what modules that use extensions become.
 
-use crate::extension_files::{
-    BANG, CAP, FOR, File, KEEP, LET, LOUD, NONE, NULL, PAIR, QUEST, SAME, SHOW, TWICE,
-};
-use crate::files::{append, holds, holds_module, put};
-use crate::run::ends;
-use crate::samples::LAM;
 use std::alloc::Global;
 use sx_outside::{MemShelf, MemSink};
+use tests_given::File;
+use tests_given::extensions::{
+    BANG, CAP, FOR, KEEP, LET, LOUD, NULL, PAIR, QUEST, SAME, SHOW, TWICE,
+};
+use tests_given::languages::LAM;
+use tests_runs::files::{append, holds, holds_module, put, put_files};
+use tests_runs::run::ends;
 
 /// A module, by its `use` lines and its body, and what it becomes: the body of its base program,
 /// its list, and the line that is told.
@@ -20,32 +21,32 @@ struct Rewritten {
     told: &'static [u8],
 }
 
-/// Puts the language of functions and two of its extensions.
-fn put_extensions(alloc: Global, before: &File, last: &File, shelf: &mut MemShelf) -> bool {
-    put(alloc, LAM.file, &[LAM.text], shelf)
-        && put(alloc, before.name, &[before.text], shelf)
-        && put(alloc, last.name, &[last.text], shelf)
-}
+/// The header of a base program.
+const HEADER: &[u8] = b"module Main\nlanguage Lam\n---\n";
 
-/// Puts a module with these `use` lines and this body.
-fn put_main(alloc: Global, uses: &[u8], body: &[u8], shelf: &mut MemShelf) -> bool {
+/// Puts a module of the language of functions with these `use` lines and this body, and these
+/// extensions.
+fn put_main(
+    alloc: Global,
+    extensions: &[&File],
+    uses: &[u8],
+    body: &[u8],
+    shelf: &mut MemShelf,
+) -> bool {
     let header = b"module Main\nlanguage Lam\n";
-    put(
-        alloc,
-        "Main.mod",
-        &[header, uses, b"---\n", body, b"\n"],
-        shelf,
-    )
+    let parts = [header.as_slice(), uses, b"---\n", body, b"\n"];
+    put_files(alloc, &[&LAM], shelf)
+        && put_files(alloc, extensions, shelf)
+        && put(alloc, "Main.mod", &parts, shelf)
 }
 
 /// Whether the module becomes what it is to become.
-fn becomes(alloc: Global, before: &File, last: &File, module: &Rewritten) -> bool {
+fn becomes(alloc: Global, extensions: &[&File], module: &Rewritten) -> bool {
     let mut shelf = MemShelf::new(alloc);
     let mut out = MemSink::new(alloc);
-    let is = put_extensions(alloc, before, last, &mut shelf)
-        && put_main(alloc, module.uses, module.body, &mut shelf)
+    let is = put_main(alloc, extensions, module.uses, module.body, &mut shelf)
         && ends(alloc, "build Main", &mut shelf, &mut out, 0, module.told)
-        && holds_module(alloc, LAM.header, module.base, &shelf)
+        && holds_module(alloc, HEADER, module.base, &shelf)
         && holds(alloc, "Main.der", module.list, &shelf);
     drop(out);
     drop(shelf);
@@ -55,7 +56,7 @@ fn becomes(alloc: Global, before: &File, last: &File, module: &Rewritten) -> boo
 /// Whether a build of a module with these `use` lines and this body ends so, with this line.
 fn tells(
     alloc: Global,
-    extensions: (&File, &File),
+    extensions: &[&File],
     uses: &[u8],
     body: &[u8],
     code: u8,
@@ -63,8 +64,7 @@ fn tells(
 ) -> bool {
     let mut shelf = MemShelf::new(alloc);
     let mut out = MemSink::new(alloc);
-    let is = put_extensions(alloc, extensions.0, extensions.1, &mut shelf)
-        && put_main(alloc, uses, body, &mut shelf)
+    let is = put_main(alloc, extensions, uses, body, &mut shelf)
         && ends(alloc, "build Main", &mut shelf, &mut out, code, told);
     drop(out);
     drop(shelf);
@@ -89,8 +89,8 @@ fn names_for_values(rt: HostRuntime) {
         told: b"built Main: 9 nodes\n",
     };
     let hold = [
-        becomes(alloc, &NONE, &LET, &one),
-        becomes(alloc, &NONE, &LET, &function),
+        becomes(alloc, &[&LET], &one),
+        becomes(alloc, &[&LET], &function),
     ];
     assert_eq!(rt; hold, [true; 2]);
 }
@@ -106,7 +106,7 @@ fn syntax_of_two_extensions(rt: HostRuntime) {
             T-Var\nL-There\nL-There\nL-Here\nT-Var\nL-Here\nT-Var\nL-Here\n",
         told: b"built Main: 18 nodes\n",
     };
-    assert!(rt; becomes(rt.alloc(), &LET, &FOR, &module));
+    assert!(rt; becomes(rt.alloc(), &[&LET, &FOR], &module));
 }
 
 #[test]
@@ -134,9 +134,9 @@ fn rules_that_types_choose(rt: HostRuntime) {
         told: b"built Main: 4 nodes\n",
     };
     let hold = [
-        becomes(alloc, &NONE, &SHOW, &shown),
-        becomes(alloc, &NONE, &NULL, &null),
-        becomes(alloc, &SHOW, &LOUD, &loud),
+        becomes(alloc, &[&SHOW], &shown),
+        becomes(alloc, &[&NULL], &null),
+        becomes(alloc, &[&SHOW, &LOUD], &loud),
     ];
     assert_eq!(rt; hold, [true; 3]);
 }
@@ -150,7 +150,7 @@ fn types_that_stand_for_others(rt: HostRuntime) {
         list: b"sxder 1\nT-Lam\nT-Var\nL-Here\n",
         told: b"built Main: 3 nodes\n",
     };
-    assert!(rt; becomes(rt.alloc(), &NONE, &PAIR, &module));
+    assert!(rt; becomes(rt.alloc(), &[&PAIR], &module));
 }
 
 #[test]
@@ -165,8 +165,8 @@ fn rules_that_conclude_their_premise(rt: HostRuntime) {
     };
     let deep = b"soundx: Main.mod: derivation deeper than 3000\n";
     let hold = [
-        becomes(alloc, &NONE, &SAME, &same),
-        tells(alloc, (&NONE, &SAME), b"use Same\n", b"x", 6, deep),
+        becomes(alloc, &[&SAME], &same),
+        tells(alloc, &[&SAME], b"use Same\n", b"x", 6, deep),
     ];
     assert_eq!(rt; hold, [true; 2]);
 }
@@ -192,8 +192,7 @@ fn nest(times: u32, body: &mut Vec<u8>) -> bool {
 /// Whether a build of `twice` nested so often ends so, with this line.
 fn nested(alloc: Global, times: u32, code: u8, told: &[u8]) -> bool {
     let mut body = Vec::new(alloc);
-    let is = nest(times, &mut body)
-        && tells(alloc, (&NONE, &TWICE), b"use Twice\n", &body, code, told);
+    let is = nest(times, &mut body) && tells(alloc, &[&TWICE], b"use Twice\n", &body, code, told);
     drop(body);
     is
 }
@@ -211,7 +210,7 @@ fn parts_that_are_copied(rt: HostRuntime) {
     let tokens = b"soundx: Main.mod: printed text has 12285 tokens, over 10000\n";
     let nodes = b"soundx: Main.mod: rewriting needs more than 1000000 nodes\n";
     let hold = [
-        becomes(alloc, &NONE, &TWICE, &two),
+        becomes(alloc, &[&TWICE], &two),
         nested(alloc, 11, 0, b"built Main: 4095 nodes\n"),
         nested(alloc, 12, 1, tokens),
         nested(alloc, 20, 6, nodes),
@@ -250,14 +249,9 @@ fn has_list(alloc: Global, uses: &[u8], body: &[u8], list: &[u8], told: &[u8]) -
         Some(head) => head,
         None => b"".as_slice(),
     };
-    let is = put_extensions(alloc, &NONE, &TWICE, &mut shelf)
-        && put(
-            alloc,
-            LAM.file,
-            &[head, STRING_FIRST, LAST_RULES],
-            &mut shelf,
-        )
-        && put_main(alloc, uses, body, &mut shelf)
+    let language = [head, STRING_FIRST, LAST_RULES];
+    let is = put_main(alloc, &[&TWICE], uses, body, &mut shelf)
+        && put(alloc, LAM.name, &language, &mut shelf)
         && ends(alloc, "build Main", &mut shelf, &mut out, 0, told)
         && holds(alloc, "Main.der", list, &shelf);
     drop(out);
@@ -290,7 +284,7 @@ fn parts_that_are_dropped(rt: HostRuntime) {
     let mut body = Vec::new(alloc);
     let uses = b"use Twice\nuse Keep\n";
     let told = b"built Main: 1 nodes\n";
-    let is = keep(&mut body) && tells(alloc, (&TWICE, &KEEP), uses, &body, 0, told);
+    let is = keep(&mut body) && tells(alloc, &[&TWICE, &KEEP], uses, &body, 0, told);
     drop(body);
     assert!(rt; is);
 }
@@ -301,17 +295,10 @@ fn words_of_extensions(rt: HostRuntime) {
     let name = b"soundx: Main.mod: line 5 column 3: no reading\n";
     let two = b"soundx: Main.mod: two readings: \
         bang(quest(num(1))) and quest(bang(num(1)))\n";
-    let both = (&BANG, &QUEST);
+    let both = [&BANG, &QUEST];
     let hold = [
-        tells(
-            alloc,
-            (&NONE, &CAP),
-            b"use Cap\n",
-            b"\\ f : Int . f",
-            1,
-            name,
-        ),
-        tells(alloc, both, b"use Bang\nuse Quest\n", b"? 1 !", 1, two),
+        tells(alloc, &[&CAP], b"use Cap\n", b"\\ f : Int . f", 1, name),
+        tells(alloc, &both, b"use Bang\nuse Quest\n", b"? 1 !", 1, two),
     ];
     assert_eq!(rt; hold, [true; 2]);
 }

@@ -1,7 +1,9 @@
 //! Runs of `build` on modules that import others.
 
-use crate::extension_files::{FOR, File, LET};
-use crate::scenes::{Turn, file, language, plays};
+use crate::scenes::{Turn, file, plays};
+use tests_given::File;
+use tests_given::extensions::{FOR, LET};
+use tests_given::languages::LAM;
 
 /// A run of `build` that ends so.
 fn build(code: u8, told: &'static [u8]) -> Turn {
@@ -54,9 +56,9 @@ fn modules_are_built_after_their_imports(rt: HostRuntime) {
     );
     let inner = build(0, b"built xs: 3 nodes\nbuilt Main: 17 nodes\n");
     let hold = [
-        plays(alloc, &[&language(), &B, &A, &MAIN], &[three]),
-        plays(alloc, &[&language(), &FOR, &f, &xs, &loops], &[looped]),
-        plays(alloc, &[&language(), &LET, &FOR, &xs, &nested], &[inner]),
+        plays(alloc, &[&LAM, &B, &A, &MAIN], &[three]),
+        plays(alloc, &[&LAM, &FOR, &f, &xs, &loops], &[looped]),
+        plays(alloc, &[&LAM, &LET, &FOR, &xs, &nested], &[inner]),
     ];
     assert_eq!(rt; hold, [true; 3]);
 }
@@ -70,9 +72,9 @@ fn closures_that_are_refused(rt: HostRuntime) {
     let absent = build(1, b"soundx: B.mod: absent\n");
     let differs = build(1, b"soundx: B.mod: language Other differs\n");
     let hold = [
-        plays(alloc, &[&language(), &back, &A, &MAIN], &[cycle]),
-        plays(alloc, &[&language(), &A, &MAIN], &[absent]),
-        plays(alloc, &[&language(), &other, &A, &MAIN], &[differs]),
+        plays(alloc, &[&LAM, &back, &A, &MAIN], &[cycle]),
+        plays(alloc, &[&LAM, &A, &MAIN], &[absent]),
+        plays(alloc, &[&LAM, &other, &A, &MAIN], &[differs]),
     ];
     assert_eq!(rt; hold, [true; 3]);
 }
@@ -85,7 +87,7 @@ fn an_import_with_the_name_of_a_literal(rt: HostRuntime) {
         b"module Main\nlanguage Lam\nimport map\n---\n1\n",
     );
     let bad = build(1, b"soundx: Main.mod: line 3: bad header\n");
-    assert!(rt; plays(rt.alloc(), &[&language(), &map, &main], &[bad]));
+    assert!(rt; plays(rt.alloc(), &[&LAM, &map, &main], &[bad]));
 }
 
 #[test]
@@ -104,6 +106,6 @@ fn what_is_written_is_compiled_and_verified_alike(rt: HostRuntime) {
         code: 0,
         told: b"verified Main: 6 nodes\n",
     };
-    let files = [&language(), &B, &A, &MAIN];
+    let files = [&LAM, &B, &A, &MAIN];
     assert!(rt; plays(rt.alloc(), &files, &[three, verified, again, verified]));
 }

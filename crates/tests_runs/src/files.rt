@@ -3,6 +3,7 @@
 use std::alloc::Global;
 use sx_outside::MemShelf;
 use sx_term::Text;
+use tests_given::File;
 
 /// Puts the bytes under the name, and answers whether memory was there for that.
 fn put_bytes(alloc: Global, name: &[u8], bytes: Vec<u8>, shelf: &mut MemShelf) -> bool {
@@ -44,6 +45,16 @@ pub fn put_under(alloc: Global, name: &[u8], parts: &[&[u8]], shelf: &mut MemShe
         drop(bytes);
         false
     }
+}
+
+/// Puts the files, each in the place of one that has its name.
+pub fn put_files(alloc: Global, files: &[&File], shelf: &mut MemShelf) -> bool {
+    for file in files {
+        if !put(alloc, file.name, &[file.text], shelf) {
+            return false;
+        }
+    }
+    true
 }
 
 /// Puts a module with this header and this body.

@@ -1,7 +1,9 @@
 //! Runs of `verify` on modules.
 
-use crate::extension_files::{File, PAIR};
-use crate::scenes::{Turn, language, plays, plays_on};
+use crate::scenes::{Turn, plays, plays_on};
+use tests_given::File;
+use tests_given::extensions::PAIR;
+use tests_given::languages::LAM;
 
 /// A module that binds one name twice.
 const SHADOWED: File = File {
@@ -48,8 +50,8 @@ fn what_was_built_is_verified(rt: HostRuntime) {
     let four = verify(0, b"verified Main: 4 nodes\n");
     let three = verify(0, b"verified Main: 3 nodes\n");
     let hold = [
-        plays(alloc, &[&language(), &SHADOWED], &[BUILT, four]),
-        plays(alloc, &[&language(), &PAIR, &pair], &[built, three]),
+        plays(alloc, &[&LAM, &SHADOWED], &[BUILT, four]),
+        plays(alloc, &[&LAM, &PAIR, &pair], &[built, three]),
     ];
     assert_eq!(rt; hold, [true; 2]);
 }
@@ -57,7 +59,7 @@ fn what_was_built_is_verified(rt: HostRuntime) {
 #[test]
 fn lists_that_fit_no_derivation(rt: HostRuntime) {
     let alloc = rt.alloc();
-    let files = [&language(), &SHADOWED];
+    let files = [&LAM, &SHADOWED];
     let other = list(b"sxder 1\nT-Lam\nT-Lam\nT-Var\nL-There\nL-Here\n");
     let short = list(b"sxder 1\nT-Lam\nT-Lam\nT-Var\n");
     let long = list(b"sxder 1\nT-Lam\nT-Lam\nT-Var\nL-Here\nT-Num\n");
@@ -78,7 +80,7 @@ fn lists_that_fit_no_derivation(rt: HostRuntime) {
 #[test]
 fn files_that_were_changed(rt: HostRuntime) {
     let alloc = rt.alloc();
-    let files = [&language(), &SHADOWED];
+    let files = [&LAM, &SHADOWED];
     let used = File {
         name: "Main.base",
         text: b"module Main\nlanguage Lam\nuse Let\n---\n1\n",
@@ -104,5 +106,5 @@ fn files_that_were_changed(rt: HostRuntime) {
 #[test]
 fn modules_that_were_not_built(rt: HostRuntime) {
     let absent = verify(1, b"soundx: Main.int: absent\n");
-    assert!(rt; plays(rt.alloc(), &[&language(), &SHADOWED], &[absent]));
+    assert!(rt; plays(rt.alloc(), &[&LAM, &SHADOWED], &[absent]));
 }

@@ -1,32 +1,18 @@
 //! Runs of `check`.
 
-use crate::extension_files::{File, LET, LOUD, NONE, PAIR, QUAD, SHOW, TWICE};
-use crate::files::{append, join, put, put_under};
-use crate::run::ends;
-use crate::samples::LAM;
+use crate::scenes::{file, tells};
 use std::alloc::Global;
 use sx_outside::{MemShelf, MemSink};
-
-/// Whether the command line ends so, with these lines, over the language and two extensions.
-fn checks(alloc: Global, line: &str, before: &File, last: &File, code: u8, told: &[u8]) -> bool {
-    let mut shelf = MemShelf::new(alloc);
-    let mut out = MemSink::new(alloc);
-    let is = put(alloc, LAM.file, &[LAM.text], &mut shelf)
-        && put(alloc, before.name, &[before.text], &mut shelf)
-        && put(alloc, last.name, &[last.text], &mut shelf)
-        && ends(alloc, line, &mut shelf, &mut out, code, told);
-    drop(out);
-    drop(shelf);
-    is
-}
+use tests_given::File;
+use tests_given::extensions::{LET, LOUD, PAIR, QUAD, SHOW, TWICE};
+use tests_given::languages::LAM;
+use tests_runs::files::{append, join, put, put_files, put_under};
+use tests_runs::run::ends;
 
 /// Whether an extension of this text, which is called X, is refused so.
 fn is_refused(alloc: Global, text: &'static [u8], told: &[u8]) -> bool {
-    let x = File {
-        name: "X.ext",
-        text,
-    };
-    checks(alloc, "check X", &SHOW, &x, 1, told)
+    let x = file("X.ext", text);
+    tells(alloc, &[&LAM, &SHOW, &x], "check X", 1, told)
 }
 
 #[test]
@@ -39,12 +25,18 @@ fn extensions_that_are_accepted(rt: HostRuntime) {
         accepted Quad: 1 rules\n";
     let pair_line = b"accepted Pair: 0 rules\n";
     let hold = [
-        checks(alloc, "check Let", &NONE, &LET, 0, let_lines),
-        checks(alloc, "check Show", &NONE, &SHOW, 0, show_lines),
-        checks(alloc, "check Loud", &SHOW, &LOUD, 0, loud_lines),
-        checks(alloc, "check Pair", &NONE, &PAIR, 0, pair_line),
-        checks(alloc, "check --tries=23 Let", &NONE, &LET, 0, let_lines),
-        checks(alloc, "check --nodes=7 Quad", &TWICE, &QUAD, 0, quad_lines),
+        tells(alloc, &[&LAM, &LET], "check Let", 0, let_lines),
+        tells(alloc, &[&LAM, &SHOW], "check Show", 0, show_lines),
+        tells(alloc, &[&LAM, &SHOW, &LOUD], "check Loud", 0, loud_lines),
+        tells(alloc, &[&LAM, &PAIR], "check Pair", 0, pair_line),
+        tells(alloc, &[&LAM, &LET], "check --tries=23 Let", 0, let_lines),
+        tells(
+            alloc,
+            &[&LAM, &TWICE, &QUAD],
+            "check --nodes=7 Quad",
+            0,
+            quad_lines,
+        ),
     ];
     assert_eq!(rt; hold, [true; 6]);
 }
@@ -55,11 +47,31 @@ fn extensions_that_pass_a_budget(rt: HostRuntime) {
     let tries = b"soundx: Let.ext: rule T-Let: more than 5 tries\n";
     let nodes = b"soundx: Quad.ext: rule T-Quad: rewriting needs more than 6 nodes\n";
     let hold = [
-        checks(alloc, "check --tries=5 Let", &NONE, &LET, 6, tries),
-        checks(alloc, "check --nodes=6 Quad", &TWICE, &QUAD, 6, nodes),
+        tells(alloc, &[&LAM, &LET], "check --tries=5 Let", 6, tries),
+        tells(
+            alloc,
+            &[&LAM, &TWICE, &QUAD],
+            "check --nodes=6 Quad",
+            6,
+            nodes,
+        ),
     ];
     assert_eq!(rt; hold, [true; 2]);
 }
+
+/// An extension whose rule has a body of another type.
+pub const UNSOUND: File = File {
+    name: "X.ext",
+    text: br#"extension X
+language Lam
+prod x Exp 90 : "x"
+rule T-X
+---
+~C |- x : Str
+to 0
+end
+"#,
+};
 
 #[test]
 fn rules_that_are_not_sound(rt: HostRuntime) {
@@ -74,16 +86,6 @@ rule T-X
 ---
 ~C |- x ~x = ~e1 in ~e2 : ~T2
 to ( \ ~x : ~T1 . ~e2 ) ~e1
-end
-"#;
-    // the body has another type
-    let other = br#"extension X
-language Lam
-prod x Exp 90 : "x"
-rule T-X
----
-~C |- x : Str
-to 0
 end
 "#;
     // a rule of the extension before wants another type
@@ -106,7 +108,7 @@ end
         ),
         is_refused(
             alloc,
-            other,
+            UNSOUND.text,
             b"soundx: X.ext: rule T-X: ~C |- 0 : Int is not the stated conclusion\n",
         ),
         is_refused(
@@ -229,16 +231,10 @@ fn extension_files_that_are_refused(rt: HostRuntime) {
 #[test]
 fn an_extension_of_another_language(rt: HostRuntime) {
     let alloc = rt.alloc();
-    let other = File {
-        name: "Y.ext",
-        text: b"extension Y\nlanguage Lim\n",
-    };
-    let user = File {
-        name: "X.ext",
-        text: b"extension X\nlanguage Lam\nuse Y\n",
-    };
+    let other = file("Y.ext", b"extension Y\nlanguage Lim\n");
+    let user = file("X.ext", b"extension X\nlanguage Lam\nuse Y\n");
     let told = b"soundx: Y.ext: written for language Lim\n";
-    let is = checks(alloc, "check X", &other, &user, 1, told);
+    let is = tells(alloc, &[&LAM, &other, &user], "check X", 1, told);
     assert!(rt; is);
 }
 
@@ -291,7 +287,7 @@ fn more_than_256_files(rt: HostRuntime) {
     let mut out = MemSink::new(alloc);
     let mut uses = Vec::new(alloc);
     let told = b"soundx: X.ext: more than 256 files\n";
-    let is = put(alloc, LAM.file, &[LAM.text], &mut shelf)
+    let is = put_files(alloc, &[&LAM], &mut shelf)
         && put_empties(alloc, &mut uses, &mut shelf)
         && put_user(alloc, uses.as_slice(), &mut shelf)
         && ends(alloc, "check X", &mut shelf, &mut out, 1, told);
@@ -357,7 +353,7 @@ fn a_rewritten_derivation_that_is_too_deep(rt: HostRuntime) {
     let mut shelf = MemShelf::new(alloc);
     let mut out = MemSink::new(alloc);
     let told = b"soundx: B.ext: rule T-B: rewritten derivation deeper than 3000\n";
-    let is = put(alloc, LAM.file, &[LAM.text], &mut shelf)
+    let is = put_files(alloc, &[&LAM], &mut shelf)
         && put_repeated(alloc, "A.ext", &DEEP, &mut shelf)
         && put_repeated(alloc, "B.ext", &DEEPER, &mut shelf)
         && ends(alloc, "check B", &mut shelf, &mut out, 6, told);

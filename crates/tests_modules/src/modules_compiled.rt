@@ -1,8 +1,10 @@
 //! Runs of `compile` against the interfaces of imports.
 
-use crate::extension_files::{File, PAIR};
 use crate::modules_imported::{A, B};
-use crate::scenes::{Turn, ending, file, language, plays, plays_on};
+use crate::scenes::{Turn, ending, file, plays, plays_on};
+use tests_given::File;
+use tests_given::extensions::PAIR;
+use tests_given::languages::LAM;
 
 /// The runs that compile the one and then the other.
 const COMPILED: Turn = Turn {
@@ -22,8 +24,8 @@ fn modules_are_compiled_one_by_one(rt: HostRuntime) {
     let alloc = rt.alloc();
     let absent = ending("compile A", 1, b"soundx: B.int: absent\n");
     let hold = [
-        plays(alloc, &[&language(), &B, &A], &[COMPILED, COMPILED_AFTER]),
-        plays(alloc, &[&language(), &B, &A], &[absent]),
+        plays(alloc, &[&LAM, &B, &A], &[COMPILED, COMPILED_AFTER]),
+        plays(alloc, &[&LAM, &B, &A], &[absent]),
     ];
     assert_eq!(rt; hold, [true; 2]);
 }
@@ -36,20 +38,8 @@ fn interfaces_that_are_refused(rt: HostRuntime) {
     let version = ending("compile A", 1, b"soundx: B.int: version 9\n");
     let header = ending("compile A", 1, b"soundx: B.int: line 1: bad header\n");
     let hold = [
-        plays_on(
-            alloc,
-            &[&language(), &B, &A],
-            &[COMPILED],
-            &nine,
-            &[version],
-        ),
-        plays_on(
-            alloc,
-            &[&language(), &B, &A],
-            &[COMPILED],
-            &empty,
-            &[header],
-        ),
+        plays_on(alloc, &[&LAM, &B, &A], &[COMPILED], &nine, &[version]),
+        plays_on(alloc, &[&LAM, &B, &A], &[COMPILED], &empty, &[header]),
     ];
     assert_eq!(rt; hold, [true; 2]);
 }
@@ -58,7 +48,7 @@ fn interfaces_that_are_refused(rt: HostRuntime) {
 fn a_module_that_imports_itself(rt: HostRuntime) {
     let own = file("A.mod", b"module A\nlanguage Lam\nimport A\n---\n1\n");
     let cycle = ending("compile A", 1, b"soundx: A.mod: cycle A A\n");
-    assert!(rt; plays(rt.alloc(), &[&language(), &own], &[cycle]));
+    assert!(rt; plays(rt.alloc(), &[&LAM, &own], &[cycle]));
 }
 
 /// A module whose signature is stated in the notation of an extension.
@@ -99,7 +89,7 @@ fn signatures_are_seen_as_they_are_stated(rt: HostRuntime) {
             [] , P : ( ( Int -> Str -> Str ) -> Str ) -> ( Int -> Str -> Str ) -> Str |- 1 : Int \
             is not what premise 2 of T-App asks for\n",
     );
-    let files = [&language(), &PAIR, &P];
+    let files = [&LAM, &PAIR, &P];
     let hold = [
         plays_on(alloc, &files, &[COMPILED_PAIR], &with, &[stated]),
         plays_on(alloc, &files, &[COMPILED_PAIR], &without, &[plain]),

@@ -1,72 +1,23 @@
 //! Runs with an auditor of the caller's own.
 
-ghost use Rattle.std.specs.Prelude.{◌+◌, ◌∷◌, ◌++◌, [], Some, codes, nat_lt, slice_index};
-ghost use Rattle.sx_audit.specs.Kinds.{as_count};
-
-use crate::files::lack;
 use crate::modules_imported::{A, B, MAIN};
-use crate::run::code_with;
-use crate::scenes::{language, put_files};
 use std::alloc::Global;
-use sx_audit::{Auditor, SetError, makers};
+use sx_audit::{Auditor, makers};
 use sx_outside::{MemShelf, MemSink};
-use sx_term::{NoMemory, Text};
-
-/// Objects to its third node and to each after it. It takes every setting, and then begins anew.
-#[derive(Drop)]
-struct Stop {
-    name: Text,
-    seen: u64,
-}
-
-impl Auditor for Stop {
-    ghost meaning = { λ it. record {
-      kind = record {
-        name = it.name;
-        step = λ s n. let seen = as_count (slice_index s.numbers 0 + 1) in
-            (record { numbers = seen ∷ []; texts = [] }, nat_lt seen 3);
-        takes = λ setting. Some (record { numbers = 0 ∷ []; texts = [] });
-        text = λ s. codes "stop";
-      };
-      state = record { numbers = it.seen ∷ []; texts = [] };
-    } };
-
-    fn name(&self) -> &Text {
-        &self.name
-    }
-
-    fn set(&mut self, _setting: &Text) -> Result<(), SetError> {
-        self.seen = 0;
-        Ok(())
-    }
-
-    fn see(&mut self, _rule: &Text, _depth: u32) -> bool {
-        self.seen = self.seen.saturating_add(1);
-        self.seen < 3
-    }
-
-    fn text(&self, _alloc: Global, into: &mut Vec<u8>) -> Result<(), NoMemory> {
-        into.extend_from_slice(b"stop")?;
-        Ok(())
-    }
-}
+use tests_given::Stop;
+use tests_given::languages::LAM;
+use tests_runs::files::{lack, put_files};
+use tests_runs::run::code_with;
 
 /// The exit code of the run of the command line over three modules, with `tally` and then the
 /// auditor of our own handed in.
 fn code_of(alloc: Global, line: &str, shelf: &mut MemShelf, out: &mut MemSink) -> Option<u8> {
-    let own: Box<dyn Auditor> = Box::new(
-        alloc,
-        Stop {
-            name: Text::of_str(alloc, "stop").ok()?,
-            seen: 0,
-        },
-    )
-    .ok()?;
+    let own: Box<dyn Auditor> = Box::new(alloc, Stop::new(alloc).ok()?).ok()?;
     let tally: Box<dyn Auditor> = Box::new(alloc, makers::tally(alloc).ok()?).ok()?;
     let mut auditors = Vec::new(alloc);
     auditors.push(tally).ok()?;
     auditors.push(own).ok()?;
-    if put_files(alloc, &[&language(), &B, &A, &MAIN], shelf) {
+    if put_files(alloc, &[&LAM, &B, &A, &MAIN], shelf) {
         code_with(alloc, line, auditors, shelf, out)
     } else {
         drop(auditors);

@@ -1,12 +1,12 @@
 //! Builds of several modules in which a call of the shelf or of the sink fails.
 
-use crate::files::{fail, join, lack};
 use crate::modules_imported::{A, B, MAIN};
-use crate::run::ends;
-use crate::scenes::{language, put_files};
 use std::alloc::Global;
 use sx_outside::{MemShelf, MemSink};
 use sx_term::Text;
+use tests_given::languages::LAM;
+use tests_runs::files::{fail, join, lack, put_files};
+use tests_runs::run::ends;
 
 /// The files that the build of the three modules writes, in order.
 const WRITTEN: [&str; 9] = [
@@ -29,7 +29,7 @@ const READ: usize = 4;
 
 /// Puts the language and the three modules.
 fn put_sources(alloc: Global, shelf: &mut MemShelf) -> bool {
-    put_files(alloc, &[&language(), &B, &A, &MAIN], shelf)
+    put_files(alloc, &[&LAM, &B, &A, &MAIN], shelf)
 }
 
 /// Whether the build over the shelf ends so.

@@ -1,17 +1,15 @@
 //! The reads of builds: the file of an extension that several modules use is read once.
 
-ghost use Rattle.std.specs.Prelude.{◌≡◌, ◌<◌, None};
+ghost use Rattle.std.specs.Prelude.{None};
 
-use crate::extension_files::{File, LET, LOUD, SHOW};
-use crate::scenes::{file, language};
+use crate::planning::planned_main;
+use crate::scenes::file;
 use std::alloc::Global;
-use std::marker::Brand;
-use std::sync::ledger::{Blank, Ledger};
-use sx_build::plan_build_module;
-use sx_extcheck::Budgets;
 use sx_outside::{CleanShelf, ReadAnswer, Shelf, WriteAnswer};
-use sx_steps::{StepError, Work};
-use sx_term::{NoMemory, Steps, Text};
+use sx_term::{NoMemory, Text};
+use tests_given::File;
+use tests_given::extensions::{LET, LOUD, SHOW};
+use tests_given::languages::LAM;
 
 /// Files in memory, and the names that were read of them, in order, each with a line feed.
 #[derive(Drop)]
@@ -71,37 +69,12 @@ fn put_files(alloc: Global, files: &[&File], shelf: &mut CleanShelf) -> bool {
     true
 }
 
-/// The plan of the module, within 1,000 tries and 1,000 nodes.
-fn planned<L: Ledger>(
-    alloc: Global,
-    name: &Text,
-    shelf: &mut ReadShelf,
-    blank: Blank,
-) -> Result<Work, StepError>
-    requires name { blank.name ≡ L.name }
-    requires parts { blank.parts ≡ L.parts }
-    requires some { 0 < blank.parts }
-{
-    let mut steps = Steps::<L>::new(blank);
-    let budgets = Budgets {
-        tries: 1000,
-        nodes: 1000,
-    };
-    plan_build_module(alloc, name, budgets, Vec::new(alloc), shelf, &mut steps)
-}
-
-/// Whether `Main` has a plan.
+/// Whether `Main` has a plan, within 1,000 tries and 1,000 nodes.
 fn plans(alloc: Global, shelf: &mut ReadShelf) -> bool {
-    match Text::make(alloc, b"Main") {
-        Ok(name) => {
-            let answer = planned::<Brand>(alloc, &name, shelf, Blank::new(1));
-            drop(name);
-            let is = answer.is_ok();
-            drop(answer);
-            is
-        }
-        Err(_) => false,
-    }
+    let answer = planned_main(alloc, 1000, shelf);
+    let is = answer.is_ok();
+    drop(answer);
+    is
 }
 
 /// Whether `Main` of these files has a plan, and just the files with these names are read for it,
@@ -134,7 +107,7 @@ fn an_extension_of_three_modules_is_read_once(rt: HostRuntime) {
         b"module Main\nlanguage Lam\nuse Let\nimport A\nimport B\n---\nlet z = A in B\n",
     );
     let names = b"Main.mod\nA.mod\nB.mod\nLam.lang\nLet.ext\n";
-    assert!(rt; reads(alloc, &[&language(), &LET, &a, &b, &main], names));
+    assert!(rt; reads(alloc, &[&LAM, &LET, &a, &b, &main], names));
 }
 
 #[test]
@@ -146,5 +119,5 @@ fn an_extension_that_another_uses_is_read_once(rt: HostRuntime) {
         b"module Main\nlanguage Lam\nuse Loud\nuse Show\nimport B\n---\nB ++ loud 2\n",
     );
     let names = b"Main.mod\nB.mod\nLam.lang\nShow.ext\nLoud.ext\n";
-    assert!(rt; reads(alloc, &[&language(), &SHOW, &LOUD, &b, &main], names));
+    assert!(rt; reads(alloc, &[&LAM, &SHOW, &LOUD, &b, &main], names));
 }

@@ -1,7 +1,9 @@
 //! Runs with auditors that the words name.
 
-use crate::extension_files::{File, LET};
-use crate::scenes::{ending, language, plays};
+use crate::scenes::{ending, plays};
+use tests_given::File;
+use tests_given::extensions::LET;
+use tests_given::languages::LAM;
 
 /// A module with a name for a function, which it calls.
 const CALLED: File = File {
@@ -29,8 +31,8 @@ fn what_auditors_say(rt: HostRuntime) {
         b"built Main: 5 nodes\ndeny T-Map\ndepth 4 of 9\ntally T-Num 1\n",
     );
     let hold = [
-        plays(alloc, &[&language(), &LET, &CALLED], &[tally]),
-        plays(alloc, &[&language(), &LET, &NAMED], &[three]),
+        plays(alloc, &[&LAM, &LET, &CALLED], &[tally]),
+        plays(alloc, &[&LAM, &LET, &NAMED], &[three]),
     ];
     assert_eq!(rt; hold, [true; 2]);
 }
@@ -55,5 +57,5 @@ fn what_auditors_object_to(rt: HostRuntime) {
     );
     let unbuilt = ending("verify Main", 1, b"soundx: Main.int: absent\n");
     let turns = [leaf, deep, many, unbuilt];
-    assert!(rt; plays(alloc, &[&language(), &LET, &NAMED], &turns));
+    assert!(rt; plays(alloc, &[&LAM, &LET, &NAMED], &turns));
 }

@@ -1,4 +1,0 @@
-use Rattle.tests_commands.proofs.modules_planned.plans.Given as goal
-
-abbrev pub ghosts-planned : goal.ghosts-planned
-ghosts-planned a = record { name = a.blank.name; parts = a.blank.parts }
