@@ -17,7 +17,7 @@ use Rattle.sx_arena.specs.contracts.shape.ShapePartialEq.TheImpl.{eq-value as sh
 use Rattle.sx_arena.specs.Grown.{Extends, grown_from, Fits}
 use Rattle.sx_arena.specs.Arena.{tree_at, shape_tree, AreBelow, KidsBelow, cell_tree, IsCell, IsNewCell, cell_trees, IsPlace, IsRead}
 use Rattle.sx_arena.specs.Hashed.{is_node_of}
-use Rattle.sx_arena.specs.Slots.{cell_at, shape_at, IsFind}
+use Rattle.sx_arena.specs.Found.{cell_at, shape_at, IsFind}
 use Rattle.sx_arena.proofs.Growing.{extends-length, extends-at, grown_from-one, grown-length, fits-one, grown-at}
 
 and_both : (a b : Bool) → (a && b) ≡ true → (a ≡ true) × (b ≡ true)

@@ -4,7 +4,7 @@ pub mod Matchings
 pub mod Exact
 pub mod Filled
 pub mod Growing
-pub mod Linking
+pub mod Finding
 pub mod Arenas
 pub mod BindChains
 pub mod Patterns

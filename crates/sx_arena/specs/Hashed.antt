@@ -1,13 +1,10 @@
 -- Numbers of shapes, by which cells are found.
-use Rattle.std.specs.Prelude.{ℕ, ◌+◌, ◌*◌, ◌%◌, ◌^◌, ◌&&◌, Bool, false, List, [], ◌∷◌, nat_eq}
+use Rattle.std.specs.Prelude.{ℕ, ◌&&◌, Bool, false, List, [], ◌∷◌, nat_eq}
 use Rattle.std.specs.Prelude.{string_bytes}
 use Rattle.std.specs.Cmp.Lexicographic.{pointwise}
+use Rattle.sx_slots.specs.Mixed.{mixed_with}
 use Rattle.sx_arena.specs.declared.shape.Shape.{Shape}
 use Rattle.sx_arena.specs.declared.shape.Shape.TheVariants.{Node, Lex, Var}
-
--- one number of what was mixed before and one more
-unfoldable pub mixed_with : ℕ → ℕ → ℕ
-mixed_with before number = ((before * 11400714819323198485) % 2 ^ 64 + number) % 2 ^ 64
 
 -- one number of a first one and others
 abbrev pub mixed : ℕ → List ℕ → ℕ

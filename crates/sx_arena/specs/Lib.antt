@@ -4,7 +4,7 @@ pub mod Laws
 pub mod Views
 pub mod Grown
 pub mod Hashed
-pub mod Slots
+pub mod Found
 pub mod Arena
 pub mod Binds
 pub mod Places

@@ -1,115 +1,34 @@
 //! Cells of terms, each found by its shape.
 
-ghost use Rattle.std.specs.Prelude.{◌≡◌, ◌+◌, ◌<◌, ◌≤◌, [], ◌∷◌, ◌++◌, OnOk};
-ghost use Rattle.std.specs.Prelude.{length, take, min, get_or};
-ghost use Rattle.sx_arena.specs.Slots.{slot_of, AreLinked, IsFind};
+ghost use Rattle.std.specs.Prelude.{◌≡◌, ◌<◌, [], ◌∷◌, ◌++◌, OnOk};
+ghost use Rattle.std.specs.Prelude.{length, take, get_or};
+ghost use Rattle.sx_arena.specs.Found.{IsFind};
 ghost use Rattle.sx_arena.specs.Hashed.{mixed, hash_of, is_node_of};
 ghost use Rattle.sx_arena.specs.contracts.shape.ShapePartialEq.TheImpl.{eq-value as shape_eq};
 
 use crate::arena::Cell;
-use crate::shape::{Shape, is_node, mix};
+use crate::shape::{Shape, is_node};
 use std::alloc::{AllocError, Global};
 use std::marker::Model;
+use sx_slots::{Slots, folded};
 
-/// How many slots there are at first.
-const FIRST_SLOTS: usize = 64;
-
-/// What divides a hash so that its upper half is left.
-const HALF: u64 = 0x1_0000_0000;
-
-/// Cells in the order in which they were put. The hash of a cell names its slot. Of each slot the
-/// last cell in it is known, and of each cell its hash and the one before it in its slot: by the
-/// numbers of the cells plus one, and 0 where there is none.
+/// Cells in the order in which they were put, each found by the hash of its shape.
 #[derive(Drop)]
 pub struct Cells {
     cells: Vec<Cell>,
-    hashes: Vec<u64>,
-    links: Vec<usize>,
-    lasts: Vec<usize>,
+    slots: Slots,
 }
 
 impl Model for Cells {
-    ghost use Rattle.std.specs.Prelude.{List};
+    ghost use Rattle.std.specs.Prelude.{List, ◌≡◌};
     ghost use Rattle.sx_arena.specs.declared.arena.Cell.{Cell};
-    ghost use Rattle.sx_arena.specs.Slots.{IsTable};
+    ghost use Rattle.sx_arena.specs.Found.{hashes_of};
 
     ghost Value = { List Cell };
 
     ghost view = { λ c. c.cells.items };
 
-    ghost invariant = { λ c. IsTable c.cells.items c.hashes.items c.links.items c.lasts.items };
-}
-
-/// The slot of a hash, of so many.
-#[inline(always)]
-fn slot(hash: u64, slots: usize) -> usize
-    requires { 0 < slots }
-    ensures value { result ≡ slot_of slots hash }
-    ensures within { result < slots }
-{
-    (mix(hash, 0) / HALF) as usize & (slots - 1)
-}
-
-/// The cell with this number is put into its slot.
-#[inline(always)]
-fn link(hashes: &[u64], links: &mut [usize], lasts: &mut [usize], number: usize)
-    requires number { number < length hashes.now }
-    requires room { 0 < length lasts.old }
-    requires links { length links.old ≡ length hashes.now }
-    requires linked { AreLinked (length lasts.old) hashes.now links.old lasts.old number }
-    ensures linked { AreLinked (length lasts.old) hashes.now links.new lasts.new (number + 1) }
-    ensures links { length links.new ≡ length links.old }
-    ensures lasts { length lasts.new ≡ length lasts.old }
-{
-    let slot = slot(hashes[number], lasts.len());
-    links[number] = lasts[slot];
-    lasts[slot] = number + 1;
-}
-
-/// All cells are put into more slots.
-#[cold]
-#[inline(never)]
-fn grow(
-    alloc: Global,
-    hashes: &[u64],
-    links: &mut [usize],
-    lasts: &mut Vec<usize>,
-) -> Result<(), AllocError>
-    requires links { length links.old ≡ length hashes.now }
-    requires full { length lasts.old.items ≡ length hashes.now }
-    requires linked { AreLinked (length lasts.old.items) hashes.now links.old lasts.old.items
-        (length hashes.now) }
-    ensures linked { AreLinked (length lasts.new.items) hashes.now links.new lasts.new.items
-        (length hashes.now) }
-    ensures links { length links.new ≡ length links.old }
-    ensures grows { length lasts.old.items ≤ length lasts.new.items }
-    ensures room { OnOk result (length hashes.now < length lasts.new.items) }
-{
-    let slots = (lasts.len() * 2).max(FIRST_SLOTS);
-    let mut wider = Vec::from_elem(alloc, 0, slots)?;
-    for number in 0..hashes.len() {
-        link(hashes, links, wider.as_mut_slice(), number);
-    }
-    *lasts = wider;
-    Ok(())
-}
-
-/// The cells past the first so many are taken out of their slots.
-fn unlink(hashes: &[u64], links: &[usize], lasts: &mut [usize], many: usize)
-    requires room { length hashes.now ≤ length lasts.old }
-    requires links { length links.now ≡ length hashes.now }
-    requires linked { AreLinked (length lasts.old) hashes.now links.now lasts.old
-        (length hashes.now) }
-    ensures linked { AreLinked (length lasts.old) hashes.now links.now lasts.new
-        (min many (length hashes.now)) }
-    ensures lasts { length lasts.new ≡ length lasts.old }
-{
-    let mut number = hashes.len();
-    while number > many {
-        number -= 1;
-        let slot = slot(hashes[number], lasts.len());
-        lasts[slot] = links[number];
-    }
+    ghost invariant = { λ c. c.slots ≡ hashes_of c.cells.items };
 }
 
 impl Cells {
@@ -119,9 +38,7 @@ impl Cells {
     {
         Cells {
             cells: Vec::new(alloc),
-            hashes: Vec::new(alloc),
-            links: Vec::new(alloc),
-            lasts: Vec::new(alloc),
+            slots: Slots::new(alloc),
         }
     }
 
@@ -146,15 +63,12 @@ impl Cells {
         requires hash { hash ≡ hash_of shape.now }
         ensures { IsFind (shape_eq.it shape.now) self.now result }
     {
-        if self.lasts.is_empty() {
-            return None;
-        }
-        let mut here = self.lasts[slot(hash, self.lasts.len())];
-        while here > 0 {
-            if *shape == self.cells[here - 1].shape {
-                return Some(here - 1);
+        let mut here = self.slots.last(folded(hash));
+        while let Some(number) = here {
+            if *shape == self.cells[number].shape {
+                return Some(number);
             }
-            here = self.links[here - 1];
+            here = self.slots.before(number);
         }
         None
     }
@@ -166,15 +80,12 @@ impl Cells {
         requires hash { hash ≡ mixed label kids.now }
         ensures { IsFind (is_node_of label kids.now) self.now result }
     {
-        if self.lasts.is_empty() {
-            return None;
-        }
-        let mut here = self.lasts[slot(hash, self.lasts.len())];
-        while here > 0 {
-            if self.hashes[here - 1] == hash && is_node(&self.cells[here - 1].shape, label, kids) {
-                return Some(here - 1);
+        let mut here = self.slots.last(folded(hash));
+        while let Some(number) = here {
+            if is_node(&self.cells[number].shape, label, kids) {
+                return Some(number);
             }
-            here = self.links[here - 1];
+            here = self.slots.before(number);
         }
         None
     }
@@ -185,28 +96,9 @@ impl Cells {
         requires hash { hash ≡ hash_of cell.shape }
         ensures { OnOk result (self.new ≡ self.old ++ cell ∷ []) }
     {
-        let number = self.hashes.len();
-        if number == self.lasts.len() {
-            let alloc = *self.cells.allocator();
-            grow(
-                alloc,
-                self.hashes.as_slice(),
-                self.links.as_mut_slice(),
-                &mut self.lasts,
-            )?;
-        }
-        self.links.reserve(1)?;
-        self.hashes.reserve(1)?;
         self.cells.reserve(1)?;
-        self.hashes.push_reserved(hash);
-        self.links.push_reserved(0);
+        self.slots.push(folded(hash))?;
         self.cells.push_reserved(cell);
-        link(
-            self.hashes.as_slice(),
-            self.links.as_mut_slice(),
-            self.lasts.as_mut_slice(),
-            number,
-        );
         Ok(())
     }
 
@@ -214,14 +106,7 @@ impl Cells {
     pub(crate) fn truncate(&mut self, many: usize)
         ensures { self.new ≡ take many self.old }
     {
-        unlink(
-            self.hashes.as_slice(),
-            self.links.as_slice(),
-            self.lasts.as_mut_slice(),
-            many,
-        );
+        self.slots.truncate(many);
         self.cells.truncate(many);
-        self.hashes.truncate(many);
-        self.links.truncate(many);
     }
 }

@@ -1,9 +1,10 @@
 //! Shapes of terms: a term's outermost part, and its kids by their numbers.
 
 ghost use Rattle.std.specs.Prelude.{◌≡◌};
-ghost use Rattle.sx_arena.specs.Hashed.{mixed_with, mixed, hash_of, is_node_of};
+ghost use Rattle.sx_arena.specs.Hashed.{mixed, hash_of, is_node_of};
 
 use smallvec::SmallVec;
+use sx_slots::mix;
 use sx_term::LexKind;
 
 /// The numbers of a node's kids, of which a few stand in the cell itself.
@@ -17,18 +18,6 @@ pub enum Shape {
     Var(u32),
 }
 
-/// A factor that spreads what it multiplies over all bits.
-const SPREAD: u64 = 0x9e37_79b9_7f4a_7c15;
-
-/// One number of what was mixed before and one more.
-#[inline(always)]
-#[tactic(auto, unfolding(crate::specs::Hashed::mixed_with))]
-pub(crate) fn mix(before: u64, number: usize) -> u64
-    ensures { result ≡ mixed_with before number }
-{
-    before.wrapping_mul(SPREAD).wrapping_add(number as u64)
-}
-
 /// One number of a node's label and the numbers of its kids.
 #[inline(always)]
 pub(crate) fn node_hash(label: u32, kids: &[usize]) -> u64
@@ -36,7 +25,7 @@ pub(crate) fn node_hash(label: u32, kids: &[usize]) -> u64
 {
     let mut sum = label as u64;
     for kid in kids {
-        sum = mix(sum, *kid);
+        sum = mix(sum, *kid as u64);
     }
     sum
 }
@@ -47,7 +36,7 @@ fn text_hash(text: &[u8]) -> u64
 {
     let mut sum: u64 = 0;
     for byte in text {
-        sum = mix(sum, *byte as usize);
+        sum = mix(sum, *byte as u64);
     }
     sum
 }

@@ -1,6 +1,7 @@
 pub mod Filing
 pub mod Pairs
 pub mod Same
+pub mod ItemSets
 pub mod Growth
 pub mod Asking
 pub mod Predicting

@@ -70,14 +70,14 @@ module _ {X : Type 0} where
   among_push y x (z ∷ zs) (inl e) = inl (inl e)
   among_push y x (z ∷ zs) (inr h) = ⊎_elim (λ was. inl (inr was)) (λ e. inr e) (among_push y x zs h)
 
-  once_push : (xs : List X) (x : X) → EachOnce xs → (Among x xs → ⊥) → EachOnce (xs ++ x ∷ [])
+  pub once_push : (xs : List X) (x : X) → EachOnce xs → (Among x xs → ⊥) → EachOnce (xs ++ x ∷ [])
   once_push [] x once new = ((λ h. h), tt)
   once_push (y ∷ ys) x once new = (
     (λ h. ⊎_elim once.0 (λ e. new (inl (sym e))) (among_push y x ys h)),
     once_push ys x once.1 (λ h. new (inr h)),
   )
 
-  among_there : (x : X) (xs : List X) → Among x xs → Contains xs x
+  pub among_there : (x : X) (xs : List X) → Among x xs → Contains xs x
   among_there x [] h = absurd h
   among_there x (y ∷ ys) (inl e) = (0, omega arith, sym e)
   among_there x (y ∷ ys) (inr h) = let k = among_there x ys h in (suc k.0, omega (arith, k.1), k.2)

@@ -1,4 +1,5 @@
 pub mod Table
+pub mod ItemSet
 pub mod Shown
 pub mod Growth
 pub mod Chart

@@ -14,21 +14,13 @@ use crate::chart_error::ChartError;
 use crate::filed::{befores, file_complete, file_waiting, fillings};
 use crate::given::Given;
 use crate::growing::{predict_once, treat};
+use crate::item_set::ItemSet;
 use crate::neighbours::Neighbours;
 use crate::notes::Notes;
 use crate::shown::Shown;
 use crate::table::Table;
-use indexmap::IndexSet;
 use std::alloc::Global;
 use sx_grammar::{Grammar, Item};
-
-/// The item at a place.
-#[inline(always)]
-pub(crate) fn item_at(found: &IndexSet<Item>, place: usize) -> Option<Item>
-    ensures { result ≡ slice_get found.now.keys place }
-{
-    found.get_index(place).copied()
-}
 
 /// Adds all items that hold to none, or finds that they are too many.
 fn collect(
@@ -37,7 +29,7 @@ fn collect(
     start: u32,
     shown: &[Shown],
     notes: &mut Notes,
-    found: &mut IndexSet<Item>,
+    found: &mut ItemSet,
 ) -> Result<(), ChartError>
     requires short { length shown.now ≤ 10000 }
     requires below { AreBelow (length (texts grammar.now)) shown.now }
@@ -45,8 +37,8 @@ fn collect(
     requires asked { notes.old.asked.keys ≡ [] }
     requires waiting { (s : Slot) → row_at notes.old.waiting s ≡ [] }
     requires complete { (s : Slot) → row_at notes.old.complete s ≡ [] }
-    requires none { found.old.keys ≡ [] }
-    ensures all { OnOk result ((i : Item) → Contains found.new.keys i
+    requires none { found.old ≡ [] }
+    ensures all { OnOk result ((i : Item) → Contains found.new i
         ↔ Holds (plain grammar.now) (tokens_of grammar.now shown.now) start i) }
     ensures few { OnOk result (MoreHold (plain grammar.now)
         (tokens_of grammar.now shown.now) start 2000000 → ⊥) }
@@ -63,7 +55,7 @@ fn collect(
         return Err(error);
     }
     let mut next = 0;
-    while let Some(item) = item_at(found, next) {
+    while let Some(item) = found.get(next) {
         file_waiting(alloc, grammar, &mut notes.waiting, item, next as u32)?;
         file_complete(alloc, grammar, &mut notes.complete, item, next as u32)?;
         let before = befores(grammar, &notes.waiting, item);
@@ -93,19 +85,19 @@ pub(crate) fn all_items(
     openings: &Table<Item>,
     start: u32,
     shown: &[Shown],
-) -> Result<IndexSet<Item>, ChartError>
+) -> Result<ItemSet, ChartError>
     requires short { length shown.now ≤ 10000 }
     requires below { AreBelow (length (texts grammar.now)) shown.now }
     requires openings { HasAllOpenings (plain grammar.now) openings.now }
     ensures all { IfOk result (λ s. (i : Item) →
-        Contains s.keys i ↔ Holds (plain grammar.now) (tokens_of grammar.now shown.now) start i) }
+        Contains s i ↔ Holds (plain grammar.now) (tokens_of grammar.now shown.now) start i) }
     ensures few { IfOk result (λ s. MoreHold (plain grammar.now)
         (tokens_of grammar.now shown.now) start 2000000 → ⊥) }
     ensures hard { result ≡ Err ChartError.TooHard →
         MoreHold (plain grammar.now) (tokens_of grammar.now shown.now) start 2000000 }
 {
     let mut notes = Notes::new(alloc, openings, shown.len() + 1)?;
-    let mut found = IndexSet::new(alloc);
+    let mut found = ItemSet::new(alloc);
     let collected = collect(alloc, grammar, start, shown, &mut notes, &mut found);
     drop(notes);
     match collected {

@@ -15,6 +15,7 @@ use crate::ask::Ask;
 use crate::chart_error::ChartError;
 use crate::given::Given;
 use crate::hints::Hints;
+use crate::item_set::ItemSet;
 use crate::neighbours::Neighbours;
 use crate::shown::Shown;
 use crate::slot::Slot;
@@ -28,14 +29,14 @@ use sx_grammar::{Grammar, Head, Item};
 const MOST_ITEMS: usize = 2_000_000;
 
 /// Adds the item, if it is not there.
-fn add(found: &mut IndexSet<Item>, item: Item) -> Result<(), ChartError>
-    ensures added { OnOk result (Contains found.new.keys item) }
-    ensures extends { Extends found.old.keys found.new.keys }
-    ensures only { Only found.old.keys found.new.keys (λ i. i ≡ item) }
-    ensures few { OnOk result (length found.new.keys ≤ 2000000) }
-    ensures hard { result ≡ Err ChartError.TooHard → 2000000 < length found.new.keys }
+fn add(found: &mut ItemSet, item: Item) -> Result<(), ChartError>
+    ensures added { OnOk result (Contains found.new item) }
+    ensures extends { Extends found.old found.new }
+    ensures only { Only found.old found.new (λ i. i ≡ item) }
+    ensures few { OnOk result (length found.new ≤ 2000000) }
+    ensures hard { result ≡ Err ChartError.TooHard → 2000000 < length found.new }
 {
-    match found.insert(item) {
+    match found.add(item) {
         Ok(_) => {
             if found.len() > MOST_ITEMS {
                 Err(ChartError::TooHard)
@@ -49,8 +50,8 @@ fn add(found: &mut IndexSet<Item>, item: Item) -> Result<(), ChartError>
 
 /// Whether hints tell that the dot of the first item was moved over the second.
 #[inline(always)]
-fn is_known(found: &IndexSet<Item>, hints: &Hints, before: Item, filling: Item) -> bool
-    ensures { IsTrue result → Contains found.now.keys (moved before filling.end) }
+fn is_known(found: &ItemSet, hints: &Hints, before: Item, filling: Item) -> bool
+    ensures { IsTrue result → Contains found.now (moved before filling.end) }
 {
     before.dot < usize::MAX
         && hints.is_right(
@@ -65,13 +66,13 @@ fn is_known(found: &IndexSet<Item>, hints: &Hints, before: Item, filling: Item) 
 }
 
 /// Adds the item, if it is not there, and notes its place.
-fn add_noted(found: &mut IndexSet<Item>, hints: &mut Hints, item: Item) -> Result<(), ChartError>
-    requires { length found.old.keys ≤ 2000000 }
-    ensures added { OnOk result (Contains found.new.keys item) }
-    ensures extends { Extends found.old.keys found.new.keys }
-    ensures only { Only found.old.keys found.new.keys (λ i. i ≡ item) }
-    ensures few { OnOk result (length found.new.keys ≤ 2000000) }
-    ensures hard { result ≡ Err ChartError.TooHard → 2000000 < length found.new.keys }
+fn add_noted(found: &mut ItemSet, hints: &mut Hints, item: Item) -> Result<(), ChartError>
+    requires { length found.old ≤ 2000000 }
+    ensures added { OnOk result (Contains found.new item) }
+    ensures extends { Extends found.old found.new }
+    ensures only { Only found.old found.new (λ i. i ≡ item) }
+    ensures few { OnOk result (length found.new ≤ 2000000) }
+    ensures hard { result ≡ Err ChartError.TooHard → 2000000 < length found.new }
 {
     let place = found.len();
     add(found, item)?;
@@ -84,19 +85,19 @@ fn add_noted(found: &mut IndexSet<Item>, hints: &mut Hints, item: Item) -> Resul
 /// Predicts the head's production at the place, if it is of the sort and at least of the level.
 fn predict_head(
     grammar: &Grammar,
-    found: &mut IndexSet<Item>,
+    found: &mut ItemSet,
     head: Head,
     ask: Ask,
 ) -> Result<(), ChartError>
-    requires { length found.old.keys ≤ 2000000 }
-    ensures extends { Extends found.old.keys found.new.keys }
-    ensures only { Only found.old.keys found.new.keys
+    requires { length found.old ≤ 2000000 }
+    ensures extends { Extends found.old found.new }
+    ensures only { Only found.old found.new
         (IsPredicted (plain grammar.now) ask.sort ask.least ask.place) }
     ensures every { OnOk result
         (IsOfSort (production_of (plain grammar.now) head) ask.sort ask.least →
-        Contains found.new.keys (beginning head ask.place)) }
-    ensures few { OnOk result (length found.new.keys ≤ 2000000) }
-    ensures hard { result ≡ Err ChartError.TooHard → 2000000 < length found.new.keys }
+        Contains found.new (beginning head ask.place)) }
+    ensures few { OnOk result (length found.new ≤ 2000000) }
+    ensures hard { result ≡ Err ChartError.TooHard → 2000000 < length found.new }
 {
     if makes(grammar, head, ask.sort, ask.least) {
         add(
@@ -117,19 +118,19 @@ fn predict_head(
 fn predict(
     grammar: &Grammar,
     openings: &[Item],
-    found: &mut IndexSet<Item>,
+    found: &mut ItemSet,
     ask: Ask,
 ) -> Result<(), ChartError>
-    requires few { length found.old.keys ≤ 2000000 }
+    requires few { length found.old ≤ 2000000 }
     requires openings { HasOpenings (plain grammar.now) ask.sort openings.now }
-    ensures extends { Extends found.old.keys found.new.keys }
-    ensures only { Only found.old.keys found.new.keys
+    ensures extends { Extends found.old found.new }
+    ensures only { Only found.old found.new
         (IsPredicted (plain grammar.now) ask.sort ask.least ask.place) }
     ensures every { OnOk result ((head : Head) →
         IsOfSort (production_of (plain grammar.now) head) ask.sort ask.least →
-        Contains found.new.keys (beginning head ask.place)) }
-    ensures few { OnOk result (length found.new.keys ≤ 2000000) }
-    ensures hard { result ≡ Err ChartError.TooHard → 2000000 < length found.new.keys }
+        Contains found.new (beginning head ask.place)) }
+    ensures few { OnOk result (length found.new ≤ 2000000) }
+    ensures hard { result ≡ Err ChartError.TooHard → 2000000 < length found.new }
 {
     for opening in openings {
         predict_head(grammar, found, opening.head, ask)?;
@@ -141,22 +142,22 @@ fn predict(
 pub(crate) fn predict_once(
     grammar: &Grammar,
     openings: &Table<Item>,
-    found: &mut IndexSet<Item>,
+    found: &mut ItemSet,
     asked: &mut IndexSet<Ask>,
     ask: Ask,
 ) -> Result<(), ChartError>
-    requires few { length found.old.keys ≤ 2000000 }
+    requires few { length found.old ≤ 2000000 }
     requires openings { HasAllOpenings (plain grammar.now) openings.now }
-    requires asked { AllAsked (plain grammar.now) asked.old.keys found.old.keys }
-    ensures extends { Extends found.old.keys found.new.keys }
-    ensures only { Only found.old.keys found.new.keys
+    requires asked { AllAsked (plain grammar.now) asked.old.keys found.old }
+    ensures extends { Extends found.old found.new }
+    ensures only { Only found.old found.new
         (IsPredicted (plain grammar.now) ask.sort ask.least ask.place) }
     ensures every { OnOk result ((head : Head) →
         IsOfSort (production_of (plain grammar.now) head) ask.sort ask.least →
-        Contains found.new.keys (beginning head ask.place)) }
-    ensures few { OnOk result (length found.new.keys ≤ 2000000) }
-    ensures hard { result ≡ Err ChartError.TooHard → 2000000 < length found.new.keys }
-    ensures asked { OnOk result (AllAsked (plain grammar.now) asked.new.keys found.new.keys) }
+        Contains found.new (beginning head ask.place)) }
+    ensures few { OnOk result (length found.new ≤ 2000000) }
+    ensures hard { result ≡ Err ChartError.TooHard → 2000000 < length found.new }
+    ensures asked { OnOk result (AllAsked (plain grammar.now) asked.new.keys found.new) }
 {
     if asked.contains(&ask) {
         return Ok(());
@@ -174,22 +175,22 @@ pub(crate) fn predict_once(
 fn predict_next(
     grammar: &Grammar,
     openings: &Table<Item>,
-    found: &mut IndexSet<Item>,
+    found: &mut ItemSet,
     asked: &mut IndexSet<Ask>,
     item: Item,
 ) -> Result<(), ChartError>
-    requires few { length found.old.keys ≤ 2000000 }
+    requires few { length found.old ≤ 2000000 }
     requires openings { HasAllOpenings (plain grammar.now) openings.now }
-    requires asked { AllAsked (plain grammar.now) asked.old.keys found.old.keys }
-    ensures extends { Extends found.old.keys found.new.keys }
-    ensures only { Only found.old.keys found.new.keys (Foresees (plain grammar.now) item) }
+    requires asked { AllAsked (plain grammar.now) asked.old.keys found.old }
+    ensures extends { Extends found.old found.new }
+    ensures only { Only found.old found.new (Foresees (plain grammar.now) item) }
     ensures every { OnOk result ((sort least : ℕ) (head : Head) →
         as_part (next_symbol (plain grammar.now) item.head item.dot) ≡ Some (sort, least) →
         IsOfSort (production_of (plain grammar.now) head) sort least →
-        Contains found.new.keys (beginning head item.end)) }
-    ensures few { OnOk result (length found.new.keys ≤ 2000000) }
-    ensures hard { result ≡ Err ChartError.TooHard → 2000000 < length found.new.keys }
-    ensures asked { OnOk result (AllAsked (plain grammar.now) asked.new.keys found.new.keys) }
+        Contains found.new (beginning head item.end)) }
+    ensures few { OnOk result (length found.new ≤ 2000000) }
+    ensures hard { result ≡ Err ChartError.TooHard → 2000000 < length found.new }
+    ensures asked { OnOk result (AllAsked (plain grammar.now) asked.new.keys found.new) }
 {
     match next_part(grammar, item.head, item.dot) {
         None => Ok(()),
@@ -210,19 +211,19 @@ fn predict_next(
 /// Moves the dot of the first item over the second, if it waits for it.
 fn join(
     grammar: &Grammar,
-    found: &mut IndexSet<Item>,
+    found: &mut ItemSet,
     hints: &mut Hints,
     before: Item,
     filling: Item,
 ) -> Result<(), ChartError>
-    requires { length found.old.keys ≤ 2000000 }
-    ensures extends { Extends found.old.keys found.new.keys }
-    ensures only { Only found.old.keys found.new.keys
+    requires { length found.old ≤ 2000000 }
+    ensures extends { Extends found.old found.new }
+    ensures only { Only found.old found.new
         (λ i. Joins (plain grammar.now) before filling × (i ≡ moved before filling.end)) }
     ensures every { OnOk result (Joins (plain grammar.now) before filling →
-        Contains found.new.keys (moved before filling.end)) }
-    ensures few { OnOk result (length found.new.keys ≤ 2000000) }
-    ensures hard { result ≡ Err ChartError.TooHard → 2000000 < length found.new.keys }
+        Contains found.new (moved before filling.end)) }
+    ensures few { OnOk result (length found.new ≤ 2000000) }
+    ensures hard { result ≡ Err ChartError.TooHard → 2000000 < length found.new }
 {
     match next_part(grammar, before.head, before.dot) {
         None => Ok(()),
@@ -251,22 +252,22 @@ fn join(
 /// Moves the dot of each of the items with the numbers over the other, if it waits for it.
 fn join_each(
     grammar: &Grammar,
-    found: &mut IndexSet<Item>,
+    found: &mut ItemSet,
     hints: &mut Hints,
     befores: &[u32],
     filling: Item,
 ) -> Result<(), ChartError>
-    requires few { length found.old.keys ≤ 2000000 }
-    requires within { (n : ℕ) → Contains befores.now n → n < length found.old.keys }
-    ensures extends { Extends found.old.keys found.new.keys }
-    ensures only { Only found.old.keys found.new.keys
-        (IsJoined (plain grammar.now) (IsNumbered found.old.keys befores.now)
+    requires few { length found.old ≤ 2000000 }
+    requires within { (n : ℕ) → Contains befores.now n → n < length found.old }
+    ensures extends { Extends found.old found.new }
+    ensures only { Only found.old found.new
+        (IsJoined (plain grammar.now) (IsNumbered found.old befores.now)
         (λ x. x ≡ filling)) }
-    ensures every { OnOk result ((before : Item) → IsNumbered found.old.keys befores.now before →
+    ensures every { OnOk result ((before : Item) → IsNumbered found.old befores.now before →
         Joins (plain grammar.now) before filling →
-        Contains found.new.keys (moved before filling.end)) }
-    ensures few { OnOk result (length found.new.keys ≤ 2000000) }
-    ensures hard { result ≡ Err ChartError.TooHard → 2000000 < length found.new.keys }
+        Contains found.new (moved before filling.end)) }
+    ensures few { OnOk result (length found.new ≤ 2000000) }
+    ensures hard { result ≡ Err ChartError.TooHard → 2000000 < length found.new }
 {
     for number in befores {
         let before = item_within(found, *number as usize);
@@ -281,22 +282,22 @@ fn join_each(
 /// Moves the dot of the item over each of those with the numbers, if it waits for it.
 fn join_over(
     grammar: &Grammar,
-    found: &mut IndexSet<Item>,
+    found: &mut ItemSet,
     hints: &mut Hints,
     before: Item,
     fillings: &[u32],
 ) -> Result<(), ChartError>
-    requires few { length found.old.keys ≤ 2000000 }
-    requires within { (n : ℕ) → Contains fillings.now n → n < length found.old.keys }
-    ensures extends { Extends found.old.keys found.new.keys }
-    ensures only { Only found.old.keys found.new.keys
+    requires few { length found.old ≤ 2000000 }
+    requires within { (n : ℕ) → Contains fillings.now n → n < length found.old }
+    ensures extends { Extends found.old found.new }
+    ensures only { Only found.old found.new
         (IsJoined (plain grammar.now) (λ x. x ≡ before)
-        (IsNumbered found.old.keys fillings.now)) }
-    ensures every { OnOk result ((filling : Item) → IsNumbered found.old.keys fillings.now filling →
+        (IsNumbered found.old fillings.now)) }
+    ensures every { OnOk result ((filling : Item) → IsNumbered found.old fillings.now filling →
         Joins (plain grammar.now) before filling →
-        Contains found.new.keys (moved before filling.end)) }
-    ensures few { OnOk result (length found.new.keys ≤ 2000000) }
-    ensures hard { result ≡ Err ChartError.TooHard → 2000000 < length found.new.keys }
+        Contains found.new (moved before filling.end)) }
+    ensures few { OnOk result (length found.new ≤ 2000000) }
+    ensures hard { result ≡ Err ChartError.TooHard → 2000000 < length found.new }
 {
     for number in fillings {
         let filling = item_within(found, *number as usize);
@@ -312,22 +313,22 @@ fn join_over(
 fn scan(
     grammar: &Grammar,
     shown: &[Shown],
-    found: &mut IndexSet<Item>,
+    found: &mut ItemSet,
     item: Item,
 ) -> Result<(), ChartError>
-    requires few { length found.old.keys ≤ 2000000 }
+    requires few { length found.old ≤ 2000000 }
     requires short { length shown.now ≤ 10000 }
     requires below { AreBelow (length (texts grammar.now)) shown.now }
-    ensures extends { Extends found.old.keys found.new.keys }
-    ensures only { Only found.old.keys found.new.keys
+    ensures extends { Extends found.old found.new }
+    ensures only { Only found.old found.new
         (λ i. ReadsNext (tokens_of grammar.now shown.now)
         (next_symbol (plain grammar.now) item.head item.dot) item.end ×
         (i ≡ moved item (item.end + 1))) }
     ensures every { OnOk result (ReadsNext (tokens_of grammar.now shown.now)
         (next_symbol (plain grammar.now) item.head item.dot) item.end →
-        Contains found.new.keys (moved item (item.end + 1))) }
-    ensures few { OnOk result (length found.new.keys ≤ 2000000) }
-    ensures hard { result ≡ Err ChartError.TooHard → 2000000 < length found.new.keys }
+        Contains found.new (moved item (item.end + 1))) }
+    ensures few { OnOk result (length found.new ≤ 2000000) }
+    ensures hard { result ≡ Err ChartError.TooHard → 2000000 < length found.new }
 {
     if reads_next(grammar, item.head, item.dot, shown, item.end) {
         add(
@@ -347,33 +348,33 @@ fn scan(
 /// Adds all that follows from the item, where these are the numbers of the items that it may meet.
 pub(crate) fn treat(
     given: Given,
-    found: &mut IndexSet<Item>,
+    found: &mut ItemSet,
     hints: &mut Hints,
     asked: &mut IndexSet<Ask>,
     near: Neighbours,
     item: Item,
 ) -> Result<(), ChartError>
-    requires few { length found.old.keys ≤ 2000000 }
+    requires few { length found.old ≤ 2000000 }
     requires short { length given.shown.now ≤ 10000 }
     requires below { AreBelow (length (texts given.grammar.now)) given.shown.now }
     requires openings { HasAllOpenings (plain given.grammar.now) given.openings.now }
-    requires asked { AllAsked (plain given.grammar.now) asked.old.keys found.old.keys }
-    requires befores { (n : ℕ) → Contains near.befores.now n → n < length found.old.keys }
-    requires fillings { (n : ℕ) → Contains near.fillings.now n → n < length found.old.keys }
-    ensures extends { Extends found.old.keys found.new.keys }
-    ensures only { Only found.old.keys found.new.keys
+    requires asked { AllAsked (plain given.grammar.now) asked.old.keys found.old }
+    requires befores { (n : ℕ) → Contains near.befores.now n → n < length found.old }
+    requires fillings { (n : ℕ) → Contains near.fillings.now n → n < length found.old }
+    ensures extends { Extends found.old found.new }
+    ensures only { Only found.old found.new
         (Follows (plain given.entry.grammar.now)
         (tokens_of given.entry.grammar.now given.entry.shown.now)
-        (IsNumbered found.old.keys near.entry.befores.now)
-        (IsNumbered found.old.keys near.entry.fillings.now) item) }
+        (IsNumbered found.old near.entry.befores.now)
+        (IsNumbered found.old near.entry.fillings.now) item) }
     ensures every { OnOk result (AllFollow (plain given.entry.grammar.now)
         (tokens_of given.entry.grammar.now given.entry.shown.now)
-        (IsNumbered found.old.keys near.entry.befores.now)
-        (IsNumbered found.old.keys near.entry.fillings.now) item found.new.keys) }
-    ensures few { OnOk result (length found.new.keys ≤ 2000000) }
-    ensures hard { result ≡ Err ChartError.TooHard → 2000000 < length found.new.keys }
+        (IsNumbered found.old near.entry.befores.now)
+        (IsNumbered found.old near.entry.fillings.now) item found.new) }
+    ensures few { OnOk result (length found.new ≤ 2000000) }
+    ensures hard { result ≡ Err ChartError.TooHard → 2000000 < length found.new }
     ensures asked { OnOk result
-        (AllAsked (plain given.entry.grammar.now) asked.new.keys found.new.keys) }
+        (AllAsked (plain given.entry.grammar.now) asked.new.keys found.new) }
 {
     predict_next(given.grammar, given.openings, found, asked, item)?;
     scan(given.grammar, given.shown, found, item)?;

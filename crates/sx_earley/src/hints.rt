@@ -2,8 +2,7 @@
 
 ghost use Rattle.std.specs.Prelude.{◌≡◌, ◌≤◌, ◌<◌, ◌^◌, IsTrue, Contains};
 
-use crate::all_items::item_at;
-use indexmap::IndexSet;
+use crate::item_set::{ItemSet, is_same};
 use std::alloc::{AllocError, Global};
 use sx_grammar::{Head, Item};
 
@@ -29,35 +28,12 @@ fn slot_of(item: Item) -> usize {
     item.origin as usize * 16 + item.dot % 4 * 4 + (number_in(item.head) % 4) as usize
 }
 
-/// Whether the heads are the same.
-#[inline(always)]
-fn is_same_head(one: Head, other: Head) -> bool
-    ensures { IsTrue result → one ≡ other }
-{
-    match (one, other) {
-        (Head::Labelled(a), Head::Labelled(b)) => a == b,
-        (Head::Bracketed(a), Head::Bracketed(b)) => a == b,
-        _ => false,
-    }
-}
-
-/// Whether the items are the same.
-#[inline(always)]
-fn is_same(one: Item, other: Item) -> bool
-    ensures { IsTrue result → one ≡ other }
-{
-    one.origin == other.origin
-        && one.end == other.end
-        && one.dot == other.dot
-        && is_same_head(one.head, other.head)
-}
-
 /// Whether the item is found at the place.
 #[inline(always)]
-fn is_at(found: &IndexSet<Item>, place: usize, item: Item) -> bool
-    ensures { IsTrue result → Contains found.now.keys item }
+fn is_at(found: &ItemSet, place: usize, item: Item) -> bool
+    ensures { IsTrue result → Contains found.now item }
 {
-    match item_at(found, place) {
+    match found.get(place) {
         None => false,
         Some(other) => is_same(other, item),
     }
@@ -75,8 +51,8 @@ impl Hints {
 
     /// Whether the item is found where it is said to be.
     #[inline(always)]
-    pub(crate) fn is_right(&self, found: &IndexSet<Item>, item: Item) -> bool
-        ensures { IsTrue result → Contains found.now.keys item }
+    pub(crate) fn is_right(&self, found: &ItemSet, item: Item) -> bool
+        ensures { IsTrue result → Contains found.now item }
     {
         match self.places.get(slot_of(item)) {
             None => false,

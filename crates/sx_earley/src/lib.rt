@@ -10,6 +10,7 @@ mod filed;
 mod given;
 mod growing;
 mod hints;
+mod item_set;
 mod metas;
 mod neighbours;
 mod notes;

@@ -4,20 +4,20 @@ ghost use Rattle.std.specs.Prelude.{◌≡◌, ◌<◌, OnOk, IfOk, Some, length
 ghost use Rattle.sx_earley.specs.Shown.{plain};
 ghost use Rattle.sx_earley.specs.Completed.{span_of, AreSpans, Adds, IsReach};
 
+use crate::item_set::ItemSet;
 use crate::span::{Span, SpanOf};
 use crate::symbols::ends_at;
-use indexmap::IndexSet;
 use std::alloc::{AllocError, Global};
 use sx_grammar::{Grammar, Head, Item};
 
 /// The item at a place of the set.
 #[inline(always)]
-pub(crate) fn item_within(found: &IndexSet<Item>, place: usize) -> Item
-    requires { place < length found.now.keys }
-    ensures { slice_get found.now.keys place ≡ Some result }
+pub(crate) fn item_within(found: &ItemSet, place: usize) -> Item
+    requires { place < length found.now }
+    ensures { slice_get found.now place ≡ Some result }
 {
-    match found.get_index(place) {
-        Some(item) => *item,
+    match found.get(place) {
+        Some(item) => item,
         None => unreachable!(),
     }
 }
@@ -51,9 +51,9 @@ fn add_span(grammar: &Grammar, spans: &mut Vec<Span>, item: Item) -> Result<(), 
 pub(crate) fn complete_spans(
     alloc: Global,
     grammar: &Grammar,
-    found: &IndexSet<Item>,
+    found: &ItemSet,
 ) -> Result<Vec<Span>, AllocError>
-    ensures { IfOk result (λ v. AreSpans (plain grammar.now) found.now.keys v.items) }
+    ensures { IfOk result (λ v. AreSpans (plain grammar.now) found.now v.items) }
 {
     let mut spans = Vec::new(alloc);
     let count = found.len();
@@ -72,8 +72,8 @@ fn greater(a: u32, b: u32) -> u32
 }
 
 /// The greatest end of any item, or 0.
-pub(crate) fn reach(found: &IndexSet<Item>) -> u32
-    ensures { IsReach found.now.keys result }
+pub(crate) fn reach(found: &ItemSet) -> u32
+    ensures { IsReach found.now result }
 {
     let mut most: u32 = 0;
     for place in 0..found.len() {

@@ -14,17 +14,17 @@ use Rattle.sx_earley.proofs.Closing.{treated_none, starts_hold, ended, closed_ha
 use Rattle.sx_earley.proofs.all_items.collect.Goals as goal
 
 pub predict_once-requires-clause-asked : goal.predict_once-requires-clause-asked
-predict_once-requires-clause-asked c = asked_none (plain c.args.grammar.now) c.args.notes.now.asked.keys c.args.found.now.keys c.requires.asked
+predict_once-requires-clause-asked c = asked_none (plain c.args.grammar.now) c.args.notes.now.asked.keys c.args.found.now c.requires.asked
 
 pub loop-item-init : goal.loop-item-init
 loop-item-init c =
     let g = plain c.args.grammar.now in let ts = tokens_of c.args.grammar.now c.args.shown.now in
-    let keys = c.predict_once.new.found.keys in
+    let keys = c.predict_once.new.found in
     record {
       openings = c.requires.openings;
       few = c.in_default.ensures.few;
       within = omega arith;
-      sound = starts_hold g ts c.args.start c.args.found.now.keys keys c.requires.none c.predict_once.ensures.only;
+      sound = starts_hold g ts c.args.start c.args.found.now keys c.requires.none c.predict_once.ensures.only;
       starts = λ head fits. c.in_default.ensures.every head fits;
       closed = treated_none g ts c.args.start (take 0 keys) keys (empty_front keys);
       asked = c.in_default.ensures.asked;
@@ -37,7 +37,7 @@ loop-item-init c =
 pub loop-item-preserved : goal.loop-item-preserved
 loop-item-preserved c =
     let g = plain c.args.grammar.now in let ts = tokens_of c.args.grammar.now c.args.shown.now in
-    let old = c.loop-item.found.keys in let new = c.treat.new.found.keys in let item = c.in-Some.item in
+    let old = c.loop-item.found in let new = c.treat.new.found in let item = c.in-Some.item in
     let inv = c.loop-item.invariant in
     let at : slice_get old c.loop-item.next ≡ Some item = sym c.in-Some.ensures in
     let w = c.loop-item.notes.waiting in let w' = c.file_waiting.new.waiting in
@@ -77,8 +77,8 @@ loop-item-preserved c =
 pub returns-clause-all : goal.returns-clause-all
 returns-clause-all c =
     let g = plain c.args.grammar.now in let ts = tokens_of c.args.grammar.now c.args.shown.now in
-    let keys = c.loop-item.found.keys in
-    let whole = take_all c.loop-item.next keys (ended keys c.loop-item.next c.in_default-item_at.ensures) in
+    let keys = c.loop-item.found in
+    let whole = take_all c.loop-item.next keys (ended keys c.loop-item.next c.in_default-get.ensures) in
     λ i. (
       c.loop-item.invariant.sound i,
       λ h. closed_has g ts c.args.start keys (λ head fits. c.loop-item.invariant.starts head fits) (subst (λ l. Treated g ts l keys) whole c.loop-item.invariant.closed) h,
@@ -87,24 +87,24 @@ returns-clause-all c =
 pub returns-clause-few : goal.returns-clause-few
 returns-clause-few c =
     let all = returns-clause-all c in
-    no_more_hold (plain c.args.grammar.now) (tokens_of c.args.grammar.now c.args.shown.now) c.args.start c.loop-item.found.keys 2000000 c.loop-item.invariant.few
+    no_more_hold (plain c.args.grammar.now) (tokens_of c.args.grammar.now c.args.shown.now) c.args.start c.loop-item.found 2000000 c.loop-item.invariant.few
     (λ i holds. (all i).1 holds)
 
 pub returns-in-Err-clause-hard : goal.returns-in-Err-clause-hard
 returns-in-Err-clause-hard c = λ e.
     let g = plain c.args.grammar.now in let ts = tokens_of c.args.grammar.now c.args.shown.now in
-    let keys = c.predict_once.new.found.keys in
+    let keys = c.predict_once.new.found in
     let hard : c.predict_once.result ≡ Err TooHard = let same : c.in-Err.error ≡ TooHard = cc in c.in-Err.is ∙ ap Err same in (
       keys,
       c.predict_once.ensures.hard hard,
-      each_once keys c.len-count.ensures.unique,
-      starts_hold g ts c.args.start c.args.found.now.keys keys c.requires.none c.predict_once.ensures.only,
+      c.len-count.ensures.once,
+      starts_hold g ts c.args.start c.args.found.now keys c.requires.none c.predict_once.ensures.only,
     )
 
 pub returns-in-Err-treat-clause-hard : goal.returns-in-Err-treat-clause-hard
 returns-in-Err-treat-clause-hard c = λ e.
     let g = plain c.args.grammar.now in let ts = tokens_of c.args.grammar.now c.args.shown.now in
-    let old = c.loop-item.found.keys in let new = c.treat.new.found.keys in let item = c.in-Some.item in
+    let old = c.loop-item.found in let new = c.treat.new.found in let item = c.in-Some.item in
     let inv = c.loop-item.invariant in
     let at : slice_get old c.loop-item.next ≡ Some item = sym c.in-Some.ensures in
     let w = c.loop-item.notes.waiting in let w' = c.file_waiting.new.waiting in
@@ -129,14 +129,14 @@ returns-in-Err-treat-clause-hard c = λ e.
     let hard : c.treat.result ≡ Err TooHard = let same : c.in-Err-treat.error ≡ TooHard = cc in c.in-Err-treat.is ∙ ap Err same in (
       new,
       c.treat.ensures.hard hard,
-      each_once new c.len-count-in-Err-treat.ensures.unique,
+      c.len-count-in-Err-treat.ensures.once,
       turn_holds g ts c.args.start old c.loop-item.next item w w' k k' bs fs turn new c.treat.ensures.only,
     )
 
 -- the numbers are those of items that are found
 pub treat-requires-clause-befores : goal.treat-requires-clause-befores
 treat-requires-clause-befores c =
-    let keys = c.loop-item.found.keys in let inv = c.loop-item.invariant in
+    let keys = c.loop-item.found in let inv = c.loop-item.invariant in
     λ n there.
     let row = c.befores-before.ensures.only n there in
     below_rows c.loop-item.notes.waiting c.file_waiting.new.waiting (length keys) c.loop-item.next inv.waiting_only
@@ -144,7 +144,7 @@ treat-requires-clause-befores c =
 
 pub treat-requires-clause-fillings : goal.treat-requires-clause-fillings
 treat-requires-clause-fillings c =
-    let keys = c.loop-item.found.keys in let inv = c.loop-item.invariant in
+    let keys = c.loop-item.found in let inv = c.loop-item.invariant in
     λ n there.
     let row = c.fillings-filling.ensures.only n there in
     below_rows c.loop-item.notes.complete c.file_complete.new.complete (length keys) c.loop-item.next inv.complete_only

@@ -9,16 +9,16 @@ use Rattle.sx_earley.proofs.all_items.collect.Given as goal
 abbrev pub invariant-loop-item : goal.invariant-loop-item
 invariant-loop-item l = record {
   openings : HasAllOpenings (plain l.grammar) l.notes.openings.now;
-  few : length l.found.keys ≤ 2000000;
-  within : l.next ≤ length l.found.keys;
-  sound : AllHold (plain l.grammar) (tokens_of l.grammar l.shown) l.start l.found.keys;
-  starts : (head : Head) → IsOfSort (production_of (plain l.grammar) head) l.start 0 → Contains l.found.keys (beginning head 0);
-  closed : Treated (plain l.grammar) (tokens_of l.grammar l.shown) (take l.next l.found.keys) l.found.keys;
-  asked : AllAsked (plain l.grammar) l.notes.asked.keys l.found.keys;
-  waiting_all : (x : Item) → Contains (take l.next l.found.keys) x → IsFiledWaiting (plain l.grammar) l.found.keys l.notes.waiting x;
-  waiting_only : HasBelow l.notes.waiting (length l.found.keys);
-  complete_all : (x : Item) → Contains (take l.next l.found.keys) x → IsFiledComplete (plain l.grammar) l.found.keys l.notes.complete x;
-  complete_only : HasBelow l.notes.complete (length l.found.keys);
+  few : length l.found ≤ 2000000;
+  within : l.next ≤ length l.found;
+  sound : AllHold (plain l.grammar) (tokens_of l.grammar l.shown) l.start l.found;
+  starts : (head : Head) → IsOfSort (production_of (plain l.grammar) head) l.start 0 → Contains l.found (beginning head 0);
+  closed : Treated (plain l.grammar) (tokens_of l.grammar l.shown) (take l.next l.found) l.found;
+  asked : AllAsked (plain l.grammar) l.notes.asked.keys l.found;
+  waiting_all : (x : Item) → Contains (take l.next l.found) x → IsFiledWaiting (plain l.grammar) l.found l.notes.waiting x;
+  waiting_only : HasBelow l.notes.waiting (length l.found);
+  complete_all : (x : Item) → Contains (take l.next l.found) x → IsFiledComplete (plain l.grammar) l.found l.notes.complete x;
+  complete_only : HasBelow l.notes.complete (length l.found);
 }
 
 abbrev pub decreases-loop-item : goal.decreases-loop-item

@@ -14,6 +14,6 @@ returns-then-makes-clause-only c =
       complete = c.ends_at.ensures.0 c.if-ends_at.true;
       meets = c.if-before-filling.true;
     } in
-    only_more c.args.found.now.keys c.add_noted.new.found.keys (λ i. i ≡ moved c.args.before c.args.filling.end)
+    only_more c.args.found.now c.add_noted.new.found (λ i. i ≡ moved c.args.before c.args.filling.end)
     (λ i. Joins (plain c.args.grammar.now) c.args.before c.args.filling × (i ≡ moved c.args.before c.args.filling.end))
     (λ i e. (joins, e)) c.add_noted.ensures.only

@@ -15,12 +15,12 @@ pub item_within-before-requires : goal.item_within-before-requires
 item_within-before-requires c =
     let low : c.loop-number.number-index < length c.args.befores.now = omega arith in
     let within = c.requires.within (get_or c.args.befores.now c.loop-number.number-index 0) (Contains-get_or c.args.befores.now c.loop-number.number-index 0 low) in
-    omega (arith, within, longer c.args.found.now.keys c.loop-number.found.keys c.loop-number.invariant.extends)
+    omega (arith, within, longer c.args.found.now c.loop-number.found c.loop-number.invariant.extends)
 
 pub loop-number-preserved : goal.loop-number-preserved
 loop-number-preserved c =
     let g = plain c.args.grammar.now in
-    let old = c.args.found.now.keys in let mid = c.loop-number.found.keys in let new = c.join.new.found.keys in
+    let old = c.args.found.now in let mid = c.loop-number.found in let new = c.join.new.found in
     let ns = c.args.befores.now in let i = c.loop-number.number-index in let here = c.item_within-before.result in
     let low : i < length ns = omega arith in
     let at : slice_get old (get_or ns i 0) ≡ Some here = got_earlier old mid (get_or ns i 0) here c.loop-number.invariant.extends (c.requires.within (get_or ns i 0) (Contains-get_or ns i 0 low)) c.item_within-before.ensures in
@@ -36,7 +36,7 @@ loop-number-preserved c =
 -- where the hints know, the item is there
 pub loop-number-preserved-then-is_known : goal.loop-number-preserved-then-is_known
 loop-number-preserved-then-is_known c =
-    let g = plain c.args.grammar.now in let old = c.args.found.now.keys in let keys = c.loop-number.found.keys in
+    let g = plain c.args.grammar.now in let old = c.args.found.now in let keys = c.loop-number.found in
     let ns = c.args.befores.now in let i = c.loop-number.number-index in let here = c.item_within-before.result in
     let low : i < length ns = omega arith in
     let at : slice_get old (get_or ns i 0) ≡ Some here = got_earlier old keys (get_or ns i 0) here c.loop-number.invariant.extends (c.requires.within (get_or ns i 0) (Contains-get_or ns i 0 low)) c.item_within-before.ensures in
@@ -50,14 +50,14 @@ loop-number-preserved-then-is_known c =
 
 pub returns-in_err-join-clause-only : goal.returns-in_err-join-clause-only
 returns-in_err-join-clause-only c =
-    let g = plain c.args.grammar.now in let old = c.args.found.now.keys in let mid = c.loop-number.found.keys in
+    let g = plain c.args.grammar.now in let old = c.args.found.now in let mid = c.loop-number.found in
     let ns = c.args.befores.now in let i = c.loop-number.number-index in let here = c.item_within-before.result in
     let low : i < length ns = omega arith in
     let at : slice_get old (get_or ns i 0) ≡ Some here = got_earlier old mid (get_or ns i 0) here c.loop-number.invariant.extends (c.requires.within (get_or ns i 0) (Contains-get_or ns i 0 low)) c.item_within-before.ensures in
-    each_only g c.args.befores.now c.args.filling here i old mid c.join.new.found.keys low at c.loop-number.invariant.only c.join.ensures.only
+    each_only g c.args.befores.now c.args.filling here i old mid c.join.new.found low at c.loop-number.invariant.only c.join.ensures.only
 
 pub returns-clause-every : goal.returns-clause-every
 returns-clause-every c =
     let g = plain c.args.grammar.now in
-    let all = all_done c.args.befores.now c.loop-number.number-index (λ n. (x : Item) → slice_get c.args.found.now.keys n ≡ Some x → Joins g x c.args.filling → Contains c.loop-number.found.keys (moved x c.args.filling.end)) (omega arith) c.loop-number.invariant.every in
+    let all = all_done c.args.befores.now c.loop-number.number-index (λ n. (x : Item) → slice_get c.args.found.now n ≡ Some x → Joins g x c.args.filling → Contains c.loop-number.found (moved x c.args.filling.end)) (omega arith) c.loop-number.invariant.every in
     λ x is. all is.0 is.1 x is.2

@@ -8,9 +8,9 @@ use Rattle.sx_earley.proofs.growing.join_each.Given as goal
 
 abbrev pub invariant-loop-number : goal.invariant-loop-number
 invariant-loop-number l = record {
-  few : length l.found.keys ≤ 2000000;
-  extends : Extends l.fn.found.keys l.found.keys;
-  only : Only l.fn.found.keys l.found.keys (IsJoined (plain l.grammar) (IsNumbered l.fn.found.keys l.befores) (λ x. x ≡ l.filling));
-  every : (number : ℕ) → Contains (take l.number-index l.befores) number → (before : Item) → slice_get l.fn.found.keys number ≡ Some before → Joins (plain l.grammar) before l.filling →
-      Contains l.found.keys (moved before l.filling.end);
+  few : length l.found ≤ 2000000;
+  extends : Extends l.fn.found l.found;
+  only : Only l.fn.found l.found (IsJoined (plain l.grammar) (IsNumbered l.fn.found l.befores) (λ x. x ≡ l.filling));
+  every : (number : ℕ) → Contains (take l.number-index l.befores) number → (before : Item) → slice_get l.fn.found number ≡ Some before → Joins (plain l.grammar) before l.filling →
+      Contains l.found (moved before l.filling.end);
 }

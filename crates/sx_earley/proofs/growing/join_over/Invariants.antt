@@ -8,9 +8,9 @@ use Rattle.sx_earley.proofs.growing.join_over.Given as goal
 
 abbrev pub invariant-loop-number : goal.invariant-loop-number
 invariant-loop-number l = record {
-  few : length l.found.keys ≤ 2000000;
-  extends : Extends l.fn.found.keys l.found.keys;
-  only : Only l.fn.found.keys l.found.keys (IsJoined (plain l.grammar) (λ x. x ≡ l.before) (IsNumbered l.fn.found.keys l.fillings));
-  every : (number : ℕ) → Contains (take l.number-index l.fillings) number → (filling : Item) → slice_get l.fn.found.keys number ≡ Some filling → Joins (plain l.grammar) l.before filling →
-      Contains l.found.keys (moved l.before filling.end);
+  few : length l.found ≤ 2000000;
+  extends : Extends l.fn.found l.found;
+  only : Only l.fn.found l.found (IsJoined (plain l.grammar) (λ x. x ≡ l.before) (IsNumbered l.fn.found l.fillings));
+  every : (number : ℕ) → Contains (take l.number-index l.fillings) number → (filling : Item) → slice_get l.fn.found number ≡ Some filling → Joins (plain l.grammar) l.before filling →
+      Contains l.found (moved l.before filling.end);
 }

@@ -10,7 +10,7 @@ pub loop-opening-preserved : goal.loop-opening-preserved
 loop-opening-preserved c =
     let g = plain c.args.grammar.now in
     let ask = c.args.ask in
-    let old = c.args.found.now.keys in let mid = c.loop-opening.found.keys in let new = c.predict_head.new.found.keys in
+    let old = c.args.found.now in let mid = c.loop-opening.found in let new = c.predict_head.new.found in
     let low : c.loop-opening.opening-index < length c.args.openings.now = omega arith in
     record {
       few = c.in_ok-predict_head.ensures.few;
@@ -24,10 +24,10 @@ pub returns-clause-every : goal.returns-clause-every
 returns-clause-every c =
     let g = plain c.args.grammar.now in
     let ask = c.args.ask in
-    let every = all_done c.args.openings.now c.loop-opening.opening-index (λ o. IsOfSort (production_of g o.head) ask.sort ask.least → Contains c.loop-opening.found.keys (beginning o.head ask.place)) (omega arith) c.loop-opening.invariant.every in
+    let every = all_done c.args.openings.now c.loop-opening.opening-index (λ o. IsOfSort (production_of g o.head) ask.sort ask.least → Contains c.loop-opening.found (beginning o.head ask.place)) (omega arith) c.loop-opening.invariant.every in
     λ head is. every (beginning head 0) (c.requires.openings head ask.least is) is
 
 pub returns-in_err-predict_head-clause-only : goal.returns-in_err-predict_head-clause-only
 returns-in_err-predict_head-clause-only c =
-    only_on c.args.found.now.keys c.loop-opening.found.keys c.predict_head.new.found.keys (IsPredicted (plain c.args.grammar.now) c.args.ask.sort c.args.ask.least c.args.ask.place)
+    only_on c.args.found.now c.loop-opening.found c.predict_head.new.found (IsPredicted (plain c.args.grammar.now) c.args.ask.sort c.args.ask.least c.args.ask.place)
     c.loop-opening.invariant.only c.predict_head.ensures.only

@@ -8,9 +8,9 @@ use Rattle.sx_earley.proofs.growing.predict.Given as goal
 
 abbrev pub invariant-loop-opening : goal.invariant-loop-opening
 invariant-loop-opening l = record {
-  few : length l.found.keys ≤ 2000000;
-  extends : Extends l.fn.found.keys l.found.keys;
-  only : Only l.fn.found.keys l.found.keys (IsPredicted (plain l.grammar) l.ask.sort l.ask.least l.ask.place);
+  few : length l.found ≤ 2000000;
+  extends : Extends l.fn.found l.found;
+  only : Only l.fn.found l.found (IsPredicted (plain l.grammar) l.ask.sort l.ask.least l.ask.place);
   every : (o : Item) → Contains (take l.opening-index l.openings) o → IsOfSort (production_of (plain l.grammar) o.head) l.ask.sort l.ask.least →
-      Contains l.found.keys (beginning o.head l.ask.place);
+      Contains l.found (beginning o.head l.ask.place);
 }

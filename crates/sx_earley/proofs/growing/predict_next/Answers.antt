@@ -7,5 +7,5 @@ use Rattle.sx_earley.proofs.growing.predict_next.Goals as goal
 pub returns-in-Some-clause-only : goal.returns-in-Some-clause-only
 returns-in-Some-clause-only c =
     let g = plain c.args.grammar.now in
-    only_more c.args.found.now.keys c.predict_once.new.found.keys (IsPredicted g c.in-Some.sort c.in-Some.least c.args.item.end) (Foresees g c.args.item)
+    only_more c.args.found.now c.predict_once.new.found (IsPredicted g c.in-Some.sort c.in-Some.least c.args.item.end) (Foresees g c.args.item)
     (λ i p. record { sort = c.in-Some.sort; least = c.in-Some.least; waits = sym c.in-Some.ensures.is; fits = p }) c.predict_once.ensures.only

@@ -9,8 +9,8 @@ returns-then-contains-clause-every c = c.requires.asked c.args.ask (was_asked c.
 
 pub returns-clause-asked : goal.returns-clause-asked
 returns-clause-asked c =
-    subst (λ l. AllAsked (plain c.args.grammar.now) l c.predict.new.found.keys) (sym c.in_ok-insert.ensures.keys)
-    (asked_more (plain c.args.grammar.now) c.args.asked.now.keys c.args.ask _ c.args.found.now.keys c.predict.new.found.keys c.predict.ensures.extends c.requires.asked c.in_ok-predict.ensures.every)
+    subst (λ l. AllAsked (plain c.args.grammar.now) l c.predict.new.found) (sym c.in_ok-insert.ensures.keys)
+    (asked_more (plain c.args.grammar.now) c.args.asked.now.keys c.args.ask _ c.args.found.now c.predict.new.found c.predict.ensures.extends c.requires.asked c.in_ok-predict.ensures.every)
 
 pub predict-requires-clause-openings : goal.predict-requires-clause-openings
 predict-requires-clause-openings c = subst (HasOpenings (plain c.args.grammar.now) c.args.ask.sort) (sym c.row-row.ensures) (c.requires.openings c.args.ask.sort)

@@ -15,6 +15,6 @@ overflow_add-item-then-reads_next c =
 
 pub returns-then-reads_next-clause-only : goal.returns-then-reads_next-clause-only
 returns-then-reads_next-clause-only c =
-    only_more c.args.found.now.keys c.add.new.found.keys (λ i. i ≡ moved c.args.item (c.args.item.end + 1))
+    only_more c.args.found.now c.add.new.found (λ i. i ≡ moved c.args.item (c.args.item.end + 1))
     (λ i. ReadsNext (tokens_of c.args.grammar.now c.args.shown.now) (next_symbol (plain c.args.grammar.now) c.args.item.head c.args.item.dot) c.args.item.end × (i ≡ moved c.args.item (c.args.item.end + 1)))
     (λ i e. (c.reads_next.ensures.is.0 c.if-reads_next.true, e)) c.add.ensures.only

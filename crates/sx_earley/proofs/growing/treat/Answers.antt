@@ -10,13 +10,13 @@ use Rattle.sx_earley.proofs.growing.treat.Goals as goal
 pub returns-in_err-predict_next-clause-only : goal.returns-in_err-predict_next-clause-only
 returns-in_err-predict_next-clause-only c =
     let g = plain c.args.given.grammar.now in let ts = tokens_of c.args.given.grammar.now c.args.given.shown.now in
-    let k0 = c.args.found.now.keys in let k1 = c.predict_next.new.found.keys in
+    let k0 = c.args.found.now in let k1 = c.predict_next.new.found in
     after_prediction g ts c.args.near.befores.now c.args.near.fillings.now c.args.item k0 k0 k1 c.predict_next.ensures.only
 
 pub returns-in_err-scan-clause-only : goal.returns-in_err-scan-clause-only
 returns-in_err-scan-clause-only c =
     let g = plain c.args.given.grammar.now in let ts = tokens_of c.args.given.grammar.now c.args.given.shown.now in
-    let k0 = c.args.found.now.keys in let k1 = c.predict_next.new.found.keys in let k2 = c.scan.new.found.keys in
+    let k0 = c.args.found.now in let k1 = c.predict_next.new.found in let k2 = c.scan.new.found in
     let bs = c.args.near.befores.now in let fs = c.args.near.fillings.now in
     after_scan g ts bs fs c.args.item k0 k1 k2
     (after_prediction g ts bs fs c.args.item k0 k0 k1 c.predict_next.ensures.only) c.scan.ensures.only
@@ -24,7 +24,7 @@ returns-in_err-scan-clause-only c =
 pub returns-in_err-join_each-clause-only : goal.returns-in_err-join_each-clause-only
 returns-in_err-join_each-clause-only c =
     let g = plain c.args.given.grammar.now in let ts = tokens_of c.args.given.grammar.now c.args.given.shown.now in
-    let k0 = c.args.found.now.keys in let k1 = c.predict_next.new.found.keys in let k2 = c.scan.new.found.keys in let k3 = c.join_each.new.found.keys in
+    let k0 = c.args.found.now in let k1 = c.predict_next.new.found in let k2 = c.scan.new.found in let k3 = c.join_each.new.found in
     let bs = c.args.near.befores.now in let fs = c.args.near.fillings.now in
     let e02 = extends_on k0 k1 k2 c.predict_next.ensures.extends c.scan.ensures.extends in
     after_each g ts bs fs c.args.item k0 k2 k3 e02 c.requires.befores
@@ -34,7 +34,7 @@ returns-in_err-join_each-clause-only c =
 pub returns-clause-only : goal.returns-clause-only
 returns-clause-only c =
     let g = plain c.args.given.grammar.now in let ts = tokens_of c.args.given.grammar.now c.args.given.shown.now in
-    let k0 = c.args.found.now.keys in let k1 = c.predict_next.new.found.keys in let k2 = c.scan.new.found.keys in let k3 = c.join_each.new.found.keys in let k4 = c.join_over.new.found.keys in
+    let k0 = c.args.found.now in let k1 = c.predict_next.new.found in let k2 = c.scan.new.found in let k3 = c.join_each.new.found in let k4 = c.join_over.new.found in
     let bs = c.args.near.befores.now in let fs = c.args.near.fillings.now in
     let e02 = extends_on k0 k1 k2 c.predict_next.ensures.extends c.scan.ensures.extends in
     after_over g ts bs fs c.args.item k0 k3 k4 (extends_on k0 k2 k3 e02 c.join_each.ensures.extends) c.requires.fillings
@@ -46,8 +46,8 @@ returns-clause-only c =
 pub returns-clause-every : goal.returns-clause-every
 returns-clause-every c =
     let g = plain c.args.given.grammar.now in let ts = tokens_of c.args.given.grammar.now c.args.given.shown.now in
-    let k0 = c.args.found.now.keys in let bs = c.args.near.befores.now in let fs = c.args.near.fillings.now in
-    let k1 = c.predict_next.new.found.keys in let k2 = c.scan.new.found.keys in let k3 = c.join_each.new.found.keys in let k4 = c.join_over.new.found.keys in
+    let k0 = c.args.found.now in let bs = c.args.near.befores.now in let fs = c.args.near.fillings.now in
+    let k1 = c.predict_next.new.found in let k2 = c.scan.new.found in let k3 = c.join_each.new.found in let k4 = c.join_over.new.found in
     let e02 = extends_on k0 k1 k2 c.predict_next.ensures.extends c.scan.ensures.extends in
     let e03 = extends_on k0 k2 k3 e02 c.join_each.ensures.extends in
     let e34 = c.join_over.ensures.extends in
@@ -65,7 +65,7 @@ returns-clause-every c =
 pub returns-clause-asked : goal.returns-clause-asked
 returns-clause-asked c =
     let g = plain c.args.given.grammar.now in
-    let k1 = c.predict_next.new.found.keys in let k2 = c.scan.new.found.keys in let k3 = c.join_each.new.found.keys in let k4 = c.join_over.new.found.keys in
+    let k1 = c.predict_next.new.found in let k2 = c.scan.new.found in let k3 = c.join_each.new.found in let k4 = c.join_over.new.found in
     let e14 = extends_on k1 k2 k4 c.scan.ensures.extends (extends_on k2 k3 k4 c.join_each.ensures.extends c.join_over.ensures.extends) in
     let asked = c.predict_next.new.asked.keys in
     ok_then c.join_over.result _ (AllAsked g asked k4) c.join_over.ensures.every (λ _. asked_on g asked k1 k4 e14 c.in_ok-predict_next.ensures.asked)

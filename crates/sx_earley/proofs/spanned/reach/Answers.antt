@@ -7,7 +7,7 @@ use Rattle.sx_earley.proofs.spanned.reach.Goals as goal
 
 pub loop-place-preserved : goal.loop-place-preserved
 loop-place-preserved c =
-    let keys = c.args.found.now.keys in let item = c.item_within-item.result in
+    let keys = c.args.found.now in let item = c.item_within-item.result in
     let is : c.greater-most.result ≡ max c.loop-place.most item.end = c.greater-most.ensures in
     record {
       bound = one_on keys c.loop-place.place item (λ i. i.end ≤ c.greater-most.result) c.item_within-item.ensures
@@ -18,5 +18,5 @@ loop-place-preserved c =
 
 pub returns : goal.returns
 returns c =
-    let keys = c.args.found.now.keys in
+    let keys = c.args.found.now in
     (subst (λ l. (i : Item) → Contains l i → i.end ≤ c.loop-place.most) (take_all c.loop-place.place keys (omega arith)) c.loop-place.invariant.bound, c.loop-place.invariant.some)

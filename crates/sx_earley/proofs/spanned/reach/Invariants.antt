@@ -4,6 +4,6 @@ use Rattle.sx_earley.proofs.spanned.reach.Given as goal
 
 abbrev pub invariant-loop-place : goal.invariant-loop-place
 invariant-loop-place l = record {
-  bound : (i : Item) → Contains (take l.place l.found.keys) i → i.end ≤ l.most;
-  some : ((i : Item) × Contains l.found.keys i × (i.end ≡ l.most)) ⊎ (l.most ≡ 0);
+  bound : (i : Item) → Contains (take l.place l.found) i → i.end ≤ l.most;
+  some : ((i : Item) × Contains l.found i × (i.end ≡ l.most)) ⊎ (l.most ≡ 0);
 }

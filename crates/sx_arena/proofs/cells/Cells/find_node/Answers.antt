@@ -1,21 +1,23 @@
-use Rattle.std.proofs.Common.{refl, sym, ◌∙◌, arith}
+use Rattle.std.proofs.Common.{◌≡◌, ◌<◌, ℕ, Option, sym, ap, ◌∙◌, subst, length}
+use Rattle.sx_slots.specs.Mixed.{folded}
+use Rattle.sx_slots.specs.Slots.{IsLastWith}
+use Rattle.sx_slots.proofs.Seeking.{IsSought, left_of, goes_back}
 use Rattle.sx_arena.specs.Hashed.{is_node_of}
-use Rattle.sx_arena.proofs.Linking.{node_alike, seeking_start, seeking_past, seeking_unhashed, not_both}
+use Rattle.sx_arena.proofs.Finding.{node_alike, not_both, Wants, cell_first, cell_next}
 use Rattle.sx_arena.proofs.cells.Cells.find_node.Goals as goal
-use Rattle.sx_arena.proofs.cells.Cells.find_node.Goals.{else-index-hash-via-then-index-hash+else-is_node, else-index-hash-via-else-index-hash}
 
 pub loop-here-init : goal.loop-here-init
 loop-here-init c =
-    seeking_start _ _ _ (is_node_of c.args.label c.args.kids.now) c.args.hash (λ s t. node_alike _ _ s t ∙ sym c.requires.hash) _ _ c.self.invariant.hashed c.self.invariant.linked _ _ _ (let a = c.len.ensures in let k = c.self.inside.lasts.ok in omega arith) refl
-    c.slot.ensures.value c.slot.ensures.within c.index-here.ensures
+    cell_first _ (is_node_of c.args.label c.args.kids.now) (folded c.args.hash) (λ s t. ap folded (node_alike _ _ s t ∙ sym c.requires.hash)) c.self.inside.slots c.self.invariant c.last-here.result
+    (subst (λ (h : ℕ). IsLastWith c.self.inside.slots (length c.self.inside.slots) h c.last-here.result) c.folded.ensures c.last-here.ensures)
+
+pub loop-here-smaller : goal.loop-here-smaller
+loop-here-smaller c =
+    subst (λ (o : Option ℕ). left_of c.before-here.result < left_of o) (sym c.in-Some.is)
+    (goes_back c.self.inside.slots c.in-Some.number _ c.before-here.result c.before-here.ensures)
 
 pub loop-here-preserved : goal.loop-here-preserved
 loop-here-preserved c =
-    elim c.else-index-hash.branch [
-      | else-index-hash-via-then-index-hash+else-is_node w ↦
-          seeking_past _ _ _ (is_node_of c.args.label c.args.kids.now) c.args.hash (λ s t. node_alike _ _ s t ∙ sym c.requires.hash) _ _ c.self.invariant.hashed c.self.invariant.linked _ _ w.index-then-index-hash.result.now c.self.invariant.many
-          c.loop-here-test.true c.loop-here.invariant w.index-then-index-hash.ensures (not_both _ (sym w.is_node.ensures ∙ w.if-is_node.false)) c.index-here-in-loop-here.ensures
-      | else-index-hash-via-else-index-hash w ↦
-          seeking_unhashed _ _ _ (is_node_of c.args.label c.args.kids.now) c.args.hash (λ s t. node_alike _ _ s t ∙ sym c.requires.hash) _ _ c.self.invariant.hashed c.self.invariant.linked _ _ c.index.result.now c.self.invariant.many
-          c.loop-here-test.true c.loop-here.invariant c.index.ensures w.if-index-hash.false c.index-here-in-loop-here.ensures
-    ]
+    cell_next _ (is_node_of c.args.label c.args.kids.now) (folded c.args.hash) (λ s t. ap folded (node_alike _ _ s t ∙ sym c.requires.hash)) c.self.inside.slots c.self.invariant c.in-Some.number c.index.result.now c.before-here.result
+    (subst (λ (o : Option ℕ). IsSought c.self.inside.slots (Wants c.self.inside.cells.items (is_node_of c.args.label c.args.kids.now)) (folded c.args.hash) o) c.in-Some.is c.loop-here.invariant)
+    c.index.ensures (not_both _ (sym c.is_node.ensures ∙ c.if-is_node.false)) c.before-here.ensures

@@ -1,6 +1,6 @@
 use Rattle.std.proofs.Common.{◌≡◌, ◌≤◌, length}
-use Rattle.sx_arena.specs.Slots.{AreLinked}
-use Rattle.sx_arena.proofs.cells.grow.Given as goal
+use Rattle.sx_slots.specs.Slots.{AreLinked}
+use Rattle.sx_slots.proofs.slots.grow.Given as goal
 
 abbrev pub invariant-loop-number : goal.invariant-loop-number
 invariant-loop-number l = record {

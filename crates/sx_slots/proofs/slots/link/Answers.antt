@@ -1,7 +1,7 @@
 use Rattle.std.proofs.Common.{◌<◌, length, arith}
 use Rattle.std.proofs.lemmas.List.{get_or-set_same, get_or-set_other}
-use Rattle.sx_arena.proofs.Linking.{linked_more}
-use Rattle.sx_arena.proofs.cells.link.Goals as goal
+use Rattle.sx_slots.proofs.Linking.{linked_more}
+use Rattle.sx_slots.proofs.slots.link.Goals as goal
 
 pub returns-clause-linked : goal.returns-clause-linked
 returns-clause-linked c =
