@@ -20,6 +20,7 @@ pub mod Open
 pub mod Asking
 pub mod Ways
 pub mod Descents
+pub mod Givens
 pub mod Blames
 pub mod Deriving
 pub mod Listing

@@ -1,5 +1,5 @@
 -- The store of a search as plain data, and how it grows.
-use Rattle.std.specs.Prelude.{◌≡◌, List, length, take}
+use Rattle.std.specs.Prelude.{◌≡◌, ℕ, List, length, take}
 use Rattle.sx_term.specs.Tree.{Tree}
 use Rattle.sx_arena.specs.Matching.{Assignment}
 use Rattle.sx_rules.specs.Rules.{Rule}
@@ -11,6 +11,7 @@ use Rattle.sx_derive.specs.declared.store.Store.{Store}
 use Rattle.sx_arena.specs.Grown.{Extends}
 use Rattle.sx_arena.specs.Arena.{trees, IsArena}
 use Rattle.sx_arena.specs.Binds.{envs, IsBinds}
+use Rattle.sx_arena.specs.Places.{AreHeld}
 use Rattle.sx_derive.specs.Chains.{kids_of, AreKids, frames_of, AreFrames}
 
 -- the terms of a store by their numbers
@@ -47,6 +48,13 @@ pub record Grows (modes : Modes) (rules : List Rule) (old new : Store) : Type 0 
   pub bind_cells : Extends old.binds.cells.items new.binds.cells.items
   pub kid_cells : Extends old.kids.items new.kids.items
   pub frame_cells : Extends old.frames.items new.frames.items
+
+-- the store has the terms at the numbers, and only terms are new in it
+pub record AreMade (old new : Store) (numbers : List ℕ) (ts : List Tree) : Type 0 where
+  pub held : AreHeld old.arena new.arena numbers ts
+  pub binds : new.binds ≡ old.binds
+  pub kids : new.kids.items ≡ old.kids.items
+  pub frames : new.frames.items ≡ old.frames.items
 
 -- the store ends at the mark
 pub record IsMark (s : Store) (m : Mark) : Type 0 where

@@ -1,22 +1,23 @@
 //! The first answer of a premise's goal, and whether its outputs match.
 
-ghost use Rattle.std.specs.Prelude.{◌≡◌, ℕ, true, ◌^◌, ◌≤◌, ◌<◌, List, IfOk, length, map};
+ghost use Rattle.std.specs.Prelude.{◌≡◌, true, ◌^◌, ◌≤◌, ◌<◌, List, IfOk, length, map};
 ghost use Rattle.sx_term.specs.Term.{tree};
 ghost use Rattle.sx_rules.specs.Deep.{AreShallow};
 ghost use Rattle.sx_rules.specs.Rules.{Judgement as JudgementOf};
-ghost use Rattle.sx_derive.specs.Asking.{asked_events, last_events, IsAnswered};
-ghost use Rattle.sx_derive.specs.Candidates.{AreFacts};
+ghost use Rattle.sx_derive.specs.Asking.{IsAnswered};
 ghost use Rattle.sx_arena.specs.Pairs.{ArePairs};
+ghost use Rattle.sx_derive.specs.Givens.{IsStoreOf, GrowsIn, HasFacts, asked_by, last_by};
 ghost use Rattle.sx_derive.specs.Quiet.{IsQuiet, IsSilent, first_given};
-ghost use Rattle.sx_derive.specs.Store.{IsStore, Grows, store_trees};
-ghost use Rattle.sx_arena.specs.Views.{rules_of, modes_of, judgement_of};
+ghost use Rattle.sx_derive.specs.Store.{store_trees};
+ghost use Rattle.sx_arena.specs.Views.{modes_of, judgement_of};
 
 use crate::bounds::Bounds;
 use crate::first::first_answer;
 use crate::given::Given;
+use crate::made_places::made_inputs;
 use crate::open::is_open;
 use crate::store::Store;
-use sx_arena::{copied, fit_places, make_places, roles};
+use sx_arena::{copied, fit_places, roles};
 use sx_rules::Judgement;
 use sx_term::NoMemory;
 
@@ -38,37 +39,20 @@ pub(crate) fn ask(
     bounds: Bounds,
 ) -> Result<Asked, NoMemory>
     requires few { length given.now.facts.now < 2 ^ 32 }
-    requires facts { (js : List JudgementOf)
-        × AreFacts (modes_of given.now.rules.now) (store_trees store.old) js given.now.facts.now }
-    requires store { IsStore (modes_of given.now.rules.now) (rules_of given.now.rules.now)
-        store.old }
+    requires facts { (js : List JudgementOf) × HasFacts given.now store.old js }
+    requires store { IsStoreOf given.now store.old }
     requires pairs { ArePairs (length (store_trees store.old)) given.now.pairs.now }
     requires shallow { AreShallow (map tree judgement.now.places.items) }
     requires env { env ≤ length store.old.binds.cells.items }
-    requires quiet { (js : List JudgementOf) →
-        AreFacts (modes_of given.now.rules.now) (store_trees store.old) js given.now.facts.now →
-        IsQuiet bounds.budget
-        (asked_events (modes_of given.now.rules.now) (rules_of given.now.rules.now)
-        given.now.pairs.now js store.old env bounds.levels (judgement_of judgement.now)) }
-    ensures grows { IfOk result
-        (λ r. Grows (modes_of given.now.rules.now) (rules_of given.now.rules.now) store.old
-        store.new) }
-    ensures answered { IfOk result (λ r. (js : List JudgementOf) →
-        AreFacts (modes_of given.now.rules.now) (store_trees store.old) js given.now.facts.now →
+    requires quiet { (js : List JudgementOf) → HasFacts given.now store.old js →
+        IsQuiet bounds.budget (asked_by given.now js store.old env bounds.levels judgement.now) }
+    ensures grows { IfOk result (λ r. GrowsIn given.now store.old store.new) }
+    ensures answered { IfOk result (λ r. (js : List JudgementOf) → HasFacts given.now store.old js →
         IsAnswered (modes_of given.now.rules.now) store.old store.new env
         (judgement_of judgement.now)
-        (first_given (asked_events (modes_of given.now.rules.now) (rules_of given.now.rules.now)
-        given.now.pairs.now js store.old env bounds.levels (judgement_of judgement.now))) r) }
+        (first_given (asked_by given.now js store.old env bounds.levels judgement.now)) r) }
 {
-    let terms = make_places(
-        given.alloc,
-        &mut store.arena,
-        &store.binds,
-        env,
-        roles(given.rules, judgement.form),
-        false,
-        &judgement.places,
-    )?;
+    let terms = made_inputs(given, store, judgement, env)?;
     let kept = copied(given.alloc, &terms)?;
     let below = Bounds {
         levels: bounds.levels - 1,
@@ -107,48 +91,26 @@ pub(crate) fn ask_known(
     known: bool,
 ) -> Result<Asked, NoMemory>
     requires few { length given.now.facts.now < 2 ^ 32 }
-    requires facts { (js : List JudgementOf)
-        × AreFacts (modes_of given.now.rules.now) (store_trees store.old) js given.now.facts.now }
-    requires store { IsStore (modes_of given.now.rules.now) (rules_of given.now.rules.now)
-        store.old }
+    requires facts { (js : List JudgementOf) × HasFacts given.now store.old js }
+    requires store { IsStoreOf given.now store.old }
     requires pairs { ArePairs (length (store_trees store.old)) given.now.pairs.now }
     requires shallow { AreShallow (map tree judgement.now.places.items) }
     requires env { env ≤ length store.old.binds.cells.items }
-    requires quiet { (js : List JudgementOf) →
-        AreFacts (modes_of given.now.rules.now) (store_trees store.old) js given.now.facts.now →
-        IsQuiet bounds.budget
-        (asked_events (modes_of given.now.rules.now) (rules_of given.now.rules.now)
-        given.now.pairs.now js store.old env bounds.levels
-        (judgement_of judgement.now)) }
-    requires silent { known ≡ true → (js : List JudgementOf) →
-        AreFacts (modes_of given.now.rules.now) (store_trees store.old) js given.now.facts.now →
+    requires quiet { (js : List JudgementOf) → HasFacts given.now store.old js →
+        IsQuiet bounds.budget (asked_by given.now js store.old env bounds.levels judgement.now) }
+    requires silent { known ≡ true → (js : List JudgementOf) → HasFacts given.now store.old js →
         IsSilent true bounds.budget
-        (last_events (modes_of given.now.rules.now) (rules_of given.now.rules.now)
-        given.now.pairs.now js store.old env bounds.levels
-        (judgement_of judgement.now)) }
-    ensures grows { IfOk result
-        (λ r. Grows (modes_of given.now.rules.now) (rules_of given.now.rules.now) store.old
-        store.new) }
-    ensures answered { IfOk result (λ r. (js : List JudgementOf) →
-        AreFacts (modes_of given.now.rules.now) (store_trees store.old) js given.now.facts.now →
+        (last_by given.now js store.old env bounds.levels judgement.now) }
+    ensures grows { IfOk result (λ r. GrowsIn given.now store.old store.new) }
+    ensures answered { IfOk result (λ r. (js : List JudgementOf) → HasFacts given.now store.old js →
         IsAnswered (modes_of given.now.rules.now) store.old store.new env
         (judgement_of judgement.now)
-        (first_given (asked_events (modes_of given.now.rules.now) (rules_of given.now.rules.now)
-        given.now.pairs.now js store.old
-        env bounds.levels (judgement_of judgement.now))) r) }
+        (first_given (asked_by given.now js store.old env bounds.levels judgement.now)) r) }
 {
     given.rules.facts();
     let roles = roles(given.rules, judgement.form);
     if known && given.facts.is_empty() && is_open(&store.binds, env, roles, &judgement.places) {
-        let terms = make_places(
-            given.alloc,
-            &mut store.arena,
-            &store.binds,
-            env,
-            roles,
-            false,
-            &judgement.places,
-        )?;
+        let terms = made_inputs(given, store, judgement, env)?;
         return Ok(Asked::Unanswered(terms));
     }
     ask(given, store, judgement, env, bounds)

@@ -1,28 +1,27 @@
 //! The first candidate of a goal, and where it leads.
 
-ghost use Rattle.std.specs.Prelude.{◌≡◌, ℕ, suc, ◌^◌, ◌≤◌, ◌<◌, ◌↔◌, IsTrue, IfOk, length};
+ghost use Rattle.std.specs.Prelude.{suc, ◌^◌, ◌<◌, ◌↔◌, IsTrue, IfOk, length};
 ghost use Rattle.std.specs.Option.{option_map};
-ghost use Rattle.sx_term.specs.Term.{tree};
 ghost use Rattle.sx_rules.specs.Deep.{RuleIsShallow};
 ghost use Rattle.sx_rules.specs.Rules.{Hypotheses};
 ghost use Rattle.sx_arena.specs.Arena.{AreBelow};
 ghost use Rattle.sx_arena.specs.Binds.{IsFit};
 ghost use Rattle.sx_arena.specs.Views.{rules_of, modes_of, rule_of};
 ghost use Rattle.sx_derive.specs.Candidates.{goal_in};
-ghost use Rattle.sx_derive.specs.Descents.{
-  AreHyps,
-  spot_goal,
-  RulesLead,
-  IsDescent,
-  IsFirstRule,
-  HasInputs,
-  IsFirstFact,
+ghost use Rattle.sx_derive.specs.Descents.{IsFirstRule, HasInputs, IsFirstFact};
+ghost use Rattle.sx_derive.specs.Givens.{
+  IsStoreOf,
+  GrowsIn,
+  HasHyps,
+  events_by,
+  rules_events_by,
+  GoalLeads,
+  IsStuckBy,
+  DescendsTo,
 };
 ghost use Rattle.sx_derive.specs.Quiet.{IsSilent};
 ghost use Rattle.sx_derive.specs.Store.{IsStore, Grows, store_trees};
-ghost use Rattle.sx_derive.specs.Stuck.{rule_match, IsStuck};
-ghost use Rattle.sx_derive.specs.Walk.{goal_events, rules_events};
-ghost use Rattle.sx_derive.specs.Ways.{subjects_of};
+ghost use Rattle.sx_derive.specs.Stuck.{rule_match};
 
 use crate::bounds::Bounds;
 use crate::candidate::Candidate;
@@ -124,29 +123,15 @@ fn descend_rules(
     known: bool,
 ) -> Result<Descent, NoMemory>
     requires few { length given.now.facts.now < 2 ^ 32 }
-    requires store { IsStore (modes_of given.now.rules.now) (rules_of given.now.rules.now)
-        store.old }
+    requires store { IsStoreOf given.now store.old }
     requires terms { AreBelow (length (store_trees store.old)) spot.terms.items }
-    requires quiet { (hyps : Hypotheses)
-        × AreHyps (modes_of given.now.rules.now) store.old given.now.facts.now given.now.pairs.now
-        hyps
+    requires quiet { (hyps : Hypotheses) × HasHyps given.now store.old hyps
         × IsSilent known bounds.budget
-        (rules_events (modes_of given.now.rules.now) hyps
-        (goal_events (modes_of given.now.rules.now) (rules_of given.now.rules.now) hyps
-        bounds.levels) 0 (rules_of given.now.rules.now)
-        (spot_goal store.old spot)) }
-    ensures grows { IfOk result
-        (λ _. Grows (modes_of given.now.rules.now) (rules_of given.now.rules.now) store.old
-        store.new) }
-    ensures descent { IfOk result (λ d. (hyps : Hypotheses) →
-        AreHyps (modes_of given.now.rules.now) store.old given.now.facts.now given.now.pairs.now
-        hyps →
-        IsDescent (modes_of given.now.rules.now) (subjects_of given.now.rules.now)
-        (rules_of given.now.rules.now) hyps bounds.budget
-        bounds.levels store.new
-        (RulesLead (modes_of given.now.rules.now) (subjects_of given.now.rules.now)
-        (rules_of given.now.rules.now) hyps bounds.budget
-        bounds.levels (spot_goal store.old spot) spot.path.items) d) }
+        (rules_events_by given.now hyps bounds.levels store.old spot) }
+    ensures grows { IfOk result (λ _. GrowsIn given.now store.old store.new) }
+    ensures descent { IfOk result (λ d. (hyps : Hypotheses) → HasHyps given.now store.old hyps →
+        DescendsTo given.now hyps bounds store.new
+        (GoalLeads given.now hyps bounds store.old spot) d) }
 {
     let rules = given.rules;
     rules.facts();
@@ -172,28 +157,15 @@ pub(crate) fn descend(
     known: bool,
 ) -> Result<Descent, NoMemory>
     requires few { length given.now.facts.now < 2 ^ 32 }
-    requires store { IsStore (modes_of given.now.rules.now) (rules_of given.now.rules.now)
-        store.old }
+    requires store { IsStoreOf given.now store.old }
     requires terms { AreBelow (length (store_trees store.old)) spot.terms.items }
-    requires quiet { (hyps : Hypotheses)
-        × AreHyps (modes_of given.now.rules.now) store.old given.now.facts.now given.now.pairs.now
-        hyps
+    requires quiet { (hyps : Hypotheses) × HasHyps given.now store.old hyps
         × IsSilent known bounds.budget
-        (goal_events (modes_of given.now.rules.now) (rules_of given.now.rules.now) hyps
-        (suc bounds.levels)
-        (spot_goal store.old spot)) }
-    ensures grows { IfOk result
-        (λ _. Grows (modes_of given.now.rules.now) (rules_of given.now.rules.now) store.old
-        store.new) }
-    ensures descent { IfOk result (λ d. (hyps : Hypotheses) →
-        AreHyps (modes_of given.now.rules.now) store.old given.now.facts.now given.now.pairs.now
-        hyps →
-        IsDescent (modes_of given.now.rules.now) (subjects_of given.now.rules.now)
-        (rules_of given.now.rules.now) hyps bounds.budget
-        bounds.levels store.new
-        (IsStuck (modes_of given.now.rules.now) (subjects_of given.now.rules.now)
-        (rules_of given.now.rules.now) hyps (suc bounds.levels)
-        (spot_goal store.old spot) spot.path.items) d) }
+        (events_by given.now hyps (suc bounds.levels) store.old spot) }
+    ensures grows { IfOk result (λ _. GrowsIn given.now store.old store.new) }
+    ensures descent { IfOk result (λ d. (hyps : Hypotheses) → HasHyps given.now store.old hyps →
+        DescendsTo given.now hyps bounds store.new
+        (IsStuckBy given.now hyps (suc bounds.levels) store.old spot) d) }
 {
     given.rules.facts();
     match first_fact(given.facts, spot.form, &spot.terms) {

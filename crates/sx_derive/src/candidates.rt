@@ -1,14 +1,15 @@
 //! The candidates of a goal.
 
-ghost use Rattle.std.specs.Prelude.{◌≡◌, ℕ, ◌≤◌, ◌<◌, ◌↔◌, Some, IsTrue, IfOk, length, slice_get};
+ghost use Rattle.std.specs.Prelude.{◌≡◌, ◌≤◌, ◌<◌, Some, IfOk, length, slice_get};
 ghost use Rattle.sx_rules.specs.Deep.{RulesAreShallow};
 ghost use Rattle.sx_rules.specs.Rules.{Judgement, Rule};
 ghost use Rattle.sx_arena.specs.Arena.{AreBelow};
 ghost use Rattle.sx_derive.specs.Candidates.{goal_in, IsFact, IsTried};
+ghost use Rattle.sx_derive.specs.Givens.{IsStoreOf};
 ghost use Rattle.sx_derive.specs.Handing.{frames_in};
 ghost use Rattle.sx_derive.specs.Machine.{rule_result, given_result};
 ghost use Rattle.sx_arena.specs.Pairs.{ArePairs};
-ghost use Rattle.sx_derive.specs.Store.{IsStore, store_trees};
+ghost use Rattle.sx_derive.specs.Store.{store_trees};
 ghost use Rattle.sx_arena.specs.Views.{rules_of, modes_of};
 
 use crate::chains::{Head, Waiting};
@@ -30,8 +31,7 @@ pub(crate) fn try_rule(
 ) -> Result<Step, NoMemory>
     requires shallow { RulesAreShallow (rules_of given.now.rules.now) }
     requires number { number < length (rules_of given.now.rules.now) }
-    requires store { IsStore (modes_of given.now.rules.now) (rules_of given.now.rules.now)
-        store.old }
+    requires store { IsStoreOf given.now store.old }
     requires pairs { ArePairs (length (store_trees store.old)) given.now.pairs.now }
     requires frames { task.now.frames ≤ length store.old.frames.items }
     requires terms { AreBelow (length (store_trees store.old)) task.now.terms.items }
@@ -85,8 +85,7 @@ pub(crate) fn try_given(
     task: &Task,
 ) -> Result<Step, NoMemory>
     requires shallow { RulesAreShallow (rules_of given.now.rules.now) }
-    requires store { IsStore (modes_of given.now.rules.now) (rules_of given.now.rules.now)
-        store.old }
+    requires store { IsStoreOf given.now store.old }
     requires pairs { ArePairs (length (store_trees store.old)) given.now.pairs.now }
     requires frames { task.now.frames ≤ length store.old.frames.items }
     requires terms { AreBelow (length (store_trees store.old)) task.now.terms.items }

@@ -1,12 +1,12 @@
 //! First answers.
 
-ghost use Rattle.std.specs.Prelude.{◌≡◌, ℕ, ◌+◌, ◌^◌, ◌≤◌, ◌<◌, List, IfOk, length};
+ghost use Rattle.std.specs.Prelude.{◌^◌, ◌<◌, List, IfOk, length};
 ghost use Rattle.sx_rules.specs.Rules.{Judgement};
 ghost use Rattle.sx_arena.specs.Arena.{AreBelow};
-ghost use Rattle.sx_derive.specs.Candidates.{AreFacts};
 ghost use Rattle.sx_arena.specs.Pairs.{ArePairs};
+ghost use Rattle.sx_derive.specs.Givens.{IsStoreOf, HasFacts};
 ghost use Rattle.sx_derive.specs.Quiet.{IsQuiet, IsFirstFound};
-ghost use Rattle.sx_derive.specs.Store.{IsStore, store_trees};
+ghost use Rattle.sx_derive.specs.Store.{store_trees};
 ghost use Rattle.sx_derive.specs.Walked.{events_in};
 ghost use Rattle.sx_arena.specs.Views.{rules_of, modes_of};
 
@@ -28,25 +28,18 @@ pub(crate) fn first_answer(
     bounds: Bounds,
 ) -> Result<Option<Vec<usize>>, NoMemory>
     requires few { length given.now.facts.now < 2 ^ 32 }
-    requires facts { (js : List Judgement)
-        × AreFacts (modes_of given.now.rules.now) (store_trees store.old) js given.now.facts.now }
-    requires store { IsStore (modes_of given.now.rules.now) (rules_of given.now.rules.now)
-        store.old }
+    requires facts { (js : List Judgement) × HasFacts given.now store.old js }
+    requires store { IsStoreOf given.now store.old }
     requires pairs { ArePairs (length (store_trees store.old)) given.now.pairs.now }
     requires terms { AreBelow (length (store_trees store.old)) terms.items }
-    requires quiet { (js : List Judgement) →
-        AreFacts (modes_of given.now.rules.now) (store_trees store.old) js given.now.facts.now →
-        IsQuiet bounds.budget
+    requires quiet { (js : List Judgement) → HasFacts given.now store.old js → IsQuiet bounds.budget
         (events_in (modes_of given.now.rules.now) (rules_of given.now.rules.now) given.now.pairs.now
-        js store.old bounds.levels form
-        terms.items) }
-    ensures { IfOk result (λ r. (js : List Judgement) →
-        AreFacts (modes_of given.now.rules.now) (store_trees store.old) js given.now.facts.now →
+        js store.old bounds.levels form terms.items) }
+    ensures { IfOk result (λ r. (js : List Judgement) → HasFacts given.now store.old js →
         IsFirstFound (modes_of given.now.rules.now) (rules_of given.now.rules.now) store.old
         store.new
         (events_in (modes_of given.now.rules.now) (rules_of given.now.rules.now) given.now.pairs.now
-        js store.old bounds.levels form
-        terms.items) r) }
+        js store.old bounds.levels form terms.items) r) }
 {
     let mark = store.mark();
     let goal = NumberedGoal {

@@ -1,12 +1,13 @@
 //! Answers, and the frames that wait for them.
 
-ghost use Rattle.std.specs.Prelude.{◌≡◌, ℕ, ◌≤◌, IfOk, length};
+ghost use Rattle.std.specs.Prelude.{◌≤◌, IfOk, length};
 ghost use Rattle.sx_rules.specs.Deep.{RulesAreShallow};
 ghost use Rattle.sx_arena.specs.Arena.{AreBelow};
 ghost use Rattle.sx_derive.specs.Chains.{HeadFits};
+ghost use Rattle.sx_derive.specs.Givens.{IsStoreOf};
 ghost use Rattle.sx_derive.specs.Handing.{IsWaiting, IsResumed, IsHanded};
 ghost use Rattle.sx_arena.specs.Pairs.{ArePairs};
-ghost use Rattle.sx_derive.specs.Store.{IsStore, store_trees, store_envs, store_kids};
+ghost use Rattle.sx_derive.specs.Store.{store_trees, store_envs, store_kids};
 ghost use Rattle.sx_arena.specs.Views.{rules_of, modes_of};
 
 use crate::chains::{Head, Waiting, push_kid};
@@ -27,8 +28,7 @@ fn resume(
     outputs: &[usize],
 ) -> Result<Step, NoMemory>
     requires shallow { RulesAreShallow (rules_of given.now.rules.now) }
-    requires store { IsStore (modes_of given.now.rules.now) (rules_of given.now.rules.now)
-        store.old }
+    requires store { IsStoreOf given.now store.old }
     requires pairs { ArePairs (length (store_trees store.old)) given.now.pairs.now }
     requires frame { IsWaiting (modes_of given.now.rules.now) (rules_of given.now.rules.now)
         store.old frame }
@@ -80,8 +80,7 @@ pub(crate) fn hand_on(
     frames: usize,
 ) -> Result<Step, NoMemory>
     requires shallow { RulesAreShallow (rules_of given.now.rules.now) }
-    requires store { IsStore (modes_of given.now.rules.now) (rules_of given.now.rules.now)
-        store.old }
+    requires store { IsStoreOf given.now store.old }
     requires pairs { ArePairs (length (store_trees store.old)) given.now.pairs.now }
     requires frames { frames ≤ length store.old.frames.items }
     requires head { HeadFits (length (store_envs store.old)) (length (store_kids store.old)) head }

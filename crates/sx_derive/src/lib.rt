@@ -22,6 +22,7 @@ mod handing;
 mod laws;
 mod list_derivation;
 mod listed;
+mod made_places;
 mod numbered_goal;
 mod open;
 mod outcome;

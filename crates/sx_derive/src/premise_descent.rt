@@ -1,22 +1,22 @@
 //! The first premise of a goal's first candidate that fails.
 
-ghost use Rattle.std.specs.Prelude.{◌≡◌, ℕ, ◌^◌, ◌≤◌, ◌<◌, IfOk, Some, length, map};
+ghost use Rattle.std.specs.Prelude.{◌≡◌, ◌^◌, ◌≤◌, ◌<◌, IfOk, Some, length, map};
 ghost use Rattle.sx_term.specs.Term.{tree};
 ghost use Rattle.sx_rules.specs.Deep.{AreShallow, RuleIsShallow};
 ghost use Rattle.sx_rules.specs.Rules.{Hypotheses};
 ghost use Rattle.sx_arena.specs.Arena.{AreBelow};
-ghost use Rattle.sx_arena.specs.Binds.{env_at};
-ghost use Rattle.sx_arena.specs.Views.{rules_of, modes_of, rule_of, judgement_of};
-ghost use Rattle.sx_derive.specs.Descents.{
-  AreHyps,
-  spot_goal,
-  PremisesLead,
-  IsDescent,
-  IsPremiseSpot,
+ghost use Rattle.sx_arena.specs.Views.{rule_of, judgement_of};
+ghost use Rattle.sx_derive.specs.Descents.{IsPremiseSpot};
+ghost use Rattle.sx_derive.specs.Givens.{
+  IsStoreOf,
+  GrowsIn,
+  HasHyps,
+  candidate_events,
+  CandidateLeads,
+  DescendsTo,
 };
 ghost use Rattle.sx_derive.specs.Quiet.{IsSilent};
-ghost use Rattle.sx_derive.specs.Store.{IsStore, Grows, store_trees, store_envs};
-ghost use Rattle.sx_derive.specs.Walk.{goal_events, premise_events};
+ghost use Rattle.sx_derive.specs.Store.{store_trees};
 ghost use Rattle.sx_derive.specs.Ways.{subjects_of};
 ghost use Rattle.sx_derive.specs.declared.descent.Descent.TheVariants.{Stuck};
 ghost use Rattle.sx_derive.specs.declared.descent.Reason.TheVariants.{Equal, Mismatch};
@@ -26,9 +26,10 @@ use crate::bounds::Bounds;
 use crate::candidate::Candidate;
 use crate::descent::{Descent, Reason, Spot};
 use crate::given::Given;
+use crate::made_places::made_outputs;
 use crate::store::Store;
 use crate::subject_way::put_premise_way;
-use sx_arena::{instances_apart, make_places, roles};
+use sx_arena::instances_apart;
 use sx_rules::{Judgement, Premise, Rule, RuleSet};
 use sx_term::NoMemory;
 
@@ -77,6 +78,16 @@ fn differs(spot: Spot, rule: u32, premise: usize, got: Vec<usize>) -> Descent
     }
 }
 
+/// The goal is stuck, since what is got for its outputs is not what is wanted.
+fn unwanted(spot: Spot, got: Vec<usize>) -> Descent
+    ensures { result ≡ Stuck spot (Mismatch None got) }
+{
+    Descent::Stuck {
+        spot,
+        reason: Reason::Mismatch { by: None, got },
+    }
+}
+
 /// Where the premises of a goal's first candidate lead, gone through with first answers. It may be
 /// known that the goal has no answer.
 pub(crate) fn descend_premises(
@@ -88,33 +99,17 @@ pub(crate) fn descend_premises(
     known: bool,
 ) -> Result<Descent, NoMemory>
     requires few { length given.now.facts.now < 2 ^ 32 }
-    requires store { IsStore (modes_of given.now.rules.now) (rules_of given.now.rules.now)
-        store.old }
+    requires store { IsStoreOf given.now store.old }
     requires shallow { RuleIsShallow (rule_of candidate.now.rule.now) }
     requires env { candidate.now.env ≤ length store.old.binds.cells.items }
     requires terms { AreBelow (length (store_trees store.old)) spot.terms.items }
-    requires quiet { (hyps : Hypotheses)
-        × AreHyps (modes_of given.now.rules.now) store.old given.now.facts.now given.now.pairs.now
-        hyps
+    requires quiet { (hyps : Hypotheses) × HasHyps given.now store.old hyps
         × IsSilent known bounds.budget
-        (premise_events (modes_of given.now.rules.now) hyps
-        (goal_events (modes_of given.now.rules.now) (rules_of given.now.rules.now) hyps
-        bounds.levels)
-        (rule_of candidate.now.rule.now).premises
-        (env_at (store_envs store.old) candidate.now.env)) }
-    ensures grows { IfOk result
-        (λ _. Grows (modes_of given.now.rules.now) (rules_of given.now.rules.now) store.old
-        store.new) }
-    ensures descent { IfOk result (λ d. (hyps : Hypotheses) →
-        AreHyps (modes_of given.now.rules.now) store.old given.now.facts.now given.now.pairs.now
-        hyps →
-        IsDescent (modes_of given.now.rules.now) (subjects_of given.now.rules.now)
-        (rules_of given.now.rules.now) hyps bounds.budget bounds.levels store.new
-        (PremisesLead (modes_of given.now.rules.now) (subjects_of given.now.rules.now)
-        (rules_of given.now.rules.now) hyps bounds.budget bounds.levels candidate.now.number
-        (rule_of candidate.now.rule.now) (spot_goal store.old spot) spot.path.items 0
-        (rule_of candidate.now.rule.now).premises
-        (env_at (store_envs store.old) candidate.now.env)) d) }
+        (candidate_events given.now hyps bounds.levels store.old candidate.now) }
+    ensures grows { IfOk result (λ _. GrowsIn given.now store.old store.new) }
+    ensures descent { IfOk result (λ d. (hyps : Hypotheses) → HasHyps given.now store.old hyps →
+        DescendsTo given.now hyps bounds store.new
+        (CandidateLeads given.now hyps bounds store.old spot candidate.now) d) }
 {
     let rules = given.rules;
     let rule = candidate.rule;
@@ -151,17 +146,6 @@ pub(crate) fn descend_premises(
             }
         }
     }
-    let got = make_places(
-        given.alloc,
-        &mut store.arena,
-        &store.binds,
-        env,
-        roles(rules, rule.conclusion.form),
-        true,
-        &rule.conclusion.places,
-    )?;
-    Ok(Descent::Stuck {
-        spot,
-        reason: Reason::Mismatch { by: None, got },
-    })
+    let got = made_outputs(given, store, &rule.conclusion, env)?;
+    Ok(unwanted(spot, got))
 }

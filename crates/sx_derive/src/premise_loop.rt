@@ -1,10 +1,11 @@
 //! The premises of a rule.
 
-ghost use Rattle.std.specs.Prelude.{◌≡◌, ℕ, ◌≤◌, Some, IfOk, length, map, drop, slice_get};
+ghost use Rattle.std.specs.Prelude.{◌≡◌, ◌≤◌, Some, IfOk, length, map, drop, slice_get};
 ghost use Rattle.sx_rules.specs.Deep.{RuleIsShallow};
 ghost use Rattle.sx_arena.specs.Pairs.{ArePairs};
 ghost use Rattle.sx_arena.specs.Views.{rule_of, rules_of, modes_of, premise_of};
-ghost use Rattle.sx_derive.specs.Store.{IsStore, store_trees};
+ghost use Rattle.sx_derive.specs.Givens.{IsStoreOf};
+ghost use Rattle.sx_derive.specs.Store.{store_trees};
 ghost use Rattle.sx_derive.specs.Premises.{IsPremises};
 
 use crate::chains::Waiting;
@@ -25,8 +26,7 @@ pub(crate) fn premises(
     requires found { slice_get (rules_of given.now.rules.now) from.rule
         ≡ Some (rule_of rule.now) }
     requires shallow { RuleIsShallow (rule_of rule.now) }
-    requires store { IsStore (modes_of given.now.rules.now) (rules_of given.now.rules.now)
-        store.old }
+    requires store { IsStoreOf given.now store.old }
     requires pairs { ArePairs (length (store_trees store.old)) given.now.pairs.now }
     requires env { from.env ≤ length store.old.binds.cells.items }
     requires kids { from.kids ≤ length store.old.kids.items }

@@ -1,26 +1,13 @@
 //! The way of a search to what it comes to next.
 
-ghost use Rattle.std.specs.Prelude.{
-  ◌≡◌,
-  ℕ,
-  ◌+◌,
-  ◌^◌,
-  ◌≤◌,
-  ◌<◌,
-  ◌∷◌,
-  ◌++◌,
-  [],
-  List,
-  MatchBool,
-  length,
-};
+ghost use Rattle.std.specs.Prelude.{◌≡◌, ◌+◌, ◌^◌, ◌<◌, ◌∷◌, ◌++◌, [], List, MatchBool, length};
 ghost use Rattle.sx_rules.specs.Rules.{Judgement};
 ghost use Rattle.sx_arena.specs.Pairs.{ArePairs};
 ghost use Rattle.sx_arena.specs.Views.{rules_of, modes_of};
 ghost use Rattle.sx_arena.specs.declared.pairs.Pair.{Pair as PairOf};
-ghost use Rattle.sx_derive.specs.Candidates.{AreFacts};
+ghost use Rattle.sx_derive.specs.Givens.{IsStoreOf, HasFacts};
 ghost use Rattle.sx_derive.specs.Resumable.{IsReached, IsSettled};
-ghost use Rattle.sx_derive.specs.Store.{IsStore, store_trees};
+ghost use Rattle.sx_derive.specs.Store.{store_trees};
 ghost use Rattle.sx_derive.specs.Tasks.{events_left, TasksFit};
 ghost use Rattle.sx_derive.specs.declared.store.Store.{Store as StoreOf};
 ghost use Rattle.sx_derive.specs.declared.tasks.Task.{Task as TaskOf};
@@ -70,24 +57,18 @@ pub(crate) fn reach<L: Ledger>(
     steps: &mut Steps<L>,
 ) -> Result<Reached, NoMemory>
     requires few { length given.now.facts.now < 2 ^ 32 }
-    requires facts { (js : List Judgement)
-        × AreFacts (modes_of given.now.rules.now) (store_trees store.old) js given.now.facts.now }
-    requires store { IsStore (modes_of given.now.rules.now) (rules_of given.now.rules.now)
-        store.old }
+    requires facts { (js : List Judgement) × HasFacts given.now store.old js }
+    requires store { IsStoreOf given.now store.old }
     requires pairs { ArePairs (length (store_trees store.old)) given.now.pairs.now }
     requires tasks { TasksFit (modes_of given.now.rules.now) (rules_of given.now.rules.now)
         store.old
         (length given.now.facts.now + length (rules_of given.now.rules.now)) tasks.old.items }
-    ensures { (js : List Judgement) →
-        AreFacts (modes_of given.now.rules.now) (store_trees store.old) js given.now.facts.now →
+    ensures { (js : List Judgement) → HasFacts given.now store.old js →
         IsReached (modes_of given.now.rules.now) (rules_of given.now.rules.now) given.now.pairs.now
-        js
-        (length given.now.facts.now + length (rules_of given.now.rules.now)) store.old store.new
-        tasks.new.items budget
-        steps.old steps.new
+        js (length given.now.facts.now + length (rules_of given.now.rules.now)) store.old store.new
+        tasks.new.items budget steps.old steps.new
         (events_left (modes_of given.now.rules.now) (rules_of given.now.rules.now)
-        given.now.pairs.now js store.old
-        tasks.old.items) result }
+        given.now.pairs.now js store.old tasks.old.items) result }
 {
     let mut tries: u64 = 0;
     while settle(given, tasks) {

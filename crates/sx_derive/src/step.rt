@@ -1,21 +1,21 @@
 //! Steps of a search.
 
-ghost use Rattle.std.specs.Prelude.{◌≡◌, ℕ, ◌≤◌, List, IfOk, length, map};
+ghost use Rattle.std.specs.Prelude.{◌≤◌, IfOk, length, map};
 ghost use Rattle.sx_term.specs.Term.{tree};
 ghost use Rattle.sx_arena.specs.Matching.{filled};
 ghost use Rattle.sx_rules.specs.Deep.{AreShallow};
-ghost use Rattle.sx_derive.specs.Walk.{Answer};
-ghost use Rattle.sx_derive.specs.Machine.{Result as StepResult};
 ghost use Rattle.sx_arena.specs.Binds.{env_at};
 ghost use Rattle.sx_derive.specs.Chains.{kids_at};
 ghost use Rattle.sx_arena.specs.Views.{judgement_of, rule_of, rules_of, modes_of};
-ghost use Rattle.sx_derive.specs.Store.{IsStore, store_envs, store_kids};
+ghost use Rattle.sx_derive.specs.Givens.{IsStoreOf};
+ghost use Rattle.sx_derive.specs.Store.{store_envs, store_kids};
 ghost use Rattle.sx_derive.specs.Step.{IsConcluded, IsAsked, Awaits};
 
 use crate::chains::{Head, Waiting, push_waiting};
 use crate::given::Given;
+use crate::made_places::{made_inputs, made_outputs};
 use crate::store::Store;
-use sx_arena::{Limit, make_places, passed, roles};
+use sx_arena::{Limit, passed};
 use sx_rules::{Judgement, Rule};
 use sx_term::NoMemory;
 
@@ -46,8 +46,7 @@ pub(crate) fn concluded(
     store: &mut Store,
 ) -> Result<Step, NoMemory>
     requires shallow { AreShallow (map tree rule.now.conclusion.places.items) }
-    requires store { IsStore (modes_of given.now.rules.now) (rules_of given.now.rules.now)
-        store.old }
+    requires store { IsStoreOf given.now store.old }
     requires env { from.env ≤ length store.old.binds.cells.items }
     requires kids { from.kids ≤ length store.old.kids.items }
     ensures { IfOk result
@@ -56,15 +55,7 @@ pub(crate) fn concluded(
         (rule_of rule.now) (filled (env_at (store_envs store.old) from.env))
         (kids_at (store_kids store.old) from.kids) step) }
 {
-    let outputs = make_places(
-        given.alloc,
-        &mut store.arena,
-        &store.binds,
-        from.env,
-        roles(given.rules, rule.conclusion.form),
-        true,
-        &rule.conclusion.places,
-    )?;
+    let outputs = made_outputs(given, store, &rule.conclusion, from.env)?;
     match passed(&store.arena, &outputs) {
         Some(limit) => Ok(Step::Passed(limit)),
         None => Ok(Step::Done {
@@ -87,8 +78,7 @@ pub(crate) fn asked(
     waiting: Waiting,
 ) -> Result<Step, NoMemory>
     requires shallow { AreShallow (map tree judgement.now.places.items) }
-    requires store { IsStore (modes_of given.now.rules.now) (rules_of given.now.rules.now)
-        store.old }
+    requires store { IsStoreOf given.now store.old }
     requires waits { Awaits (rules_of given.now.rules.now) (judgement_of judgement.now) waiting }
     requires env { waiting.env ≤ length store.old.binds.cells.items }
     requires kids { waiting.kids ≤ length store.old.kids.items }
@@ -98,15 +88,7 @@ pub(crate) fn asked(
         store.new
         (judgement_of judgement.now) waiting step) }
 {
-    let terms = make_places(
-        given.alloc,
-        &mut store.arena,
-        &store.binds,
-        waiting.env,
-        roles(given.rules, judgement.form),
-        false,
-        &judgement.places,
-    )?;
+    let terms = made_inputs(given, store, judgement, waiting.env)?;
     match passed(&store.arena, &terms) {
         Some(limit) => Ok(Step::Passed(limit)),
         None => {

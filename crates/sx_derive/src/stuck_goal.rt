@@ -1,6 +1,6 @@
 //! The stuck goal of a goal without an answer.
 
-ghost use Rattle.std.specs.Prelude.{◌≡◌, ℕ, false, ◌^◌, ◌≤◌, ◌<◌, [], IfOk, length, None};
+ghost use Rattle.std.specs.Prelude.{◌≡◌, false, ◌^◌, ◌<◌, [], IfOk, length, None};
 ghost use Rattle.sx_rules.specs.Deep.{AreShallow};
 ghost use Rattle.sx_rules.specs.Derivations.{ShallowJudgements};
 ghost use Rattle.sx_rules.specs.Rules.{Hypotheses};
@@ -10,11 +10,12 @@ ghost use Rattle.sx_arena.specs.Entered.{ArePairsShallow};
 ghost use Rattle.sx_arena.specs.Views.{rules_of, modes_of};
 ghost use Rattle.sx_derive.specs.Blames.{blame_of, cause_of};
 ghost use Rattle.sx_derive.specs.Candidates.{goal_in};
-ghost use Rattle.sx_derive.specs.Descents.{AreHyps, spot_goal, reason_in, ReasonBelow, blame_in};
+ghost use Rattle.sx_derive.specs.Descents.{reason_in, ReasonBelow, blame_in};
+ghost use Rattle.sx_derive.specs.Givens.{IsStoreOf, HasHyps, events_by, IsStuckBy};
 ghost use Rattle.sx_derive.specs.Quiet.{IsQuiet, IsSilent};
-ghost use Rattle.sx_derive.specs.Store.{IsStore, store_trees};
+ghost use Rattle.sx_derive.specs.Store.{store_trees};
 ghost use Rattle.sx_derive.specs.Stuck.{IsStuck};
-ghost use Rattle.sx_derive.specs.Walk.{goal_events, events};
+ghost use Rattle.sx_derive.specs.Walk.{events};
 ghost use Rattle.sx_derive.specs.Ways.{subjects_of};
 
 use crate::blame::{Blame, Cause};
@@ -79,22 +80,12 @@ fn stuck_below(
     bounds: Bounds,
 ) -> Result<Blame, NoMemory>
     requires few { length given.now.facts.now < 2 ^ 32 }
-    requires store { IsStore (modes_of given.now.rules.now) (rules_of given.now.rules.now)
-        store.old }
+    requires store { IsStoreOf given.now store.old }
     requires terms { AreBelow (length (store_trees store.old)) first.terms.items }
-    requires quiet { (hyps : Hypotheses)
-        × AreHyps (modes_of given.now.rules.now) store.old given.now.facts.now given.now.pairs.now
-        hyps
-        × IsSilent false bounds.budget
-        (goal_events (modes_of given.now.rules.now) (rules_of given.now.rules.now) hyps
-        bounds.levels
-        (spot_goal store.old first)) }
-    ensures { IfOk result (λ b. (hyps : Hypotheses) →
-        AreHyps (modes_of given.now.rules.now) store.old given.now.facts.now given.now.pairs.now
-        hyps →
-        IsStuck (modes_of given.now.rules.now) (subjects_of given.now.rules.now)
-        (rules_of given.now.rules.now) hyps bounds.levels
-        (spot_goal store.old first) first.path.items (blame_of b)) }
+    requires quiet { (hyps : Hypotheses) × HasHyps given.now store.old hyps
+        × IsSilent false bounds.budget (events_by given.now hyps bounds.levels store.old first) }
+    ensures { IfOk result (λ b. (hyps : Hypotheses) → HasHyps given.now store.old hyps →
+        IsStuckBy given.now hyps bounds.levels store.old first (blame_of b)) }
 {
     let mut here = first;
     let mut left = bounds.levels;

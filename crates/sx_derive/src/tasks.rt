@@ -1,25 +1,10 @@
 //! What is still to be tried, and one try.
 
-ghost use Rattle.std.specs.Prelude.{
-  ◌≡◌,
-  ℕ,
-  ◌+◌,
-  ◌^◌,
-  ◌≤◌,
-  ◌<◌,
-  ◌↔◌,
-  ◌∷◌,
-  ◌++◌,
-  [],
-  List,
-  IsTrue,
-  IfOk,
-  length,
-};
+ghost use Rattle.std.specs.Prelude.{◌≡◌, ◌+◌, ◌^◌, ◌<◌, ◌↔◌, List, IsTrue, IfOk, length};
 ghost use Rattle.sx_rules.specs.Rules.{Judgement};
-ghost use Rattle.sx_derive.specs.Candidates.{AreFacts};
 ghost use Rattle.sx_arena.specs.Pairs.{ArePairs};
-ghost use Rattle.sx_derive.specs.Store.{IsStore, store_trees};
+ghost use Rattle.sx_derive.specs.Givens.{IsStoreOf, HasFacts};
+ghost use Rattle.sx_derive.specs.Store.{store_trees};
 ghost use Rattle.sx_derive.specs.Tasks.{TaskFits, IsNext};
 ghost use Rattle.sx_arena.specs.Views.{rules_of, modes_of};
 
@@ -99,20 +84,16 @@ pub(crate) fn is_candidate(given: &Given, next: usize) -> bool
 /// What comes of the next candidate of a task.
 pub(crate) fn try_next(given: &Given, store: &mut Store, task: &Task) -> Result<Step, NoMemory>
     requires few { length given.now.facts.now < 2 ^ 32 }
-    requires facts { (js : List Judgement)
-        × AreFacts (modes_of given.now.rules.now) (store_trees store.old) js given.now.facts.now }
-    requires store { IsStore (modes_of given.now.rules.now) (rules_of given.now.rules.now)
-        store.old }
+    requires facts { (js : List Judgement) × HasFacts given.now store.old js }
+    requires store { IsStoreOf given.now store.old }
     requires pairs { ArePairs (length (store_trees store.old)) given.now.pairs.now }
     requires task { TaskFits (modes_of given.now.rules.now) (rules_of given.now.rules.now) store.old
         (length given.now.facts.now + length (rules_of given.now.rules.now)) task.now }
     requires next { task.now.next < length given.now.facts.now + length (rules_of
         given.now.rules.now) }
-    ensures { IfOk result (λ step. (js : List Judgement) →
-        AreFacts (modes_of given.now.rules.now) (store_trees store.old) js given.now.facts.now →
+    ensures { IfOk result (λ step. (js : List Judgement) → HasFacts given.now store.old js →
         IsNext (modes_of given.now.rules.now) (rules_of given.now.rules.now) given.now.pairs.now js
-        store.old store.new task.now
-        step) }
+        store.old store.new task.now step) }
 {
     given.rules.facts();
     if task.next < given.facts.len() {

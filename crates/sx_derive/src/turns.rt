@@ -2,10 +2,8 @@
 
 ghost use Rattle.std.specs.Prelude.{
   ◌≡◌,
-  ℕ,
   ◌+◌,
   ◌^◌,
-  ◌≤◌,
   ◌<◌,
   ◌↔◌,
   IsTrue,
@@ -16,9 +14,9 @@ ghost use Rattle.std.specs.Prelude.{
   true,
 };
 ghost use Rattle.sx_rules.specs.Rules.{Judgement};
-ghost use Rattle.sx_derive.specs.Candidates.{AreFacts};
 ghost use Rattle.sx_arena.specs.Pairs.{ArePairs};
-ghost use Rattle.sx_derive.specs.Store.{IsStore, store_trees};
+ghost use Rattle.sx_derive.specs.Givens.{IsStoreOf, HasFacts};
+ghost use Rattle.sx_derive.specs.Store.{store_trees};
 ghost use Rattle.sx_derive.specs.Tasks.{TaskFits, TasksFit, WantedBelow, IsNext};
 ghost use Rattle.sx_derive.specs.Turns.{IsPopped, IsTurn};
 ghost use Rattle.sx_arena.specs.Views.{rules_of, modes_of};
@@ -63,20 +61,16 @@ pub(crate) fn next_task(given: &Given, tasks: &mut Vec<Task>) -> Option<Task>
 /// off.
 fn try_task(given: &Given, store: &mut Store, task: &Task) -> Result<Step, NoMemory>
     requires few { length given.now.facts.now < 2 ^ 32 }
-    requires facts { (js : List Judgement)
-        × AreFacts (modes_of given.now.rules.now) (store_trees store.old) js given.now.facts.now }
-    requires store { IsStore (modes_of given.now.rules.now) (rules_of given.now.rules.now)
-        store.old }
+    requires facts { (js : List Judgement) × HasFacts given.now store.old js }
+    requires store { IsStoreOf given.now store.old }
     requires pairs { ArePairs (length (store_trees store.old)) given.now.pairs.now }
     requires task { TaskFits (modes_of given.now.rules.now) (rules_of given.now.rules.now) store.old
         (length given.now.facts.now + length (rules_of given.now.rules.now)) task.now }
     requires next { task.now.next < length given.now.facts.now + length (rules_of
         given.now.rules.now) }
-    ensures { IfOk result (λ step. (js : List Judgement) →
-        AreFacts (modes_of given.now.rules.now) (store_trees store.old) js given.now.facts.now →
+    ensures { IfOk result (λ step. (js : List Judgement) → HasFacts given.now store.old js →
         IsNext (modes_of given.now.rules.now) (rules_of given.now.rules.now) given.now.pairs.now js
-        store.old store.new task.now
-        step) }
+        store.old store.new task.now step) }
 {
     let mark = store.mark();
     match try_next(given, store, task)? {
@@ -97,10 +91,8 @@ pub(crate) fn turn(
     tasks: &mut Vec<Task>,
 ) -> Result<Option<Ending>, NoMemory>
     requires few { length given.now.facts.now < 2 ^ 32 }
-    requires facts { (js : List Judgement)
-        × AreFacts (modes_of given.now.rules.now) (store_trees store.old) js given.now.facts.now }
-    requires store { IsStore (modes_of given.now.rules.now) (rules_of given.now.rules.now)
-        store.old }
+    requires facts { (js : List Judgement) × HasFacts given.now store.old js }
+    requires store { IsStoreOf given.now store.old }
     requires pairs { ArePairs (length (store_trees store.old)) given.now.pairs.now }
     requires wanted { WantedBelow (length (store_trees store.old)) wanted.now }
     requires task { TaskFits (modes_of given.now.rules.now) (rules_of given.now.rules.now) store.old
@@ -109,8 +101,7 @@ pub(crate) fn turn(
     requires tasks { TasksFit (modes_of given.now.rules.now) (rules_of given.now.rules.now)
         store.old
         (length given.now.facts.now + length (rules_of given.now.rules.now)) tasks.old.items }
-    ensures { IfOk result (λ o. (js : List Judgement) →
-        AreFacts (modes_of given.now.rules.now) (store_trees store.old) js given.now.facts.now →
+    ensures { IfOk result (λ o. (js : List Judgement) → HasFacts given.now store.old js →
         IsTurn (modes_of given.now.rules.now) (rules_of given.now.rules.now) given.now.pairs.now js
         wanted.now (length given.now.facts.now + length (rules_of given.now.rules.now)) store.old
         store.new task tasks.old.items tasks.new.items o) }

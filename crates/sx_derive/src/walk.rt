@@ -1,11 +1,11 @@
 //! The walk of a goal.
 
-ghost use Rattle.std.specs.Prelude.{◌≡◌, ℕ, ◌+◌, ◌^◌, ◌≤◌, ◌<◌, List, ◌∷◌, [], IfOk, length};
+ghost use Rattle.std.specs.Prelude.{◌≡◌, ◌+◌, ◌^◌, ◌<◌, List, ◌∷◌, [], IfOk, length};
 ghost use Rattle.sx_rules.specs.Rules.{Judgement};
 ghost use Rattle.sx_arena.specs.Arena.{AreBelow};
-ghost use Rattle.sx_derive.specs.Candidates.{AreFacts};
 ghost use Rattle.sx_arena.specs.Pairs.{ArePairs};
-ghost use Rattle.sx_derive.specs.Store.{IsStore, store_trees};
+ghost use Rattle.sx_derive.specs.Givens.{IsStoreOf, HasFacts};
+ghost use Rattle.sx_derive.specs.Store.{store_trees};
 ghost use Rattle.sx_derive.specs.Tasks.{events_left, Piled, WantedBelow};
 ghost use Rattle.sx_derive.specs.Walked.{events_in, IsWalked, IsWalkedTo};
 ghost use Rattle.sx_arena.specs.Views.{rules_of, modes_of};
@@ -29,22 +29,17 @@ fn walk_tasks<L: Ledger>(
     steps: &mut Steps<L>,
 ) -> Result<Ending, NoMemory>
     requires few { length given.now.facts.now < 2 ^ 32 }
-    requires facts { (js : List Judgement)
-        × AreFacts (modes_of given.now.rules.now) (store_trees store.old) js given.now.facts.now }
-    requires store { IsStore (modes_of given.now.rules.now) (rules_of given.now.rules.now)
-        store.old }
+    requires facts { (js : List Judgement) × HasFacts given.now store.old js }
+    requires store { IsStoreOf given.now store.old }
     requires pairs { ArePairs (length (store_trees store.old)) given.now.pairs.now }
     requires wanted { WantedBelow (length (store_trees store.old)) wanted.now }
     requires tasks { Piled (modes_of given.now.rules.now) (rules_of given.now.rules.now)
         (length given.now.facts.now + length (rules_of given.now.rules.now)) store.old tasks.items
         store.old }
-    ensures { (js : List Judgement) →
-        AreFacts (modes_of given.now.rules.now) (store_trees store.old) js given.now.facts.now →
+    ensures { (js : List Judgement) → HasFacts given.now store.old js →
         IsWalked (modes_of given.now.rules.now) (rules_of given.now.rules.now) store.old store.new
-        wanted.now budget
-        (events_left (modes_of given.now.rules.now) (rules_of given.now.rules.now)
-        given.now.pairs.now js store.old tasks.items)
-        steps.old steps.new result }
+        wanted.now budget (events_left (modes_of given.now.rules.now) (rules_of given.now.rules.now)
+        given.now.pairs.now js store.old tasks.items) steps.old steps.new result }
 {
     let mut tasks = tasks;
     let mut left = budget;
@@ -73,22 +68,17 @@ pub(crate) fn walk_uncounted(
     budget: u64,
 ) -> Result<Ending, NoMemory>
     requires few { length given.now.facts.now < 2 ^ 32 }
-    requires facts { (js : List Judgement)
-        × AreFacts (modes_of given.now.rules.now) (store_trees store.old) js given.now.facts.now }
-    requires store { IsStore (modes_of given.now.rules.now) (rules_of given.now.rules.now)
-        store.old }
+    requires facts { (js : List Judgement) × HasFacts given.now store.old js }
+    requires store { IsStoreOf given.now store.old }
     requires pairs { ArePairs (length (store_trees store.old)) given.now.pairs.now }
     requires wanted { WantedBelow (length (store_trees store.old)) wanted.now }
     requires tasks { Piled (modes_of given.now.rules.now) (rules_of given.now.rules.now)
         (length given.now.facts.now + length (rules_of given.now.rules.now)) store.old tasks.items
         store.old }
-    ensures { IfOk result (λ ending. (js : List Judgement) →
-        AreFacts (modes_of given.now.rules.now) (store_trees store.old) js given.now.facts.now →
+    ensures { IfOk result (λ ending. (js : List Judgement) → HasFacts given.now store.old js →
         IsWalkedTo (modes_of given.now.rules.now) (rules_of given.now.rules.now) store.old store.new
-        wanted.now budget
-        (events_left (modes_of given.now.rules.now) (rules_of given.now.rules.now)
-        given.now.pairs.now js store.old tasks.items)
-        ending) }
+        wanted.now budget (events_left (modes_of given.now.rules.now) (rules_of given.now.rules.now)
+        given.now.pairs.now js store.old tasks.items) ending) }
 {
     let mut tasks = tasks;
     let mut left = budget;
@@ -142,20 +132,16 @@ pub(crate) fn walk<L: Ledger>(
     steps: &mut Steps<L>,
 ) -> Result<Ending, NoMemory>
     requires few { length given.now.facts.now < 2 ^ 32 }
-    requires facts { (js : List Judgement)
-        × AreFacts (modes_of given.now.rules.now) (store_trees store.old) js given.now.facts.now }
-    requires store { IsStore (modes_of given.now.rules.now) (rules_of given.now.rules.now)
-        store.old }
+    requires facts { (js : List Judgement) × HasFacts given.now store.old js }
+    requires store { IsStoreOf given.now store.old }
     requires pairs { ArePairs (length (store_trees store.old)) given.now.pairs.now }
     requires wanted { WantedBelow (length (store_trees store.old)) wanted.now }
     requires terms { AreBelow (length (store_trees store.old)) goal.terms.items }
-    ensures { (js : List Judgement) →
-        AreFacts (modes_of given.now.rules.now) (store_trees store.old) js given.now.facts.now →
+    ensures { (js : List Judgement) → HasFacts given.now store.old js →
         IsWalked (modes_of given.now.rules.now) (rules_of given.now.rules.now) store.old store.new
         wanted.now budget
         (events_in (modes_of given.now.rules.now) (rules_of given.now.rules.now) given.now.pairs.now
-        js store.old goal.levels goal.form
-        goal.terms.items) steps.old steps.new result }
+        js store.old goal.levels goal.form goal.terms.items) steps.old steps.new result }
 {
     let mark = store.mark();
     match first_task(given.alloc, goal, mark) {

@@ -1,19 +1,13 @@
-use Rattle.std.proofs.Common.{map, [], None, true, refl, sym, ◌∙◌, subst, length, ◌+◌, ◌<◌, arith}
-use Rattle.sx_term.specs.Term.{tree}
-use Rattle.sx_rules.specs.Instances.{instance}
+use Rattle.std.proofs.Common.{[], refl, sym, ◌∙◌, subst, length, ◌+◌, ◌<◌, arith}
 use Rattle.sx_arena.specs.Binds.{env_at}
-use Rattle.sx_arena.specs.Matching.{filled}
-use Rattle.sx_arena.specs.Places.{selected}
 use Rattle.sx_arena.specs.Views.{rule_of, rules_of, modes_of, judgement_of}
-use Rattle.sx_arena.proofs.Placed.{held_as}
 use Rattle.sx_arena.proofs.Sameness.{nat_same}
 use Rattle.sx_derive.specs.Asking.{asked_events, IsAnswered}
 use Rattle.sx_derive.specs.Descents.{spot_goal, PremisesLead, IsDescent}
 use Rattle.sx_derive.specs.Quiet.{first_given}
 use Rattle.sx_derive.specs.Store.{store_envs}
 use Rattle.sx_derive.specs.declared.descent.Descent.{Descent}
-use Rattle.sx_derive.specs.declared.descent.Descent.TheVariants.{Stuck, Below}
-use Rattle.sx_derive.specs.declared.descent.Reason.TheVariants.{Mismatch}
+use Rattle.sx_derive.specs.declared.descent.Descent.TheVariants.{Below}
 use Rattle.sx_derive.specs.Ways.{subjects_of}
 use Rattle.sx_derive.proofs.Stored.{grows_same, grows_then}
 use Rattle.sx_derive.proofs.Premised.{IsShallowPremise, shallow_premise_at, drop_premise, drop_premises_end}
@@ -179,9 +173,8 @@ returns-clause-grows c =
     let x = c.loop-k.invariant.0 in
     let d = c.loop-k.invariant.1 in
     let d' = descending_as m su rs x c.facts.ensures.moded c.args.known c.args.bounds.budget c.args.bounds.levels c.args.candidate.now.number r s c.args.given.now.facts.now c.args.given.now.pairs.now c.args.candidate.now.env c.args.spot c.requires.terms c.loop-k.store c.loop-k.k c.loop-k.env _ _ (drop_premises_end c.args.candidate.now.rule.now.premises.items c.loop-k.k (let a = c.loop-k-test.false in let b = c.len-k-end.ensures in let e = c.args.candidate.now.rule.now.premises.ok in omega arith)) d in
-    let S = filled (env_at (store_envs c.loop-k.store) c.loop-k.env) in
-    let held = held_as _ _ _ _ _ (λ i. selected true (c.roles.ensures i) (map (instance S) (map tree (c.deref.ensures.value i)))) c.in_ok-got.ensures in
-    end_grown m su rs x c.facts.ensures.moded c.args.known c.args.bounds.budget c.args.bounds.levels c.args.candidate.now.number r s c.args.given.now.facts.now c.args.given.now.pairs.now c.args.candidate.now.env c.args.spot c.requires.terms c.loop-k.store (record { arena = c.make_places.new.arena; binds = c.loop-k.store.binds; kids = c.loop-k.store.kids; frames = c.loop-k.store.frames }) c.loop-k.k c.loop-k.env [] d' c.in_ok-got.got held refl refl refl
+    let made = c.in_ok-got.ensures in
+    end_grown m su rs x c.facts.ensures.moded c.args.known c.args.bounds.budget c.args.bounds.levels c.args.candidate.now.number r s c.args.given.now.facts.now c.args.given.now.pairs.now c.args.candidate.now.env c.args.spot c.requires.terms c.loop-k.store c.made_outputs.new.store c.loop-k.k c.loop-k.env [] d' c.in_ok-got.got made.held made.binds made.kids made.frames
 
 pub returns-clause-descent : goal.returns-clause-descent
 returns-clause-descent c =
@@ -193,11 +186,11 @@ returns-clause-descent c =
     let x = c.loop-k.invariant.0 in
     let d = c.loop-k.invariant.1 in
     let d' = descending_as m su rs x c.facts.ensures.moded c.args.known c.args.bounds.budget c.args.bounds.levels c.args.candidate.now.number r s c.args.given.now.facts.now c.args.given.now.pairs.now c.args.candidate.now.env c.args.spot c.requires.terms c.loop-k.store c.loop-k.k c.loop-k.env _ _ (drop_premises_end c.args.candidate.now.rule.now.premises.items c.loop-k.k (let a = c.loop-k-test.false in let b = c.len-k-end.ensures in let e = c.args.candidate.now.rule.now.premises.ok in omega arith)) d in
-    let S = filled (env_at (store_envs c.loop-k.store) c.loop-k.env) in
-    let held = held_as _ _ _ _ _ (λ i. selected true (c.roles.ensures i) (map (instance S) (map tree (c.deref.ensures.value i)))) c.in_ok-got.ensures in
+    let made = c.in_ok-got.ensures in
     λ hyps are. for_hyps m s c.args.given.now.facts.now c.args.given.now.pairs.now x hyps d.are are
-    (λ hs. IsDescent m su rs hs c.args.bounds.budget c.args.bounds.levels (record { arena = c.make_places.new.arena; binds = c.loop-k.store.binds; kids = c.loop-k.store.kids; frames = c.loop-k.store.frames }) (PremisesLead m su rs hs c.args.bounds.budget c.args.bounds.levels c.args.candidate.now.number r (spot_goal s c.args.spot) c.args.spot.path.items 0 r.premises (env_at (store_envs s) c.args.candidate.now.env)) (Stuck c.args.spot (Mismatch None c.in_ok-got.got)))
-    (end_stuck m su rs x c.facts.ensures.moded c.args.known c.args.bounds.budget c.args.bounds.levels c.args.candidate.now.number r s c.args.given.now.facts.now c.args.given.now.pairs.now c.args.candidate.now.env c.args.spot c.requires.terms c.loop-k.store (record { arena = c.make_places.new.arena; binds = c.loop-k.store.binds; kids = c.loop-k.store.kids; frames = c.loop-k.store.frames }) c.loop-k.k c.loop-k.env [] d' c.in_ok-got.got held refl refl refl)
+    (λ hs. IsDescent m su rs hs c.args.bounds.budget c.args.bounds.levels c.made_outputs.new.store (PremisesLead m su rs hs c.args.bounds.budget c.args.bounds.levels c.args.candidate.now.number r (spot_goal s c.args.spot) c.args.spot.path.items 0 r.premises (env_at (store_envs s) c.args.candidate.now.env)) c.unwanted.result)
+    (subst (λ (q : Descent). IsDescent m su rs x c.args.bounds.budget c.args.bounds.levels c.made_outputs.new.store (PremisesLead m su rs x c.args.bounds.budget c.args.bounds.levels c.args.candidate.now.number r (spot_goal s c.args.spot) c.args.spot.path.items 0 r.premises (env_at (store_envs s) c.args.candidate.now.env)) q) (sym c.unwanted.ensures)
+    (end_stuck m su rs x c.facts.ensures.moded c.args.known c.args.bounds.budget c.args.bounds.levels c.args.candidate.now.number r s c.args.given.now.facts.now c.args.given.now.pairs.now c.args.candidate.now.env c.args.spot c.requires.terms c.loop-k.store c.made_outputs.new.store c.loop-k.k c.loop-k.env [] d' c.in_ok-got.got made.held made.binds made.kids made.frames))
 
 pub loop-k-init : goal.loop-k-init
 loop-k-init c =
