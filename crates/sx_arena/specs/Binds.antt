@@ -5,6 +5,7 @@ use Rattle.sx_term.specs.Tree.{Tree}
 use Rattle.sx_arena.specs.Matching.{Assignment, unbound, bind}
 use Rattle.sx_arena.specs.declared.binds.Bind.{Bind}
 use Rattle.sx_arena.specs.declared.binds.Binds.{Binds}
+use Rattle.sx_arena.specs.declared.chain.Chain.{Chain}
 use Rattle.sx_arena.specs.Grown.{Extends, grown_from, Fits}
 use Rattle.sx_arena.specs.Arena.{tree_at}
 
@@ -25,6 +26,10 @@ envs ts b = grown_from (bind_step ts) [] b.cells.items
 
 abbrev pub IsBinds : List Tree → Binds → Type 0
 IsBinds ts b = Fits (bind_step ts) (BindFits ts) [] b.cells.items
+
+-- the bindings of a chain
+abbrev pub env_of : List Tree → Chain → Assignment
+env_of ts c = env_at (envs ts c.binds.now) c.env
 
 -- the chains go on from the others, whose cells stay where they are
 pub record BindsGrow (ts : List Tree) (old new : Binds) : Type 0 where

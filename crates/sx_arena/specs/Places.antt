@@ -2,18 +2,25 @@
 use Rattle.std.specs.Prelude.{◌≡◌, ℕ, ◌-◌, ◌^◌, Bool, true, false, List, map, length, min, Option}
 use Rattle.std.specs.Prelude.{Some, None}
 use Rattle.sx_term.specs.Tree.{Tree, Trees, node}
+use Rattle.sx_term.specs.Term.{tree}
 use Rattle.sx_rules.specs.Modes.{inputs, outputs}
 use Rattle.sx_arena.specs.Matching.{Assignment, match, match_all}
 use Rattle.sx_arena.specs.Limits.{Cause, too_deep, too_big}
 use Rattle.sx_arena.specs.declared.arena.Arena.{Arena}
 use Rattle.sx_arena.specs.declared.places.Limit.{Limit}
 use Rattle.sx_arena.specs.declared.places.Limit.TheVariants.{TooDeep, TooBig}
+use Rattle.sx_arena.specs.declared.side.Side.{Side}
 use Rattle.sx_arena.specs.Arena.{trees, tree_at, IsArena, AreBelow, Extends}
+use Rattle.sx_arena.specs.Views.{mask_of}
 
 -- the outputs, or else the inputs
 abbrev pub selected : {X : Type 0} → Bool → List Bool → List X → List X
 selected false mask xs = inputs mask xs
 selected true mask xs = outputs mask xs
+
+-- the terms of a side
+abbrev pub patterns_of : Side → List Tree
+patterns_of s = selected s.outputs (mask_of s.roles.now) (map tree s.places.now)
 
 -- the arena goes on from the other, and has the terms at the numbers
 pub record AreHeld (old new : Arena) (is : List ℕ) (ts : List Tree) : Type 0 where

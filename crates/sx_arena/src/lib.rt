@@ -2,8 +2,8 @@
 //! number.
 //!
 //! - `Arena` holds the terms, `Binds` holds bindings of variables to them.
-//! - `made` and `fit` are instances and matching, `make_places` and `fit_places` the same for the
-//!   places of a judgement.
+//! - `made` and `fit` are instances and matching, `make_places` and `fit_places` the same for a
+//!   `Side` of a judgement, its inputs or its outputs.
 //! - `apart` tells whether two terms are apart by the pairs of the hypotheses.
 //! - `enter` puts terms in, `export` takes them out.
 #![tactic(auto)]
@@ -12,6 +12,7 @@ mod arena;
 mod arena_cut;
 mod binds;
 mod cells;
+mod chain;
 mod fact;
 mod input;
 mod laws;
@@ -21,11 +22,13 @@ mod pattern;
 mod places;
 mod set;
 mod shape;
+mod side;
 
 pub use arena::{Arena, Cell};
 pub use arena_cut::keep;
 pub use binds::{Bind, Binds};
 pub use cells::Cells;
+pub use chain::Chain;
 pub use fact::{Fact, copied, same_numbers};
 pub use input::{enter, enter_facts, enter_pairs, enter_places};
 pub use laws::match_is_exact;
@@ -35,3 +38,4 @@ pub use pattern::{fit, made};
 pub use places::{Limit, fit_places, is_output, make_places, passed};
 pub use set::{roles, rule_at};
 pub use shape::{Kids, Shape};
+pub use side::Side;

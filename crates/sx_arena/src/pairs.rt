@@ -6,12 +6,12 @@ ghost use Rattle.sx_term.specs.Term.{tree};
 ghost use Rattle.sx_rules.specs.Instances.{instance};
 ghost use Rattle.sx_arena.specs.Matching.{filled};
 ghost use Rattle.sx_arena.specs.Limits.{are_apart};
-ghost use Rattle.sx_arena.specs.Binds.{envs, env_at, IsBinds};
+ghost use Rattle.sx_arena.specs.Binds.{IsBinds, env_of};
 ghost use Rattle.sx_arena.specs.Arena.{trees, tree_at, IsArena};
 ghost use Rattle.sx_arena.specs.Pairs.{pairs_of, ArePairs, IsTold};
 
 use crate::arena::Arena;
-use crate::binds::Binds;
+use crate::chain::Chain;
 use crate::pattern::made;
 use crate::shape::Shape;
 use std::alloc::Global;
@@ -65,8 +65,7 @@ pub fn apart(arena: &Arena, pairs: &[Pair], first: usize, second: usize) -> bool
 pub fn instances_apart(
     alloc: Global,
     arena: &mut Arena,
-    binds: &Binds,
-    env: usize,
+    chain: &Chain,
     pairs: &[Pair],
     first: &Term,
     second: &Term,
@@ -74,16 +73,15 @@ pub fn instances_apart(
     requires first { depth_of (tree first.now) ≤ 1000 }
     requires second { depth_of (tree second.now) ≤ 1000 }
     requires arena { IsArena arena.old }
-    requires binds { IsBinds (trees arena.old) binds.now }
-    requires env { env ≤ length binds.now.cells.items }
+    requires binds { IsBinds (trees arena.old) chain.now.binds.now }
+    requires env { chain.now.env ≤ length chain.now.binds.now.cells.items }
     requires pairs { ArePairs (length (trees arena.old)) pairs.now }
     ensures { IfOk result (λ b. IsTold arena.old arena.new b
         (are_apart (record { judgements = []; pairs = pairs_of (trees arena.old) pairs.now })
-        (instance (filled (env_at (envs (trees arena.old) binds.now) env)) (tree first.now))
-        (instance (filled (env_at (envs (trees arena.old) binds.now) env))
-        (tree second.now)))) }
+        (instance (filled (env_of (trees arena.old) chain.now)) (tree first.now))
+        (instance (filled (env_of (trees arena.old) chain.now)) (tree second.now)))) }
 {
-    let left = made(alloc, arena, binds, env, first)?;
-    let right = made(alloc, arena, binds, env, second)?;
+    let left = made(alloc, arena, chain.binds, chain.env, first)?;
+    let right = made(alloc, arena, chain.binds, chain.env, second)?;
     Ok(apart(arena, pairs, left, right))
 }

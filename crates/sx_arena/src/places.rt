@@ -10,12 +10,13 @@ ghost use Rattle.sx_arena.specs.Limits.{limit_passed};
 ghost use Rattle.sx_arena.specs.Arena.{trees, tree_at, IsArena, AreBelow};
 ghost use Rattle.sx_arena.specs.Binds.{envs, env_at, IsBinds, BindsGrow, IsFit};
 ghost use Rattle.sx_arena.specs.Views.{mask_of};
-ghost use Rattle.sx_arena.specs.Places.{selected, AreHeld, IsLimit, Differs, NeverFit};
+ghost use Rattle.sx_arena.specs.Places.{selected, patterns_of, AreHeld, IsLimit, Differs, NeverFit};
 
 use crate::arena::Arena;
 use crate::binds::Binds;
 use crate::pattern::{fit, made};
 use crate::shape::Shape;
+use crate::side::Side;
 use std::alloc::Global;
 use sx_rules::Place;
 use sx_term::{NoMemory, Role, Term};
@@ -54,12 +55,17 @@ fn has_label(arena: &Arena, term: usize, label: u32) -> bool
 
 /// Whether the first pattern that is a node has the label of its term: where not, the patterns
 /// match under no bindings.
-fn may_fit(arena: &Arena, roles: &[Place], outputs: bool, places: &[Term], terms: &[usize]) -> bool
+fn may_fit(arena: &Arena, side: &Side, terms: &[usize]) -> bool
     requires arena { IsArena arena.now }
     requires terms { AreBelow (length (trees arena.now)) terms.now }
-    ensures { result ≡ false → NeverFit (selected outputs (mask_of roles.now) (map tree places.now))
+    ensures { result ≡ false → NeverFit (patterns_of side.now)
         (map (tree_at (trees arena.now)) terms.now) }
 {
+    let Side {
+        roles,
+        outputs,
+        places,
+    } = *side;
     let mut taken = 0;
     for i in 0..places.len() {
         if is_output(roles, i) != outputs {
@@ -76,31 +82,33 @@ fn may_fit(arena: &Arena, roles: &[Place], outputs: bool, places: &[Term], terms
     true
 }
 
-/// The chain under which the instances of the outputs, or else of the inputs, are the terms, or
-/// None where there is none.
+/// The chain under which the instances of the side's terms are these terms, or None where there is
+/// none.
 pub fn fit_places(
     arena: &Arena,
     binds: &mut Binds,
     env: usize,
-    roles: &[Place],
-    outputs: bool,
-    places: &[Term],
+    side: &Side,
     terms: &[usize],
 ) -> Result<Option<usize>, NoMemory>
-    requires shallow { AreShallow (map tree places.now) }
+    requires shallow { AreShallow (map tree side.now.places.now) }
     requires arena { IsArena arena.now }
     requires binds { IsBinds (trees arena.now) binds.old }
     requires env { env ≤ length binds.old.cells.items }
     requires terms { AreBelow (length (trees arena.now)) terms.now }
     ensures grows { OnOk result (BindsGrow (trees arena.now) binds.old binds.new) }
     ensures fit { IfOk result (λ r. IsFit (trees arena.now) binds.new
-        (match_all (selected outputs (mask_of roles.now) (map tree places.now))
-        (map (tree_at (trees arena.now)) terms.now)
+        (match_all (patterns_of side.now) (map (tree_at (trees arena.now)) terms.now)
         (env_at (envs (trees arena.now) binds.old) env)) r) }
 {
-    if !may_fit(arena, roles, outputs, places, terms) {
+    if !may_fit(arena, side, terms) {
         return Ok(None);
     }
+    let Side {
+        roles,
+        outputs,
+        places,
+    } = *side;
     let mut last = env;
     let mut taken = 0;
     for i in 0..places.len() {
@@ -122,25 +130,28 @@ pub fn fit_places(
     Ok(Some(last))
 }
 
-/// The instances of the outputs, or else of the inputs.
+/// The instances of the side's terms under the chain.
 pub fn make_places(
     alloc: Global,
     arena: &mut Arena,
     binds: &Binds,
     env: usize,
-    roles: &[Place],
-    outputs: bool,
-    places: &[Term],
+    side: &Side,
 ) -> Result<Vec<usize>, NoMemory>
-    requires shallow { AreShallow (map tree places.now) }
+    requires shallow { AreShallow (map tree side.now.places.now) }
     requires arena { IsArena arena.old }
     requires binds { IsBinds (trees arena.old) binds.now }
     requires env { env ≤ length binds.now.cells.items }
     ensures { IfOk result (λ r. AreHeld arena.old arena.new r.items
-        (selected outputs (mask_of roles.now)
+        (selected side.now.outputs (mask_of side.now.roles.now)
         (map (instance (filled (env_at (envs (trees arena.old) binds.now) env)))
-        (map tree places.now)))) }
+        (map tree side.now.places.now)))) }
 {
+    let Side {
+        roles,
+        outputs,
+        places,
+    } = *side;
     let mut parts = Vec::new(alloc);
     for i in 0..places.len() {
         if is_output(roles, i) != outputs {

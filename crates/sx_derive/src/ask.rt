@@ -17,7 +17,7 @@ use crate::given::Given;
 use crate::made_places::made_inputs;
 use crate::open::is_open;
 use crate::store::Store;
-use sx_arena::{copied, fit_places, roles};
+use sx_arena::{Side, copied, fit_places, roles};
 use sx_rules::Judgement;
 use sx_term::NoMemory;
 
@@ -62,15 +62,8 @@ pub(crate) fn ask(
     match first {
         None => Ok(Asked::Unanswered(kept)),
         Some(got) => {
-            let fit = fit_places(
-                &store.arena,
-                &mut store.binds,
-                env,
-                roles(given.rules, judgement.form),
-                true,
-                &judgement.places,
-                &got,
-            )?;
+            let side = Side::new(given.rules, judgement, true);
+            let fit = fit_places(&store.arena, &mut store.binds, env, &side, &got)?;
             match fit {
                 None => Ok(Asked::Differs { terms: kept, got }),
                 Some(next) => Ok(Asked::Matched(next)),

@@ -29,7 +29,7 @@ use crate::descent::{Descent, Reason, Spot};
 use crate::given::Given;
 use crate::premise_descent::descend_premises;
 use crate::store::Store;
-use sx_arena::{Fact, copied, fit_places, roles, rule_at, same_numbers};
+use sx_arena::{Fact, Side, copied, fit_places, rule_at, same_numbers};
 use sx_rules::{Rule, RuleSet};
 use sx_term::NoMemory;
 
@@ -76,15 +76,8 @@ fn rule_fit(
     if rule.conclusion.form != form {
         return Ok(None);
     }
-    fit_places(
-        &store.arena,
-        &mut store.binds,
-        0,
-        roles(rules, rule.conclusion.form),
-        false,
-        &rule.conclusion.places,
-        terms,
-    )
+    let side = Side::new(rules, &rule.conclusion, false);
+    fit_places(&store.arena, &mut store.binds, 0, &side, terms)
 }
 
 /// The first rule of the form whose inputs match the terms, and the chain that states the match.

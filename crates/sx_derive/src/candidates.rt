@@ -19,7 +19,7 @@ use crate::premise_loop::premises;
 use crate::step::Step;
 use crate::store::Store;
 use crate::tasks::Task;
-use sx_arena::{Fact, copied, fit_places, roles, rule_at, same_numbers};
+use sx_arena::{Fact, Side, copied, fit_places, rule_at, same_numbers};
 use sx_term::NoMemory;
 
 /// What comes of a rule against a goal.
@@ -48,15 +48,8 @@ pub(crate) fn try_rule(
     if rule.conclusion.form != task.form {
         return Ok(Step::Nothing);
     }
-    let fit = fit_places(
-        &store.arena,
-        &mut store.binds,
-        0,
-        roles(given.rules, rule.conclusion.form),
-        false,
-        &rule.conclusion.places,
-        &task.terms,
-    )?;
+    let side = Side::new(given.rules, &rule.conclusion, false);
+    let fit = fit_places(&store.arena, &mut store.binds, 0, &side, &task.terms)?;
     match fit {
         None => Ok(Step::Nothing),
         Some(env) => {

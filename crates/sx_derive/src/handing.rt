@@ -15,7 +15,7 @@ use crate::given::Given;
 use crate::premise_loop::premises;
 use crate::step::Step;
 use crate::store::Store;
-use sx_arena::{fit_places, roles, rule_at};
+use sx_arena::{Side, fit_places, rule_at};
 use sx_rules::Premise;
 use sx_term::NoMemory;
 
@@ -43,15 +43,8 @@ fn resume(
     match &rule.premises[frame.premise] {
         Premise::Apart(_, _) => unreachable!(),
         Premise::Holds(judgement) => {
-            let fit = fit_places(
-                &store.arena,
-                &mut store.binds,
-                frame.env,
-                roles(given.rules, judgement.form),
-                true,
-                &judgement.places,
-                outputs,
-            )?;
+            let side = Side::new(given.rules, judgement, true);
+            let fit = fit_places(&store.arena, &mut store.binds, frame.env, &side, outputs)?;
             match fit {
                 None => Ok(Step::Nothing),
                 Some(env) => {

@@ -13,7 +13,7 @@ ghost use Rattle.sx_derive.specs.Store.{AreMade, store_envs};
 
 use crate::given::Given;
 use crate::store::Store;
-use sx_arena::{make_places, roles};
+use sx_arena::{Side, make_places};
 use sx_rules::Judgement;
 use sx_term::NoMemory;
 
@@ -32,15 +32,8 @@ pub(crate) fn made_inputs(
         (judgement_instance (filled (env_at (store_envs store.old) env))
         (judgement_of judgement.now)))) }
 {
-    make_places(
-        given.alloc,
-        &mut store.arena,
-        &store.binds,
-        env,
-        roles(given.rules, judgement.form),
-        false,
-        &judgement.places,
-    )
+    let side = Side::new(given.rules, judgement, false);
+    make_places(given.alloc, &mut store.arena, &store.binds, env, &side)
 }
 
 /// The outputs of the judgement.
@@ -58,13 +51,6 @@ pub(crate) fn made_outputs(
         (judgement_instance (filled (env_at (store_envs store.old) env))
         (judgement_of judgement.now)))) }
 {
-    make_places(
-        given.alloc,
-        &mut store.arena,
-        &store.binds,
-        env,
-        roles(given.rules, judgement.form),
-        true,
-        &judgement.places,
-    )
+    let side = Side::new(given.rules, judgement, true);
+    make_places(given.alloc, &mut store.arena, &store.binds, env, &side)
 }

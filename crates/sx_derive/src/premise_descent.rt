@@ -29,7 +29,7 @@ use crate::given::Given;
 use crate::made_places::made_outputs;
 use crate::store::Store;
 use crate::subject_way::put_premise_way;
-use sx_arena::instances_apart;
+use sx_arena::{Chain, instances_apart};
 use sx_rules::{Judgement, Premise, Rule, RuleSet};
 use sx_term::NoMemory;
 
@@ -118,11 +118,14 @@ pub(crate) fn descend_premises(
     for k in 0..rule.premises.len() {
         match &rule.premises[k] {
             Premise::Apart(one, other) => {
+                let chain = Chain {
+                    binds: &store.binds,
+                    env,
+                };
                 if !instances_apart(
                     given.alloc,
                     &mut store.arena,
-                    &store.binds,
-                    env,
+                    &chain,
                     given.pairs,
                     one,
                     other,

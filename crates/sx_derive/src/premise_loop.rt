@@ -12,7 +12,7 @@ use crate::chains::Waiting;
 use crate::given::Given;
 use crate::step::{Step, asked, concluded};
 use crate::store::Store;
-use sx_arena::instances_apart;
+use sx_arena::{Chain, instances_apart};
 use sx_rules::{Premise, Rule};
 use sx_term::NoMemory;
 
@@ -39,11 +39,14 @@ pub(crate) fn premises(
     for k in from.premise..rule.premises.len() {
         match &rule.premises[k] {
             Premise::Apart(first, second) => {
+                let chain = Chain {
+                    binds: &store.binds,
+                    env: from.env,
+                };
                 if !instances_apart(
                     given.alloc,
                     &mut store.arena,
-                    &store.binds,
-                    from.env,
+                    &chain,
                     given.pairs,
                     first,
                     second,

@@ -14,7 +14,7 @@ ghost use Rattle.sx_expand.specs.Followed.{IsWork, bindings_of};
 
 use crate::work::Work;
 use std::alloc::Global;
-use sx_arena::{Arena, Binds, fit_places, make_places, roles};
+use sx_arena::{Arena, Binds, Side, fit_places, make_places};
 use sx_rules::{Judgement, Rule, RuleSet};
 use sx_term::NoMemory;
 
@@ -38,15 +38,8 @@ pub(crate) fn input_work(
         ≡ Some (bindings_of (trees arena.now) w))) }
 {
     let mut binds = Binds::new(alloc);
-    let fit = fit_places(
-        arena,
-        &mut binds,
-        0,
-        roles(rules, rule.conclusion.form),
-        false,
-        &rule.conclusion.places,
-        inputs,
-    )?;
+    let side = Side::new(rules, &rule.conclusion, false);
+    let fit = fit_places(arena, &mut binds, 0, &side, inputs)?;
     match fit {
         Some(env) => Ok(Work { binds, env }),
         None => unreachable!(),
@@ -75,15 +68,8 @@ pub(crate) fn take_outputs(
         (bindings_of (trees arena.now) work.old)
         ≡ Some (bindings_of (trees arena.now) work.new))) }
 {
-    let fit = fit_places(
-        arena,
-        &mut work.binds,
-        work.env,
-        roles(rules, premise.form),
-        true,
-        &premise.places,
-        outputs,
-    )?;
+    let side = Side::new(rules, premise, true);
+    let fit = fit_places(arena, &mut work.binds, work.env, &side, outputs)?;
     match fit {
         Some(env) => {
             work.env = env;
@@ -111,15 +97,8 @@ pub(crate) fn places_under(
         (map (instance (filled (bindings_of (trees arena.old) work.now)))
         (judgement_of it.now).places))) }
 {
-    make_places(
-        alloc,
-        arena,
-        &work.binds,
-        work.env,
-        roles(rules, it.form),
-        outputs,
-        &it.places,
-    )
+    let side = Side::new(rules, it, outputs);
+    make_places(alloc, arena, &work.binds, work.env, &side)
 }
 
 /// The numbers of the terms to which the first so many variables are bound.

@@ -18,7 +18,7 @@ use crate::handing::hand_on;
 use crate::premise_loop::premises;
 use crate::reader::Reader;
 use crate::step::Step;
-use sx_arena::{Fact, copied, fit_places, roles, same_numbers};
+use sx_arena::{Fact, Side, copied, fit_places, same_numbers};
 use sx_rules::{Entry, Rule};
 use sx_term::NoMemory;
 
@@ -46,15 +46,8 @@ fn try_rule(
     if rule.conclusion.form != form {
         return Ok(Step::Clash);
     }
-    let fit = fit_places(
-        &reader.arena,
-        &mut reader.binds,
-        0,
-        roles(given.rules, rule.conclusion.form),
-        false,
-        &rule.conclusion.places,
-        terms,
-    )?;
+    let side = Side::new(given.rules, &rule.conclusion, false);
+    let fit = fit_places(&reader.arena, &mut reader.binds, 0, &side, terms)?;
     match fit {
         None => Ok(Step::Clash),
         Some(env) => match premises(given, rule, number, 0, reader, env)? {

@@ -13,7 +13,7 @@ use crate::given::Given;
 use crate::premise_loop::premises;
 use crate::reader::{Reader, Waiting};
 use crate::step::Step;
-use sx_arena::{fit_places, keep, roles, rule_at};
+use sx_arena::{Side, fit_places, keep, rule_at};
 use sx_rules::Premise;
 use sx_term::NoMemory;
 
@@ -38,13 +38,12 @@ fn resume(
     match &rule.premises[waiting.premise] {
         Premise::Apart(_, _) => unreachable!(),
         Premise::Holds(judgement) => {
+            let side = Side::new(given.rules, judgement, true);
             let fit = fit_places(
                 &reader.arena,
                 &mut reader.binds,
                 waiting.env,
-                roles(given.rules, judgement.form),
-                true,
-                &judgement.places,
+                &side,
                 outputs,
             )?;
             match fit {

@@ -9,7 +9,7 @@ ghost use Rattle.sx_replay.specs.Reader.{IsReader, IsPremises, reader_trees};
 use crate::given::Given;
 use crate::reader::{Reader, Waiting, make};
 use crate::step::Step;
-use sx_arena::instances_apart;
+use sx_arena::{Chain, instances_apart};
 use sx_rules::{Premise, Rule};
 use sx_term::NoMemory;
 
@@ -35,11 +35,14 @@ pub(crate) fn premises(
     for k in from..rule.premises.len() {
         match &rule.premises[k] {
             Premise::Apart(first, second) => {
+                let chain = Chain {
+                    binds: &reader.binds,
+                    env,
+                };
                 if !instances_apart(
                     given.alloc,
                     &mut reader.arena,
-                    &reader.binds,
-                    env,
+                    &chain,
                     given.pairs,
                     first,
                     second,

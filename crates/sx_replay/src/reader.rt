@@ -12,7 +12,7 @@ ghost use Rattle.sx_replay.specs.Limits.{nothing_noted};
 
 use crate::noted::{Noted, noted_after};
 use std::alloc::Global;
-use sx_arena::{Arena, Binds, make_places, roles};
+use sx_arena::{Arena, Binds, Side, make_places};
 use sx_rules::{Judgement, RuleSet};
 use sx_term::NoMemory;
 
@@ -82,15 +82,8 @@ pub fn make(
         (places_made (modes_of rules.now) outputs (env_at (reader_envs reader.old) env)
         (judgement_of judgement.now)) r.items) }
 {
-    let made = make_places(
-        alloc,
-        &mut reader.arena,
-        &reader.binds,
-        env,
-        roles(rules, judgement.form),
-        outputs,
-        &judgement.places,
-    )?;
+    let side = Side::new(rules, judgement, outputs);
+    let made = make_places(alloc, &mut reader.arena, &reader.binds, env, &side)?;
     reader.noted = noted_after(&reader.arena, &made, reader.noted);
     Ok(made)
 }

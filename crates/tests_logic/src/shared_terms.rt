@@ -7,7 +7,7 @@ ghost use Rattle.sx_arena.specs.Arena.{trees, IsArena};
 
 use crate::terms::term;
 use std::alloc::Global;
-use sx_arena::{Arena, Binds, enter, fit, instances_apart, made};
+use sx_arena::{Arena, Binds, Chain, enter, fit, instances_apart, made};
 use sx_term::Term;
 
 /// The number of the term with this core text.
@@ -150,7 +150,11 @@ fn are_apart(alloc: Global, one: &str, other: &str) -> Option<bool> {
     let other = term(alloc, other)?;
     let mut arena = Arena::new(alloc);
     let none = Binds::new(alloc);
-    let told = instances_apart(alloc, &mut arena, &none, 0, &[], &one, &other).ok();
+    let chain = Chain {
+        binds: &none,
+        env: 0,
+    };
+    let told = instances_apart(alloc, &mut arena, &chain, &[], &one, &other).ok();
     drop(none);
     drop(arena);
     told

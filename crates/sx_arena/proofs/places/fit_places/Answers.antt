@@ -6,12 +6,12 @@ use Rattle.sx_arena.proofs.places.fit_places.Goals as goal
 
 pub loop-i-preserved-then-is_output-outputs : goal.loop-i-preserved-then-is_output-outputs
 loop-i-preserved-then-is_output-outputs c =
-    let p = get_at c.args.places.now c.loop-i.i c.loop-i-test.true in
+    let p = get_at c.args.side.now.places.now c.loop-i.i c.loop-i-test.true in
     placing_skip _ _ _ _ _ _ _ _ _ _ _ p.0 c.loop-i.invariant c.loop-i-test.true p.1 (λ q. is_other _ _ c.if-is_output-outputs.true (c.is_output.ensures ∙ q))
 
 pub returns-then-taken-terms-clause-fit : goal.returns-then-taken-terms-clause-fit
 returns-then-taken-terms-clause-fit c =
-    let p = get_at c.args.places.now c.loop-i.i c.loop-i-test.true in
+    let p = get_at c.args.side.now.places.now c.loop-i.i c.loop-i-test.true in
     placing_few _ _ _ _ _ _ _ _ _ _ _ p.0 c.loop-i.invariant c.loop-i-test.true p.1 (sym c.is_output.ensures ∙ is_same _ _ c.if-is_output-outputs.false) c.if-taken-terms.true
 
 pub fit-requires-clause-depth : goal.fit-requires-clause-depth

@@ -7,7 +7,7 @@ loop-i-init c = forming_none _ _ _ _ _ _ _ c.requires.arena c.requires.binds c.n
 
 pub loop-i-preserved-then-is_output-outputs : goal.loop-i-preserved-then-is_output-outputs
 loop-i-preserved-then-is_output-outputs c =
-    let p = get_at c.args.places.now c.loop-i.i c.loop-i-test.true in
+    let p = get_at c.args.side.now.places.now c.loop-i.i c.loop-i-test.true in
     forming_skip _ _ _ _ _ _ _ _ _ p.0 c.loop-i.invariant c.loop-i-test.true p.1 (λ q. is_other _ _ c.if-is_output-outputs.true (c.is_output.ensures ∙ q))
 
 pub made-requires-clause-depth : goal.made-requires-clause-depth

@@ -1,4 +1,5 @@
 use Rattle.std.proofs.Common.{List, map, length, refl, sym, ◌∙◌, arith, subst}
+use Rattle.sx_arena.specs.Places.{selected}
 use Rattle.sx_term.specs.Term.{tree}
 use Rattle.sx_rules.specs.Rules.{Judgement}
 use Rattle.sx_rules.specs.Modes.{outputs}
@@ -122,7 +123,7 @@ fit_places-requires-clause-terms c =
     let b = c.requires.facts in
     let l = quiet_level m rs (hyps_in c.args.given.now.pairs.now s b.0) c.args.bounds.budget c.args.bounds.levels (asked_goal m s c.args.env j) (c.requires.quiet b.0 b.1) in
     let r0 = rw c.in-Some.is at (c.in_ok-first.ensures b.0 (facts_stay m (store_trees s) (store_trees t) made.held.extends b.0 c.args.given.now.facts.now b.1)) in
-    subst (λ is. AreBelow (length (store_trees c.first_answer.new.store)) is) (sym c.deref-in-Some-2.ensures.value) r0.1.0
+    subst (λ is. AreBelow (length (store_trees c.first_answer.new.store)) is) (sym c.deref-in-Some.ensures.value) r0.1.0
 
 pub returns-in-None-clause-grows : goal.returns-in-None-clause-grows
 returns-in-None-clause-grows c =
@@ -186,7 +187,7 @@ returns-in-None-fit-clause-answered c =
     let b = c.requires.facts in
     let l = quiet_level m rs (hyps_in c.args.given.now.pairs.now s b.0) c.args.bounds.budget c.args.bounds.levels (asked_goal m s c.args.env j) (c.requires.quiet b.0 b.1) in
     λ js a. ask_differs m rs c.args.given.now.pairs.now s t c.args.env c.args.bounds.levels c.args.bounds.budget j c.in_ok-terms.terms.items c.requires.store c.requires.pairs c.requires.env made.held made.binds made.kids made.frames c.first_answer.new.store c.in_ok-kept.kept (c.in_ok-kept.ensures ∙ c.deref.ensures.value) js l c.in-Some.got (rw c.in-Some.is at (c.in_ok-first.ensures js (facts_stay m (store_trees s) (store_trees t) made.held.extends js c.args.given.now.facts.now a))) (record { arena = c.first_answer.new.store.arena; binds = c.fit_places.new.binds; kids = c.first_answer.new.store.kids; frames = c.first_answer.new.store.frames }) c.in_ok-fit-in-Some.ensures.grows refl refl refl
-    ((λ i. match_all (outputs (sym c.roles.ensures i) (map tree (sym c.deref-in-Some.ensures.value i))) (map (tree_at (store_trees c.first_answer.new.store)) (sym c.deref-in-Some-2.ensures.value i)) (env_at (store_envs c.first_answer.new.store) c.args.env)) ∙ (rw c.in-None-fit.is at c.in_ok-fit-in-Some.ensures.fit))
+    ((λ i. match_all (selected (sym c.new-side.ensures.outputs i) (sym c.new-side.ensures.roles i) (map tree (sym c.new-side.ensures.places i))) (map (tree_at (store_trees c.first_answer.new.store)) (sym c.deref-in-Some.ensures.value i)) (env_at (store_envs c.first_answer.new.store) c.args.env)) ∙ (rw c.in-None-fit.is at c.in_ok-fit-in-Some.ensures.fit))
 
 pub returns-in-Some-fit-clause-answered : goal.returns-in-Some-fit-clause-answered
 returns-in-Some-fit-clause-answered c =
@@ -201,4 +202,4 @@ returns-in-Some-fit-clause-answered c =
     λ js a.
     let k = rw c.in-Some-fit.is at c.in_ok-fit-in-Some.ensures.fit in
     ask_matches m rs c.args.given.now.pairs.now s t c.args.env c.args.bounds.levels c.args.bounds.budget j c.in_ok-terms.terms.items c.requires.store c.requires.pairs c.requires.env made.held made.binds made.kids made.frames c.first_answer.new.store c.in_ok-kept.kept (c.in_ok-kept.ensures ∙ c.deref.ensures.value) js l c.in-Some.got (rw c.in-Some.is at (c.in_ok-first.ensures js (facts_stay m (store_trees s) (store_trees t) made.held.extends js c.args.given.now.facts.now a))) (record { arena = c.first_answer.new.store.arena; binds = c.fit_places.new.binds; kids = c.first_answer.new.store.kids; frames = c.first_answer.new.store.frames }) c.in_ok-fit-in-Some.ensures.grows refl refl refl c.in-Some-fit.next k.0
-    ((λ i. match_all (outputs (sym c.roles.ensures i) (map tree (sym c.deref-in-Some.ensures.value i))) (map (tree_at (store_trees c.first_answer.new.store)) (sym c.deref-in-Some-2.ensures.value i)) (env_at (store_envs c.first_answer.new.store) c.args.env)) ∙ k.1)
+    ((λ i. match_all (selected (sym c.new-side.ensures.outputs i) (sym c.new-side.ensures.roles i) (map tree (sym c.new-side.ensures.places i))) (map (tree_at (store_trees c.first_answer.new.store)) (sym c.deref-in-Some.ensures.value i)) (env_at (store_envs c.first_answer.new.store) c.args.env)) ∙ k.1)

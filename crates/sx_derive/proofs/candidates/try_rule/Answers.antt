@@ -1,6 +1,6 @@
 use Rattle.std.proofs.Common.{List, map, refl, sym, ◌∙◌, subst, arith}
+use Rattle.sx_arena.specs.Places.{selected}
 use Rattle.sx_term.specs.Term.{tree}
-use Rattle.sx_rules.specs.Modes.{inputs}
 use Rattle.sx_rules.specs.Rules.{Rule}
 use Rattle.sx_rules.specs.Deep.{AreShallow}
 use Rattle.sx_arena.specs.Matching.{match_all, unbound}
@@ -23,7 +23,7 @@ use Rattle.sx_derive.proofs.candidates.try_rule.Goals as goal
 pub fit_places-requires-clause-shallow : goal.fit_places-requires-clause-shallow
 fit_places-requires-clause-shallow c =
     let r = shallow_at _ _ _ c.requires.shallow c.rule_at-rule.ensures in
-    subst (λ (xs : List _). AreShallow (map tree xs)) (sym c.deref.ensures.value) r.0
+    subst (λ (xs : List _). AreShallow (map tree xs)) (sym c.new-side.ensures.places) r.0
 
 pub premises-requires-clause-shallow : goal.premises-requires-clause-shallow
 premises-requires-clause-shallow c = shallow_at _ _ _ c.requires.shallow c.rule_at-rule.ensures
@@ -53,7 +53,7 @@ hand_on-requires-clause-head c =
     let f = rw c.in-Some.is at c.in_ok-fit.ensures.fit in
     let d = rule_done (modes_of c.args.given.now.rules.now) (rules_of c.args.given.now.rules.now) c.args.given.now.pairs.now s (record { arena = s.arena; binds = c.fit_places.new.binds; kids = s.kids; frames = s.frames }) c.args.number (rule_of c.rule_at-rule.result.now) c.args.task.now.form c.args.task.now.terms.items c.args.task.now.levels c.args.task.now.frames
     c.requires.store c.if-rule-task.false c.in_ok-fit.ensures.grows refl refl refl c.requires.pairs c.requires.frames c.premises.new.store c.in-Some.env
-    ((λ i. match_all (inputs (sym c.roles.ensures i) (map tree (sym c.deref.ensures.value i))) (map (tree_at (store_trees s)) (sym c.deref-2.ensures.value i)) unbound) ∙ f.1)
+    ((λ i. match_all (selected (sym c.new-side.ensures.outputs i) (sym c.new-side.ensures.roles i) (map tree (sym c.new-side.ensures.places i))) (map (tree_at (store_trees s)) (sym c.deref.ensures.value i)) unbound) ∙ f.1)
     c.in_ok-other-in-Some.other c.in_ok-other-in-Some.ensures c.in-Done.head c.in-Done.outputs c.in-Done.is in
     d.0.0
 
@@ -63,7 +63,7 @@ hand_on-requires-clause-outputs c =
     let f = rw c.in-Some.is at c.in_ok-fit.ensures.fit in
     let d = rule_done (modes_of c.args.given.now.rules.now) (rules_of c.args.given.now.rules.now) c.args.given.now.pairs.now s (record { arena = s.arena; binds = c.fit_places.new.binds; kids = s.kids; frames = s.frames }) c.args.number (rule_of c.rule_at-rule.result.now) c.args.task.now.form c.args.task.now.terms.items c.args.task.now.levels c.args.task.now.frames
     c.requires.store c.if-rule-task.false c.in_ok-fit.ensures.grows refl refl refl c.requires.pairs c.requires.frames c.premises.new.store c.in-Some.env
-    ((λ i. match_all (inputs (sym c.roles.ensures i) (map tree (sym c.deref.ensures.value i))) (map (tree_at (store_trees s)) (sym c.deref-2.ensures.value i)) unbound) ∙ f.1)
+    ((λ i. match_all (selected (sym c.new-side.ensures.outputs i) (sym c.new-side.ensures.roles i) (map tree (sym c.new-side.ensures.places i))) (map (tree_at (store_trees s)) (sym c.deref.ensures.value i)) unbound) ∙ f.1)
     c.in_ok-other-in-Some.other c.in_ok-other-in-Some.ensures c.in-Done.head c.in-Done.outputs c.in-Done.is in
     d.0.1
 
@@ -76,7 +76,7 @@ returns-in-None c =
     (rules_of c.args.given.now.rules.now) c.args.number (rule_of c.rule_at-rule.result.now) c.rule_at-rule.ensures
     (rule_none (modes_of c.args.given.now.rules.now) (rules_of c.args.given.now.rules.now) c.args.given.now.pairs.now s t c.args.number (rule_of c.rule_at-rule.result.now) c.args.task.now.form c.args.task.now.terms.items c.args.task.now.levels c.args.task.now.frames
     c.requires.store c.if-rule-task.false c.in_ok-fit.ensures.grows refl refl refl
-    ((λ i. match_all (inputs (sym c.roles.ensures i) (map tree (sym c.deref.ensures.value i))) (map (tree_at (store_trees s)) (sym c.deref-2.ensures.value i)) unbound) ∙ (rw c.in-None.is at c.in_ok-fit.ensures.fit)))
+    ((λ i. match_all (selected (sym c.new-side.ensures.outputs i) (sym c.new-side.ensures.roles i) (map tree (sym c.new-side.ensures.places i))) (map (tree_at (store_trees s)) (sym c.deref.ensures.value i)) unbound) ∙ (rw c.in-None.is at c.in_ok-fit.ensures.fit)))
 
 pub returns-in-Done : goal.returns-in-Done
 returns-in-Done c =
@@ -88,7 +88,7 @@ returns-in-Done c =
     (rules_of c.args.given.now.rules.now) c.args.number (rule_of c.rule_at-rule.result.now) c.rule_at-rule.ensures
     (rule_handed (modes_of c.args.given.now.rules.now) (rules_of c.args.given.now.rules.now) c.args.given.now.pairs.now s t c.args.number (rule_of c.rule_at-rule.result.now) c.args.task.now.form c.args.task.now.terms.items c.args.task.now.levels c.args.task.now.frames
     c.requires.store c.if-rule-task.false c.in_ok-fit.ensures.grows refl refl refl c.requires.pairs c.requires.frames c.premises.new.store c.in-Some.env
-    ((λ i. match_all (inputs (sym c.roles.ensures i) (map tree (sym c.deref.ensures.value i))) (map (tree_at (store_trees s)) (sym c.deref-2.ensures.value i)) unbound) ∙ f.1)
+    ((λ i. match_all (selected (sym c.new-side.ensures.outputs i) (sym c.new-side.ensures.roles i) (map tree (sym c.new-side.ensures.places i))) (map (tree_at (store_trees s)) (sym c.deref.ensures.value i)) unbound) ∙ f.1)
     c.in_ok-other-in-Some.other c.in_ok-other-in-Some.ensures c.in-Done.head c.in-Done.outputs c.in-Done.is c.hand_on.new.store step h)) c.hand_on.result c.hand_on.ensures
 
 pub returns-in_default : goal.returns-in_default
@@ -101,5 +101,5 @@ returns-in_default c =
     (rules_of c.args.given.now.rules.now) c.args.number (rule_of c.rule_at-rule.result.now) c.rule_at-rule.ensures
     (rule_stop (modes_of c.args.given.now.rules.now) (rules_of c.args.given.now.rules.now) c.args.given.now.pairs.now s t c.args.number (rule_of c.rule_at-rule.result.now) c.args.task.now.form c.args.task.now.terms.items c.args.task.now.levels c.args.task.now.frames
     c.requires.store c.if-rule-task.false c.in_ok-fit.ensures.grows refl refl refl c.requires.pairs c.requires.frames c.premises.new.store c.in-Some.env
-    ((λ i. match_all (inputs (sym c.roles.ensures i) (map tree (sym c.deref.ensures.value i))) (map (tree_at (store_trees s)) (sym c.deref-2.ensures.value i)) unbound) ∙ f.1)
+    ((λ i. match_all (selected (sym c.new-side.ensures.outputs i) (sym c.new-side.ensures.roles i) (map tree (sym c.new-side.ensures.places i))) (map (tree_at (store_trees s)) (sym c.deref.ensures.value i)) unbound) ∙ f.1)
     c.in_ok-other-in-Some.other c.in_ok-other-in-Some.ensures (λ h o e. c.in_default.not-Done h o e))

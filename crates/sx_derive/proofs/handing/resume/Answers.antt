@@ -1,4 +1,5 @@
 use Rattle.std.proofs.Common.{◌≡◌, ◌<◌, Some, List, map, refl, sym, ◌∙◌, subst, length, arith}
+use Rattle.sx_arena.specs.Places.{selected}
 use Rattle.std.proofs.lemmas.Option.{slice_get_within}
 use Rattle.std.proofs.lemmas.List.{length-map}
 use Rattle.sx_term.specs.Term.{tree}
@@ -22,7 +23,7 @@ fit_places-requires-clause-shallow c =
     let x = waits_at _ _ c.args.store.now _ c.requires.frame _ c.rule_at-rule.ensures in
     let l = holds_at c.rule_at-rule.result.now.premises.items c.args.frame.premise _ _ _ x.1 c.index.ensures c.in-Holds.is in
     let r = shallow_at _ _ _ c.requires.shallow c.rule_at-rule.ensures in
-    subst (λ (xs : List _). AreShallow (map tree xs)) (sym c.deref.ensures.value) (subst IsShallowPremise c.in-Holds.is (shallow_premise_at _ r.1 c.args.frame.premise _ l.0 c.index.ensures))
+    subst (λ (xs : List _). AreShallow (map tree xs)) (sym c.new-side.ensures.places) (subst IsShallowPremise c.in-Holds.is (shallow_premise_at _ r.1 c.args.frame.premise _ l.0 c.index.ensures))
 
 pub fit_places-requires-clause-env : goal.fit_places-requires-clause-env
 fit_places-requires-clause-env c =
@@ -62,7 +63,7 @@ returns-in-None c =
     let s = c.args.store.now in
     resumed_none (modes_of c.args.given.now.rules.now) (rules_of c.args.given.now.rules.now) _ s (record { arena = s.arena; binds = c.fit_places.new.binds; kids = s.kids; frames = s.frames }) c.args.frame (rule_of c.rule_at-rule.result.now) (judgement_of c.in-Holds.judgement) c.args.head c.args.outputs.now
     c.requires.store c.requires.pairs c.requires.frame c.rule_at-rule.ensures l.1 c.requires.head c.in_ok-fit-in-Holds.ensures.grows refl refl refl
-    ((λ i. match_all (outputs (sym c.roles.ensures i) (map tree (sym c.deref.ensures.value i))) (map (tree_at (store_trees s)) c.args.outputs.now) (env_at (store_envs s) c.args.frame.env))
+    ((λ i. match_all (selected (sym c.new-side.ensures.outputs i) (sym c.new-side.ensures.roles i) (map tree (sym c.new-side.ensures.places i))) (map (tree_at (store_trees s)) c.args.outputs.now) (env_at (store_envs s) c.args.frame.env))
     ∙ (rw c.in-None.is at c.in_ok-fit-in-Holds.ensures.fit))
 
 pub returns-in_ok-kids-in-Some : goal.returns-in_ok-kids-in-Some
@@ -74,7 +75,7 @@ returns-in_ok-kids-in-Some c =
     ok_weaker _ _ (λ step p. resumed_more (modes_of c.args.given.now.rules.now) (rules_of c.args.given.now.rules.now) _ s (record { arena = s.arena; binds = c.fit_places.new.binds; kids = s.kids; frames = s.frames }) c.args.frame (rule_of c.rule_at-rule.result.now) (judgement_of c.in-Holds.judgement) c.args.head c.args.outputs.now
     c.requires.store c.requires.pairs c.requires.frame c.rule_at-rule.ensures l.1 c.requires.head c.in_ok-fit-in-Holds.ensures.grows refl refl refl
     (record { arena = s.arena; binds = c.fit_places.new.binds; kids = c.push_kid.new.kids; frames = s.frames }) c.premises.new.store c.in-Some.env _ step f.0
-    ((λ i. match_all (outputs (sym c.roles.ensures i) (map tree (sym c.deref.ensures.value i))) (map (tree_at (store_trees s)) c.args.outputs.now) (env_at (store_envs s) c.args.frame.env)) ∙ f.1)
+    ((λ i. match_all (selected (sym c.new-side.ensures.outputs i) (sym c.new-side.ensures.roles i) (map tree (sym c.new-side.ensures.places i))) (map (tree_at (store_trees s)) c.args.outputs.now) (env_at (store_envs s) c.args.frame.env)) ∙ f.1)
     refl refl c.in_ok-kids-in-Some.ensures.items refl c.in_ok-kids-in-Some.ensures.chain p) c.premises.result c.premises.ensures
 
 pub rule_at-rule-requires : goal.rule_at-rule-requires

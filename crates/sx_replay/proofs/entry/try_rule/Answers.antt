@@ -1,6 +1,6 @@
 use Rattle.std.proofs.Common.{List, map, sym, ◌∙◌, subst}
+use Rattle.sx_arena.specs.Places.{selected}
 use Rattle.sx_term.specs.Term.{tree}
-use Rattle.sx_rules.specs.Modes.{inputs}
 use Rattle.sx_rules.specs.Deep.{AreShallow}
 use Rattle.sx_arena.specs.Matching.{match_all, unbound}
 use Rattle.sx_arena.specs.Arena.{tree_at}
@@ -14,7 +14,7 @@ use Rattle.sx_replay.proofs.entry.try_rule.Goals as goal
 pub fit_places-requires-clause-shallow : goal.fit_places-requires-clause-shallow
 fit_places-requires-clause-shallow c =
     let r = shallow_rule _ _ _ c.requires.shallow c.requires.found in
-    subst (λ (xs : List _). AreShallow (map tree xs)) (sym c.deref.ensures.value) r.0
+    subst (λ (xs : List _). AreShallow (map tree xs)) (sym c.new-side.ensures.places) r.0
 
 pub premises-requires-clause-shallow : goal.premises-requires-clause-shallow
 premises-requires-clause-shallow c = shallow_rule _ _ _ c.requires.shallow c.requires.found
@@ -42,14 +42,14 @@ hand_on-requires-clause-outputs c =
     let s = c.args.reader.now in
     (rule_done (modes_of c.args.given.now.rules.now) (rules_of c.args.given.now.rules.now) c.args.given.now.pairs.now s (rule_of c.args.rule.now) c.args.form c.args.terms.now c.requires.reader c.if-rule-form.false c.fit_places.new.binds c.in_ok-fit.ensures.grows
     (reader_pairs s c.args.given.now.pairs.now c.requires.pairs) c.premises.new.reader c.in-Some.env
-    ((λ i. match_all (inputs (sym c.roles.ensures i) (map tree (sym c.deref.ensures.value i))) (map (tree_at (reader_trees s)) c.args.terms.now) unbound) ∙ f.1)
+    ((λ i. match_all (selected (sym c.new-side.ensures.outputs i) (sym c.new-side.ensures.roles i) (map tree (sym c.new-side.ensures.places i))) (map (tree_at (reader_trees s)) c.args.terms.now) unbound) ∙ f.1)
     c.in_ok-other-in-Some.other c.in_ok-other-in-Some.ensures c.in-Done.outputs c.in-Done.is).0
 
 pub returns-in-None : goal.returns-in-None
 returns-in-None c =
     let s = c.args.reader.now in
     rule_none (modes_of c.args.given.now.rules.now) (rules_of c.args.given.now.rules.now) c.args.given.now.pairs.now s (rule_of c.args.rule.now) c.args.form c.args.terms.now c.requires.reader c.if-rule-form.false c.fit_places.new.binds c.in_ok-fit.ensures.grows
-    ((λ i. match_all (inputs (sym c.roles.ensures i) (map tree (sym c.deref.ensures.value i))) (map (tree_at (reader_trees s)) c.args.terms.now) unbound) ∙ (rw c.in-None.is at c.in_ok-fit.ensures.fit))
+    ((λ i. match_all (selected (sym c.new-side.ensures.outputs i) (sym c.new-side.ensures.roles i) (map tree (sym c.new-side.ensures.places i))) (map (tree_at (reader_trees s)) c.args.terms.now) unbound) ∙ (rw c.in-None.is at c.in_ok-fit.ensures.fit))
 
 pub returns-in-Done : goal.returns-in-Done
 returns-in-Done c =
@@ -57,7 +57,7 @@ returns-in-Done c =
     let s = c.args.reader.now in
     ok_weaker _ _ (λ step h. rule_handed (modes_of c.args.given.now.rules.now) (rules_of c.args.given.now.rules.now) c.args.given.now.pairs.now s (rule_of c.args.rule.now) c.args.form c.args.terms.now c.requires.reader c.if-rule-form.false c.fit_places.new.binds c.in_ok-fit.ensures.grows
     (reader_pairs s c.args.given.now.pairs.now c.requires.pairs) c.premises.new.reader c.in-Some.env
-    ((λ i. match_all (inputs (sym c.roles.ensures i) (map tree (sym c.deref.ensures.value i))) (map (tree_at (reader_trees s)) c.args.terms.now) unbound) ∙ f.1)
+    ((λ i. match_all (selected (sym c.new-side.ensures.outputs i) (sym c.new-side.ensures.roles i) (map tree (sym c.new-side.ensures.places i))) (map (tree_at (reader_trees s)) c.args.terms.now) unbound) ∙ f.1)
     c.in_ok-other-in-Some.other c.in_ok-other-in-Some.ensures c.in-Done.outputs c.in-Done.is c.hand_on.new.reader step h) c.hand_on.result c.hand_on.ensures
 
 pub returns-in_default : goal.returns-in_default
@@ -66,5 +66,5 @@ returns-in_default c =
     let s = c.args.reader.now in
     rule_stop (modes_of c.args.given.now.rules.now) (rules_of c.args.given.now.rules.now) c.args.given.now.pairs.now s (rule_of c.args.rule.now) c.args.form c.args.terms.now c.requires.reader c.if-rule-form.false c.fit_places.new.binds c.in_ok-fit.ensures.grows
     (reader_pairs s c.args.given.now.pairs.now c.requires.pairs) c.premises.new.reader c.in-Some.env
-    ((λ i. match_all (inputs (sym c.roles.ensures i) (map tree (sym c.deref.ensures.value i))) (map (tree_at (reader_trees s)) c.args.terms.now) unbound) ∙ f.1)
+    ((λ i. match_all (selected (sym c.new-side.ensures.outputs i) (sym c.new-side.ensures.roles i) (map tree (sym c.new-side.ensures.places i))) (map (tree_at (reader_trees s)) c.args.terms.now) unbound) ∙ f.1)
     c.in_ok-other-in-Some.other c.in_ok-other-in-Some.ensures (λ o e. c.in_default.not-Done o e)

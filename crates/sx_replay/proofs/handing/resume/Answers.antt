@@ -1,4 +1,5 @@
 use Rattle.std.proofs.Common.{◌≡◌, ◌<◌, Some, List, map, sym, ◌∙◌, subst, length, arith}
+use Rattle.sx_arena.specs.Places.{selected}
 use Rattle.std.proofs.lemmas.Option.{slice_get_within}
 use Rattle.std.proofs.lemmas.List.{length-map}
 use Rattle.sx_term.specs.Term.{tree}
@@ -22,7 +23,7 @@ fit_places-requires-clause-shallow c =
     let x = waits_at _ _ _ c.requires.waits _ c.rule_at-rule.ensures in
     let l = holds_at c.rule_at-rule.result.now.premises.items c.args.waiting.premise _ _ _ x.1 c.index.ensures c.in-Holds.is in
     let r = shallow_rule _ _ _ c.requires.shallow c.rule_at-rule.ensures in
-    subst (λ (xs : List _). AreShallow (map tree xs)) (sym c.deref.ensures.value) (subst IsShallowPremise c.in-Holds.is (shallow_premise_at _ r.1 c.args.waiting.premise _ l.0 c.index.ensures))
+    subst (λ (xs : List _). AreShallow (map tree xs)) (sym c.new-side.ensures.places) (subst IsShallowPremise c.in-Holds.is (shallow_premise_at _ r.1 c.args.waiting.premise _ l.0 c.index.ensures))
 
 pub overflow_add-waiting : goal.overflow_add-waiting
 overflow_add-waiting c =
@@ -48,7 +49,7 @@ returns-in-None c =
     let s = c.args.reader.now in
     resumed_none (modes_of c.args.given.now.rules.now) (rules_of c.args.given.now.rules.now) c.args.given.now.pairs.now s c.args.waiting (rule_of c.rule_at-rule.result.now) (judgement_of c.in-Holds.judgement) c.args.outputs.now
     c.requires.reader c.rule_at-rule.ensures l.1 c.fit_places.new.binds c.in_ok-fit-in-Holds.ensures.grows
-    ((λ i. match_all (outputs (sym c.roles.ensures i) (map tree (sym c.deref.ensures.value i))) (map (tree_at (reader_trees s)) c.args.outputs.now) (env_at (reader_envs s) c.args.waiting.env))
+    ((λ i. match_all (selected (sym c.new-side.ensures.outputs i) (sym c.new-side.ensures.roles i) (map tree (sym c.new-side.ensures.places i))) (map (tree_at (reader_trees s)) c.args.outputs.now) (env_at (reader_envs s) c.args.waiting.env))
     ∙ (rw c.in-None.is at c.in_ok-fit-in-Holds.ensures.fit))
 
 pub returns-in-Some : goal.returns-in-Some
@@ -59,7 +60,7 @@ returns-in-Some c =
     let f = rw c.in-Some.is at c.in_ok-fit-in-Holds.ensures.fit in
     ok_weaker _ _ (λ step p. resumed_more (modes_of c.args.given.now.rules.now) (rules_of c.args.given.now.rules.now) c.args.given.now.pairs.now s c.args.waiting (rule_of c.rule_at-rule.result.now) (judgement_of c.in-Holds.judgement) c.args.outputs.now
     c.requires.reader c.rule_at-rule.ensures l.1 c.fit_places.new.binds c.in_ok-fit-in-Holds.ensures.grows c.premises.new.reader c.in-Some.env step
-    ((λ i. match_all (outputs (sym c.roles.ensures i) (map tree (sym c.deref.ensures.value i))) (map (tree_at (reader_trees s)) c.args.outputs.now) (env_at (reader_envs s) c.args.waiting.env)) ∙ f.1) p)
+    ((λ i. match_all (selected (sym c.new-side.ensures.outputs i) (sym c.new-side.ensures.roles i) (map tree (sym c.new-side.ensures.places i))) (map (tree_at (reader_trees s)) c.args.outputs.now) (env_at (reader_envs s) c.args.waiting.env)) ∙ f.1) p)
     c.premises.result c.premises.ensures
 
 pub rule_at-rule-requires : goal.rule_at-rule-requires
