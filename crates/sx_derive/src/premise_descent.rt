@@ -115,6 +115,7 @@ pub(crate) fn descend_premises(
     let rule = candidate.rule;
     rules.facts();
     let mut env = candidate.env;
+    let pairs = given.pairs;
     for k in 0..rule.premises.len() {
         match &rule.premises[k] {
             Premise::Apart(one, other) => {
@@ -122,14 +123,7 @@ pub(crate) fn descend_premises(
                     binds: &store.binds,
                     env,
                 };
-                if !instances_apart(
-                    given.alloc,
-                    &mut store.arena,
-                    &chain,
-                    given.pairs,
-                    one,
-                    other,
-                )? {
+                if !instances_apart(given.alloc, &mut store.arena, &chain, pairs, one, other)? {
                     return Ok(equal(spot, candidate.number, k));
                 }
             }

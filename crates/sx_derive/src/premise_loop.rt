@@ -36,6 +36,7 @@ pub(crate) fn premises(
         given.now.pairs.now store.old store.new from.rule (rule_of rule.now) from.levels from.env
         from.kids from.before (drop from.premise (map premise_of rule.now.premises.items)) step) }
 {
+    let pairs = given.pairs;
     for k in from.premise..rule.premises.len() {
         match &rule.premises[k] {
             Premise::Apart(first, second) => {
@@ -43,14 +44,7 @@ pub(crate) fn premises(
                     binds: &store.binds,
                     env: from.env,
                 };
-                if !instances_apart(
-                    given.alloc,
-                    &mut store.arena,
-                    &chain,
-                    given.pairs,
-                    first,
-                    second,
-                )? {
+                if !instances_apart(given.alloc, &mut store.arena, &chain, pairs, first, second)? {
                     return Ok(Step::Nothing);
                 }
             }

@@ -32,6 +32,7 @@ pub(crate) fn premises(
         env
         (drop from (map premise_of rule.now.premises.items)) step) }
 {
+    let pairs = given.pairs;
     for k in from..rule.premises.len() {
         match &rule.premises[k] {
             Premise::Apart(first, second) => {
@@ -39,14 +40,7 @@ pub(crate) fn premises(
                     binds: &reader.binds,
                     env,
                 };
-                if !instances_apart(
-                    given.alloc,
-                    &mut reader.arena,
-                    &chain,
-                    given.pairs,
-                    first,
-                    second,
-                )? {
+                if !instances_apart(given.alloc, &mut reader.arena, &chain, pairs, first, second)? {
                     return Ok(Step::Clash);
                 }
             }

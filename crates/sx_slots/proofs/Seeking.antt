@@ -33,10 +33,14 @@ module _ (hs : List ℕ) (Wanted : ℕ → Type 0) (hash : ℕ) (alike : (i : �
         | inl l ↦ o i l (alike i b w)
         | inr l ↦ behind i (cases_eq i x) (cases_lt x i) l b w
       ]
-      next_of (Some y) o = ((let a = o.0 in let b = g.0 in omega arith), o.1, λ i a b w. elim (cases_lt i x) [
-        | inl l ↦ o.2 i a l (alike i b w)
-        | inr l ↦ behind i (cases_eq i x) (cases_lt x i) l b w
-      ])
+      next_of (Some y) o = (
+        (let a = o.0 in let b = g.0 in omega arith),
+        o.1,
+        λ i a b w. elim (cases_lt i x) [
+          | inl l ↦ o.2 i a l (alike i b w)
+          | inr l ↦ behind i (cases_eq i x) (cases_lt x i) l b w
+        ],
+      )
 
 -- the number before is nearer to the first
 pub goes_back : (hs : List ℕ) (x hash : ℕ) (answer : Option ℕ) → IsLastWith hs x hash answer → left_of answer < suc x
