@@ -10,9 +10,15 @@ use tests_runs::files::{append, join, put, put_files, put_under};
 use tests_runs::run::ends;
 
 /// Whether an extension of this text, which is called X, is refused so.
-fn is_refused(alloc: Global, text: &'static [u8], told: &[u8]) -> bool {
-    let x = file("X.ext", text);
-    tells(alloc, &[&LAM, &SHOW, &x], "check X", 1, told)
+fn is_refused(alloc: Global, text: &[u8], told: &[u8]) -> bool {
+    let mut shelf = MemShelf::new(alloc);
+    let mut out = MemSink::new(alloc);
+    let is = put_files(alloc, &[&LAM, &SHOW], &mut shelf)
+        && put(alloc, "X.ext", &[text], &mut shelf)
+        && ends(alloc, "check X", &mut shelf, &mut out, 1, told);
+    drop(out);
+    drop(shelf);
+    is
 }
 
 #[test]
