@@ -29,4 +29,6 @@ mod sample_module;
 #[cfg(test)]
 mod samples;
 #[cfg(test)]
+mod slots;
+#[cfg(test)]
 mod sorts;
