@@ -8,7 +8,8 @@ use Rattle.sx_language.specs.Alike.{LanguageHasThree}
 use Rattle.sx_language.proofs.OneLanguage.{one_language}
 use Rattle.sx_outside.specs.Files.{Files}
 use Rattle.sx_steps.specs.declared.stop.Stop.{Stop}
-use Rattle.sx_steps.specs.Held.{Held, most_bytes}
+use Rattle.sx_steps.specs.Held.{Held}
+use Rattle.sx_term.specs.Limits.{most_bytes}
 use Rattle.sx_steps.specs.Steps.{NoTries}
 use Rattle.sx_steps.proofs.Ones.{held_one, trying_by, no_tries_one}
 use Rattle.sx_steps.proofs.Related.{IsOneAs, one_as, then_as}

@@ -10,7 +10,8 @@ use Rattle.sx_notation.specs.declared.notation_error.NotationError.TheVariants a
 use Rattle.sx_outside.specs.Files.{Files}
 use Rattle.sx_words.specs.declared.grammar_defect.GrammarDefect.{GrammarDefect}
 use Rattle.sx_steps.specs.declared.stop.Stop.{Stop}
-use Rattle.sx_steps.specs.Held.{Held, most_bytes}
+use Rattle.sx_steps.specs.Held.{Held}
+use Rattle.sx_term.specs.Limits.{most_bytes}
 use Rattle.sx_steps.proofs.TypeErrors.{OnTypeError, on_stop, no_rules, Final, then_final, held_final}
 use Rattle.sx_accepting.specs.LanguageFiles.{language_file}
 use Rattle.sx_accepting.specs.LanguageStops.{uncut_line, unread_line, bad_grammar, grammar_defect_of, metavariable, language_stop}

@@ -8,7 +8,8 @@ use Rattle.sx_notation.specs.Language.{LanguageData, language_data, IsLanguage}
 use Rattle.sx_language.specs.States.{States, IsRefused}
 use Rattle.sx_outside.specs.Files.{Files}
 use Rattle.sx_steps.specs.declared.stop.Stop.{Stop}
-use Rattle.sx_steps.specs.Held.{Held, most_bytes}
+use Rattle.sx_steps.specs.Held.{Held}
+use Rattle.sx_term.specs.Limits.{most_bytes}
 use Rattle.sx_steps.specs.Steps.{Then}
 use Rattle.sx_accepting.specs.declared.read_language.LanguageFile.{LanguageFile}
 use Rattle.sx_accepting.specs.LanguageStops.{language_stop}

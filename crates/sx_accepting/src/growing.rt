@@ -9,6 +9,7 @@ ghost use Rattle.sx_accepting.specs.ExtendedLanguages.{base_of, extended_data, u
 ghost use Rattle.sx_accepting.specs.ExtendedLanguages.{CanExtendBy};
 ghost use Rattle.sx_accepting.specs.Extending.{ExtendsBy, Extends, GoesOnBy};
 ghost use Rattle.sx_accepting.specs.ReadLanguage.{HasText};
+ghost use Rattle.sx_term.specs.Limits.{most_bytes};
 
 use crate::accepting_next::accept_next;
 use crate::extended::Extended;
@@ -32,7 +33,7 @@ fn extend_by<L: Ledger>(
 ) -> Result<Extended, StepError>
     requires name { name.now ≡ extension_file file.now.header.name }
     requires can { (files : ℕ) × CanExtendBy given.now.language.now so_far files }
-    requires short { length file.now.bytes.items ≤ 262144 }
+    requires short { length file.now.bytes.items ≤ most_bytes }
     ensures step { Does (extended_data given.now.language.now)
         (ExtendsBy (base_of given.now.language.now) given.now.budgets (extension_of file.now)
         (extended_data given.now.language.now so_far)) result steps.old steps.new }
@@ -56,7 +57,7 @@ fn extend<L: Ledger>(
     steps: &mut Steps<L>,
 ) -> Result<Extended, StepError>
     requires can { (files : ℕ) × CanExtendBy given.now.language.now so_far files }
-    requires short { length file.now.bytes.items ≤ 262144 }
+    requires short { length file.now.bytes.items ≤ most_bytes }
     ensures step { Does (extended_data given.now.language.now)
         (ExtendsBy (base_of given.now.language.now) given.now.budgets (extension_of file.now)
         (extended_data given.now.language.now so_far)) result steps.old steps.new }

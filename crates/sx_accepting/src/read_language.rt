@@ -7,6 +7,7 @@ ghost use Rattle.sx_steps.specs.Stop.{Gives, OnlyReads, IsNoFault};
 ghost use Rattle.sx_accepting.specs.LanguageFiles.{language_file};
 ghost use Rattle.sx_accepting.specs.ReadLanguage.{stated_of, StatesLanguage, ReadsLanguage};
 ghost use Rattle.sx_accepting.specs.ReadLanguage.{HasText};
+ghost use Rattle.sx_term.specs.Limits.{most_bytes};
 
 use crate::language_stops::bad_language;
 use std::alloc::Global;
@@ -14,8 +15,8 @@ use sx_interface::{Digest, digest};
 use sx_language::read_language;
 use sx_notation::Language;
 use sx_outside::Shelf;
-use sx_steps::{MOST_BYTES, StepError, read_file, with_suffix};
-use sx_term::Text;
+use sx_steps::{StepError, read_file, with_suffix};
+use sx_term::{MOST_BYTES, Text};
 
 /// A language, and the digest of its file.
 #[derive(Drop)]
@@ -32,7 +33,7 @@ fn state_language(
     bytes: &[u8],
 ) -> Result<LanguageFile, StepError>
     requires file { file.now ≡ language_file name.now }
-    requires short { length bytes.now ≤ 262144 }
+    requires short { length bytes.now ≤ most_bytes }
     ensures step { Gives stated_of (StatesLanguage name.now bytes.now) result }
     ensures fit { IfOk result (λ l. IsLanguage l.language) }
     ensures text { IfOk result (λ l. HasText name.now l.language) }

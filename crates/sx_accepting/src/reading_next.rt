@@ -8,6 +8,7 @@ ghost use Rattle.sx_steps.specs.Stop.{Gives, IsNoFault};
 ghost use Rattle.sx_uses.specs.ExtensionFile.{extension_of, extension_file};
 ghost use Rattle.sx_accepting.specs.ExtendedLanguages.{base_of, extended_data, ground_after};
 ghost use Rattle.sx_accepting.specs.Extending.{read_data, ReadsAfter};
+ghost use Rattle.sx_term.specs.Limits.{most_bytes};
 
 use crate::extended::Extended;
 use crate::extension_stops::bad_extension;
@@ -27,7 +28,7 @@ pub(crate) fn read_next(
 ) -> Result<ReadExtension, StepError>
     requires name { name.now ≡ extension_file file.now.header.name }
     requires before { IsBefore (ground_after given.now.language.now so_far.now) }
-    requires short { length file.now.bytes.items ≤ 262144 }
+    requires short { length file.now.bytes.items ≤ most_bytes }
     ensures step { Gives read_data (ReadsAfter (base_of given.now.language.now)
         (extended_data given.now.language.now so_far.now) (extension_of file.now)) result }
     ensures stated { IfOk result

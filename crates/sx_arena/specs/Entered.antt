@@ -9,6 +9,7 @@ use Rattle.sx_arena.specs.declared.pairs.Pair.{Pair}
 use Rattle.sx_arena.specs.Arena.{trees, IsArena, Extends}
 use Rattle.sx_arena.specs.Facts.{IsFact, AreFacts}
 use Rattle.sx_arena.specs.Pairs.{pair_of, pairs_of, ArePairs}
+use Rattle.sx_term.specs.Limits.{most_depth}
 
 -- the arena goes on from the other, and has the judgements by their numbers
 pub record AreFactsIn (modes : Modes) (old new : Arena) (js : List Judgement)
@@ -33,7 +34,8 @@ pub record IsFactIn (modes : Modes) (old new : Arena) (j : Judgement) (fact : Fa
 -- the terms of the pairs are no deeper than 1,000
 abbrev pub ArePairsShallow : List (Tree × Tree) → Type 0
 ArePairsShallow [] = Unit {0}
-ArePairsShallow (p ∷ ps) = ((depth_of p.0 ≤ 1000) × (depth_of p.1 ≤ 1000)) × ArePairsShallow ps
+ArePairsShallow (p ∷ ps) =
+    ((depth_of p.0 ≤ most_depth) × (depth_of p.1 ≤ most_depth)) × ArePairsShallow ps
 
 -- the arena goes on from the other, and has the two terms at the numbers
 pub record IsPairIn (old new : Arena) (p : Tree × Tree) (pair : Pair) : Type 0 where

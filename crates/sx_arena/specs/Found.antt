@@ -1,5 +1,6 @@
 -- Cells that are found by their shapes.
-use Rattle.std.specs.Prelude.{◌≡◌, ℕ, ◌<◌, Bool, true, List, map, length, get_or, Option, Some, None}
+use Rattle.std.specs.Prelude.{◌≡◌, ℕ, ◌<◌, Bool, true, List, map, length, get_or}
+use Rattle.std.specs.Prelude.{Option, Some, None}
 use Rattle.sx_slots.specs.Mixed.{folded}
 use Rattle.sx_arena.specs.declared.shape.Shape.{Shape}
 use Rattle.sx_arena.specs.declared.shape.Shape.TheVariants.{Var}

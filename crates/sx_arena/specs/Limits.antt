@@ -4,6 +4,7 @@ use Rattle.std.specs.Prelude.{Some, None, nat_lt}
 use Rattle.sx_term.specs.Tree.{Tree, lexeme, depth_of, size_of}
 use Rattle.sx_rules.specs.Rules.{Hypotheses}
 use Rattle.sx_arena.specs.Matching.{same}
+use Rattle.sx_term.specs.Limits.{most_depth, most_size}
 
 -- the limit that was passed
 pub data Cause : Type 0 where
@@ -24,8 +25,8 @@ first_cause None d = d
 -- the first limit that the terms pass
 unfoldable pub limit_passed : List Tree → Option Cause
 limit_passed [] = None
-limit_passed (t ∷ ts) = first_cause (term_limit (nat_lt 1000 (depth_of t))
-    (nat_lt 1000000 (size_of t)) t) (limit_passed ts)
+limit_passed (t ∷ ts) = first_cause (term_limit (nat_lt most_depth (depth_of t))
+    (nat_lt most_size (size_of t)) t) (limit_passed ts)
 
 abbrev pub different_lexemes : Tree → Tree → Bool
 different_lexemes (lexeme k x) (lexeme m y) =

@@ -11,6 +11,7 @@ ghost use Rattle.sx_arena.specs.Entered.{IsFactIn, AreFactsIn, ArePairsShallow, 
 ghost use Rattle.sx_arena.specs.Entered.{ArePairsIn};
 ghost use Rattle.sx_arena.specs.Places.{selected, AreHeld};
 ghost use Rattle.sx_arena.specs.Views.{mask_of, modes_of, judgement_of};
+ghost use Rattle.sx_term.specs.Limits.{most_depth};
 
 use crate::arena::Arena;
 use crate::fact::Fact;
@@ -23,7 +24,7 @@ use sx_term::{NoMemory, Term};
 
 /// The number of the term.
 pub fn enter(alloc: Global, arena: &mut Arena, term: &Term) -> Result<usize, NoMemory>
-    requires depth { depth_of (tree term.now) ≤ 1000 }
+    requires depth { depth_of (tree term.now) ≤ most_depth }
     requires arena { IsArena arena.old }
     ensures { IfOk result (λ i. IsHeld arena.old arena.new i (tree term.now)) }
 {
@@ -105,8 +106,8 @@ pub fn enter_facts(
 
 /// The two terms by their numbers.
 fn enter_pair(alloc: Global, arena: &mut Arena, it: &(Term, Term)) -> Result<Pair, NoMemory>
-    requires first { depth_of (tree it.now.0) ≤ 1000 }
-    requires second { depth_of (tree it.now.1) ≤ 1000 }
+    requires first { depth_of (tree it.now.0) ≤ most_depth }
+    requires second { depth_of (tree it.now.1) ≤ most_depth }
     requires arena { IsArena arena.old }
     ensures { IfOk result (λ p. IsPairIn arena.old arena.new (pair it.now) p) }
 {

@@ -9,6 +9,7 @@ ghost use Rattle.sx_arena.specs.Limits.{are_apart};
 ghost use Rattle.sx_arena.specs.Binds.{IsBinds, env_of};
 ghost use Rattle.sx_arena.specs.Arena.{trees, tree_at, IsArena};
 ghost use Rattle.sx_arena.specs.Pairs.{pairs_of, ArePairs, IsTold};
+ghost use Rattle.sx_term.specs.Limits.{most_depth};
 
 use crate::arena::Arena;
 use crate::chain::Chain;
@@ -70,8 +71,8 @@ pub fn instances_apart(
     first: &Term,
     second: &Term,
 ) -> Result<bool, NoMemory>
-    requires first { depth_of (tree first.now) ≤ 1000 }
-    requires second { depth_of (tree second.now) ≤ 1000 }
+    requires first { depth_of (tree first.now) ≤ most_depth }
+    requires second { depth_of (tree second.now) ≤ most_depth }
     requires arena { IsArena arena.old }
     requires binds { IsBinds (trees arena.old) chain.now.binds.now }
     requires env { chain.now.env ≤ length chain.now.binds.now.cells.items }

@@ -8,6 +8,7 @@ ghost use Rattle.sx_arena.specs.Matching.{match as matched, same, filled};
 ghost use Rattle.sx_arena.specs.Arena.{trees, tree_at, IsArena, IsHeld};
 ghost use Rattle.sx_arena.specs.Binds.{envs, env_at, IsBinds, BindsGrow, IsFit};
 ghost use Rattle.sx_arena.specs.Places.{AreHeld};
+ghost use Rattle.sx_term.specs.Limits.{most_depth};
 
 use crate::arena::Arena;
 use crate::binds::Binds;
@@ -62,7 +63,7 @@ fn made_each(
     env: usize,
     patterns: &[Term],
 ) -> Result<Vec<usize>, AllocError>
-    requires depth { greatest_depth (forest (map tree patterns.now)) < 1000 }
+    requires depth { greatest_depth (forest (map tree patterns.now)) < most_depth }
     requires arena { IsArena arena.old }
     requires binds { IsBinds (trees arena.old) binds.now }
     requires env { env ≤ length binds.now.cells.items }
@@ -89,7 +90,7 @@ fn made_many(
     label: u32,
     kids: &[Term],
 ) -> Result<usize, AllocError>
-    requires depth { greatest_depth (forest (map tree kids.now)) < 1000 }
+    requires depth { greatest_depth (forest (map tree kids.now)) < most_depth }
     requires arena { IsArena arena.old }
     requires binds { IsBinds (trees arena.old) binds.now }
     requires env { env ≤ length binds.now.cells.items }
@@ -111,7 +112,7 @@ fn made_node(
     label: u32,
     kids: &[Term],
 ) -> Result<usize, AllocError>
-    requires depth { greatest_depth (forest (map tree kids.now)) < 1000 }
+    requires depth { greatest_depth (forest (map tree kids.now)) < most_depth }
     requires arena { IsArena arena.old }
     requires binds { IsBinds (trees arena.old) binds.now }
     requires env { env ≤ length binds.now.cells.items }
@@ -143,7 +144,7 @@ fn found_or_made(
     env: usize,
     pattern: &Term,
 ) -> Result<usize, AllocError>
-    requires depth { depth_of (tree pattern.now) ≤ 1000 }
+    requires depth { depth_of (tree pattern.now) ≤ most_depth }
     requires arena { IsArena arena.old }
     requires binds { IsBinds (trees arena.old) binds.now }
     requires env { env ≤ length binds.now.cells.items }
@@ -166,7 +167,7 @@ pub fn made(
     env: usize,
     pattern: &Term,
 ) -> Result<usize, NoMemory>
-    requires depth { depth_of (tree pattern.now) ≤ 1000 }
+    requires depth { depth_of (tree pattern.now) ≤ most_depth }
     requires arena { IsArena arena.old }
     requires binds { IsBinds (trees arena.old) binds.now }
     requires env { env ≤ length binds.now.cells.items }
@@ -228,7 +229,7 @@ pub fn fit(
     pattern: &Term,
     term: usize,
 ) -> Result<Option<usize>, NoMemory>
-    requires depth { depth_of (tree pattern.now) ≤ 1000 }
+    requires depth { depth_of (tree pattern.now) ≤ most_depth }
     requires arena { IsArena arena.now }
     requires binds { IsBinds (trees arena.now) binds.old }
     requires env { env ≤ length binds.old.cells.items }

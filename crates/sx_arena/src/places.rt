@@ -19,7 +19,7 @@ use crate::shape::Shape;
 use crate::side::Side;
 use std::alloc::Global;
 use sx_rules::Place;
-use sx_term::{NoMemory, Role, Term};
+use sx_term::{MOST_DEPTH, MOST_SIZE, NoMemory, Role, Term};
 
 /// The limit that a term passes, with its depth or its size.
 #[derive(Clone, Copy, PartialEq, Eq, Debug)]
@@ -170,10 +170,10 @@ pub fn passed(arena: &Arena, terms: &[usize]) -> Option<Limit>
 {
     for term in terms {
         let cell = arena.cell(*term);
-        if cell.depth > 1000 {
+        if cell.depth > MOST_DEPTH as u64 {
             return Some(Limit::TooDeep(cell.depth));
         }
-        if cell.size > 1_000_000 {
+        if cell.size > MOST_SIZE {
             return Some(Limit::TooBig(cell.size));
         }
     }

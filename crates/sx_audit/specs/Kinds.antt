@@ -7,6 +7,8 @@ use Rattle.std.specs.Str.{bytes_eq}
 use Rattle.std.specs.Fmt.{decimal}
 use Rattle.sx_lines.specs.Words.{is_name, number_within}
 use Rattle.sx_audit.specs.Meaning.{State, Kind}
+use Rattle.sx_rules.specs.Limits.{most_levels}
+use Rattle.sx_term.specs.Limits.{most_budget}
 
 -- a count stays at its greatest value
 abbrev pub as_count : ℕ → ℕ
@@ -96,7 +98,7 @@ abbrev pub depth_kind : List ℕ → Kind
 depth_kind name = record {
   name = name;
   step = λ s n. (of_limit (limit_of s) (max (so_far_of s) n.depth), nat_le n.depth (limit_of s));
-  takes = λ setting. option_map (λ n. of_limit n 0) (limit_in 3000 setting);
+  takes = λ setting. option_map (λ n. of_limit n 0) (limit_in most_levels setting);
   text = limit_text (codes "depth");
 }
 
@@ -106,7 +108,7 @@ nodes_kind name = record {
   name = name;
   step = λ s n. let seen = as_count (so_far_of s + 1) in
       (of_limit (limit_of s) seen, nat_le seen (limit_of s));
-  takes = λ setting. option_map (λ n. of_limit n 0) (limit_in 1000000 setting);
+  takes = λ setting. option_map (λ n. of_limit n 0) (limit_in most_budget setting);
   text = limit_text (codes "nodes");
 }
 

@@ -5,6 +5,7 @@ use Rattle.sx_rules.specs.Views.{NamedRule, rule_name}
 use Rattle.sx_rules.specs.Derivations.{Proof, Proofs, by, given, no_more, ◌⊳◌, Derives, height_of}
 use Rattle.sx_rules.specs.Orders.{Entry, order_of}
 use Rattle.sx_audit.specs.Meaning.{Node, node}
+use Rattle.sx_rules.specs.Limits.{most_levels}
 
 -- the nodes in preorder, where the root has this depth
 abbrev mutual
@@ -34,4 +35,4 @@ pub record IsDerivationList (rules : List Rule) (list : List Entry) (p : Proof) 
   pub judgement : Judgement
   pub derives : Derives rules no_hypotheses judgement p
   pub order : list ≡ order_of p
-  pub height : height_of p ≤ 3000
+  pub height : height_of p ≤ most_levels

@@ -10,7 +10,7 @@ use std::alloc::Global;
 use sx_term::{NoMemory, Text};
 
 /// The greatest limit, which stands until another is set.
-pub(crate) const MOST_DEPTH: u64 = 3000;
+pub(crate) const MOST_DEPTH: u64 = sx_rules::MOST_LEVELS as u64;
 
 /// Objects to each node that is deeper than its limit.
 #[derive(Drop)]

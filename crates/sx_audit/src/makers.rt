@@ -3,6 +3,8 @@
 ghost use Rattle.std.specs.Prelude.{◌≡◌, [], codes, IfOk};
 ghost use Rattle.sx_audit.specs.Kinds.{deny_kind, depth_kind, nodes_kind, tally_kind};
 ghost use Rattle.sx_audit.specs.Kinds.{of_names, of_limit, of_counts};
+ghost use Rattle.sx_rules.specs.Limits.{most_levels};
+ghost use Rattle.sx_term.specs.Limits.{most_budget};
 
 use crate::auditor::Auditor;
 use crate::denying::Deny;
@@ -27,7 +29,7 @@ pub fn deny(alloc: Global) -> Result<Deny, NoMemory>
 /// The auditor `depth`. It objects to nodes deeper than 3,000 until it is set.
 pub fn depth(alloc: Global) -> Result<Depth, NoMemory>
     ensures { IfOk result (λ it. ⟦<Depth as Auditor>⟧.meaning it
-        ≡ record { kind = depth_kind (codes "depth"); state = of_limit 3000 0 }) }
+        ≡ record { kind = depth_kind (codes "depth"); state = of_limit most_levels 0 }) }
 {
     Ok(Depth {
         name: Text::of_str(alloc, "depth")?,
@@ -39,7 +41,7 @@ pub fn depth(alloc: Global) -> Result<Depth, NoMemory>
 /// The auditor `nodes`. It objects to nodes after the first 1,000,000 until it is set.
 pub fn nodes(alloc: Global) -> Result<Nodes, NoMemory>
     ensures { IfOk result (λ it. ⟦<Nodes as Auditor>⟧.meaning it
-        ≡ record { kind = nodes_kind (codes "nodes"); state = of_limit 1000000 0 }) }
+        ≡ record { kind = nodes_kind (codes "nodes"); state = of_limit most_budget 0 }) }
 {
     Ok(Nodes {
         name: Text::of_str(alloc, "nodes")?,

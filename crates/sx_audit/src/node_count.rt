@@ -10,7 +10,7 @@ use std::alloc::Global;
 use sx_term::{NoMemory, Text};
 
 /// The greatest limit, which stands until another is set.
-pub(crate) const MOST_NODES: u64 = 1000000;
+pub(crate) const MOST_NODES: u64 = sx_term::MOST_BUDGET;
 
 /// Objects to each node after as many as its limit.
 #[derive(Drop)]

@@ -9,6 +9,7 @@ ghost use Rattle.sx_rules.specs.Views.{named};
 ghost use Rattle.sx_audit.specs.Meaning.{node, after_node, verdict};
 ghost use Rattle.sx_audit.specs.Preorder.{nodes, IsByRules};
 ghost use Rattle.sx_audit.specs.Shown.{IsTold, IsShown, IsShownAfter};
+ghost use Rattle.sx_rules.specs.Limits.{most_levels};
 
 use crate::auditor::Auditor;
 use crate::show_error::ShowError;
@@ -111,7 +112,7 @@ pub fn show(
     rules: &RuleSet,
     proof: &Proof,
 ) -> Result<(), ShowError>
-    requires height { height_of (view.proof proof.now) ≤ 3000 }
+    requires height { height_of (view.proof proof.now) ≤ most_levels }
     requires rules { IsByRules (length (rules_in rules.now)) (view.proof proof.now) }
     ensures { IsShown (map (λ b. meaning b) auditors.old.items)
         (nodes (rules_in rules.now) 1 (view.proof proof.now))

@@ -10,7 +10,7 @@ use Rattle.std.specs.Prelude.{Result, Ok, Err, Some}
 use Rattle.sha2.specs.Sha256.{sha256}
 use Rattle.sx_interface.specs.Interfaces.{InterfaceParts}
 use Rattle.sx_outside.specs.Files.{Files}
-use Rattle.sx_steps.specs.Held.{most_bytes}
+use Rattle.sx_term.specs.Limits.{most_bytes}
 use Rattle.sx_steps.specs.Stops.{too_long}
 use Rattle.sx_steps.specs.Unit.{interface_file}
 use Rattle.sx_steps.specs.declared.stop.Stop.{Stop}

@@ -10,7 +10,8 @@ use Rattle.sx_outside.specs.Files.{Files}
 use Rattle.sx_imports.specs.Walk.{Name, End, Walks}
 use Rattle.sx_imports.specs.Laws.{Reached, is_root, by_line}
 use Rattle.sx_imports.proofs.Wholes.{order_is_whole}
-use Rattle.sx_steps.specs.Held.{Held, most_bytes}
+use Rattle.sx_steps.specs.Held.{Held}
+use Rattle.sx_term.specs.Limits.{most_bytes}
 use Rattle.sx_steps.proofs.Ones.{some_same, none_some}
 use Rattle.sx_steps.proofs.StepsOn.{went}
 use Rattle.sx_walking.specs.Reached.{Found, uses_in, IsFound, IsTold}

@@ -3,7 +3,8 @@ use Rattle.std.proofs.Common.{◌≡◌, ℕ, List, [], ◌∷◌, ◌++◌, sym
 use Rattle.std.specs.Prelude.{Ok, Contains}
 use Rattle.sha2.specs.Sha256.{sha256}
 use Rattle.sx_outside.specs.Files.{Files}
-use Rattle.sx_steps.specs.Held.{Held, most_bytes}
+use Rattle.sx_steps.specs.Held.{Held}
+use Rattle.sx_term.specs.Limits.{most_bytes}
 use Rattle.sx_steps.specs.Unit.{interface_file}
 use Rattle.sx_steps.proofs.StepsOn.{went}
 use Rattle.sx_headers.specs.ReadInterface.{StatesParts, ReadsInterface}

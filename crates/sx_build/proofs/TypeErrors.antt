@@ -9,7 +9,8 @@ use Rattle.sx_extcheck.specs.declared.budgets.Budgets.{Budgets}
 use Rattle.sx_unit.specs.Written.{UnitData}
 use Rattle.sx_outside.specs.Files.{Files}
 use Rattle.sx_steps.specs.declared.stop.Stop.{Stop}
-use Rattle.sx_steps.specs.Held.{Held, most_bytes}
+use Rattle.sx_steps.specs.Held.{Held}
+use Rattle.sx_term.specs.Limits.{most_bytes}
 use Rattle.sx_steps.specs.Steps.{NoTries, Untried}
 use Rattle.sx_steps.specs.Stops.{not_utf8}
 use Rattle.sx_steps.specs.Unit.{interface_file}

@@ -17,8 +17,8 @@ use crate::remembered::Remembered;
 use std::alloc::Global;
 use sx_headers::bad_header;
 use sx_interface::{Import, digest, interfaces_are_within, read_interface};
-use sx_steps::{MOST_BYTES, StepError, refused, with_suffix};
-use sx_term::{NoMemory, Text};
+use sx_steps::{StepError, refused, with_suffix};
+use sx_term::{MOST_BYTES, NoMemory, Text};
 use sx_words::{Defect, FileDefect};
 
 /// The module with this name, which is among those that were made.

@@ -7,6 +7,7 @@ ghost use Rattle.sx_rules.specs.ProofView.{proof as proof_of};
 ghost use Rattle.sx_rules.specs.Sets.{rules_in};
 ghost use Rattle.sx_rules.specs.Views as views;
 ghost use Rattle.sx_check.specs.CertificateText as text;
+ghost use Rattle.sx_rules.specs.Limits.{most_levels};
 
 use std::alloc::Global;
 use sx_rules::{Entry, Proof, RuleSet, preorder};
@@ -70,7 +71,7 @@ pub(crate) fn put_certificate(
     proof: &Proof,
     into: &mut Vec<u8>,
 ) -> Result<(), NoMemory>
-    requires { height_of (proof_of proof.now) ≤ 3000 }
+    requires { height_of (proof_of proof.now) ≤ most_levels }
     ensures { OnOk result (into.new.items ≡ into.old.items
         ++ text.certificate_line (rules_in rules.now) name.now (proof_of proof.now)) }
 {

@@ -6,7 +6,7 @@ ghost use Rattle.sx_rules.specs.Sets.{bare_rules_in};
 use sx_rules::RuleSet;
 
 /// The most rules that a set has.
-const MOST_RULES: u32 = 4096;
+const MOST_RULES: u32 = sx_rules::MOST_RULES as u32;
 
 /// How many rules the set has.
 pub(crate) fn rule_count(set: &RuleSet) -> u32

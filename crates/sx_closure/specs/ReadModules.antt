@@ -2,7 +2,7 @@
 use Rattle.std.specs.Prelude.{ℕ, ◌≤◌, List, [], ◌∷◌, length, map, Result}
 use Rattle.std.specs.Global.{Vec}
 use Rattle.sx_outside.specs.Files.{Files}
-use Rattle.sx_steps.specs.Held.{most_bytes}
+use Rattle.sx_term.specs.Limits.{most_bytes}
 use Rattle.sx_steps.specs.Steps.{Then}
 use Rattle.sx_steps.specs.declared.stop.Stop.{Stop}
 use Rattle.sx_walking.specs.Reached.{Reaches}

@@ -4,7 +4,8 @@ use Rattle.sx_lines.specs.Lines.{lines_from}
 use Rattle.sx_lines.specs.Reading.{kept}
 use Rattle.sx_interface.specs.StatedHeader.{StatesHeader}
 use Rattle.sx_outside.specs.Files.{Files}
-use Rattle.sx_steps.specs.Held.{Held, most_bytes}
+use Rattle.sx_steps.specs.Held.{Held}
+use Rattle.sx_term.specs.Limits.{most_bytes}
 use Rattle.sx_steps.proofs.StepsOn.{went}
 use Rattle.sx_accepting.specs.LanguageFiles.{language_file}
 use Rattle.sx_accepting.specs.ReadLanguage.{StatesLanguage}

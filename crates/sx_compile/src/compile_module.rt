@@ -10,6 +10,7 @@ ghost use Rattle.sx_headers.specs.ReadModule.{HasHeader, module_of};
 ghost use Rattle.sx_compiling.specs.CanMake.{CanMake, given_of};
 ghost use Rattle.sx_headers.specs.ModuleFiles.{module_file};
 ghost use Rattle.sx_compile.specs.CompileModule as spec;
+ghost use Rattle.sx_term.specs.Limits.{most_bytes};
 
 use crate::asked::Asked;
 use crate::audited_work::audit_unit;
@@ -60,7 +61,7 @@ fn compile_over<S: Shelf, L: Ledger>(
     steps: &mut Steps<L>,
 ) -> Result<Work, StepError>
     requires file { asked.now.file.now ≡ module_file asked.now.name.now }
-    requires short { length source.now.bytes.items ≤ 262144 }
+    requires short { length source.now.bytes.items ≤ most_bytes }
     requires headed { HasHeader asked.now.name.now source.now.bytes.items
         (module_of source.now) }
     requires language { IsLanguage language.now.language }
@@ -98,7 +99,7 @@ fn compile_few<S: Shelf, L: Ledger>(
     steps: &mut Steps<L>,
 ) -> Result<Work, StepError>
     requires file { asked.now.file.now ≡ module_file asked.now.name.now }
-    requires short { length source.now.bytes.items ≤ 262144 }
+    requires short { length source.now.bytes.items ≤ most_bytes }
     requires headed { HasHeader asked.now.name.now source.now.bytes.items
         (module_of source.now) }
     ensures step { WhereTold (S.content shelf.old) (λ files. Does plan_of
@@ -128,7 +129,7 @@ fn compile_others<S: Shelf, L: Ledger>(
     steps: &mut Steps<L>,
 ) -> Result<Work, StepError>
     requires file { asked.now.file.now ≡ module_file asked.now.name.now }
-    requires short { length source.now.bytes.items ≤ 262144 }
+    requires short { length source.now.bytes.items ≤ most_bytes }
     requires headed { HasHeader asked.now.name.now source.now.bytes.items
         (module_of source.now) }
     ensures step { WhereTold (S.content shelf.old) (λ files. Does plan_of
@@ -154,7 +155,7 @@ fn compile_read<S: Shelf, L: Ledger>(
     steps: &mut Steps<L>,
 ) -> Result<Work, StepError>
     requires file { asked.now.file.now ≡ module_file asked.now.name.now }
-    requires short { length source.now.bytes.items ≤ 262144 }
+    requires short { length source.now.bytes.items ≤ most_bytes }
     requires headed { HasHeader asked.now.name.now source.now.bytes.items
         (module_of source.now) }
     ensures step { WhereTold (S.content shelf.old) (λ files. Does plan_of

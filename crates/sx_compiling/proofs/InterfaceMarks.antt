@@ -20,7 +20,8 @@ use Rattle.sx_outline.specs.declared.outline_error.OutlineError.TheVariants.{Not
 use Rattle.sx_outline.specs.Headers.{HeaderData, IsHeaderOf}
 use Rattle.sx_outline.specs.Known.{kept_lines}
 use Rattle.sx_outside.specs.Files.{Files}
-use Rattle.sx_steps.specs.Held.{Held, most_bytes}
+use Rattle.sx_steps.specs.Held.{Held}
+use Rattle.sx_term.specs.Limits.{most_bytes}
 use Rattle.sx_steps.proofs.Ones.{ok_no_err}
 use Rattle.sx_steps.proofs.StepsOn.{went}
 use Rattle.sx_uses.specs.ExtensionFile.{Extension, extension_file}

@@ -14,6 +14,7 @@ use Rattle.sx_headers.specs.ReadModule.{HasHeader, module_of}
 use Rattle.sx_importing.specs.ReadImports.{import_of}
 use Rattle.sx_compiling.specs.declared.given.Given.{Given as GivenOf}
 use Rattle.sx_compiling.specs.Given.{Given}
+use Rattle.sx_term.specs.Limits.{most_bytes}
 
 -- what is given, without where it lies in memory
 abbrev pub given_of : GivenOf → Given
@@ -28,7 +29,7 @@ given_of g = record {
 -- that it names, in order, each no longer than a file may be
 pub record CanMake (g : GivenOf) : Type 0 where
   pub headed : (name : List ℕ) × HasHeader name g.source.now.bytes.items (module_of g.source.now)
-  pub short : length g.source.now.bytes.items ≤ 262144
+  pub short : length g.source.now.bytes.items ≤ most_bytes
   pub language : IsLanguage g.language.now.language
   pub text : HasText g.source.now.header.language g.language.now.language
   pub named : map (λ it. it.name) (interfaces_of g.imports.now) ≡ g.source.now.header.imports.items

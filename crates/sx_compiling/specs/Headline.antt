@@ -43,6 +43,7 @@ use Rattle.sx_outside.specs.Files.{Files}
 use Rattle.sx_compiling.specs.Given.{Given, interfaces_in}
 use Rattle.sx_compiling.specs.MakeUnit.{MakesUnit}
 use Rattle.sx_compiling.specs.Reached.{HasLanguage, HasModule, HasGround, seen_over, module_over}
+use Rattle.sx_term.specs.Limits.{most_bytes}
 
 -- ---- the unit
 
@@ -128,7 +129,7 @@ pub record IsInterfaceText (name text : List ℕ) (parts : InterfaceParts) : Typ
   pub is : text ≡ written (interface_lines parts)
   pub utf8 : IsUtf8 text
   pub states : StatesInterface name (texts (lines_from 1 text)) parts
-  pub within : IsWithin 262144 parts
+  pub within : IsWithin most_bytes parts
   pub digest : IsDigest (sha256 text)
 
 -- The module in its dialect, whose extensions are all accepted, and its three texts: what they say

@@ -21,6 +21,7 @@ use Rattle.sx_accepting.specs.Extending.{Extends}
 use Rattle.sx_accepting.specs.Laws.{IsAcceptedOver}
 use Rattle.sx_accepting.specs.ReadLanguage.{IsStated, base_in}
 use Rattle.sx_compiling.specs.Given.{Given, interfaces_in, seen_in, module_in}
+use Rattle.sx_term.specs.Limits.{most_depth}
 
 -- ---- what is given
 
@@ -72,7 +73,7 @@ pub record HasGround (budgets : Budgets) (files : Files) (g : Given) : Type 0 wh
   pub over : HasDialect budgets files g
   pub environment : Tree
   pub sees : IsEnvironment (seen_over over) (interfaces_in g) environment
-  pub depth : depth_of environment ≤ 1000
+  pub depth : depth_of environment ≤ most_depth
 
 -- the module in its dialect, with this environment
 abbrev pub module_over : {budgets : Budgets} {files : Files} {g : Given} →

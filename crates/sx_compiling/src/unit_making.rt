@@ -21,6 +21,7 @@ ghost use Rattle.sx_compiling.specs.CanMake.{CanMake, HasList, given_of};
 ghost use Rattle.sx_compiling.specs.Given.{seen_in};
 ghost use Rattle.sx_compiling.specs.KeptFiles.{AreOf};
 ghost use Rattle.sx_compiling.specs.MakeUnit as spec;
+ghost use Rattle.sx_term.specs.Limits.{most_bytes};
 
 use crate::compile_module::compile_module;
 use crate::extensions_reading::read_extensions;
@@ -50,7 +51,7 @@ fn make_in<L: Ledger>(
     budgets: Budgets,
     steps: &mut Steps<L>,
 ) -> Result<Compiled, StepError>
-    requires short { length given.now.source.now.bytes.items ≤ 262144 }
+    requires short { length given.now.source.now.bytes.items ≤ most_bytes }
     requires dialect { IsDialectOf seen.now.dialect }
     requires environment { IsTermFor (seen_from seen.now).dialect In (tree environment.now) }
     ensures step { Does unit_of (spec.MakesIn budgets (given_of given.now) (seen_from seen.now)

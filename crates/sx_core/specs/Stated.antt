@@ -19,6 +19,7 @@ use Rattle.sx_core.specs.Problem.{Problem}
 use Rattle.sx_core.specs.File.{SortRow, ConRow, PlaceRow, FormRow, Declaration, sort_line, con_line}
 use Rattle.sx_core.specs.File.{form_line, JudgementRow, PremiseRow, if_line, not_line, RuleRows}
 use Rattle.sx_core.specs.File.{CoreFile}
+use Rattle.sx_term.specs.Limits.{most_depth}
 
 -- the sort lines among the declarations
 abbrev pub sort_rows : List Declaration → List SortRow
@@ -130,7 +131,7 @@ AreForms rows _ _ = ⊥
 -- each term has a core text and a depth of at most 1,000
 abbrev pub AreReadable : List Tree → Type 0
 AreReadable [] = Unit {0}
-AreReadable (t ∷ ts) = HasCore t × (depth_of t ≤ 1000) × AreReadable ts
+AreReadable (t ∷ ts) = HasCore t × (depth_of t ≤ most_depth) × AreReadable ts
 
 -- the name is that of the form with this number
 abbrev pub NamesForm : List FormData → List ℕ → ℕ → Type 0

@@ -10,6 +10,7 @@ use Rattle.sx_core.specs.declared.terms_row.RowError.{RowError}
 use Rattle.sx_core.specs.declared.terms_row.RowError.TheVariants.{Memory, Shape, TooDeep}
 use Rattle.sx_rules.specs.Deep.{AreShallow}
 use Rattle.sx_term.specs.Read.{StandsAt}
+use Rattle.sx_term.specs.Limits.{most_depth}
 
 abbrev pub terms_text : List Tree → List ℕ
 terms_text [] = []
@@ -22,7 +23,7 @@ HaveCores (t ∷ ts) = HasCore t × HaveCores ts
 -- a blank, the core text of this term and of no other, and the rest
 abbrev pub OneRead : List ℕ → Tree → List ℕ → Type 0
 OneRead s t after =
-    HasCore t × (depth_of t ≤ 1000) × (s ≡ space ∷ (core t ++ after))
+    HasCore t × (depth_of t ≤ most_depth) × (s ≡ space ∷ (core t ++ after))
     × ((u : Tree) (more : List ℕ) → HasCore u → NoDigit more → s ≡ space ∷ (core u ++ more) →
     (u ≡ t) × (more ≡ after))
     × ((u : Tree) (rest : List ℕ) (end : ℕ) → s ≡ space ∷ rest → StandsAt rest 0 end u → u ≡ t)
@@ -35,7 +36,7 @@ pub record IsDeepOne (s : List ℕ) (depth : ℕ) : Type 0 where
   pub parts : s ≡ space ∷ rest
   pub stands : StandsAt rest 0 end deep
   pub is : depth ≡ depth_of deep
-  pub over : 1000 < depth
+  pub over : most_depth < depth
   pub only : (u : Tree) (more : List ℕ) → HasCore u → NoDigit more → s ≡ space ∷ (core u ++ more) →
       u ≡ deep
 
@@ -61,7 +62,7 @@ pub record IsDeepRow (s : List ℕ) (count depth : ℕ) : Type 0 where
   pub parts : s ≡ terms_text good ++ (space ∷ rest)
   pub stands : StandsAt rest 0 end deep
   pub is : depth ≡ depth_of deep
-  pub over : 1000 < depth
+  pub over : most_depth < depth
 
 -- Why nothing is as it should be: memory is lacking, or a core text of this depth stands there, or
 -- else.

@@ -35,6 +35,7 @@ use Rattle.sx_derive.specs.declared.derive_error.DeriveError.TheVariants.{
   TooBig,
 }
 use Rattle.sx_derive.specs.declared.derived.Derived.{Derived}
+use Rattle.sx_rules.specs.Limits.{most_levels}
 
 -- a derivation with the outputs of what it derives
 abbrev pub answer_of : Derived → Answer
@@ -47,11 +48,11 @@ abbrev pub IsToldBy : {X : Type 0} → (X → Ending → Type 0) → Modes → M
 IsToldBy Says modes subjects rules hyps goal budget ending (Ok x) = Says x ending
 IsToldBy Says modes subjects rules hyps goal budget ending (Err Memory) = Unit {0}
 IsToldBy Says modes subjects rules hyps goal budget ending (Err (Underivable b)) =
-    (ending ≡ exhausted) × IsStuck modes subjects rules hyps 3000 goal [] (blame_of b)
+    (ending ≡ exhausted) × IsStuck modes subjects rules hyps most_levels goal [] (blame_of b)
 IsToldBy Says modes subjects rules hyps goal budget ending (Err (BudgetSpent n)) =
     (ending ≡ spent) × (n ≡ budget)
 IsToldBy Says modes subjects rules hyps goal budget ending (Err (DepthSpent n)) =
-    (ending ≡ stopped depth_spent) × (n ≡ 3000)
+    (ending ≡ stopped depth_spent) × (n ≡ most_levels)
 IsToldBy Says modes subjects rules hyps goal budget ending (Err (TooDeep n)) =
     (depth : ℕ) × (ending ≡ stopped (too_deep depth)) × (n ≡ min depth (2 ^ 64 - 1))
 IsToldBy Says modes subjects rules hyps goal budget ending (Err (TooBig n)) =

@@ -76,6 +76,7 @@ use Rattle.sx_derive.specs.declared.tasks.Ending.TheVariants.{
   Exhausted,
 }
 use Rattle.sx_derive.specs.declared.tasks.Task.{Task as TaskOf}
+use Rattle.sx_rules.specs.Limits.{most_levels}
 
 -- that many tries, and then the rest
 abbrev pub tries_then : {A : Type 0} → ℕ → List (Event A) → List (Event A)
@@ -144,7 +145,7 @@ IsNextOf modes rules hyps budget first last es new (Ok Paused) =
 IsNextOf modes rules hyps budget first last es new (Ok Ended) =
     (n : ℕ) × Takes budget first last es [] n × Stands modes rules hyps new []
 IsNextOf modes rules hyps budget first last es new (Err (SpentDepth d)) =
-    (d ≡ 3000) × StopsAt modes rules hyps budget first last es new depth_spent
+    (d ≡ most_levels) × StopsAt modes rules hyps budget first last es new depth_spent
 IsNextOf modes rules hyps budget first last es new (Err (TooDeep k)) =
     (depth : ℕ) × (k ≡ min depth (2 ^ 64 - 1))
     × StopsAt modes rules hyps budget first last es new (too_deep depth)
@@ -200,7 +201,7 @@ pub record StopsStay (modes : Modes) (rules : List Rule) (hyps : Hypotheses) (bu
     (new : Search) (result : Result Found SearchError) : Type 0 where
   pub depth : (rest : List (Event Answer)) →
       IsNextOf modes rules hyps budget first last (stop depth_spent ∷ rest) new result →
-      (result ≡ Err (SpentDepth 3000)) × (last ≡ first)
+      (result ≡ Err (SpentDepth most_levels)) × (last ≡ first)
   pub deep : (n : ℕ) (rest : List (Event Answer)) →
       IsNextOf modes rules hyps budget first last (stop (too_deep n) ∷ rest) new result →
       (result ≡ Err (TooDeep (min n (2 ^ 64 - 1)))) × (last ≡ first)

@@ -1,7 +1,7 @@
 //! Goals of a walk.
 
 /// How many levels may stand below the goal of a derivation, which has at most 3,000.
-pub(crate) const LEVELS_BELOW: usize = 2999;
+pub(crate) const LEVELS_BELOW: usize = sx_rules::MOST_LEVELS as usize - 1;
 
 /// A goal by its form and the numbers of its terms, and how many levels may stand below it.
 #[derive(Drop)]

@@ -23,7 +23,7 @@ use crate::stuck_goal::stuck_goal;
 use crate::tasks::Ending;
 use std::alloc::Global;
 use sx_arena::Limit;
-use sx_rules::{Goal, Hyps, RuleSet};
+use sx_rules::{Goal, Hyps, MOST_LEVELS, RuleSet};
 
 /// What was found, by its numbers in the store.
 #[derive(Drop)]
@@ -81,7 +81,7 @@ pub(crate) fn outcome(
         }
         Ending::DepthSpent => {
             drop(store);
-            Err(DeriveError::DepthSpent(3000))
+            Err(DeriveError::DepthSpent(MOST_LEVELS))
         }
         Ending::Spent => {
             drop(store);

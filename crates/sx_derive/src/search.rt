@@ -25,7 +25,7 @@ use crate::walk::first_task;
 use std::alloc::Global;
 use std::sync::ledger::Ledger;
 use sx_arena::{Fact, Limit, Pair};
-use sx_rules::{Goal, Hyps, RuleSet};
+use sx_rules::{Goal, Hyps, MOST_LEVELS, RuleSet};
 use sx_term::{NoMemory, Steps};
 
 /// A search for the derivations of a goal, which goes on where it stopped. It holds what is still
@@ -115,7 +115,7 @@ impl Search {
         match self.state {
             State::Failed => Err(SearchError::Memory),
             State::Passed(limit) => Err(limit_error(limit)),
-            State::DepthSpent => Err(SearchError::DepthSpent(3000)),
+            State::DepthSpent => Err(SearchError::DepthSpent(MOST_LEVELS)),
             State::Open => self.go_on(rules, given, budget, steps),
         }
     }
@@ -153,7 +153,7 @@ impl Search {
             Ending::Exhausted => Ok(Found::Ended),
             Ending::DepthSpent => {
                 self.state = State::DepthSpent;
-                Err(SearchError::DepthSpent(3000))
+                Err(SearchError::DepthSpent(MOST_LEVELS))
             }
             Ending::Passed(limit) => {
                 self.state = State::Passed(limit);

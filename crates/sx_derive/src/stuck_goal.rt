@@ -17,6 +17,7 @@ ghost use Rattle.sx_derive.specs.Store.{store_trees};
 ghost use Rattle.sx_derive.specs.Stuck.{IsStuck};
 ghost use Rattle.sx_derive.specs.Walk.{events};
 ghost use Rattle.sx_derive.specs.Ways.{subjects_of};
+ghost use Rattle.sx_rules.specs.Limits.{most_levels};
 
 use crate::blame::{Blame, Cause};
 use crate::bounds::Bounds;
@@ -27,7 +28,7 @@ use crate::problem::{Problem, enter_problem};
 use crate::store::Store;
 use std::alloc::Global;
 use sx_arena::export_all;
-use sx_rules::{Goal, Hyps, RuleSet};
+use sx_rules::{Goal, Hyps, MOST_LEVELS, RuleSet};
 use sx_term::{NoMemory, Path};
 
 /// The cause with these numbers.
@@ -130,7 +131,7 @@ pub(crate) fn stuck_goal(
         1) }
     ensures { IfOk result
         (λ b. IsStuck (modes_of rules.now) (subjects_of rules.now) (rules_of rules.now)
-        (hypotheses given.now) 3000 (goal_of goal.now) [] (blame_of b)) }
+        (hypotheses given.now) most_levels (goal_of goal.now) [] (blame_of b)) }
 {
     let problem = enter_problem(alloc, rules, given, goal, None)?;
     let Problem {
@@ -154,7 +155,7 @@ pub(crate) fn stuck_goal(
         pairs: &pairs,
     };
     let bounds = Bounds {
-        levels: 3000,
+        levels: MOST_LEVELS as usize,
         budget,
     };
     let blame = stuck_below(&hypotheses, &mut store, first, bounds);

@@ -20,6 +20,7 @@ ghost use Rattle.sx_rules.specs.Deep.{AreShallow};
 ghost use Rattle.sx_arena.specs.Views.{judgement_of, rule_of};
 ghost use Rattle.sx_derive.specs.Stuck.{place_in, path_of};
 ghost use Rattle.sx_derive.specs.Ways.{subject_mask, subjects_of, IsWay};
+ghost use Rattle.sx_term.specs.Limits.{most_depth};
 
 use sx_rules::{Judgement, Place, Rule, RuleSet};
 use sx_term::{NoMemory, Role, Term};
@@ -27,7 +28,7 @@ use sx_term::{NoMemory, Role, Term};
 /// Appends the way to the variable, where the variable stands in the term, and says whether it
 /// does.
 fn put_way(term: &Term, variable: u32, path: &mut Vec<usize>) -> Result<bool, NoMemory>
-    requires depth { depth_of (tree term.now) ≤ 1000 }
+    requires depth { depth_of (tree term.now) ≤ most_depth }
     ensures { IfOk result
         (λ found. IsWay path.old.items path.new.items (place_in variable (tree term.now)) found) }
 {

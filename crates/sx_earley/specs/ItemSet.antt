@@ -22,4 +22,5 @@ pub record IsSet (items : List Item) (hashes : List ℕ) : Type 0 where
 
 -- the item is added last, if it was not there
 abbrev pub IsAdded : Item → List Item → List Item → Type 0
-IsAdded item old new = (Contains old item × (new ≡ old)) ⊎ ((Contains old item → ⊥) × (new ≡ old ++ item ∷ []))
+IsAdded item old new =
+    (Contains old item × (new ≡ old)) ⊎ ((Contains old item → ⊥) × (new ≡ old ++ item ∷ []))

@@ -8,6 +8,8 @@ ghost use Rattle.sx_earley.specs.Shown.{plain, texts, tokens_of, AreBelow};
 ghost use Rattle.sx_earley.specs.declared.slot.Slot.{Slot};
 ghost use Rattle.sx_earley.specs.Chart.{HasAllOpenings};
 ghost use Rattle.sx_earley.specs.Table.{row_at};
+ghost use Rattle.sx_grammar.specs.ReadOne.{most_items};
+ghost use Rattle.sx_term.specs.Limits.{most_tokens};
 
 use crate::ask::Ask;
 use crate::chart_error::ChartError;
@@ -31,7 +33,7 @@ fn collect(
     notes: &mut Notes,
     found: &mut ItemSet,
 ) -> Result<(), ChartError>
-    requires short { length shown.now ≤ 10000 }
+    requires short { length shown.now ≤ most_tokens }
     requires below { AreBelow (length (texts grammar.now)) shown.now }
     requires openings { HasAllOpenings (plain grammar.now) notes.old.openings.now }
     requires asked { notes.old.asked.keys ≡ [] }
@@ -41,9 +43,9 @@ fn collect(
     ensures all { OnOk result ((i : Item) → Contains found.new i
         ↔ Holds (plain grammar.now) (tokens_of grammar.now shown.now) start i) }
     ensures few { OnOk result (MoreHold (plain grammar.now)
-        (tokens_of grammar.now shown.now) start 2000000 → ⊥) }
+        (tokens_of grammar.now shown.now) start most_items → ⊥) }
     ensures hard { result ≡ Err ChartError.TooHard →
-        MoreHold (plain grammar.now) (tokens_of grammar.now shown.now) start 2000000 }
+        MoreHold (plain grammar.now) (tokens_of grammar.now shown.now) start most_items }
 {
     let first = Ask {
         sort: start,
@@ -86,15 +88,15 @@ pub(crate) fn all_items(
     start: u32,
     shown: &[Shown],
 ) -> Result<ItemSet, ChartError>
-    requires short { length shown.now ≤ 10000 }
+    requires short { length shown.now ≤ most_tokens }
     requires below { AreBelow (length (texts grammar.now)) shown.now }
     requires openings { HasAllOpenings (plain grammar.now) openings.now }
     ensures all { IfOk result (λ s. (i : Item) →
         Contains s i ↔ Holds (plain grammar.now) (tokens_of grammar.now shown.now) start i) }
     ensures few { IfOk result (λ s. MoreHold (plain grammar.now)
-        (tokens_of grammar.now shown.now) start 2000000 → ⊥) }
+        (tokens_of grammar.now shown.now) start most_items → ⊥) }
     ensures hard { result ≡ Err ChartError.TooHard →
-        MoreHold (plain grammar.now) (tokens_of grammar.now shown.now) start 2000000 }
+        MoreHold (plain grammar.now) (tokens_of grammar.now shown.now) start most_items }
 {
     let mut notes = Notes::new(alloc, openings, shown.len() + 1)?;
     let mut found = ItemSet::new(alloc);

@@ -8,6 +8,8 @@ ghost use Rattle.sx_earley.specs.Tokens.{plain_tokens};
 ghost use Rattle.sx_earley.specs.Unknown.{HaveStems};
 ghost use Rattle.sx_earley.specs.Chart.{HasAllOpenings};
 ghost use Rattle.sx_earley.specs.Completed.{IsSort, number_of, IsChart};
+ghost use Rattle.sx_grammar.specs.ReadOne.{most_items};
+ghost use Rattle.sx_term.specs.Limits.{most_tokens};
 
 use crate::all_items::all_items;
 use crate::chart_error::ChartError;
@@ -44,7 +46,7 @@ fn chart_by(
     start: u32,
     shown: &[Shown],
 ) -> Result<Chart, ChartError>
-    requires short { length shown.now ≤ 10000 }
+    requires short { length shown.now ≤ most_tokens }
     requires below { AreBelow (length (texts grammar.now)) shown.now }
     requires openings { HasAllOpenings (plain grammar.now) openings.now }
     ensures spans { IfOk result (λ c. IsChart (plain grammar.now)
@@ -53,9 +55,9 @@ fn chart_by(
     ensures reach { IfOk result (λ c. IsGreatestEnd (plain grammar.now)
         (tokens_of grammar.now shown.now) start c.reach) }
     ensures few { IfOk result (λ _. MoreHold (plain grammar.now)
-        (tokens_of grammar.now shown.now) start 2000000 → ⊥) }
+        (tokens_of grammar.now shown.now) start most_items → ⊥) }
     ensures hard { result ≡ Err ChartError.TooHard →
-        MoreHold (plain grammar.now) (tokens_of grammar.now shown.now) start 2000000 }
+        MoreHold (plain grammar.now) (tokens_of grammar.now shown.now) start most_items }
 {
     let found = all_items(alloc, grammar, openings, start, shown)?;
     let reach = reach(&found);
@@ -70,7 +72,7 @@ pub fn chart_of(
     start: u32,
     shown: &[Shown],
 ) -> Result<Chart, ChartError>
-    requires short { length shown.now ≤ 10000 }
+    requires short { length shown.now ≤ most_tokens }
     requires below { AreBelow (length (texts by.now)) shown.now }
     ensures spans { IfOk result (λ c. IsChart (plain by.now)
         (tokens_of by.now shown.now) start c.spans) }
@@ -78,9 +80,9 @@ pub fn chart_of(
     ensures reach { IfOk result (λ c. IsGreatestEnd (plain by.now)
         (tokens_of by.now shown.now) start c.reach) }
     ensures few { IfOk result (λ _. MoreHold (plain by.now)
-        (tokens_of by.now shown.now) start 2000000 → ⊥) }
+        (tokens_of by.now shown.now) start most_items → ⊥) }
     ensures hard { result ≡ Err ChartError.TooHard →
-        MoreHold (plain by.now) (tokens_of by.now shown.now) start 2000000 }
+        MoreHold (plain by.now) (tokens_of by.now shown.now) start most_items }
 {
     let grammar = by.grammar;
     let openings = &by.openings;
@@ -97,7 +99,7 @@ pub fn chart(
     metas: &Metas,
     tokens: &[Token],
 ) -> Result<Chart, ChartError>
-    requires short { length tokens.now ≤ 10000 }
+    requires short { length tokens.now ≤ most_tokens }
     requires start { IsSort grammar.now.parts start }
     requires stems { HaveStems metas.now.stems.items tokens.now }
     ensures spans { IfOk result (λ c. IsChart (plain grammar.now)
@@ -106,10 +108,10 @@ pub fn chart(
     ensures reach { IfOk result (λ c. IsGreatestEnd (plain grammar.now)
         (plain_tokens metas.now.stems.items tokens.now) (number_of start) c.reach) }
     ensures few { IfOk result (λ _. MoreHold (plain grammar.now)
-        (plain_tokens metas.now.stems.items tokens.now) (number_of start) 2000000 → ⊥) }
+        (plain_tokens metas.now.stems.items tokens.now) (number_of start) most_items → ⊥) }
     ensures hard { result ≡ Err ChartError.TooHard →
         MoreHold (plain grammar.now) (plain_tokens metas.now.stems.items tokens.now)
-        (number_of start) 2000000 }
+        (number_of start) most_items }
 {
     grammar.facts();
     let shown = show_all(alloc, grammar, metas, tokens)?;

@@ -10,6 +10,8 @@ ghost use Rattle.sx_earley.specs.Chart.{HasOpenings, HasAllOpenings, AllAsked, F
 ghost use Rattle.sx_earley.specs.Chart.{AllFollow, Joins, IsNumbered, IsJoined, moved};
 ghost use Rattle.sx_earley.specs.Chart.{IsPredicted, beginning};
 ghost use Rattle.sx_earley.specs.Chart.{next_symbol, as_part, ReadsNext, IsOfSort};
+ghost use Rattle.sx_grammar.specs.ReadOne.{most_items};
+ghost use Rattle.sx_term.specs.Limits.{most_tokens};
 
 use crate::ask::Ask;
 use crate::chart_error::ChartError;
@@ -33,8 +35,8 @@ fn add(found: &mut ItemSet, item: Item) -> Result<(), ChartError>
     ensures added { OnOk result (Contains found.new item) }
     ensures extends { Extends found.old found.new }
     ensures only { Only found.old found.new (λ i. i ≡ item) }
-    ensures few { OnOk result (length found.new ≤ 2000000) }
-    ensures hard { result ≡ Err ChartError.TooHard → 2000000 < length found.new }
+    ensures few { OnOk result (length found.new ≤ most_items) }
+    ensures hard { result ≡ Err ChartError.TooHard → most_items < length found.new }
 {
     match found.add(item) {
         Ok(_) => {
@@ -67,12 +69,12 @@ fn is_known(found: &ItemSet, hints: &Hints, before: Item, filling: Item) -> bool
 
 /// Adds the item, if it is not there, and notes its place.
 fn add_noted(found: &mut ItemSet, hints: &mut Hints, item: Item) -> Result<(), ChartError>
-    requires { length found.old ≤ 2000000 }
+    requires { length found.old ≤ most_items }
     ensures added { OnOk result (Contains found.new item) }
     ensures extends { Extends found.old found.new }
     ensures only { Only found.old found.new (λ i. i ≡ item) }
-    ensures few { OnOk result (length found.new ≤ 2000000) }
-    ensures hard { result ≡ Err ChartError.TooHard → 2000000 < length found.new }
+    ensures few { OnOk result (length found.new ≤ most_items) }
+    ensures hard { result ≡ Err ChartError.TooHard → most_items < length found.new }
 {
     let place = found.len();
     add(found, item)?;
@@ -89,15 +91,15 @@ fn predict_head(
     head: Head,
     ask: Ask,
 ) -> Result<(), ChartError>
-    requires { length found.old ≤ 2000000 }
+    requires { length found.old ≤ most_items }
     ensures extends { Extends found.old found.new }
     ensures only { Only found.old found.new
         (IsPredicted (plain grammar.now) ask.sort ask.least ask.place) }
     ensures every { OnOk result
         (IsOfSort (production_of (plain grammar.now) head) ask.sort ask.least →
         Contains found.new (beginning head ask.place)) }
-    ensures few { OnOk result (length found.new ≤ 2000000) }
-    ensures hard { result ≡ Err ChartError.TooHard → 2000000 < length found.new }
+    ensures few { OnOk result (length found.new ≤ most_items) }
+    ensures hard { result ≡ Err ChartError.TooHard → most_items < length found.new }
 {
     if makes(grammar, head, ask.sort, ask.least) {
         add(
@@ -121,7 +123,7 @@ fn predict(
     found: &mut ItemSet,
     ask: Ask,
 ) -> Result<(), ChartError>
-    requires few { length found.old ≤ 2000000 }
+    requires few { length found.old ≤ most_items }
     requires openings { HasOpenings (plain grammar.now) ask.sort openings.now }
     ensures extends { Extends found.old found.new }
     ensures only { Only found.old found.new
@@ -129,8 +131,8 @@ fn predict(
     ensures every { OnOk result ((head : Head) →
         IsOfSort (production_of (plain grammar.now) head) ask.sort ask.least →
         Contains found.new (beginning head ask.place)) }
-    ensures few { OnOk result (length found.new ≤ 2000000) }
-    ensures hard { result ≡ Err ChartError.TooHard → 2000000 < length found.new }
+    ensures few { OnOk result (length found.new ≤ most_items) }
+    ensures hard { result ≡ Err ChartError.TooHard → most_items < length found.new }
 {
     for opening in openings {
         predict_head(grammar, found, opening.head, ask)?;
@@ -146,7 +148,7 @@ pub(crate) fn predict_once(
     asked: &mut IndexSet<Ask>,
     ask: Ask,
 ) -> Result<(), ChartError>
-    requires few { length found.old ≤ 2000000 }
+    requires few { length found.old ≤ most_items }
     requires openings { HasAllOpenings (plain grammar.now) openings.now }
     requires asked { AllAsked (plain grammar.now) asked.old.keys found.old }
     ensures extends { Extends found.old found.new }
@@ -155,8 +157,8 @@ pub(crate) fn predict_once(
     ensures every { OnOk result ((head : Head) →
         IsOfSort (production_of (plain grammar.now) head) ask.sort ask.least →
         Contains found.new (beginning head ask.place)) }
-    ensures few { OnOk result (length found.new ≤ 2000000) }
-    ensures hard { result ≡ Err ChartError.TooHard → 2000000 < length found.new }
+    ensures few { OnOk result (length found.new ≤ most_items) }
+    ensures hard { result ≡ Err ChartError.TooHard → most_items < length found.new }
     ensures asked { OnOk result (AllAsked (plain grammar.now) asked.new.keys found.new) }
 {
     if asked.contains(&ask) {
@@ -179,7 +181,7 @@ fn predict_next(
     asked: &mut IndexSet<Ask>,
     item: Item,
 ) -> Result<(), ChartError>
-    requires few { length found.old ≤ 2000000 }
+    requires few { length found.old ≤ most_items }
     requires openings { HasAllOpenings (plain grammar.now) openings.now }
     requires asked { AllAsked (plain grammar.now) asked.old.keys found.old }
     ensures extends { Extends found.old found.new }
@@ -188,8 +190,8 @@ fn predict_next(
         as_part (next_symbol (plain grammar.now) item.head item.dot) ≡ Some (sort, least) →
         IsOfSort (production_of (plain grammar.now) head) sort least →
         Contains found.new (beginning head item.end)) }
-    ensures few { OnOk result (length found.new ≤ 2000000) }
-    ensures hard { result ≡ Err ChartError.TooHard → 2000000 < length found.new }
+    ensures few { OnOk result (length found.new ≤ most_items) }
+    ensures hard { result ≡ Err ChartError.TooHard → most_items < length found.new }
     ensures asked { OnOk result (AllAsked (plain grammar.now) asked.new.keys found.new) }
 {
     match next_part(grammar, item.head, item.dot) {
@@ -216,14 +218,14 @@ fn join(
     before: Item,
     filling: Item,
 ) -> Result<(), ChartError>
-    requires { length found.old ≤ 2000000 }
+    requires { length found.old ≤ most_items }
     ensures extends { Extends found.old found.new }
     ensures only { Only found.old found.new
         (λ i. Joins (plain grammar.now) before filling × (i ≡ moved before filling.end)) }
     ensures every { OnOk result (Joins (plain grammar.now) before filling →
         Contains found.new (moved before filling.end)) }
-    ensures few { OnOk result (length found.new ≤ 2000000) }
-    ensures hard { result ≡ Err ChartError.TooHard → 2000000 < length found.new }
+    ensures few { OnOk result (length found.new ≤ most_items) }
+    ensures hard { result ≡ Err ChartError.TooHard → most_items < length found.new }
 {
     match next_part(grammar, before.head, before.dot) {
         None => Ok(()),
@@ -257,7 +259,7 @@ fn join_each(
     befores: &[u32],
     filling: Item,
 ) -> Result<(), ChartError>
-    requires few { length found.old ≤ 2000000 }
+    requires few { length found.old ≤ most_items }
     requires within { (n : ℕ) → Contains befores.now n → n < length found.old }
     ensures extends { Extends found.old found.new }
     ensures only { Only found.old found.new
@@ -266,8 +268,8 @@ fn join_each(
     ensures every { OnOk result ((before : Item) → IsNumbered found.old befores.now before →
         Joins (plain grammar.now) before filling →
         Contains found.new (moved before filling.end)) }
-    ensures few { OnOk result (length found.new ≤ 2000000) }
-    ensures hard { result ≡ Err ChartError.TooHard → 2000000 < length found.new }
+    ensures few { OnOk result (length found.new ≤ most_items) }
+    ensures hard { result ≡ Err ChartError.TooHard → most_items < length found.new }
 {
     for number in befores {
         let before = item_within(found, *number as usize);
@@ -287,7 +289,7 @@ fn join_over(
     before: Item,
     fillings: &[u32],
 ) -> Result<(), ChartError>
-    requires few { length found.old ≤ 2000000 }
+    requires few { length found.old ≤ most_items }
     requires within { (n : ℕ) → Contains fillings.now n → n < length found.old }
     ensures extends { Extends found.old found.new }
     ensures only { Only found.old found.new
@@ -296,8 +298,8 @@ fn join_over(
     ensures every { OnOk result ((filling : Item) → IsNumbered found.old fillings.now filling →
         Joins (plain grammar.now) before filling →
         Contains found.new (moved before filling.end)) }
-    ensures few { OnOk result (length found.new ≤ 2000000) }
-    ensures hard { result ≡ Err ChartError.TooHard → 2000000 < length found.new }
+    ensures few { OnOk result (length found.new ≤ most_items) }
+    ensures hard { result ≡ Err ChartError.TooHard → most_items < length found.new }
 {
     for number in fillings {
         let filling = item_within(found, *number as usize);
@@ -316,8 +318,8 @@ fn scan(
     found: &mut ItemSet,
     item: Item,
 ) -> Result<(), ChartError>
-    requires few { length found.old ≤ 2000000 }
-    requires short { length shown.now ≤ 10000 }
+    requires few { length found.old ≤ most_items }
+    requires short { length shown.now ≤ most_tokens }
     requires below { AreBelow (length (texts grammar.now)) shown.now }
     ensures extends { Extends found.old found.new }
     ensures only { Only found.old found.new
@@ -327,8 +329,8 @@ fn scan(
     ensures every { OnOk result (ReadsNext (tokens_of grammar.now shown.now)
         (next_symbol (plain grammar.now) item.head item.dot) item.end →
         Contains found.new (moved item (item.end + 1))) }
-    ensures few { OnOk result (length found.new ≤ 2000000) }
-    ensures hard { result ≡ Err ChartError.TooHard → 2000000 < length found.new }
+    ensures few { OnOk result (length found.new ≤ most_items) }
+    ensures hard { result ≡ Err ChartError.TooHard → most_items < length found.new }
 {
     if reads_next(grammar, item.head, item.dot, shown, item.end) {
         add(
@@ -354,8 +356,8 @@ pub(crate) fn treat(
     near: Neighbours,
     item: Item,
 ) -> Result<(), ChartError>
-    requires few { length found.old ≤ 2000000 }
-    requires short { length given.shown.now ≤ 10000 }
+    requires few { length found.old ≤ most_items }
+    requires short { length given.shown.now ≤ most_tokens }
     requires below { AreBelow (length (texts given.grammar.now)) given.shown.now }
     requires openings { HasAllOpenings (plain given.grammar.now) given.openings.now }
     requires asked { AllAsked (plain given.grammar.now) asked.old.keys found.old }
@@ -371,8 +373,8 @@ pub(crate) fn treat(
         (tokens_of given.entry.grammar.now given.entry.shown.now)
         (IsNumbered found.old near.entry.befores.now)
         (IsNumbered found.old near.entry.fillings.now) item found.new) }
-    ensures few { OnOk result (length found.new ≤ 2000000) }
-    ensures hard { result ≡ Err ChartError.TooHard → 2000000 < length found.new }
+    ensures few { OnOk result (length found.new ≤ most_items) }
+    ensures hard { result ≡ Err ChartError.TooHard → most_items < length found.new }
     ensures asked { OnOk result
         (AllAsked (plain given.entry.grammar.now) asked.new.keys found.new) }
 {

@@ -1,6 +1,7 @@
 //! Where items were found.
 
 ghost use Rattle.std.specs.Prelude.{◌≡◌, ◌≤◌, ◌<◌, ◌^◌, IsTrue, Contains};
+ghost use Rattle.sx_grammar.specs.ReadOne.{most_items};
 
 use crate::item_set::{ItemSet, is_same};
 use std::alloc::{AllocError, Global};
@@ -62,7 +63,7 @@ impl Hints {
 
     /// Keeps the place of the item.
     pub(crate) fn note(&mut self, item: Item, place: usize)
-        requires { place ≤ 2000000 }
+        requires { place ≤ most_items }
     {
         if let Some(hint) = self.places.get_mut(slot_of(item)) {
             *hint = place as u32;

@@ -14,6 +14,7 @@ use Rattle.sx_environment.specs.Environments.{IsEnvironment}
 use Rattle.sx_environment.specs.ImportErrors.{HasNone}
 use Rattle.sx_environment.specs.Seen.{text_of, line_of, parts_of, sort_of}
 use Rattle.sx_environment.specs.SeenFrom.{SeenFrom}
+use Rattle.sx_term.specs.Limits.{most_depth}
 
 -- a row of the import has more than two readings
 abbrev pub HasRowOfThree : SeenFrom → InterfaceParts → Type 0
@@ -47,7 +48,7 @@ pub record OneEnvironment : Type 0 where
   pub found : (s : SeenFrom) (its : List InterfaceParts) (t u : Tree) → IsEnvironment s its t →
       IsEnvironment s its u → t ≡ u
   pub either : (s : SeenFrom) (its : List InterfaceParts) (t : Tree) (e : ImportError) →
-      IsEnvironment s its t → depth_of t ≤ 1000 → HasNone s its e → e ≡ Memory
+      IsEnvironment s its t → depth_of t ≤ most_depth → HasNone s its e → e ≡ Memory
   pub refused : (s : SeenFrom) (its : List InterfaceParts) (e d : ImportError) →
       HasNone s its e → HasNone s its d → e ≢ Memory → d ≢ Memory → AreAlike s its e d
 

@@ -21,6 +21,7 @@ use Rattle.sx_environment.specs.Environments.{IsEnvironment, with_import}
 use Rattle.sx_environment.specs.Seen.{text_of, line_of, parts_of, sort_of, IsRead, HasLanguage}
 use Rattle.sx_environment.specs.Seen.{SeesStated, IsPlainOf, IsGoodImport}
 use Rattle.sx_environment.specs.SeenFrom.{SeenFrom}
+use Rattle.sx_term.specs.Limits.{most_depth}
 
 -- ---- rows that are not read
 
@@ -64,7 +65,7 @@ pub record IsTooDeep (s : SeenFrom) (before : Tree) (it : InterfaceParts) (depth
     pub seen : Tree
     pub good : IsGoodImport s it seen
     pub is : depth ≡ depth_of (with_import s before it.name seen)
-    pub deep : 1000 < depth
+    pub deep : most_depth < depth
 
 -- why the import with this number, from 0, is refused behind this environment: each refusal has the
 -- conditions of those before it; out of memory is free
@@ -94,7 +95,7 @@ pub record IsRefused (s : SeenFrom) (its : List InterfaceParts) (e : ImportError
   pub is : its ≡ front ++ it ∷ rest
   pub before : Tree
   pub environment : IsEnvironment s front before
-  pub shallow : depth_of before ≤ 1000
+  pub shallow : depth_of before ≤ most_depth
   pub bad : IsBadImport s (length front) before it e
 
 -- why no environment is made; out of memory is free

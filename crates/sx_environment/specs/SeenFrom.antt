@@ -10,6 +10,7 @@ use Rattle.sx_interface.specs.Stated.{IsWithin}
 use Rattle.sx_typing.specs.Dialects.{DialectData, IsDialectOf, dialect_of}
 use Rattle.sx_interface.specs.declared.import.Import.{Import}
 use Rattle.sx_environment.specs.declared.surroundings.Surroundings.{Surroundings}
+use Rattle.sx_term.specs.Limits.{most_bytes}
 
 -- the dialect, the name of its language with the digest of the language's file, and the names of
 -- the extensions in use, in order, with the digests of their files
@@ -33,7 +34,7 @@ interfaces_of imports = map (λ i. interface_view i.interface) imports
 -- a file can hold the interface: neither the signature and the stated signature nor the list of its
 -- uses and imports is longer than a file may be
 abbrev pub IsShort : InterfaceParts → Type 0
-IsShort it = IsWithin 262144 it
+IsShort it = IsWithin most_bytes it
 
 -- the import has a name, which is none of the literals
 abbrev pub HasFreeName : List Text → InterfaceParts → Type 0

@@ -14,6 +14,7 @@ ghost use Rattle.sx_environment.specs.declared.import_error.ImportError.TheVaria
 ghost use Rattle.sx_environment.specs.declared.import_error.ImportError.TheVariants.{TooDeep};
 ghost use Rattle.sx_environment.specs.Seen.{IsGoodImport};
 ghost use Rattle.sx_environment.specs.SeenFrom.{CanSee, IsShort, interfaces_of, seen_from};
+ghost use Rattle.sx_term.specs.Limits.{most_depth};
 
 use crate::import_error::ImportError;
 use crate::numbered::Numbered;
@@ -21,10 +22,7 @@ use crate::seeing::seen_term;
 use crate::surroundings::Surroundings;
 use std::alloc::Global;
 use sx_interface::Import;
-use sx_term::{LexKind, NoMemory, Term, Text};
-
-/// The greatest depth of an environment.
-const DEEPEST: u32 = 1000;
+use sx_term::{LexKind, MOST_DEPTH, NoMemory, Term, Text};
 
 /// An environment that imports are added to, with its depth.
 #[derive(Drop)]
@@ -76,18 +74,18 @@ fn with_import(
     name: &Text,
     seen: Term,
 ) -> Result<Grown, ImportError>
-    requires before { depth_of (tree before.term) ≤ 1000 }
-    requires seen { depth_of (tree seen) ≤ 1000 }
+    requires before { depth_of (tree before.term) ≤ most_depth }
+    requires seen { depth_of (tree seen) ≤ most_depth }
     ensures made { IfOk result (λ e. tree e.term ≡
         known.with_import (seen_from given.now) (tree before.term) name.now (tree seen)) }
-    ensures shallow { IfOk result (λ e. depth_of (tree e.term) ≤ 1000) }
+    ensures shallow { IfOk result (λ e. depth_of (tree e.term) ≤ most_depth) }
     ensures refused { IfErr result (λ e. (e ≡ Memory) ⊎ ((e ≡ TooDeep
         (depth_of (known.with_import (seen_from given.now) (tree before.term) name.now
-        (tree seen)))) × (1000 < depth_of
+        (tree seen)))) × (most_depth < depth_of
         (known.with_import (seen_from given.now) (tree before.term) name.now (tree seen))))) }
 {
     let depth = before.depth.max(seen.depth()) + 1;
-    if depth > DEEPEST {
+    if depth > MOST_DEPTH {
         drop(seen);
         drop(before);
         return Err(ImportError::TooDeep(depth));
@@ -105,12 +103,12 @@ fn added(
 ) -> Result<Grown, ImportError>
     requires dialect { IsDialectOf given.now.dialect }
     requires short { IsShort (interface_view import.now.interface.now) }
-    requires shallow { depth_of (tree before.term) ≤ 1000 }
+    requires shallow { depth_of (tree before.term) ≤ most_depth }
     ensures made { IfOk result (λ e. (seen : Tree) ×
         IsGoodImport (seen_from given.now) (interface_view import.now.interface.now) seen ×
         (tree e.term ≡ known.with_import (seen_from given.now) (tree before.term)
         (interface_view import.now.interface.now).name seen)) }
-    ensures shallow { IfOk result (λ e. depth_of (tree e.term) ≤ 1000) }
+    ensures shallow { IfOk result (λ e. depth_of (tree e.term) ≤ most_depth) }
     ensures refused { IfErr result (IsBadImport (seen_from given.now) import.now.number
         (tree before.term) (interface_view import.now.interface.now)) }
 {

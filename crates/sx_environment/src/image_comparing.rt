@@ -6,6 +6,7 @@ ghost use Rattle.sx_term.specs.Term.{tree};
 ghost use Rattle.sx_term.specs.Tree.{depth_of, forest, greatest_depth, listed, node, none};
 ghost use Rattle.sx_plain.specs.Plain.{image, images};
 ghost use Rattle.sx_plain.specs.Views.{table_of};
+ghost use Rattle.sx_term.specs.Limits.{most_depth};
 
 use sx_plain::PlainTable;
 use sx_term::Term;
@@ -14,8 +15,8 @@ use sx_term::Term;
 /// too big to be compared.
 #[cycle(is_image)]
 pub(crate) fn is_image(table: &PlainTable, term: &Term, other: &Term) -> bool
-    requires shallow { depth_of (tree term.now) ≤ 1000 }
-    requires other { depth_of (tree other.now) ≤ 1000 }
+    requires shallow { depth_of (tree term.now) ≤ most_depth }
+    requires other { depth_of (tree other.now) ≤ most_depth }
     ensures { IsTrue result ↔ (image (table_of table.now) (tree term.now) ≡ tree other.now) }
 {
     match term {
@@ -31,8 +32,8 @@ pub(crate) fn is_image(table: &PlainTable, term: &Term, other: &Term) -> bool
 /// Whether the term is the node with the plain images of these kids.
 #[cycle(is_image)]
 fn is_node_image(table: &PlainTable, label: u32, kids: &[Term], other: &Term) -> bool
-    requires shallow { greatest_depth (forest (map tree kids.now)) < 1000 }
-    requires other { depth_of (tree other.now) ≤ 1000 }
+    requires shallow { greatest_depth (forest (map tree kids.now)) < most_depth }
+    requires other { depth_of (tree other.now) ≤ most_depth }
     ensures { IsTrue result ↔
         (node label (images (table_of table.now) (forest (map tree kids.now))) ≡ tree other.now) }
 {
@@ -49,8 +50,8 @@ fn is_node_image(table: &PlainTable, label: u32, kids: &[Term], other: &Term) ->
 /// Whether the others are the plain images of the terms.
 #[cycle(is_image)]
 fn are_images(table: &PlainTable, terms: &[Term], others: &[Term]) -> bool
-    requires shallow { greatest_depth (forest (map tree terms.now)) < 1000 }
-    requires others { greatest_depth (forest (map tree others.now)) < 1000 }
+    requires shallow { greatest_depth (forest (map tree terms.now)) < most_depth }
+    requires others { greatest_depth (forest (map tree others.now)) < most_depth }
     ensures { IsTrue result ↔
         (map (λ t. image (table_of table.now) (tree t)) terms.now ≡ map tree others.now) }
 {
@@ -71,9 +72,9 @@ fn are_images(table: &PlainTable, terms: &[Term], others: &[Term]) -> bool
 /// variables.
 #[cycle(is_image)]
 fn is_filled(table: &PlainTable, flat: &Term, parts: &[Term], other: &Term) -> bool
-    requires shallow { depth_of (tree flat.now) ≤ 1000 }
-    requires parts { greatest_depth (forest (map tree parts.now)) < 1000 }
-    requires other { depth_of (tree other.now) ≤ 1000 }
+    requires shallow { depth_of (tree flat.now) ≤ most_depth }
+    requires parts { greatest_depth (forest (map tree parts.now)) < most_depth }
+    requires other { depth_of (tree other.now) ≤ most_depth }
     ensures { IsTrue result ↔ (instance
         (bound_by (listed (images (table_of table.now) (forest (map tree parts.now)))))
         (tree flat.now) ≡ tree other.now) }
@@ -113,9 +114,9 @@ fn is_filled_node(
     parts: &[Term],
     other: &Term,
 ) -> bool
-    requires shallow { greatest_depth (forest (map tree kids.now)) < 1000 }
-    requires parts { greatest_depth (forest (map tree parts.now)) < 1000 }
-    requires other { depth_of (tree other.now) ≤ 1000 }
+    requires shallow { greatest_depth (forest (map tree kids.now)) < most_depth }
+    requires parts { greatest_depth (forest (map tree parts.now)) < most_depth }
+    requires other { depth_of (tree other.now) ≤ most_depth }
     ensures { IsTrue result ↔ (node label (instances
         (bound_by (listed (images (table_of table.now) (forest (map tree parts.now)))))
         (forest (map tree kids.now))) ≡ tree other.now) }
@@ -134,9 +135,9 @@ fn is_filled_node(
 /// put.
 #[cycle(is_image)]
 fn are_filled(table: &PlainTable, flats: &[Term], parts: &[Term], others: &[Term]) -> bool
-    requires shallow { greatest_depth (forest (map tree flats.now)) < 1000 }
-    requires parts { greatest_depth (forest (map tree parts.now)) < 1000 }
-    requires others { greatest_depth (forest (map tree others.now)) < 1000 }
+    requires shallow { greatest_depth (forest (map tree flats.now)) < most_depth }
+    requires parts { greatest_depth (forest (map tree parts.now)) < most_depth }
+    requires others { greatest_depth (forest (map tree others.now)) < most_depth }
     ensures { IsTrue result ↔ (map (λ t. instance
         (bound_by (listed (images (table_of table.now) (forest (map tree parts.now))))) (tree t))
         flats.now ≡ map tree others.now) }

@@ -19,13 +19,14 @@ use Rattle.sx_expand.specs.declared.origin.Origin.{Origin}
 use Rattle.sx_expand.specs.Followed.{Follows}
 use Rattle.sx_expand.specs.ReadNodes.{NodeData, KidData}
 use Rattle.sx_expand.specs.Standing.{StandsAt, StandEach}
+use Rattle.sx_rules.specs.Limits.{most_levels}
 
 -- the derivation of the judgement from the hypotheses has the list, and is no deeper than 3,000
 pub record HasList (rules : List Rule) (hyps : Hypotheses) (j : Judgement) (list : List Entry)
     (p : Proof) : Type 0 where
   pub derives : Derives rules hyps j p
   pub list_is : list ≡ order_of p
-  pub low : height_of p ≤ 3000
+  pub low : height_of p ≤ most_levels
 
 -- the rules, the modes of their forms, the hypotheses and the entries
 abbrev pub rules_from : Origin → List Rule

@@ -12,17 +12,18 @@ use Rattle.sx_rewrite.specs.Sizes.{in_u64}
 use Rattle.sx_rewrite.specs.Used.{lowered_nodes, lowered_height}
 use Rattle.sx_expand.specs.declared.lowered_list.LoweredList.{LoweredList}
 use Rattle.sx_expand.specs.LoweredOrders.{lowered_order}
+use Rattle.sx_rules.specs.Limits.{most_levels}
 
 -- the list of what the derivation is lowered to, and how many nodes are copied for it;
 -- or it has more nodes than the budget, or else is deeper than 3,000
 abbrev pub IsListLowered : Accepted → Proof → ℕ → Result LoweredList RewriteError → Type 0
 IsListLowered a p budget (Ok x) =
-    (lowered_nodes a p ≤ budget) × (lowered_height a p ≤ 3000)
+    (lowered_nodes a p ≤ budget) × (lowered_height a p ≤ most_levels)
     × (x.copied ≡ in_u64 (copied a p)) × (entries x.entries.items ≡ lowered_order a p)
 IsListLowered a p budget (Err Memory) = Unit {0}
 IsListLowered a p budget (Err (RewriteSpent nodes)) =
     (nodes ≡ budget) × (budget < lowered_nodes a p)
 IsListLowered a p budget (Err RewriteDeep) =
-    (lowered_nodes a p ≤ budget) × (3000 < lowered_height a p)
+    (lowered_nodes a p ≤ budget) × (most_levels < lowered_height a p)
 IsListLowered a p budget (Err (TooDeep depth)) = ⊥
 IsListLowered a p budget (Err (TooBig nodes)) = ⊥

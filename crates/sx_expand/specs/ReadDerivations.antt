@@ -15,6 +15,7 @@ use Rattle.sx_expand.specs.declared.reading.Reading.{Reading}
 use Rattle.sx_expand.specs.KidsRead.{IsKidRead}
 use Rattle.sx_expand.specs.Listed.{StandsIn}
 use Rattle.sx_expand.specs.Readings.{set_by, signature_by, hyps_by}
+use Rattle.sx_rules.specs.Limits.{most_levels}
 
 -- A derivation of the judgement, from the hypotheses, stands in the list from the number on. Its
 -- terms are good, and what it is lowered to is not too deep where it is needed.
@@ -24,7 +25,7 @@ pub record CanRead (l : Reading) (at : ℕ) (is_needed : Bool) (j : Judgement) (
   pub derives : Derives (rules_of (set_by l)) (hyps_by l) j p
   pub binds : HasShallowBinds p
   pub fit : BindsFit (set_by l).table p
-  pub low : is_needed ≡ true → lowered_height (set_by l) p ≤ 3000
+  pub low : is_needed ≡ true → lowered_height (set_by l) p ≤ most_levels
 
 -- the terms with these numbers are the inputs of the judgement
 abbrev pub AreInputs : Reading → List Tree → List ℕ → Judgement → Type 0

@@ -23,6 +23,7 @@ use Rattle.sx_rewrite.specs.Rewriting.{first_over}
 use Rattle.sx_expand.specs.declared.reading.Reading.{Reading}
 use Rattle.sx_expand.specs.ReadDerivations.{CanRead}
 use Rattle.sx_expand.specs.Readings.{set_by, signature_by, hyps_by}
+use Rattle.sx_term.specs.Limits.{most_depth}
 
 -- the roles of the places
 abbrev pub roles_of : List Place → List Role
@@ -31,7 +32,7 @@ roles_of places = map (λ p. p.role) places
 -- the term is the plain image of the one with this number, and passes no limit
 pub record IsImagePlace (table : Table) (terms : List Tree) (number : ℕ) (k : Tree) : Type 0 where
   pub within : number < length terms
-  pub shallow : depth_of (tree_at terms number) ≤ 1000
+  pub shallow : depth_of (tree_at terms number) ≤ most_depth
   pub fits : FitsTable table (tree_at terms number)
   pub is : k ≡ image table (tree_at terms number)
   pub small : IsSmall k

@@ -4,6 +4,7 @@ use Rattle.sx_rules.specs.Derivations.{Proof, Proofs, no_more, ◌⊳◌, nodes_
 use Rattle.sx_rules.specs.Orders.{Entry, order_of, order_of_all}
 use Rattle.sx_rewrite.specs.Accepted.{Accepted}
 use Rattle.sx_rewrite.specs.LoweredSizes.{HasFitKids, HaveFitKids}
+use Rattle.sx_rules.specs.Limits.{most_levels}
 
 -- the entries of the derivation stand in the list from the number on
 abbrev pub StandsAt : List Entry → ℕ → Proof → Type 0
@@ -44,4 +45,4 @@ AreEnds a list ends = AreEndsFrom a list 0 ends
 pub record IsListOf (a : Accepted) (list : List Entry) (p : Proof) : Type 0 where
   pub fit : HasFitKids a p
   pub order : list ≡ order_of p
-  pub height : height_of p ≤ 3000
+  pub height : height_of p ≤ most_levels

@@ -8,6 +8,7 @@ ghost use Rattle.sx_rules.specs.ProofView as view;
 ghost use Rattle.sx_expand.specs.Listed.{HasEnds, StandsIn, StandInRow, StandInEach, set_in};
 ghost use Rattle.sx_expand.specs.LoweredOrders.{lowered_order, lowered_orders};
 ghost use Rattle.sx_expand.specs.LoweredOrders.{grafted_order, all_entries};
+ghost use Rattle.sx_rules.specs.Limits.{most_levels};
 
 use crate::ends::{entry_at, number_at};
 use crate::kid_places::kid_places;
@@ -88,7 +89,7 @@ fn emit_certificate(
     into: &mut Vec<Entry>,
 ) -> Result<(), NoMemory>
     requires ends { HasEnds listing.now }
-    requires height { spec.height_of (view.proof certificate.now) ≤ 3000 }
+    requires height { spec.height_of (view.proof certificate.now) ≤ most_levels }
     requires stand { (ps : spec.Proofs) × StandInEach listing.now places.now ps }
     ensures { IfOk result (λ _. (ps : spec.Proofs) → StandInEach listing.now places.now ps →
         entries into.new.items

@@ -10,6 +10,7 @@ ghost use Rattle.sx_arena.specs.Arena.{tree_at, AreBelow};
 ghost use Rattle.sx_rewrite.specs.PutImages.{image_for, images_for};
 ghost use Rattle.sx_expand.specs.Put.{IsPutAt, ArePutAt};
 ghost use Rattle.sx_expand.specs.Readers.{terms_in, IsReader, GoesOn};
+ghost use Rattle.sx_term.specs.Limits.{most_depth};
 
 use crate::ends::number_at;
 use crate::put_number::PutNumber;
@@ -69,7 +70,7 @@ fn put_image(
 ) -> Result<PutNumber, NoMemory>
     requires reader { IsReader (table_of table.now) reader.old }
     requires within { term < length (terms_in reader.old) }
-    requires shallow { depth_of (tree_at (terms_in reader.old) term) ≤ 1000 }
+    requires shallow { depth_of (tree_at (terms_in reader.old) term) ≤ most_depth }
     requires fits { FitsTable (table_of table.now) (tree_at (terms_in reader.old) term) }
     ensures { IfOk result (λ p. GoesOn (table_of table.now) reader.old reader.new
         × IsPutAt (terms_in reader.new)
@@ -95,7 +96,7 @@ fn image_number(
 ) -> Result<PutNumber, NoMemory>
     requires reader { IsReader (table_of table.now) reader.old }
     requires within { term < length (terms_in reader.old) }
-    requires shallow { depth_of (tree_at (terms_in reader.old) term) ≤ 1000 }
+    requires shallow { depth_of (tree_at (terms_in reader.old) term) ≤ most_depth }
     requires fits { FitsTable (table_of table.now) (tree_at (terms_in reader.old) term) }
     ensures { IfOk result (λ p. GoesOn (table_of table.now) reader.old reader.new
         × IsPutAt (terms_in reader.new)

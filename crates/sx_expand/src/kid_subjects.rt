@@ -16,6 +16,7 @@ ghost use Rattle.sx_rewrite.specs.PutSubjects.{IsSubjectPut, ArePutBelow};
 ghost use Rattle.sx_rewrite.specs.Stored.{certificate_at};
 ghost use Rattle.sx_expand.specs.KidSubjects.{IsKidSubject, AreKidSubjects};
 ghost use Rattle.sx_expand.specs.Put.{ArePutAt};
+ghost use Rattle.sx_term.specs.Limits.{most_depth};
 
 use crate::put_numbers::PutNumbers;
 use sx_arena::Arena;
@@ -116,7 +117,7 @@ fn put_subject(
 fn put_at(arena: &Arena, puts: &mut PutNumbers, variable: u32, term: usize)
     requires arena { IsArena arena.now }
     requires within { term < length (trees arena.now) }
-    requires shallow { depth_of (tree_at (trees arena.now) term) ≤ 1000 }
+    requires shallow { depth_of (tree_at (trees arena.now) term) ≤ most_depth }
     ensures { (old : List Tree) →
         ArePutAt (trees arena.now) old puts.old.numbers.items puts.old.measures.items →
         ArePutAt (trees arena.now) (slice_set old variable (tree_at (trees arena.now) term))

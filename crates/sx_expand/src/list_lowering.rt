@@ -8,6 +8,7 @@ ghost use Rattle.sx_rewrite.specs.AcceptedView.{accepted};
 ghost use Rattle.sx_expand.specs.Listed.{HasEnds, StandsIn, set_in};
 ghost use Rattle.sx_expand.specs.LoweredLists.{IsListLowered};
 ghost use Rattle.sx_expand.specs.Standing.{IsListOf};
+ghost use Rattle.sx_rules.specs.Limits.{most_levels};
 
 use crate::emission::emit;
 use crate::ends::ends_of;
@@ -19,7 +20,7 @@ use sx_rewrite::{Accepted, RewriteError};
 use sx_rules::Entry;
 
 /// How deep a derivation may be.
-const MOST_HEIGHT: u64 = 3000;
+const MOST_HEIGHT: u64 = sx_rules::MOST_LEVELS as u64;
 
 /// The list of what the derivation with this list is lowered to, without a look at its terms.
 /// Where that has more nodes than the budget or is deeper than 3,000, the first of these
@@ -50,7 +51,7 @@ pub(crate) fn lower_listing(
     budget: u64,
 ) -> Result<LoweredList, RewriteError>
     requires ends { HasEnds listing.now }
-    requires stands { (p : spec.Proof) × StandsIn listing.now 0 p × (height_of p ≤ 3000) }
+    requires stands { (p : spec.Proof) × StandsIn listing.now 0 p × (height_of p ≤ most_levels) }
     ensures { (p : spec.Proof) → StandsIn listing.now 0 p →
         IsListLowered (set_in listing.now) p budget result }
 {

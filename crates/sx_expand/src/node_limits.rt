@@ -15,6 +15,8 @@ ghost use Rattle.sx_rewrite.specs.Measured.{node_terms, certificate_terms};
 ghost use Rattle.sx_rewrite.specs.Puts.{AreMeasuresOf, Answers};
 ghost use Rattle.sx_rewrite.specs.Rewriting.{first_over};
 ghost use Rattle.sx_rewrite.specs.Stored.{certificate_at};
+ghost use Rattle.sx_rules.specs.Limits.{most_levels};
+ghost use Rattle.sx_term.specs.Limits.{most_depth};
 
 use std::alloc::Global;
 use sx_plain::Measure;
@@ -65,7 +67,7 @@ fn check_certificate(
     certificate: &Proof,
     parts: &[Measure],
 ) -> Result<(), RewriteError>
-    requires height { spec.height_of (view.proof certificate.now) ≤ 3000 }
+    requires height { spec.height_of (view.proof certificate.now) ≤ most_levels }
     requires binds { spec.HasShallowBinds (view.proof certificate.now) }
     requires parts { greatest (depths_of parts.now) ≤ 1001000 }
     ensures { (more : List Tree) → AreMeasuresOf more parts.now →
@@ -94,7 +96,7 @@ fn instance_measures(
     terms: &[Term],
     parts: &[Measure],
 ) -> Result<Vec<Measure>, RewriteError>
-    requires shallow { greatest_depth (forest (map tree terms.now)) ≤ 1000 }
+    requires shallow { greatest_depth (forest (map tree terms.now)) ≤ most_depth }
     requires parts { greatest (depths_of parts.now) ≤ 1001000 }
     ensures low { IfOk result (λ x. greatest (depths_of x.items) ≤ 1001000) }
     ensures measures { (more : List Tree) → AreMeasuresOf more parts.now →

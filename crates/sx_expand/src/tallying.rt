@@ -7,6 +7,7 @@ ghost use Rattle.sx_rewrite.specs.LoweredSizes.{IsLoweredSize, number_of};
 ghost use Rattle.sx_rewrite.specs.Sizes.{IsSmall};
 ghost use Rattle.sx_rewrite.specs.Tallies.{IsTallyOf, IsSizedTally, IsBaseTally, IsWithKid};
 ghost use Rattle.sx_expand.specs.Listed.{HasEnds, StandsIn, StandInRow, set_in};
+ghost use Rattle.sx_rules.specs.Limits.{most_levels};
 
 use crate::ends::{entry_at, number_at};
 use crate::listing::Listing;
@@ -18,7 +19,7 @@ use sx_rules::Entry;
 /// and no kid whose given the certificate of its node does not use.
 pub(crate) fn listed_size(listing: &Listing, budget: u64) -> Option<LoweredSize>
     requires ends { HasEnds listing.now }
-    requires stands { (p : spec.Proof) × StandsIn listing.now 0 p × (height_of p ≤ 3000) }
+    requires stands { (p : spec.Proof) × StandsIn listing.now 0 p × (height_of p ≤ most_levels) }
     ensures { (p : spec.Proof) → StandsIn listing.now 0 p →
         IsLoweredSize (set_in listing.now) p budget result }
 {
@@ -29,7 +30,7 @@ pub(crate) fn listed_size(listing: &Listing, budget: u64) -> Option<LoweredSize>
 #[cycle(tallied)]
 fn tally(listing: &Listing, at: usize) -> Tally
     requires ends { HasEnds listing.now }
-    requires stands { (p : spec.Proof) × StandsIn listing.now at p × (height_of p ≤ 3000) }
+    requires stands { (p : spec.Proof) × StandsIn listing.now at p × (height_of p ≤ most_levels) }
     ensures { (p : spec.Proof) → StandsIn listing.now at p →
         IsTallyOf (set_in listing.now) p result }
 {
@@ -51,7 +52,7 @@ fn tally(listing: &Listing, at: usize) -> Tally
 fn certificate_tally(listing: &Listing, size: &CertificateSize, first: usize) -> Tally
     requires ends { HasEnds listing.now }
     requires stand { (ps : spec.Proofs) × StandInRow listing.now first ps
-        × (number_of ps ≡ length size.now.uses.items) × (most_height ps < 3000) }
+        × (number_of ps ≡ length size.now.uses.items) × (most_height ps < most_levels) }
     requires small { IsSmall size.now }
     ensures { (ps : spec.Proofs) → StandInRow listing.now first ps →
         number_of ps ≡ length size.now.uses.items →
@@ -72,7 +73,7 @@ fn certificate_tally(listing: &Listing, size: &CertificateSize, first: usize) ->
 fn base_tally(listing: &Listing, first: usize, end: usize) -> Tally
     requires ends { HasEnds listing.now }
     requires stand { (ps : spec.Proofs) × StandInRow listing.now first ps
-        × (first + nodes_of_all ps ≡ end) × (most_height ps < 3000) }
+        × (first + nodes_of_all ps ≡ end) × (most_height ps < most_levels) }
     ensures { (ps : spec.Proofs) → StandInRow listing.now first ps →
         first + nodes_of_all ps ≡ end → IsBaseTally (set_in listing.now) ps result }
 {
@@ -89,8 +90,8 @@ fn base_tally(listing: &Listing, first: usize, end: usize) -> Tally
 #[cycle(tallied)]
 fn with_kid(listing: &Listing, so_far: Tally, given: GivenUse, at: usize) -> Tally
     requires ends { HasEnds listing.now }
-    requires stands { (p : spec.Proof) × StandsIn listing.now at p × (height_of p < 3000) }
-    requires near { given.above ≤ 3000 }
+    requires stands { (p : spec.Proof) × StandsIn listing.now at p × (height_of p < most_levels) }
+    requires near { given.above ≤ most_levels }
     ensures { (p : spec.Proof) → StandsIn listing.now at p →
         IsWithKid (set_in listing.now) given p so_far result }
 {

@@ -56,6 +56,7 @@ use Rattle.sx_extcheck.specs.declared.rule_defect.RuleDefect.TheVariants.{
 }
 use Rattle.sx_extcheck.specs.FlatTerms.{flat_terms}
 use Rattle.sx_extcheck.specs.Searches.{Search, ending_of, tries_in, StuckIn}
+use Rattle.sx_rules.specs.Limits.{most_levels}
 
 -- What a rule is checked against: the set before its extension, with the plain table of the
 -- extension; labels below the number are base. A walk makes at most so many tries, and a lowered
@@ -131,7 +132,7 @@ module _ (c : Check) (ext : ExtRule) where
   abbrev pub IsRefusedFor : RuleDefect → Type 0
   IsRefusedFor (Rejected b) = EndsSo exhausted × StuckIn search_for (blame_of b)
   IsRefusedFor (BudgetSpent n) = EndsSo no_tries × (n ≡ c.tries)
-  IsRefusedFor (DepthSpent n) = EndsSo (stopped depth_spent) × (n ≡ 3000)
+  IsRefusedFor (DepthSpent n) = EndsSo (stopped depth_spent) × (n ≡ most_levels)
   IsRefusedFor (TooDeep n) =
       (over_for ≡ Some (too_deep n))
       ⊎ ((depth : ℕ) × EndsSo (stopped (deep_term depth)) × (n ≡ min depth (2 ^ 64 - 1)))

@@ -24,6 +24,7 @@ use Rattle.sx_plain.specs.Plain.{Table, image}
 use Rattle.sx_plain.specs.Tables.{FitsTable}
 use Rattle.sx_rewrite.specs.Accepted.{ExtRule}
 use Rattle.sx_rewrite.specs.PlainRules.{image_judgement, image_premise}
+use Rattle.sx_term.specs.Limits.{most_depth}
 
 -- the terms of the premises in order: the places of each judgement, and both sides where two
 -- terms are to be apart
@@ -49,7 +50,7 @@ flat_terms table subjects ext =
 
 -- the term is no deeper than 1,000, and each of its nodes has as many parts as the table asks for
 abbrev pub CanMeasure : Table → Tree → Type 0
-CanMeasure table t = (depth_of t ≤ 1000) × FitsTable table t
+CanMeasure table t = (depth_of t ≤ most_depth) × FitsTable table t
 
 -- so it is of the terms of the premise
 abbrev pub PremiseCanMeasure : Table → Premise → Type 0

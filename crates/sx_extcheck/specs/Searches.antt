@@ -43,6 +43,7 @@ use Rattle.sx_extcheck.specs.declared.rule_defect.RuleDefect.TheVariants.{
   RewriteSpent,
   RewriteDeep,
 }
+use Rattle.sx_rules.specs.Limits.{most_levels}
 
 -- what is searched for: a goal with these outputs, from hypotheses, by rules
 pub record Search : Type 0 where
@@ -63,7 +64,7 @@ tries_in s tries = tries_of (Some s.wanted) tries (events s.modes s.rules s.hyps
 
 -- the goal that is stuck
 abbrev pub StuckIn : Search → Blame → Type 0
-StuckIn s blame = IsStuck s.modes s.subjects s.rules s.hyps 3000 s.goal [] blame
+StuckIn s blame = IsStuck s.modes s.subjects s.rules s.hyps most_levels s.goal [] blame
 
 -- the view of a search
 abbrev pub search_of : RuleSet → Hyps → FlatGoal → Search
@@ -92,7 +93,7 @@ IsSearchedBy Says s tries (Err (Defect (Rejected b))) =
 IsSearchedBy Says s tries (Err (Defect (BudgetSpent n))) =
     (ending_of s tries ≡ spent) × (n ≡ tries)
 IsSearchedBy Says s tries (Err (Defect (DepthSpent n))) =
-    (ending_of s tries ≡ stopped depth_spent) × (n ≡ 3000)
+    (ending_of s tries ≡ stopped depth_spent) × (n ≡ most_levels)
 IsSearchedBy Says s tries (Err (Defect (TooDeep n))) =
     (depth : ℕ) × (ending_of s tries ≡ stopped (too_deep depth)) × (n ≡ min depth (2 ^ 64 - 1))
 IsSearchedBy Says s tries (Err (Defect (TooBig n))) =
@@ -104,7 +105,7 @@ IsSearchedBy Says s tries (Err (Defect RewriteDeep)) = ⊥
 abbrev pub FindsProof : Search → ℕ → Box ProofOf → Type 0
 FindsProof s tries p =
     ((outs : List Tree) × (ending_of s tries ≡ found (proof p.value, outs)))
-    × (height_of (proof p.value) ≤ 3000) × HasShallowBinds (proof p.value)
+    × (height_of (proof p.value) ≤ most_levels) × HasShallowBinds (proof p.value)
 
 -- so where the derivation is answered
 abbrev pub IsSearched : Search → ℕ → Result (Box ProofOf) CheckError → Type 0
@@ -114,7 +115,7 @@ IsSearched s tries result = IsSearchedBy (FindsProof s tries) s tries result
 pub record FindsList (s : Search) (tries : ℕ) (list : List Entry) (answer : Answer) : Type 0 where
   pub ends : ending_of s tries ≡ found answer
   pub list_is : list ≡ order_of answer.0
-  pub low : height_of answer.0 ≤ 3000
+  pub low : height_of answer.0 ≤ most_levels
   pub binds : HasShallowBinds answer.0
   pub near : AreShallow answer.1
 

@@ -23,6 +23,7 @@ use Rattle.sx_rewrite.specs.Stored.{signature_of}
 use Rattle.sx_notation.specs.Language.{RuleHasLexemes}
 use Rattle.sx_extension.specs.declared.extension.ReadExtension.{ReadExtension}
 use Rattle.sx_extension.specs.Grounds.{Ground}
+use Rattle.sx_term.specs.Limits.{most_bytes, most_depth}
 
 abbrev mutual
   -- the lexeme stands in the term
@@ -62,7 +63,7 @@ pub record ExtensionHasLexemes (literals : List Text) (before : Table) (x : Exte
 -- The terms of the rules and their bodies are at most 1,000 deep, and no rule has 2^32 premises.
 pub record ExtensionIsUsable (x : ExtensionData) : Type 0 where
   pub shallow : RulesAreShallow (map (λ e. rule e.rule) x.rules.items)
-  pub bodies : AllByRecursion (λ e. IfSome e.body (λ t. depth_of t ≤ 1000))
+  pub bodies : AllByRecursion (λ e. IfSome e.body (λ t. depth_of t ≤ most_depth))
       (map ext_rule x.rules.items)
   pub few : AllByRecursion (λ e. length e.rule.premises.items < 2 ^ 32) x.rules.items
 
@@ -78,6 +79,6 @@ pub record FitsAfter (g : Ground) (x : ReadExtension) : Type 0 where
       (map ext_rule x.extension.rules.items)
   pub lexemes : ExtensionHasLexemes (literals_of g.language) g.table x.extension
   pub productions : length x.rule_grammar.parts.productions ≤
-      length g.by_rules.productions + 262144
+      length g.by_rules.productions + most_bytes
   pub literals : length (literals x.rule_grammar.parts) ≤
-      length (literals g.by_rules) + 262144
+      length (literals g.by_rules) + most_bytes

@@ -19,6 +19,7 @@ use Rattle.sx_notation.specs.RuleLaws.{form_of, HaveSortsOf}
 use Rattle.sx_notation.specs.Language.{FormFits}
 use Rattle.sx_language.specs.States.{AreStems}
 use Rattle.sx_extension.specs.declared.before.Before.{Before}
+use Rattle.sx_term.specs.Limits.{most_bytes}
 
 -- The sorts and productions of the language, its stems and its forms; the grammar with the
 -- extensions before, the parts by which their rules are read, the rules with their names, the
@@ -59,8 +60,8 @@ pub record HasForms (g : Ground) (lines : List FormLine) : Type 0 where
 -- the grammar by which rules are read has room for the productions and literals of so many files
 -- more
 pub record HasRoomFor (g : Ground) (files : ℕ) : Type 0 where
-  pub productions : length g.by_rules.productions + 262144 * files ≤ 2 ^ 31
-  pub literals : length (literals g.by_rules) + 262144 * files ≤ 2 ^ 31
+  pub productions : length g.by_rules.productions + most_bytes * files ≤ 2 ^ 31
+  pub literals : length (literals g.by_rules) + most_bytes * files ≤ 2 ^ 31
 
 -- The grammar goes on from that of the language, whose productions are base, with one sort of
 -- judgements and the forms of the language for its rules. The rules have its constructors and the

@@ -16,6 +16,7 @@ use Rattle.sx_extension.specs.Alike.{ShowOtherReadings}
 use Rattle.sx_extension.specs.Fitting.{FitsAfter}
 use Rattle.sx_extension.specs.Grounds.{Ground, HasRoomFor, IsBefore}
 use Rattle.sx_extension.specs.States.{States, IsRefused}
+use Rattle.sx_term.specs.Limits.{most_bytes}
 
 -- two extensions are the same, but for where they lie in memory
 pub record SameExtension (x y : ReadExtension) : Type 0 where
@@ -81,9 +82,9 @@ next_ground g x = record {
 -- after a language that a text states extensions can be read, as many as 8,190
 pub record LanguagesBegin : Type 0 where
   pub before : (name bytes : Text) (l : Language) → StatesLanguage name bytes l → IsLanguage l →
-      length bytes ≤ 262144 → IsBefore (first_ground l)
+      length bytes ≤ most_bytes → IsBefore (first_ground l)
   pub room : (name bytes : Text) (l : Language) (files : ℕ) → StatesLanguage name bytes l →
-      length bytes ≤ 262144 → files ≤ 8190 → HasRoomFor (first_ground l) files
+      length bytes ≤ most_bytes → files ≤ 8190 → HasRoomFor (first_ground l) files
 
 -- After an extension that is read and fits the next one can be read, where there is room, and each
 -- file takes the room of one. Extensions that are the same are one to those after them.

@@ -5,6 +5,7 @@ use Rattle.sx_term.specs.Term.{tree}
 use Rattle.sx_term.specs.Sorts.{Shape, HasSort}
 use Rattle.sx_term.specs.Untyped.{IsUntypedSort}
 use Rattle.sx_extension.specs.declared.plain_body.PlainBody.{PlainBody}
+use Rattle.sx_term.specs.Limits.{most_depth}
 
 -- a plain body: the label of its constructor, how many parts that has, and the term, in which
 -- variable n is part n
@@ -25,4 +26,4 @@ pub record IsBodyOf (shapes : List Shape) (first : ℕ) (b : BodyData) : Type 0 
   pub plain : IsUntypedSort shape.sort
   pub many : b.parts ≡ length shape.kids
   pub sorted : HasSort shapes shape.kids b.term shape.sort
-  pub shallow : depth_of b.term ≤ 1000
+  pub shallow : depth_of b.term ≤ most_depth

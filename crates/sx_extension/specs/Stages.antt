@@ -41,6 +41,7 @@ use Rattle.sx_extension.specs.TableRefusals.{IsTableRefusal}
 use Rattle.sx_extension.specs.Grounds.{Ground, HasForms}
 use Rattle.sx_extension.specs.Readings.{HasOutline, HasNoOutline, with_own, AreNoGrammars}
 use Rattle.sx_extension.specs.Readings.{IsReadable, tables}
+use Rattle.sx_term.specs.Limits.{most_bytes}
 
 -- the productions of the extension are no more than grammars have room for
 pub record HasRoom (g : Ground) (own : List Line) : Type 0 where
@@ -51,7 +52,7 @@ pub record HasRoom (g : Ground) (own : List Line) : Type 0 where
 
 -- the extension has at most 262,144 productions and literals in all
 abbrev pub HasFewProductions : ExtensionOutlineData → Type 0
-HasFewProductions o = length o.productions + length (literals (own_parts o)) ≤ 262144
+HasFewProductions o = length o.productions + length (literals (own_parts o)) ≤ most_bytes
 
 -- the text has the outline, which fits the language, few productions, and lines of at most 262,144
 -- bytes
@@ -63,8 +64,8 @@ pub record IsUsable (g : Ground) (bytes : Text) (o : ExtensionOutline) : Type 0 
   pub few : HasFewProductions (extension_outline o)
   pub room : HasRoom g (extension_outline o).productions
   pub sorts : AllByRecursion (λ v. IsNameOfSort g.language v.sort) o.vars.items
-  pub plains : AllByRecursion (λ p. length p.body.text ≤ 262144) (extension_outline o).plains
-  pub lines : AllByRecursion (λ l. HasShortLines 262144 (rule_data l)) o.rules.items
+  pub plains : AllByRecursion (λ p. length p.body.text ≤ most_bytes) (extension_outline o).plains
+  pub lines : AllByRecursion (λ l. HasShortLines most_bytes (rule_data l)) o.rules.items
 
 -- the refusal of a text that has no outline
 abbrev pub IsOutlineRefusal : OutlineError → NotationError → Type 0
@@ -105,7 +106,7 @@ pub record CanReadPlain (p : Parts) (r : ReaderData) (l : PlainData) : Type 0 wh
   pub there : Contains (labels p) l.label
   pub sort : (number : ℕ) (s : Sort) → IsSortOf p number s → IsSort r.parts s
   pub once : AreDistinct l.names
-  pub short : length l.body.text ≤ 262144
+  pub short : length l.body.text ≤ most_bytes
 
 -- the plain pairs and the lines of the rules can be read
 pub record CanReadTexts (g : Ground) (x : Prepared) : Type 0 where
@@ -113,7 +114,7 @@ pub record CanReadTexts (g : Ground) (x : Prepared) : Type 0 where
   pub can : CanRead (reader_of g x)
   pub pairs : AllByRecursion (CanReadPlain x.grammar.parts (tables (reader_of g x)))
       (map plain_data x.plains.items)
-  pub short : AllByRecursion (λ l. HasShortLines 262144 (rule_data l)) x.rules.items
+  pub short : AllByRecursion (λ l. HasShortLines most_bytes (rule_data l)) x.rules.items
 
 -- the text has an outline with grammars and few productions, whose plain pairs have the names of
 -- their parts, and this is made of it

@@ -12,6 +12,7 @@ ghost use Rattle.sx_outline.specs.Stages.{numbered, rule_data};
 ghost use Rattle.sx_language.specs.RuleLine.{subject_sort};
 ghost use Rattle.sx_extension.specs.Bodies.{IsReadBody, IsBodied, HasDefect, AreReadBodies};
 ghost use Rattle.sx_extension.specs.Bodies.{AreBodied, IsFirstDefect};
+ghost use Rattle.sx_term.specs.Limits.{most_depth};
 
 use crate::body_defect::BodyDefect;
 use crate::own_syntax::OwnSyntax;
@@ -41,7 +42,7 @@ fn body_defect(
     line: &Option<RuleLine>,
     body: &Option<Term>,
 ) -> Option<BodyDefect>
-    requires shallow { IfSome body.now (λ t. depth_of (tree t) ≤ 1000) }
+    requires shallow { IfSome body.now (λ t. depth_of (tree t) ≤ most_depth) }
     ensures { (subject : Option Sort) → (IsTrue has_subject ↔ IsSome subject) →
         IsReadBody subject (option_map numbered line.now) (option_map tree body.now) →
         MatchOption result
@@ -73,7 +74,7 @@ pub(crate) fn first_defect(
 ) -> Option<(usize, BodyDefect)>
     requires read { AreReadBodies (view.forms forms.now) (map rule_data lines.now)
         (map view.named read.now.rules.items) (map (option_map tree) read.now.bodies.items) }
-    requires shallow { AllByRecursion (λ b. IfSome b (λ t. depth_of t ≤ 1000))
+    requires shallow { AllByRecursion (λ b. IfSome b (λ t. depth_of t ≤ most_depth))
         (map (option_map tree) read.now.bodies.items) }
     ensures { MatchOption result
         (AreBodied (view.forms forms.now) (shapes own.now.shapes.now) own.now.first

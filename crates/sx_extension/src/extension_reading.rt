@@ -7,6 +7,7 @@ ghost use Rattle.sx_extension.specs.ReadTexts.{AreTextsOf};
 ghost use Rattle.sx_extension.specs.Checked.{AreChecked, IsExtensionOf, IsReadFrom};
 ghost use Rattle.sx_extension.specs.Fitting.{FitsAfter};
 ghost use Rattle.sx_extension.specs.States.{States, IsRefused};
+ghost use Rattle.sx_term.specs.Limits.{most_bytes};
 
 use crate::before::Before;
 use crate::bodied_rules::with_bodies;
@@ -137,7 +138,7 @@ pub fn read_extension(
     bytes: &[u8],
 ) -> Result<ReadExtension, ExtensionError>
     requires before { IsBefore (ground before.now) }
-    requires short { length bytes.now ≤ 262144 }
+    requires short { length bytes.now ≤ most_bytes }
     ensures stated { IfOk result (States (ground before.now) bytes.now) }
     ensures fits { IfOk result (FitsAfter (ground before.now)) }
     ensures refused { IfErr result (IsRefused (ground before.now) bytes.now) }

@@ -5,13 +5,14 @@ ghost use Rattle.std.specs.Prelude.{slice_get, IfOk};
 ghost use Rattle.sx_term.specs.Cutting.{AreDistinct as AreOnce};
 ghost use Rattle.sx_term.specs.Vars.{IsAdded};
 ghost use Rattle.sx_outline.specs.Fitting.{AreDistinct};
+ghost use Rattle.sx_term.specs.Limits.{most_bytes};
 
 use std::alloc::Global;
 use sx_grammar::Production;
 use sx_term::{NoMemory, Text, Vars};
 
 /// The most names that a text of 262,144 bytes can have.
-const MOST_NAMES: usize = 262_144;
+const MOST_NAMES: usize = sx_term::MOST_BYTES as usize;
 
 /// The number of a copy of the name, which is added last where it is not there.
 fn add_copy(alloc: Global, names: &mut Vars, name: &Text) -> Result<u32, NoMemory>
@@ -26,7 +27,7 @@ fn add_copy(alloc: Global, names: &mut Vars, name: &Text) -> Result<u32, NoMemor
 pub(crate) fn part_names(alloc: Global, names: &[Text]) -> Result<Vars, NoMemory>
     requires { AreDistinct names.now }
     ensures same { IfOk result (λ v. v ≡ names.now) }
-    ensures few { IfOk result (λ _. length names.now ≤ 262144) }
+    ensures few { IfOk result (λ _. length names.now ≤ most_bytes) }
 {
     if names.len() > MOST_NAMES {
         return Err(NoMemory::Memory);

@@ -6,6 +6,7 @@ ghost use Rattle.sx_term.specs.Term.{tree};
 ghost use Rattle.sx_term.specs.Shapes.{shapes};
 ghost use Rattle.sx_term.specs.declared.sort.Sort.TheVariants as sorts;
 ghost use Rattle.sx_extension.specs.OwnSyntax.{IsOwn, HasOwn};
+ghost use Rattle.sx_term.specs.Limits.{most_depth};
 
 use sx_term::{Shapes, Sort, Term};
 
@@ -37,7 +38,7 @@ impl<'a> OwnSyntax<'a> {
 
     /// Whether one of these stands in the term.
     pub(crate) fn stands_in(&self, term: &Term) -> bool
-        requires { depth_of (tree term.now) ≤ 1000 }
+        requires { depth_of (tree term.now) ≤ most_depth }
         ensures { IsTrue result ↔ HasOwn (shapes self.now.shapes.now) self.now.first
             (tree term.now) }
     {

@@ -5,6 +5,7 @@ ghost use Rattle.sx_extension.specs.Grounds.{ground, IsBefore};
 ghost use Rattle.sx_language.specs.States.{AreStems};
 ghost use Rattle.sx_extension.specs.Stages.{IsOutlineRefusal, IsUsable, IsUnoutlined, IsPrepared};
 ghost use Rattle.sx_extension.specs.Stages.{IsUnprepared};
+ghost use Rattle.sx_term.specs.Limits.{most_bytes};
 
 use crate::before::Before;
 use crate::grammars::Grammars;
@@ -37,7 +38,7 @@ fn outline_after(
 ) -> Result<ExtensionOutline, NotationError>
     requires before { IsBefore (ground before.now) }
     requires stems { AreStems (ground before.now).language vars.now (ground before.now).stems }
-    requires short { length bytes.now ≤ 262144 }
+    requires short { length bytes.now ≤ most_bytes }
     ensures usable { IfOk result (IsUsable (ground before.now) bytes.now) }
     ensures refused { IfErr result (IsUnoutlined (ground before.now) bytes.now) }
 {
@@ -57,7 +58,7 @@ fn outline_of(
     bytes: &[u8],
 ) -> Result<ExtensionOutline, NotationError>
     requires before { IsBefore (ground before.now) }
-    requires short { length bytes.now ≤ 262144 }
+    requires short { length bytes.now ≤ most_bytes }
     ensures usable { IfOk result (IsUsable (ground before.now) bytes.now) }
     ensures refused { IfErr result (IsUnoutlined (ground before.now) bytes.now) }
 {
@@ -89,7 +90,7 @@ pub(crate) fn prepare(
     bytes: &[u8],
 ) -> Result<Prepared, NotationError>
     requires before { IsBefore (ground before.now) }
-    requires short { length bytes.now ≤ 262144 }
+    requires short { length bytes.now ≤ most_bytes }
     ensures prepared { IfOk result (IsPrepared (ground before.now) bytes.now) }
     ensures refused { IfErr result (IsUnprepared (ground before.now) bytes.now) }
 {

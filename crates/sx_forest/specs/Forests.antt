@@ -25,6 +25,7 @@ use Rattle.sx_forest.specs.Tallies.{tally_of}
 use Rattle.sx_forest.specs.Rows.{FitsPart, AreSpanRows, row_at, list_at}
 use Rattle.sx_forest.specs.Useful.{IsUseful, IsUsefulBy}
 use Rattle.sx_forest.specs.Table.{IsFull, IsSoundBy}
+use Rattle.sx_term.specs.Limits.{most_depth, most_tokens}
 
 -- the symbols of a production, or none
 abbrev pub symbols_in : Option Production → List Symbol
@@ -65,7 +66,7 @@ lists_in f = f.table.now.lists.items
 
 -- the table is that of the complete spans that are of use, by a grammar whose sorts have ranks
 pub record IsForest (f : Forest) : Type 0 where
-  pub short : length f.shown.now ≤ 10000
+  pub short : length f.shown.now ≤ most_tokens
   pub below : AreBelow (length (texts f.grammar.now)) f.shown.now
   pub levels : HasLevels (grammar_in f)
   pub ranked : (rank : ℕ → ℕ) × IsRanking (grammar_in f) rank
@@ -74,14 +75,14 @@ pub record IsForest (f : Forest) : Type 0 where
 -- the entry's readings are counted, none is deeper than 1,000, and it is of use
 pub record IsShallow (g : Grammar) (tokens : List Token) (start from : ℕ) (e : Entry) : Type 0 where
   pub sound : IsSoundBy g tokens start e.maker from e.to (tally_of e.ways)
-  pub low : depth_in (tally_of e.ways) ≤ 1000
+  pub low : depth_in (tally_of e.ways) ≤ most_depth
   pub useful : IsUsefulBy g tokens e.maker e.to
 
 -- so it is of the span, and the rows are those of its symbols
 pub record IsOpened (g : Grammar) (tokens : List Token) (start : ℕ) (lists : List (Vec Entry))
     (o : Opened) : Type 0 where
   pub sound : IsSoundBy g tokens start (By o.head) o.from o.to (tally_of o.ways)
-  pub low : depth_in (tally_of o.ways) ≤ 1000
+  pub low : depth_in (tally_of o.ways) ≤ most_depth
   pub useful : IsUseful g tokens o.head o.to
   pub rows : AreSpanRows g tokens lists o.head o.from o.to o.rows.items
 

@@ -6,6 +6,7 @@ ghost use Rattle.sx_grammar.specs.Reading.{ReadsWhole, reading_depth};
 ghost use Rattle.sx_forest.specs.Readings.{plain_reading};
 ghost use Rattle.sx_forest.specs.Tallies.{ways_of, IsLastRow};
 ghost use Rattle.sx_forest.specs.Forests.{grammar_in, tokens_in, IsForest};
+ghost use Rattle.sx_term.specs.Limits.{most_depth};
 
 use crate::building::build;
 use crate::choice::Choice;
@@ -22,7 +23,7 @@ pub(crate) fn first_reading(alloc: Global, forest: Forest, row: &Row) -> Result<
     requires forest { IsForest forest }
     requires row { IsLastRow (length forest.shown.now) (ways_of row.now) }
     requires low { (r : plain.Reading) → ReadsWhole (grammar_in forest)
-        (tokens_in forest) forest.start r → reading_depth r ≤ 1000 }
+        (tokens_in forest) forest.start r → reading_depth r ≤ most_depth }
     requires some { (r : plain.Reading) × ReadsWhole (grammar_in forest)
         (tokens_in forest) forest.start r }
     ensures { IfOk result (λ r. ReadsWhole (grammar_in forest.entry)
@@ -53,7 +54,7 @@ pub(crate) fn two_readings(
     requires forest { IsForest forest }
     requires row { IsLastRow (length forest.shown.now) (ways_of row.now) }
     requires low { (r : plain.Reading) → ReadsWhole (grammar_in forest)
-        (tokens_in forest) forest.start r → reading_depth r ≤ 1000 }
+        (tokens_in forest) forest.start r → reading_depth r ≤ most_depth }
     requires two { (one : plain.Reading) × (other : plain.Reading) ×
         ReadsWhole (grammar_in forest) (tokens_in forest) forest.start one ×
         ReadsWhole (grammar_in forest) (tokens_in forest) forest.start other × (one ≢ other) }

@@ -10,6 +10,7 @@ ghost use Rattle.sx_earley.specs.Completed.{IsSort, number_of};
 ghost use Rattle.sx_forest.specs.Readings.{plain_reading};
 ghost use Rattle.sx_forest.specs.Text.{texts};
 ghost use Rattle.sx_forest.specs.Verdict.{IsRefusal};
+ghost use Rattle.sx_term.specs.Limits.{most_tokens};
 
 use crate::ranked::read_ranked;
 use crate::read_error::ReadError;
@@ -32,7 +33,7 @@ pub fn read_one(
     metas: &Metas,
     tokens: &[Token],
 ) -> Result<Reading, ReadError>
-    requires short { length tokens.now ≤ 10000 }
+    requires short { length tokens.now ≤ most_tokens }
     requires start { IsSort grammar.now.parts start }
     requires stems { HaveStems metas.now.stems.items tokens.now }
     ensures only { IfOk result (λ r. IsAnswer (plain grammar.now)
@@ -55,7 +56,7 @@ pub fn read_one_by(
     stems: &Stems,
     tokens: &[Token],
 ) -> Result<Reading, ReadError>
-    requires short { length tokens.now ≤ 10000 }
+    requires short { length tokens.now ≤ most_tokens }
     requires start { IsSort by.now.parts start }
     requires stems { HaveStems stems.now tokens.now }
     ensures only { IfOk result (λ r. IsAnswer (plain by.now)

@@ -3,6 +3,7 @@
 ghost use Rattle.std.specs.Prelude.{◌≡◌, ◌≤◌, ◌<◌, ◌++◌, ◌∷◌, [], ℕ, IfErr, IfOk, OnOk, length};
 ghost use Rattle.sx_forest.specs.Rows.{list_at};
 ghost use Rattle.sx_forest.specs.Reached.{AreReached};
+ghost use Rattle.sx_term.specs.Limits.{most_tokens};
 
 use crate::entry::Entry;
 use crate::reaches::Reaches;
@@ -80,7 +81,7 @@ impl Entries {
     pub(crate) fn put(&mut self, place: u32, entry: Entry) -> Result<(), NoMemory>
         requires along { place ≤ entry.to }
         requires inside { entry.to < length self.old.lists.items }
-        requires short { entry.to ≤ 10000 }
+        requires short { entry.to ≤ most_tokens }
         ensures same { length self.new.lists.items ≡ length self.old.lists.items }
         ensures there { OnOk result (list_at self.new.lists.items place
             ≡ list_at self.old.lists.items place ++ entry ∷ []) }

@@ -7,6 +7,7 @@ ghost use Rattle.sx_grammar.specs.Tables.{GrammarData};
 ghost use Rattle.sx_earley.specs.Shown.{tokens_of};
 ghost use Rattle.sx_forest.specs.Rows.{list_at};
 ghost use Rattle.sx_forest.specs.Table.{IsFirstList, IsFirstTable};
+ghost use Rattle.sx_term.specs.Limits.{most_tokens};
 
 use crate::entries::Entries;
 use crate::entry::{Entry, Maker};
@@ -32,7 +33,7 @@ pub(crate) fn variable_at(shown: &[Shown], place: usize) -> Option<u32>
 /// Adds the entry of the metavariable that stands at the place, if one does.
 fn add_variable(table: &mut Entries, shown: &[Shown], place: usize) -> Result<(), NoMemory>
     requires inside { place < length shown.now }
-    requires short { length shown.now ≤ 10000 }
+    requires short { length shown.now ≤ most_tokens }
     requires long { length table.old.lists.items ≡ length shown.now + 1 }
     requires none { list_at table.old.lists.items place ≡ [] }
     ensures same { length table.new.lists.items ≡ length table.old.lists.items }
@@ -56,7 +57,7 @@ fn add_variable(table: &mut Entries, shown: &[Shown], place: usize) -> Result<()
 
 /// The entries before any span is counted, from each place.
 pub(crate) fn first_entries(alloc: Global, shown: &[Shown]) -> Result<Entries, NoMemory>
-    requires { length shown.now ≤ 10000 }
+    requires { length shown.now ≤ most_tokens }
     ensures { IfOk result (λ t. (d : GrammarData) →
         IsFirstTable (tokens_of d shown.now) (length shown.now + 1) t.lists.items) }
 {

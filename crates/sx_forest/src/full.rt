@@ -8,6 +8,7 @@ ghost use Rattle.sx_earley.specs.Completed.{IsChart};
 ghost use Rattle.sx_forest.specs.Rows.{AllSorted};
 ghost use Rattle.sx_forest.specs.KeptRows.{AllKept};
 ghost use Rattle.sx_forest.specs.Table.{IsAdded, IsFull};
+ghost use Rattle.sx_term.specs.Limits.{most_tokens};
 
 use crate::basis::Basis;
 use crate::entries::Entries;
@@ -32,7 +33,7 @@ fn add_span(
     kept: &mut Vec<Kept>,
     span: Span,
 ) -> Result<(), NoMemory>
-    requires short { span.to ≤ 10000 }
+    requires short { span.to ≤ most_tokens }
     requires along { span.from ≤ span.to }
     requires inside { span.to < length table.old.lists.items }
     requires shown { AreBelow (length (texts grammar.now)) shown.now }
@@ -72,7 +73,7 @@ pub(crate) fn fill(
     shown: &[Shown],
     spans: &[Span],
 ) -> Result<Entries, NoMemory>
-    requires short { length shown.now ≤ 10000 }
+    requires short { length shown.now ≤ most_tokens }
     requires below { AreBelow (length (texts grammar.now)) shown.now }
     requires ranking { IsRanking (plain grammar.now) (rank_at ranks.now) }
     requires chart { IsChart (plain grammar.now)

@@ -10,6 +10,8 @@ ghost use Rattle.sx_forest.specs.Tallies.{tally_of};
 ghost use Rattle.sx_forest.specs.Rows.{AllSorted, IsWholeWays};
 ghost use Rattle.sx_forest.specs.Table.{IsFull};
 ghost use Rattle.sx_forest.specs.Verdict.{IsVerdict};
+ghost use Rattle.sx_grammar.specs.ReadOne.{most_items};
+ghost use Rattle.sx_term.specs.Limits.{most_tokens};
 
 use crate::entries::Entries;
 use crate::judged::Judged;
@@ -28,7 +30,7 @@ pub(crate) fn whole_ways(
     count: u32,
     table: &Entries,
 ) -> Result<Ways, NoMemory>
-    requires short { count ≤ 10000 }
+    requires short { count ≤ most_tokens }
     requires sorted { AllSorted table.now.lists.items }
     ensures { IfOk result (λ w. IsWholeWays (plain grammar.now) start count table.now.lists.items
         (tally_of w)) }
@@ -38,12 +40,12 @@ pub(crate) fn whole_ways(
 }
 
 /// How deep a reading may be.
-const MOST_DEPTH: u64 = 1000;
+const MOST_DEPTH: u64 = sx_term::MOST_DEPTH as u64;
 
 /// What the ways to read all tokens come to.
 pub(crate) fn judge(ways: Ways) -> Judged
     ensures { (g : plain.Grammar) (ts : List plain.Token) (start : ℕ) →
-        (MoreHold g ts start 2000000 → ⊥) → IsTally (ReadsWhole g ts start) reading_depth
+        (MoreHold g ts start most_items → ⊥) → IsTally (ReadsWhole g ts start) reading_depth
         (tally_of ways) → IsVerdict g ts start result }
 {
     match ways {

@@ -4,6 +4,7 @@ ghost use Rattle.std.specs.Prelude.{◌≡◌, ◌≤◌, IfOk, length};
 ghost use Rattle.sx_earley.specs.Shown.{plain, texts, tokens_of, AreBelow};
 ghost use Rattle.sx_forest.specs.Rows.{AllSorted};
 ghost use Rattle.sx_forest.specs.KeptRows.{IsReady};
+ghost use Rattle.sx_term.specs.Limits.{most_tokens};
 
 use crate::basis::Basis;
 use crate::row::Row;
@@ -32,7 +33,7 @@ pub(crate) fn rows_of(
     from: u32,
     to: u32,
 ) -> Result<Kept, NoMemory>
-    requires short { to ≤ 10000 }
+    requires short { to ≤ most_tokens }
     requires along { from ≤ to }
     requires shown { AreBelow (length (texts basis.grammar.now)) basis.shown.now }
     requires sorted { AllSorted basis.table.now.lists.items }

@@ -4,6 +4,7 @@ ghost use Rattle.std.specs.Prelude.{◌≡◌, ◌+◌, ◌<◌, ℕ, [], Some, 
 ghost use Rattle.std.specs.Prelude.{slice_get};
 ghost use Rattle.sx_earley.specs.Shown.{plain, texts, tokens_of, AreBelow};
 ghost use Rattle.sx_forest.specs.Useful.{IsMet, AreMetBy, levels_at};
+ghost use Rattle.sx_term.specs.Limits.{most_tokens};
 
 use crate::wanted::{is_met, lower_all};
 use std::alloc::Global;
@@ -125,7 +126,7 @@ impl Levels {
         place: usize,
     ) -> Result<(), NoMemory>
         requires next { length self.old.numbers.items ≡ place }
-        requires short { place < 10000 }
+        requires short { place < most_tokens }
         requires shown { AreBelow (length (texts grammar.now)) shown.now }
         requires met { AreMetBy (plain grammar.now) (tokens_of grammar.now shown.now)
             self.old.rows.items self.old.numbers.items }

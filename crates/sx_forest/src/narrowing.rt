@@ -8,6 +8,7 @@ ghost use Rattle.sx_grammar.specs.Tally.{no_way};
 ghost use Rattle.sx_earley.specs.Shown.{plain, texts};
 ghost use Rattle.sx_forest.specs.Tallies.{ways_of};
 ghost use Rattle.sx_forest.specs.Rows.{FitsPart, IsIn, IsNext, list_at};
+ghost use Rattle.sx_term.specs.Limits.{most_tokens};
 
 use crate::entries::Entries;
 use crate::entry::Entry;
@@ -19,7 +20,7 @@ use sx_grammar::{Grammar, NumberedSymbol};
 
 /// This number, or that after the end where it is less.
 fn limited(number: usize, to: u32) -> u32
-    requires { to ≤ 10000 }
+    requires { to ≤ most_tokens }
     ensures { result ≡ min number (to + 1) }
 {
     if number <= to as usize {
@@ -31,7 +32,7 @@ fn limited(number: usize, to: u32) -> u32
 
 /// The places, up to the end, from which a token leads to where the row may have ways.
 fn before_token(next: &Row, to: u32) -> Stretch
-    requires { to ≤ 10000 }
+    requires { to ≤ most_tokens }
     ensures { (place : ℕ) → place ≤ to → (IsIn result place → ⊥) →
         ways_of next.now (suc place) ≡ no_way }
 {
@@ -69,7 +70,7 @@ fn sources(
     next: &Row,
     to: u32,
 ) -> Stretch
-    requires short { to ≤ 10000 }
+    requires short { to ≤ most_tokens }
     ensures { (tokens : List Token) (place : ℕ) → place ≤ to → (IsIn result place → ⊥) →
         IsNext (plain grammar.now) tokens (list_at table.now.lists.items place)
         (option_map (symbol (texts grammar.now)) expected) place (ways_of next.now) no_way }
@@ -94,7 +95,7 @@ pub(crate) fn narrowed(
     to: u32,
     stretch: Stretch,
 ) -> Stretch
-    requires short { to ≤ 10000 }
+    requires short { to ≤ most_tokens }
     ensures kept { (place : ℕ) → IsIn result place → IsIn stretch place }
     ensures none { (tokens : List Token) (place : ℕ) → place ≤ to → IsIn stretch place →
         (IsIn result place → ⊥) →

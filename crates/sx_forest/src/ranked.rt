@@ -11,6 +11,7 @@ ghost use Rattle.sx_earley.specs.Completed.{IsSort, number_of};
 ghost use Rattle.sx_forest.specs.Readings.{plain_reading};
 ghost use Rattle.sx_forest.specs.Text.{texts};
 ghost use Rattle.sx_forest.specs.Verdict.{IsRefusal};
+ghost use Rattle.sx_term.specs.Limits.{most_tokens};
 
 use crate::found::Found;
 use crate::read_error::ReadError;
@@ -31,7 +32,7 @@ pub(crate) fn read_ranked(
     stems: &Stems,
     tokens: &[Token],
 ) -> Result<Reading, ReadError>
-    requires short { length tokens.now ≤ 10000 }
+    requires short { length tokens.now ≤ most_tokens }
     requires start { IsSort by.now.parts start }
     requires stems { HaveStems stems.now tokens.now }
     requires ranking { IsRanking (plain by.now) (rank_at ranks.now) }

@@ -4,6 +4,7 @@ ghost use Rattle.std.specs.Prelude.{◌≡◌, ◌≤◌, ◌<◌, ℕ, Some, If
 ghost use Rattle.sx_forest.specs.declared.reach.Reach.{Reach};
 ghost use Rattle.sx_forest.specs.declared.entry.Maker.{Maker};
 ghost use Rattle.sx_forest.specs.Reached.{HasReach, reaches_at};
+ghost use Rattle.sx_term.specs.Limits.{most_tokens};
 
 use crate::entry::Maker;
 use crate::reach::Reach;
@@ -32,7 +33,7 @@ fn index_of(reaches: &[Reach], maker: Maker) -> Option<usize>
 
 /// Notes that the maker reaches the place.
 fn note(reaches: &mut Vec<Reach>, maker: Maker, place: u32) -> Result<(), NoMemory>
-    requires { place ≤ 10000 }
+    requires { place ≤ most_tokens }
     ensures kept { (m : Maker) (p : ℕ) → HasReach reaches.old.items m p →
         HasReach reaches.new.items m p }
     ensures here { OnOk result (HasReach reaches.new.items maker place) }
@@ -78,7 +79,7 @@ impl Reaches {
     /// Notes that the maker reaches the other place from this one.
     pub(crate) fn put(&mut self, from: u32, maker: Maker, place: u32) -> Result<(), NoMemory>
         requires inside { from < length self.old.lists.items }
-        requires short { place ≤ 10000 }
+        requires short { place ≤ most_tokens }
         ensures same { length self.new.lists.items ≡ length self.old.lists.items }
         ensures kept { (q : ℕ) (m : Maker) (p : ℕ) →
             HasReach (reaches_at self.old.lists.items q) m p →

@@ -9,6 +9,8 @@ ghost use Rattle.sx_grammar.specs.ReadOne.{MoreHold};
 ghost use Rattle.sx_earley.specs.Shown.{plain, texts, tokens_of, AreBelow};
 ghost use Rattle.sx_earley.specs.Completed.{IsChart};
 ghost use Rattle.sx_forest.specs.Verdict.{IsFound, IsRefusal};
+ghost use Rattle.sx_grammar.specs.ReadOne.{most_items};
+ghost use Rattle.sx_term.specs.Limits.{most_tokens};
 
 use crate::all_tokens::{first_reading, two_readings};
 use crate::completing::has_reading;
@@ -33,12 +35,12 @@ fn read_spans(
     shown: &[Shown],
     spans: &[Span],
 ) -> Result<Found, ReadError>
-    requires short { length shown.now ≤ 10000 }
+    requires short { length shown.now ≤ most_tokens }
     requires below { AreBelow (length (texts grammar.now)) shown.now }
     requires ranking { IsRanking (plain grammar.now) (rank_at ranks.now) }
     requires chart { IsChart (plain grammar.now) (tokens_of grammar.now shown.now) start spans.now }
     requires once { EachOnce spans.now }
-    requires few { MoreHold (plain grammar.now) (tokens_of grammar.now shown.now) start 2000000 →
+    requires few { MoreHold (plain grammar.now) (tokens_of grammar.now shown.now) start most_items →
         ⊥ }
     requires some { (r : plain.Reading) × ReadsWhole (plain grammar.now)
         (tokens_of grammar.now shown.now) start r }
@@ -77,7 +79,7 @@ pub(crate) fn read_shown(
     start: u32,
     shown: &[Shown],
 ) -> Result<Found, ReadError>
-    requires short { length shown.now ≤ 10000 }
+    requires short { length shown.now ≤ most_tokens }
     requires below { AreBelow (length (texts by.now)) shown.now }
     requires ranking { IsRanking (plain by.now) (rank_at ranks.now) }
     ensures found { IfOk result (IsFound (plain by.now) (tokens_of by.now shown.now) start) }

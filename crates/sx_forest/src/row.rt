@@ -3,6 +3,7 @@
 ghost use Rattle.std.specs.Prelude.{◌≡◌, ◌≤◌, ◌+◌, ℕ, IsTrue, IfOk, OnOk, length};
 ghost use Rattle.sx_grammar.specs.Tally.{no_way};
 ghost use Rattle.sx_forest.specs.Tallies.{tally_of, ways_at, ways_of, IsLastRow};
+ghost use Rattle.sx_term.specs.Limits.{most_tokens};
 
 use crate::ways::Ways;
 use std::alloc::Global;
@@ -18,7 +19,7 @@ pub(crate) struct Row {
 
 /// The row of no symbols: one way at the end of the span.
 pub(crate) fn last_row(alloc: Global, to: u32) -> Result<Row, NoMemory>
-    requires short { to ≤ 10000 }
+    requires short { to ≤ most_tokens }
     ensures { IfOk result (λ r. IsLastRow to (ways_of r)) }
 {
     let mut ways = Vec::new(alloc);

@@ -9,6 +9,7 @@ ghost use Rattle.sx_earley.specs.Shown.{plain, texts, tokens_of, IsBelow, AreBel
 ghost use Rattle.sx_forest.specs.Tallies.{tally_of, ways_of};
 ghost use Rattle.sx_forest.specs.Rows.{AllSorted, IsRow, IsExtended, count_of, row_at, AreRows};
 ghost use Rattle.sx_forest.specs.Rows.{AreSpanRows};
+ghost use Rattle.sx_term.specs.Limits.{most_tokens};
 
 use crate::basis::Basis;
 use crate::narrowing::narrowed;
@@ -73,7 +74,7 @@ pub(crate) fn row_before(
     to: u32,
     stretch: Stretch,
 ) -> Result<Row, NoMemory>
-    requires short { to ≤ 10000 }
+    requires short { to ≤ most_tokens }
     requires below { IfSome expected (IsBelow (length (texts basis.grammar.now))) }
     requires shown { AreBelow (length (texts basis.grammar.now)) basis.shown.now }
     requires sorted { AllSorted basis.table.now.lists.items }
@@ -127,7 +128,7 @@ pub(crate) fn last_rows(
     number: usize,
     to: u32,
 ) -> Result<Vec<Row>, NoMemory>
-    requires short { to ≤ 10000 }
+    requires short { to ≤ most_tokens }
     requires shown { AreBelow (length (texts basis.grammar.now)) basis.shown.now }
     requires sorted { AllSorted basis.table.now.lists.items }
     requires few { number ≤ count_of (production_of (plain basis.grammar.now) head) }
@@ -159,7 +160,7 @@ pub(crate) fn all_rows(
     from: u32,
     to: u32,
 ) -> Result<Vec<Row>, NoMemory>
-    requires short { to ≤ 10000 }
+    requires short { to ≤ most_tokens }
     requires along { from ≤ to }
     requires shown { AreBelow (length (texts basis.grammar.now)) basis.shown.now }
     requires sorted { AllSorted basis.table.now.lists.items }

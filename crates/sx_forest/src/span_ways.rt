@@ -7,6 +7,7 @@ ghost use Rattle.sx_forest.specs.declared.kept.Kept.{Kept};
 ghost use Rattle.sx_forest.specs.Tallies.{tally_of};
 ghost use Rattle.sx_forest.specs.Rows.{AllSorted, IsIn, IsSpanWays, stretch_at};
 ghost use Rattle.sx_forest.specs.KeptRows.{IsKept, AllKept, IsReady, IsClear};
+ghost use Rattle.sx_term.specs.Limits.{most_tokens};
 
 use crate::basis::Basis;
 use crate::kept::{Kept, rows_of};
@@ -83,7 +84,7 @@ pub(crate) fn leave(kept: &mut Vec<Kept>, place: u32)
 
 /// The ways by the first symbol, and then those of the rows after it.
 fn first_ways(alloc: Global, basis: Basis, kept: &Kept, from: u32) -> Result<Ways, NoMemory>
-    requires short { kept.now.to ≤ 10000 }
+    requires short { kept.now.to ≤ most_tokens }
     requires along { from ≤ kept.now.to }
     requires shown { AreBelow (length (texts basis.grammar.now)) basis.shown.now }
     requires sorted { AllSorted basis.table.now.lists.items }
@@ -109,7 +110,7 @@ fn first_ways(alloc: Global, basis: Basis, kept: &Kept, from: u32) -> Result<Way
 
 /// The ways of a span from an earlier beginning, whose rows are kept in place of these.
 fn wider_ways(alloc: Global, basis: Basis, kept: &mut Kept, from: u32) -> Result<Ways, NoMemory>
-    requires short { kept.old.to ≤ 10000 }
+    requires short { kept.old.to ≤ most_tokens }
     requires along { from ≤ kept.old.to }
     requires shown { AreBelow (length (texts basis.grammar.now)) basis.shown.now }
     requires sorted { AllSorted basis.table.now.lists.items }
@@ -137,7 +138,7 @@ pub(crate) fn span_ways(
     from: u32,
     to: u32,
 ) -> Result<Ways, NoMemory>
-    requires short { to ≤ 10000 }
+    requires short { to ≤ most_tokens }
     requires along { from ≤ to }
     requires shown { AreBelow (length (texts basis.grammar.now)) basis.shown.now }
     requires sorted { AllSorted basis.table.now.lists.items }

@@ -7,6 +7,7 @@ ghost use Rattle.sx_earley.specs.Shown.{plain, texts};
 ghost use Rattle.sx_forest.specs.Rows.{FitsPart, IsIn, Spreads, AreStretches, list_at};
 ghost use Rattle.sx_forest.specs.Rows.{stretch_at};
 ghost use Rattle.sx_forest.specs.Reached.{HasReach};
+ghost use Rattle.sx_term.specs.Limits.{most_tokens};
 
 use crate::basis::Basis;
 use crate::entries::Entries;
@@ -62,7 +63,7 @@ pub(crate) fn spread(
     stretch: Stretch,
     to: u32,
 ) -> Stretch
-    requires short { to ≤ 10000 }
+    requires short { to ≤ most_tokens }
     ensures { (tokens : List Token) → Spreads (plain grammar.now) tokens table.now.lists.items
         (option_map (symbol (texts grammar.now)) expected) to stretch result }
 {
@@ -96,7 +97,7 @@ pub(crate) fn stretches(
     from: u32,
     to: u32,
 ) -> Result<Vec<Stretch>, NoMemory>
-    requires short { to ≤ 10000 }
+    requires short { to ≤ most_tokens }
     requires along { from ≤ to }
     ensures { IfOk result (λ v. (tokens : List Token) → AreStretches
         (plain basis.entry.grammar.now) tokens basis.entry.table.now.lists.items head count from to

@@ -2,6 +2,7 @@
 
 ghost use Rattle.std.specs.Prelude.{◌≡◌, ◌≤◌};
 ghost use Rattle.sx_forest.specs.Forests.{end_of};
+ghost use Rattle.sx_term.specs.Limits.{most_tokens};
 
 use crate::entry::Entry;
 
@@ -19,7 +20,7 @@ pub(crate) enum Step {
 impl Step {
     /// The place after the step.
     pub(crate) fn end(self, place: u32) -> u32
-        requires { place ≤ 10000 }
+        requires { place ≤ most_tokens }
         ensures { result ≡ end_of self place }
     {
         match self {

@@ -3,6 +3,7 @@
 ghost use Rattle.std.specs.Prelude.{ℕ, suc, ◌+◌, ◌<◌, ◌≤◌, ◌^◌, ◌↔◌, IfSome};
 ghost use Rattle.sx_forest.specs.Rows.{IsIn};
 ghost use Rattle.sx_forest.specs.KeptRows.{IsJoined};
+ghost use Rattle.sx_term.specs.Limits.{most_tokens};
 
 /// The places from the first on and before the end; none where the end is not after the first.
 #[derive(Clone, Copy)]
@@ -99,7 +100,7 @@ pub(crate) fn common(one: Stretch, other: Stretch) -> Stretch
 
 /// The places after those of the stretch, up to an end.
 pub(crate) fn after_token(stretch: Stretch, to: u32) -> Stretch
-    requires { to ≤ 10000 }
+    requires { to ≤ most_tokens }
     ensures { (p : ℕ) → IsIn stretch p → suc p ≤ to → IsIn result (suc p) }
 {
     let own = clipped(stretch, 0, to);

@@ -12,6 +12,7 @@ ghost use Rattle.sx_grammar.specs.Reading.{reading_depth};
 ghost use Rattle.sx_earley.specs.Tokens.{Stems, plain_tokens};
 ghost use Rattle.sx_forest.specs.Readings.{plain_reading};
 ghost use Rattle.sx_forest.specs.Names.{IsMarked, names_in, AddsEach, AddsFront};
+ghost use Rattle.sx_term.specs.Limits.{most_depth};
 
 use crate::reading::Reading;
 use std::alloc::Global;
@@ -27,7 +28,7 @@ pub fn strip(
     tokens: &[Token],
     vars: &mut Vars,
 ) -> Result<Term, NoMemory>
-    requires depth { reading_depth (plain_reading reading.now) ≤ 1000 }
+    requires depth { reading_depth (plain_reading reading.now) ≤ most_depth }
     requires marked { IsMarked tokens.now (plain_reading reading.now) }
     requires room { length vars.now + length
         (names_in tokens.now (plain_reading reading.now)) < 2 ^ 32 }
@@ -55,7 +56,7 @@ fn strip_into(
     tokens: &[Token],
     vars: &mut Vars,
 ) -> Result<Term, NoMemory>
-    requires depth { reading_depth (plain_reading reading.now) ≤ 1000 }
+    requires depth { reading_depth (plain_reading reading.now) ≤ most_depth }
     requires marked { IsMarked tokens.now (plain_reading reading.now) }
     requires room { length vars.now + length
         (names_in tokens.now (plain_reading reading.now)) < 2 ^ 32 }

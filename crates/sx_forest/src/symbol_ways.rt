@@ -6,6 +6,7 @@ ghost use Rattle.sx_grammar.specs.Numbered.{symbol};
 ghost use Rattle.sx_earley.specs.Shown.{plain, texts, tokens_of, IsBelow, AreBelow};
 ghost use Rattle.sx_forest.specs.Tallies.{tally_of, ways_of};
 ghost use Rattle.sx_forest.specs.Rows.{AreSorted, IsPlace, IsNext};
+ghost use Rattle.sx_term.specs.Limits.{most_tokens};
 
 use crate::entry::Entry;
 use crate::part_ways::part_ways;
@@ -23,7 +24,7 @@ fn symbol_ways(
     rest: &Row,
     place: u32,
 ) -> Ways
-    requires short { place ≤ 10000 }
+    requires short { place ≤ most_tokens }
     requires below { IsBelow (length (texts grammar.now)) expected }
     requires shown { AreBelow (length (texts grammar.now)) shown.now }
     requires sorted { AreSorted entries.now }
@@ -59,7 +60,7 @@ pub(crate) fn next_ways(
     rest: &Row,
     place: u32,
 ) -> Ways
-    requires short { place ≤ 10000 }
+    requires short { place ≤ most_tokens }
     requires below { IfSome expected (IsBelow (length (texts grammar.now))) }
     requires shown { AreBelow (length (texts grammar.now)) shown.now }
     requires sorted { AreSorted entries.now }

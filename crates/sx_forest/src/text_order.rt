@@ -6,6 +6,7 @@ ghost use Rattle.sx_grammar.specs.Reading.{reading_depth};
 ghost use Rattle.sx_forest.specs.Readings.{plain_reading};
 ghost use Rattle.sx_forest.specs.Text.{texts, tree_text, IsWithin};
 ghost use Rattle.sx_forest.specs.Verdict.{IsNotAfter};
+ghost use Rattle.sx_term.specs.Limits.{most_depth};
 
 use crate::reading::Reading;
 use crate::writing::write_tree;
@@ -31,8 +32,8 @@ fn text_is_after(
     one: &Reading,
     other: &Reading,
 ) -> Result<bool, NoMemory>
-    requires one_deep { reading_depth (plain_reading one.now) ≤ 1000 }
-    requires other_deep { reading_depth (plain_reading other.now) ≤ 1000 }
+    requires one_deep { reading_depth (plain_reading one.now) ≤ most_depth }
+    requires other_deep { reading_depth (plain_reading other.now) ≤ most_depth }
     requires one_within { IsWithin (length grammar.now.parts.productions) (length tokens.now)
         (plain_reading one.now) }
     requires other_within { IsWithin (length grammar.now.parts.productions) (length tokens.now)
@@ -60,8 +61,8 @@ pub(crate) fn in_text_order(
     one: Reading,
     other: Reading,
 ) -> Result<(Reading, Reading), NoMemory>
-    requires one_deep { reading_depth (plain_reading one) ≤ 1000 }
-    requires other_deep { reading_depth (plain_reading other) ≤ 1000 }
+    requires one_deep { reading_depth (plain_reading one) ≤ most_depth }
+    requires other_deep { reading_depth (plain_reading other) ≤ most_depth }
     requires one_within { IsWithin (length grammar.now.parts.productions) (length tokens.now)
         (plain_reading one) }
     requires other_within { IsWithin (length grammar.now.parts.productions) (length tokens.now)

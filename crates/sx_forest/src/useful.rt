@@ -5,6 +5,7 @@ ghost use Rattle.sx_grammar.specs.Tally.{EachOnce};
 ghost use Rattle.sx_earley.specs.Shown.{plain, texts, tokens_of, AreBelow};
 ghost use Rattle.sx_earley.specs.Completed.{IsChart};
 ghost use Rattle.sx_forest.specs.Useful.{AreMetBy, AreUseful};
+ghost use Rattle.sx_term.specs.Limits.{most_tokens};
 
 use crate::in_order::head_of;
 use crate::levels::Levels;
@@ -21,7 +22,7 @@ fn all_levels(
     shown: &[Shown],
     spans: usize,
 ) -> Result<Levels, NoMemory>
-    requires short { length shown.now ≤ 10000 }
+    requires short { length shown.now ≤ most_tokens }
     requires shown { AreBelow (length (texts grammar.now)) shown.now }
     ensures met { IfOk result (λ l. AreMetBy (plain grammar.now)
         (tokens_of grammar.now shown.now) l.rows.items l.numbers.items) }
@@ -46,7 +47,7 @@ pub(crate) fn useful_spans(
     shown: &[Shown],
     spans: &[Span],
 ) -> Result<Vec<Span>, NoMemory>
-    requires short { length shown.now ≤ 10000 }
+    requires short { length shown.now ≤ most_tokens }
     requires shown { AreBelow (length (texts grammar.now)) shown.now }
     requires chart { IsChart (plain grammar.now)
         (tokens_of grammar.now shown.now) _start spans.now }

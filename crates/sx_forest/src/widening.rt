@@ -9,6 +9,7 @@ ghost use Rattle.sx_forest.specs.Tallies.{ways_of};
 ghost use Rattle.sx_forest.specs.Rows.{AllSorted, row_at, stretch_at, AreRows};
 ghost use Rattle.sx_forest.specs.KeptRows.{symbols_by, IsKept, IsReady, front_of, IsWider};
 ghost use Rattle.sx_forest.specs.KeptRows.{AreWider, IsLonger};
+ghost use Rattle.sx_term.specs.Limits.{most_tokens};
 
 use crate::basis::Basis;
 use crate::kept::{Kept, rows_of};
@@ -30,7 +31,7 @@ fn wider(
     kept: &Kept,
     from: u32,
 ) -> Result<Option<Vec<Stretch>>, NoMemory>
-    requires short { kept.now.to ≤ 10000 }
+    requires short { kept.now.to ≤ most_tokens }
     requires along { from ≤ kept.now.to }
     requires kept { IsKept (plain basis.grammar.now)
         (tokens_of basis.grammar.now basis.shown.now) basis.table.now.lists.items kept.now }
@@ -97,7 +98,7 @@ fn wider_row(
     wide: &[Row],
     row: Row,
 ) -> Result<Row, NoMemory>
-    requires short { kept.now.to ≤ 10000 }
+    requires short { kept.now.to ≤ most_tokens }
     requires wider { (dot : ℕ) → 0 < dot →
         dot < symbols_by (plain basis.grammar.now) kept.now.head →
         IsWider kept.now.to (stretch_at kept.now.stretches.items dot)
@@ -140,7 +141,7 @@ fn wider_rows(
     stretches: &[Stretch],
     rows: Vec<Row>,
 ) -> Result<Vec<Row>, NoMemory>
-    requires short { kept.now.to ≤ 10000 }
+    requires short { kept.now.to ≤ most_tokens }
     requires kept { IsKept (plain basis.grammar.now)
         (tokens_of basis.grammar.now basis.shown.now) basis.table.now.lists.items
         (record {
@@ -172,7 +173,7 @@ fn wider_rows(
 
 /// Makes what is kept that of a span from an earlier beginning.
 pub(crate) fn widen(alloc: Global, basis: Basis, kept: &mut Kept, from: u32) -> Result<(), NoMemory>
-    requires short { kept.old.to ≤ 10000 }
+    requires short { kept.old.to ≤ most_tokens }
     requires along { from ≤ kept.old.to }
     requires shown { AreBelow (length (texts basis.grammar.now)) basis.shown.now }
     requires sorted { AllSorted basis.table.now.lists.items }

@@ -6,6 +6,7 @@ ghost use Rattle.sx_grammar.specs.Parts.{labels};
 ghost use Rattle.sx_grammar.specs.Reading.{reading_depth, readings_depth};
 ghost use Rattle.sx_forest.specs.Readings.{plain_reading, plain_readings};
 ghost use Rattle.sx_forest.specs.Text.{texts, tree_text, kids_text, IsWithin, AreWithin};
+ghost use Rattle.sx_term.specs.Limits.{most_depth};
 
 use crate::reading::Reading;
 use std::alloc::Global;
@@ -23,7 +24,7 @@ pub fn write_tree(
     tokens: &[Token],
     into: &mut Vec<u8>,
 ) -> Result<(), NoMemory>
-    requires depth { reading_depth (plain_reading reading.now) ≤ 1000 }
+    requires depth { reading_depth (plain_reading reading.now) ≤ most_depth }
     requires within { IsWithin (length grammar.now.parts.productions) (length tokens.now)
         (plain_reading reading.now) }
     ensures ok { OnOk result (into.new.items ≡ into.old.items
@@ -48,7 +49,7 @@ fn put_reading(
     tokens: &[Token],
     into: &mut Vec<u8>,
 ) -> Result<(), NoMemory>
-    requires depth { reading_depth (plain_reading reading.now) ≤ 1000 }
+    requires depth { reading_depth (plain_reading reading.now) ≤ most_depth }
     requires within { IsWithin (length grammar.now.parts.productions) (length tokens.now)
         (plain_reading reading.now) }
     ensures ok { OnOk result (into.new.items ≡ into.old.items
@@ -89,7 +90,7 @@ fn put_kids(
     tokens: &[Token],
     into: &mut Vec<u8>,
 ) -> Result<(), NoMemory>
-    requires depth { readings_depth (plain_readings kids.now) ≤ 1000 }
+    requires depth { readings_depth (plain_readings kids.now) ≤ most_depth }
     requires within { AreWithin (length grammar.now.parts.productions) (length tokens.now)
         (plain_readings kids.now) }
     ensures ok { OnOk result (into.new.items ≡ into.old.items

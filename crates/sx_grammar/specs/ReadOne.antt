@@ -5,6 +5,7 @@ use Rattle.sx_grammar.specs.Reading.{Reading, ReadsWhole, Only, reading_depth}
 use Rattle.sx_grammar.specs.Items as items
 use Rattle.sx_grammar.specs.declared.item.Item.{Item}
 use Rattle.sx_grammar.specs.Tally.{EachOnce, IsGreatest}
+use Rattle.sx_term.specs.Limits.{most_depth}
 
 -- the item holds, by Earley's three rules
 abbrev pub Holds : Grammar → List Token → ℕ → Item → Type 0
@@ -29,20 +30,25 @@ pub data ReadAnswer : Type 0 where
   too_deep : (depth : ℕ) → ReadAnswer
   ambiguous : (one other : Reading) → ReadAnswer
 
+-- the most items that hold of what is read
+abbrev pub most_items : ℕ
+most_items = 2000000
+
 -- each answer comes exactly where this holds, out of memory aside
 abbrev pub IsAnswer : Grammar → List Token → ℕ → ReadAnswer → Type 0
-IsAnswer g tokens start too_hard = MoreHold g tokens start 2000000
+IsAnswer g tokens start too_hard = MoreHold g tokens start most_items
 IsAnswer g tokens start (only r) =
-    (MoreHold g tokens start 2000000 → ⊥) × Only g tokens start r × (reading_depth r ≤ 1000)
+    (MoreHold g tokens start most_items → ⊥) × Only g tokens start r ×
+    (reading_depth r ≤ most_depth)
 IsAnswer g tokens start (no_reading end) =
-    (MoreHold g tokens start 2000000 → ⊥) × ((r : Reading) → ReadsWhole g tokens start r → ⊥) ×
+    (MoreHold g tokens start most_items → ⊥) × ((r : Reading) → ReadsWhole g tokens start r → ⊥) ×
     IsGreatestEnd g tokens start end
 IsAnswer g tokens start (too_deep depth) =
-    (MoreHold g tokens start 2000000 → ⊥) × (1000 < depth) ×
+    (MoreHold g tokens start most_items → ⊥) × (most_depth < depth) ×
     IsGreatest (ReadsWhole g tokens start) reading_depth depth
 IsAnswer g tokens start (ambiguous one other) =
-    (MoreHold g tokens start 2000000 → ⊥) × ((r : Reading) → ReadsWhole g tokens start r →
-    reading_depth r ≤ 1000) ×
+    (MoreHold g tokens start most_items → ⊥) × ((r : Reading) → ReadsWhole g tokens start r →
+    reading_depth r ≤ most_depth) ×
     ReadsWhole g tokens start one × ReadsWhole g tokens start other × (one ≢ other)
 
 -- two answers for the same tokens are the same, but for the pair of readings that is shown

@@ -4,12 +4,13 @@ ghost use Rattle.std.specs.Prelude.{◌≡◌, ◌≤◌, ◌↔◌, IsTrue, map
 ghost use Rattle.sx_term.specs.Tree.{depth_of, greatest_depth, forest};
 ghost use Rattle.sx_term.specs.Term.{tree};
 ghost use Rattle.sx_grammar.specs.Told.{HasLabelsBelow, HaveLabelsBelow};
+ghost use Rattle.sx_term.specs.Limits.{most_depth};
 
 use sx_term::Term;
 
 /// Whether every label in the term is below the bound.
 pub(crate) fn has_labels_below(term: &Term, bound: usize) -> bool
-    requires { depth_of (tree term.now) ≤ 1000 }
+    requires { depth_of (tree term.now) ≤ most_depth }
     ensures { IsTrue result ↔ HasLabelsBelow bound (tree term.now) }
 {
     match term {

@@ -16,6 +16,7 @@ ghost use Rattle.sx_grammar.specs.Made.{IsGrammar};
 ghost use Rattle.sx_grammar.specs.Tables.{literals_of, AreNumbered, HaveLiteralsBelow};
 ghost use Rattle.sx_grammar.specs.Tables.{IsNumberedPair, IsWithinLimits};
 ghost use Rattle.sx_grammar.specs.Told.{IsSortOf, IsLevelOf, shapes_of, HasLabelsBelow};
+ghost use Rattle.sx_term.specs.Limits.{most_depth};
 
 use crate::grammar::Grammar;
 use crate::grammar_parts::GrammarParts;
@@ -71,7 +72,7 @@ impl Grammar {
 
     /// Whether every label in the term is that of a base production.
     pub fn is_base(&self, term: &Term) -> bool
-        requires { depth_of (tree term.now) ≤ 1000 }
+        requires { depth_of (tree term.now) ≤ most_depth }
         ensures { IsTrue result ↔ HasLabelsBelow self.now.base (tree term.now) }
     {
         has_labels_below(term, self.base)

@@ -15,7 +15,8 @@ use Rattle.sx_interface.specs.FreeNames.{AreFree, IsFirstIn}
 use Rattle.sx_interface.proofs.FreeNames.{first_none}
 use Rattle.sx_outside.specs.Files.{Files}
 use Rattle.sx_steps.specs.declared.stop.Stop.{Stop}
-use Rattle.sx_steps.specs.Held.{Held, most_bytes}
+use Rattle.sx_steps.specs.Held.{Held}
+use Rattle.sx_term.specs.Limits.{most_bytes}
 use Rattle.sx_steps.proofs.Ones.{IsOne, then_one, held_one, ok_same}
 use Rattle.sx_headers.specs.FreeImports.{IsTakenAt, HasFreeImports}
 use Rattle.sx_headers.specs.HeaderRows.{row_line, import_row}

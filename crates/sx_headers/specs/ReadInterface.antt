@@ -9,7 +9,8 @@ use Rattle.sx_interface.specs.InterfaceView.{interface_view}
 use Rattle.sx_interface.specs.Stated.{StatesInterface}
 use Rattle.sx_outside.specs.Files.{Files}
 use Rattle.sx_steps.specs.declared.stop.Stop.{Stop}
-use Rattle.sx_steps.specs.Held.{Held, most_bytes}
+use Rattle.sx_steps.specs.Held.{Held}
+use Rattle.sx_term.specs.Limits.{most_bytes}
 use Rattle.sx_steps.specs.Steps.{Then}
 use Rattle.sx_steps.specs.Stops.{not_utf8}
 use Rattle.sx_headers.specs.declared.interface_file.InterfaceFile.{InterfaceFile}

@@ -10,7 +10,8 @@ use Rattle.sx_interface.specs.HeaderView.{header_view}
 use Rattle.sx_interface.specs.StatedHeader.{StatesHeader}
 use Rattle.sx_outside.specs.Files.{Files}
 use Rattle.sx_steps.specs.declared.stop.Stop.{Stop}
-use Rattle.sx_steps.specs.Held.{Held, most_bytes}
+use Rattle.sx_steps.specs.Held.{Held}
+use Rattle.sx_term.specs.Limits.{most_bytes}
 use Rattle.sx_steps.specs.Steps.{Then}
 use Rattle.sx_steps.specs.Stops.{not_utf8}
 use Rattle.sx_headers.specs.declared.module_file.ModuleFile.{ModuleFile}

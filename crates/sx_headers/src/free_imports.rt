@@ -6,6 +6,7 @@ ghost use Rattle.sx_interface.specs.FreeNames.{AreFree};
 ghost use Rattle.sx_steps.specs.Stop.{Gives, IsNoFault};
 ghost use Rattle.sx_headers.specs.FreeImports.{IsTakenAt, HasFreeImports};
 ghost use Rattle.sx_headers.specs.ReadModule.{module_of};
+ghost use Rattle.sx_term.specs.Limits.{most_bytes};
 
 use crate::header_rows::row_line;
 use crate::header_stops::bad_line_of_header;
@@ -41,7 +42,7 @@ pub fn check_imports(
     source: &ModuleFile,
     grammar: &Grammar,
 ) -> Result<(), StepError>
-    requires { length source.now.bytes.items ≤ 262144 }
+    requires { length source.now.bytes.items ≤ most_bytes }
     ensures step { Gives (λ done. done)
         (HasFreeImports file.now (literals_of grammar.now.parts) (module_of source.now)) result }
     ensures no_fault { IsNoFault result }

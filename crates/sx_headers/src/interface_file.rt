@@ -5,13 +5,14 @@ ghost use Rattle.sx_outside.specs.Told.{WhereTold};
 ghost use Rattle.sx_steps.specs.Stop.{Gives, OnlyReads, IsNoFault};
 ghost use Rattle.sx_headers.specs.ReadInterface.{interface_of, HasInterface, StatesParts};
 ghost use Rattle.sx_headers.specs.ReadInterface.{ReadsInterface};
+ghost use Rattle.sx_term.specs.Limits.{most_bytes};
 
 use crate::header_stops::bad_header;
 use std::alloc::Global;
 use sx_interface::{Interface, read_interface};
 use sx_outside::Shelf;
-use sx_steps::{MOST_BYTES, StepError, read_file};
-use sx_term::Text;
+use sx_steps::{StepError, read_file};
+use sx_term::{MOST_BYTES, Text};
 
 /// The bytes of an interface's file, and the interface.
 #[derive(Drop)]
@@ -27,9 +28,9 @@ fn state_interface(
     name: &Text,
     bytes: Vec<u8>,
 ) -> Result<InterfaceFile, StepError>
-    requires { length bytes.items ≤ 262144 }
+    requires { length bytes.items ≤ most_bytes }
     ensures step { Gives interface_of (StatesParts file.now name.now bytes.items) result }
-    ensures short { IfOk result (λ i. length i.bytes.items ≤ 262144) }
+    ensures short { IfOk result (λ i. length i.bytes.items ≤ most_bytes) }
     ensures stated { IfOk result (λ i. HasInterface name.now i.bytes.items (interface_of i)) }
     ensures no_fault { IsNoFault result }
 {
@@ -54,7 +55,7 @@ pub fn read_interface_file<S: Shelf>(
 ) -> Result<InterfaceFile, StepError>
     ensures step { WhereTold (S.content shelf.old)
         (λ files. Gives interface_of (ReadsInterface file.now name.now files) result) }
-    ensures short { IfOk result (λ i. length i.bytes.items ≤ 262144) }
+    ensures short { IfOk result (λ i. length i.bytes.items ≤ most_bytes) }
     ensures stated { IfOk result (λ i. HasInterface name.now i.bytes.items (interface_of i)) }
     ensures reads { OnlyReads (S.content shelf.old) (S.content shelf.new)
         (S.read_faults shelf.old) (S.read_faults shelf.new)

@@ -4,13 +4,14 @@ ghost use Rattle.std.specs.Prelude.{◌≡◌, ◌≤◌, IfOk, length};
 ghost use Rattle.sx_outside.specs.Told.{WhereTold};
 ghost use Rattle.sx_steps.specs.Stop.{Gives, OnlyReads, IsNoFault};
 ghost use Rattle.sx_headers.specs.ReadModule.{module_of, HasHeader, StatesModule, ReadsModule};
+ghost use Rattle.sx_term.specs.Limits.{most_bytes};
 
 use crate::header_stops::bad_header;
 use std::alloc::Global;
 use sx_interface::{Header, read_header};
 use sx_outside::Shelf;
-use sx_steps::{MOST_BYTES, StepError, read_file};
-use sx_term::Text;
+use sx_steps::{StepError, read_file};
+use sx_term::{MOST_BYTES, Text};
 
 /// The bytes of a module's file, or of its base file, and their header.
 #[derive(Drop)]
@@ -26,9 +27,9 @@ fn state_module(
     name: &Text,
     bytes: Vec<u8>,
 ) -> Result<ModuleFile, StepError>
-    requires { length bytes.items ≤ 262144 }
+    requires { length bytes.items ≤ most_bytes }
     ensures step { Gives module_of (StatesModule file.now name.now bytes.items) result }
-    ensures short { IfOk result (λ m. length m.bytes.items ≤ 262144) }
+    ensures short { IfOk result (λ m. length m.bytes.items ≤ most_bytes) }
     ensures headed { IfOk result (λ m. HasHeader name.now m.bytes.items (module_of m)) }
     ensures no_fault { IsNoFault result }
 {
@@ -53,7 +54,7 @@ pub fn read_module<S: Shelf>(
 ) -> Result<ModuleFile, StepError>
     ensures step { WhereTold (S.content shelf.old)
         (λ files. Gives module_of (ReadsModule file.now name.now files) result) }
-    ensures short { IfOk result (λ m. length m.bytes.items ≤ 262144) }
+    ensures short { IfOk result (λ m. length m.bytes.items ≤ most_bytes) }
     ensures headed { IfOk result (λ m. HasHeader name.now m.bytes.items (module_of m)) }
     ensures reads { OnlyReads (S.content shelf.old) (S.content shelf.new)
         (S.read_faults shelf.old) (S.read_faults shelf.new)

@@ -8,6 +8,7 @@ use Rattle.sx_arena.specs.declared.arena.Arena.{Arena}
 use Rattle.sx_arena.specs.Arena.{trees, IsArena, IsHeld}
 use Rattle.sx_images.specs.declared.images.Images.{Images}
 use Rattle.sx_images.specs.Images.{AreImages}
+use Rattle.sx_term.specs.Limits.{most_depth, most_size}
 
 -- the arena has the terms that it had
 pub record IsSameArena (old new : Arena) : Type 0 where
@@ -19,12 +20,14 @@ pub record IsSameArena (old new : Arena) : Type 0 where
 abbrev pub IsLowered : Table → Arena → Arena → Images → Tree → Result ℕ TermError → Type 0
 IsLowered table old new images t (Ok i) =
     IsHeld old new i (image table t) × AreImages table (trees new) images ×
-    (depth_of (image table t) ≤ 1000) × (size_of (image table t) ≤ 1000000)
+    (depth_of (image table t) ≤ most_depth) × (size_of (image table t) ≤ most_size)
 IsLowered table old new images t (Err (TooDeep depth)) =
-    IsSameArena old new × AreImages table (trees old) images × (1000 < depth_of (image table t)) ×
+    IsSameArena old new × AreImages table (trees old) images ×
+    (most_depth < depth_of (image table t)) ×
     (depth ≡ depth_of (image table t))
 IsLowered table old new images t (Err (TooBig nodes)) =
-    IsSameArena old new × AreImages table (trees old) images × (depth_of (image table t) ≤ 1000) ×
-    (1000000 < size_of (image table t))
+    IsSameArena old new × AreImages table (trees old) images ×
+    (depth_of (image table t) ≤ most_depth) ×
+    (most_size < size_of (image table t))
     × (nodes ≡ min (size_of (image table t)) (2 ^ 64 - 1))
 IsLowered table old new images t (Err Memory) = Unit {0}

@@ -5,6 +5,7 @@ ghost use Rattle.sx_term.specs.Tree.{depth_of};
 ghost use Rattle.sx_term.specs.Term.{tree};
 ghost use Rattle.sx_term.specs.Instances.{instance, bound_by};
 ghost use Rattle.sx_arena.specs.Arena.{trees, tree_at, IsArena, IsHeld, AreBelow};
+ghost use Rattle.sx_term.specs.Limits.{most_depth};
 
 use std::alloc::Global;
 use sx_arena::Arena;
@@ -17,7 +18,7 @@ pub fn filled(
     flat: &Term,
     parts: &[usize],
 ) -> Result<usize, NoMemory>
-    requires depth { depth_of (tree flat.now) ≤ 1000 }
+    requires depth { depth_of (tree flat.now) ≤ most_depth }
     requires arena { IsArena arena.old }
     requires parts { AreBelow (length (trees arena.old)) parts.now }
     ensures { IfOk result (λ i. IsHeld arena.old arena.new i

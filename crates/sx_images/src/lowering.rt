@@ -7,6 +7,7 @@ ghost use Rattle.sx_plain.specs.Views.{table_of};
 ghost use Rattle.sx_arena.specs.Arena.{trees, tree_at, IsArena};
 ghost use Rattle.sx_images.specs.Images.{AreImages, IsMeasure};
 ghost use Rattle.sx_images.specs.Lowered.{IsLowered};
+ghost use Rattle.sx_term.specs.Limits.{most_depth};
 
 use crate::images::Images;
 use crate::making::made;
@@ -14,7 +15,7 @@ use crate::measuring::measured;
 use std::alloc::Global;
 use sx_arena::Arena;
 use sx_plain::{Measure, PlainTable};
-use sx_term::{NoMemory, TermError};
+use sx_term::{MOST_DEPTH, MOST_SIZE, NoMemory, TermError};
 
 impl Images {
     /// The number of the plain image of the term with this number. The image is measured before it
@@ -31,16 +32,16 @@ impl Images {
         requires arena { IsArena arena.old }
         requires known { AreImages (table_of table.now) (trees arena.old) self.old }
         requires within { term < length (trees arena.old) }
-        requires shallow { depth_of (tree_at (trees arena.old) term) ≤ 1000 }
+        requires shallow { depth_of (tree_at (trees arena.old) term) ≤ most_depth }
         requires fits { FitsTable (table_of table.now) (tree_at (trees arena.old) term) }
         ensures { IsLowered (table_of table.now) arena.old arena.new self.new
             (tree_at (trees arena.old) term) result }
     {
         let measure = measured(alloc, table, arena, &mut self.measures, term)?;
-        if measure.depth > 1000 {
+        if measure.depth > MOST_DEPTH {
             return Err(TermError::TooDeep(measure.depth));
         }
-        if measure.size > 1_000_000 {
+        if measure.size > MOST_SIZE {
             return Err(TermError::TooBig(measure.size));
         }
         Ok(made(alloc, table, arena, &mut self.numbers, term)?)
@@ -57,7 +58,7 @@ impl Images {
         requires arena { IsArena arena.now }
         requires known { AreImages (table_of table.now) (trees arena.now) self.old }
         requires within { term < length (trees arena.now) }
-        requires shallow { depth_of (tree_at (trees arena.now) term) ≤ 1000 }
+        requires shallow { depth_of (tree_at (trees arena.now) term) ≤ most_depth }
         requires fits { FitsTable (table_of table.now) (tree_at (trees arena.now) term) }
         ensures known { OnOk result (AreImages (table_of table.now)
             (trees arena.now) self.new) }

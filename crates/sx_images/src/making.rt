@@ -6,6 +6,7 @@ ghost use Rattle.sx_plain.specs.Plain.{image};
 ghost use Rattle.sx_plain.specs.Views.{table_of};
 ghost use Rattle.sx_arena.specs.Arena.{trees, tree_at, IsArena, IsHeld};
 ghost use Rattle.sx_images.specs.Images.{AreMade};
+ghost use Rattle.sx_term.specs.Limits.{most_depth};
 
 use crate::filling::filled;
 use crate::node::node_at;
@@ -28,7 +29,7 @@ pub(crate) fn made(
     requires arena { IsArena arena.old }
     requires known { AreMade (table_of table.now) (trees arena.old) notes.old.items }
     requires within { term < length (trees arena.old) }
-    requires shallow { depth_of (tree_at (trees arena.old) term) ≤ 1000 }
+    requires shallow { depth_of (tree_at (trees arena.old) term) ≤ most_depth }
     ensures known { OnOk result (AreMade (table_of table.now) (trees arena.new) notes.new.items) }
     ensures image { IfOk result (λ i. IsHeld arena.old arena.new i
         (image (table_of table.now) (tree_at (trees arena.old) term))) }
@@ -53,7 +54,7 @@ fn new_image(
     requires arena { IsArena arena.old }
     requires known { AreMade (table_of table.now) (trees arena.old) notes.old.items }
     requires within { term < length (trees arena.old) }
-    requires shallow { depth_of (tree_at (trees arena.old) term) ≤ 1000 }
+    requires shallow { depth_of (tree_at (trees arena.old) term) ≤ most_depth }
     ensures known { OnOk result (AreMade (table_of table.now) (trees arena.new) notes.new.items) }
     ensures image { IfOk result (λ i. IsHeld arena.old arena.new i
         (image (table_of table.now) (tree_at (trees arena.old) term))) }

@@ -6,6 +6,7 @@ ghost use Rattle.sx_plain.specs.Tables.{FitsTable};
 ghost use Rattle.sx_plain.specs.Views.{table_of};
 ghost use Rattle.sx_arena.specs.Arena.{trees, tree_at, IsArena};
 ghost use Rattle.sx_images.specs.Images.{IsMeasure, AreMeasured};
+ghost use Rattle.sx_term.specs.Limits.{most_depth};
 
 use crate::notes::{note, noted};
 use std::alloc::Global;
@@ -26,7 +27,7 @@ pub(crate) fn measured(
     requires arena { IsArena arena.now }
     requires known { AreMeasured (table_of table.now) (trees arena.now) notes.old.items }
     requires within { term < length (trees arena.now) }
-    requires shallow { depth_of (tree_at (trees arena.now) term) ≤ 1000 }
+    requires shallow { depth_of (tree_at (trees arena.now) term) ≤ most_depth }
     requires fits { FitsTable (table_of table.now) (tree_at (trees arena.now) term) }
     ensures known { OnOk result (AreMeasured (table_of table.now)
         (trees arena.now) notes.new.items) }
@@ -53,7 +54,7 @@ fn new_measure(
     requires arena { IsArena arena.now }
     requires known { AreMeasured (table_of table.now) (trees arena.now) notes.old.items }
     requires within { term < length (trees arena.now) }
-    requires shallow { depth_of (tree_at (trees arena.now) term) ≤ 1000 }
+    requires shallow { depth_of (tree_at (trees arena.now) term) ≤ most_depth }
     requires fits { FitsTable (table_of table.now) (tree_at (trees arena.now) term) }
     ensures known { OnOk result (AreMeasured (table_of table.now)
         (trees arena.now) notes.new.items) }

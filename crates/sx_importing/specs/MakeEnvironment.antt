@@ -9,10 +9,11 @@ use Rattle.sx_environment.specs.SeenFrom.{SeenFrom}
 use Rattle.sx_steps.specs.declared.stop.Stop.{Stop}
 use Rattle.sx_steps.specs.Lower.{Lower}
 use Rattle.sx_importing.specs.ImportStops.{import_stop}
+use Rattle.sx_term.specs.Limits.{most_depth}
 
 -- the environment of the imports, or the first refusal
 abbrev pub HasEnvironment : SeenFrom → List InterfaceParts → Result Tree ImportError → Type 0
-HasEnvironment s its (Ok t) = IsEnvironment s its t × (depth_of t ≤ 1000)
+HasEnvironment s its (Ok t) = IsEnvironment s its t × (depth_of t ≤ most_depth)
 HasEnvironment s its (Err e) = HasNone s its e
 
 -- the environment of the imports, or the stop of the first refusal; the file is that of the module

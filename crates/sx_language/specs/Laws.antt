@@ -30,6 +30,7 @@ use Rattle.sx_language.specs.RuleLine.{Reader, subject_sort, CanRead}
 use Rattle.sx_language.specs.RuleTexts.{HaveStemSorts, IsRule, AreRules, IsFirstBad}
 use Rattle.sx_language.specs.States.{AreStems, States, name_unbound, IsRefused}
 use Rattle.sx_language.specs.Alike.{RulesHaveThree, LanguageHasThree, ShowOthers}
+use Rattle.sx_term.specs.Limits.{most_depth}
 
 -- two languages are the same, but for where they lie in memory
 pub record SameLanguage (l k : Language) : Type 0 where
@@ -101,7 +102,7 @@ pub record RulesAreUsable : Type 0 where
   pub shallow : (r : Reader) (ls : List RuleData) (ns : List (List Text)) (qs : List NamedRule)
       (bs : List (Option Tree)) → AreRules r ls ns qs bs →
       RulesAreShallow (map (λ q. q.rule) qs) ×
-      AllByRecursion (λ b. IfSome b (λ t. depth_of t ≤ 1000)) bs
+      AllByRecursion (λ b. IfSome b (λ t. depth_of t ≤ most_depth)) bs
 
 -- the name of an unbound variable of a later rule is found among the names of the later rules
 abbrev pub UnboundIsLater : Type 0

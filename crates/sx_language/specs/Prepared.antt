@@ -24,6 +24,7 @@ use Rattle.sx_notation.specs.RuleLaws.{HaveSortsOf}
 use Rattle.sx_language.specs.declared.preparing.Prepared.{Prepared}
 use Rattle.sx_language.specs.RuleLine.{Reader, CanRead}
 use Rattle.sx_language.specs.States.{IsReadable, IsNoGrammar, forms_of, name_unbound}
+use Rattle.sx_term.specs.Limits.{most_bytes}
 
 -- a grammar of these parts, all of whose productions are base
 abbrev pub whole : Parts → GrammarData
@@ -48,7 +49,7 @@ pub record IsPrepared (name bytes : Text) (x : Prepared) : Type 0 where
   pub forms : view.forms x.forms.items ≡ forms_of from
   pub main : x.main ≡ from.main
   pub rules : x.rules.items ≡ from.rules.items
-  pub short : AllByRecursion (λ l. HasShortLines 262144 (rule_data l)) x.rules.items
+  pub short : AllByRecursion (λ l. HasShortLines most_bytes (rule_data l)) x.rules.items
   pub bare : AllByRecursion (λ l. l.body ≡ None) (map rule_data x.rules.items)
   pub can : CanRead (reader_in x)
 
@@ -58,7 +59,7 @@ pub record IsUsable (name bytes : Text) (o : Outline) : Type 0 where
   pub fit : IsFit (outline o)
   pub limits : IsWithinLimits (parts o.parts)
   pub rule_limits : IsWithinLimits (rule_parts (parts o.parts) o.forms.items)
-  pub short : AllByRecursion (λ l. HasShortLines 262144 (rule_data l)) o.rules.items
+  pub short : AllByRecursion (λ l. HasShortLines most_bytes (rule_data l)) o.rules.items
 
 -- memory is not what is lacking
 abbrev pub IsReason : RuleError → Type 0

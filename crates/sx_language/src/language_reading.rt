@@ -13,6 +13,7 @@ ghost use Rattle.sx_outline.specs.Sized.{HasShortLines};
 ghost use Rattle.sx_language.specs.RuleTexts.{AreBareRules, IsFirstBad, OrMemory};
 ghost use Rattle.sx_language.specs.States.{States, IsRefused};
 ghost use Rattle.sx_language.specs.Prepared.{reader_in, IsPrepared};
+ghost use Rattle.sx_term.specs.Limits.{most_bytes};
 
 use crate::preparing::{Prepared, prepare};
 use crate::rule_naming::rule_error;
@@ -27,7 +28,7 @@ use sx_term::Text;
 /// The rules of the language.
 fn read_prepared(alloc: Global, prepared: &Prepared) -> Result<ReadRules, NotationError>
     requires can { CanRead (reader_in prepared.now) }
-    requires short { AllByRecursion (λ l. HasShortLines 262144 (rule_data l))
+    requires short { AllByRecursion (λ l. HasShortLines most_bytes (rule_data l))
         prepared.now.rules.items }
     requires bare { AllByRecursion (λ l. l.body ≡ None) (map rule_data prepared.now.rules.items) }
     ensures read { IfOk result (λ x. AreBareRules (reader_in prepared.now)
@@ -117,7 +118,7 @@ fn with_rules(
 /// refusals of its lines, of its grammars, of the lines of its rules in order, and of its rule set,
 /// in this order.
 pub fn read_language(alloc: Global, name: &Text, bytes: &[u8]) -> Result<Language, NotationError>
-    requires short { length bytes.now ≤ 262144 }
+    requires short { length bytes.now ≤ most_bytes }
     ensures stated { IfOk result (States name.now bytes.now) }
     ensures refused { IfErr result (IsRefused name.now bytes.now) }
     ensures fit { IfOk result IsLanguage }

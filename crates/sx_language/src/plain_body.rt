@@ -4,6 +4,7 @@ ghost use Rattle.std.specs.Prelude.{◌+◌, ◌<◌, ◌≤◌, ◌^◌, length
 ghost use Rattle.sx_term.specs.Term.{tree};
 ghost use Rattle.sx_earley.specs.Completed.{IsSort};
 ghost use Rattle.sx_notation.specs.ReadAmong.{IsReadAmong, IsRefusedAmong};
+ghost use Rattle.sx_term.specs.Limits.{most_bytes, most_tokens};
 
 use std::alloc::Global;
 use sx_notation::{LineReader, NotationError};
@@ -22,8 +23,8 @@ pub fn read_plain_body(
     parts: &Vars,
 ) -> Result<Term, NotationError>
     requires sort { IsSort tables.now.parts sort }
-    requires short { length line.now.text ≤ 262144 }
-    requires room { length parts.now + 10000 < 2 ^ 32 }
+    requires short { length line.now.text ≤ most_bytes }
+    requires room { length parts.now + most_tokens < 2 ^ 32 }
     ensures read { IfOk result (λ t. IsReadAmong tables.now.parts tables.now.stems sort
         line.now.text parts.now (tree t)) }
     ensures refused { IfErr result (IsRefusedAmong tables.now.parts tables.now.stems sort

@@ -8,6 +8,7 @@ ghost use Rattle.sx_notation.specs.RuleParts.{rule_parts};
 ghost use Rattle.sx_language.specs.States.{IsRefused};
 ghost use Rattle.sx_language.specs.Prepared.{whole, IsUsable, IsPrepared, IsGrammarRefusal};
 ghost use Rattle.sx_language.specs.Prepared.{IsNoGrammars};
+ghost use Rattle.sx_term.specs.Limits.{most_bytes};
 
 use crate::stems::metas_of;
 use std::alloc::Global;
@@ -40,7 +41,7 @@ struct Grammars {
 
 /// The outline of the text.
 fn outline_of(alloc: Global, name: &Text, bytes: &[u8]) -> Result<Outline, NotationError>
-    requires { length bytes.now ≤ 262144 }
+    requires { length bytes.now ≤ most_bytes }
     ensures usable { IfOk result (IsUsable name.now bytes.now) }
     ensures refused { IfErr result (IsRefused name.now bytes.now) }
 {
@@ -90,7 +91,7 @@ fn make_grammars(
 
 /// What the text states before the lines of its rules are read.
 pub(crate) fn prepare(alloc: Global, name: &Text, bytes: &[u8]) -> Result<Prepared, NotationError>
-    requires { length bytes.now ≤ 262144 }
+    requires { length bytes.now ≤ most_bytes }
     ensures prepared { IfOk result (IsPrepared name.now bytes.now) }
     ensures refused { IfErr result (IsRefused name.now bytes.now) }
 {

@@ -10,6 +10,7 @@ ghost use Rattle.sx_outline.specs.Stages.{rule_data};
 ghost use Rattle.sx_language.specs.RuleLine.{subject_sort, CanRead};
 ghost use Rattle.sx_language.specs.RuleTexts.{IsBody, IsBadBody, OrMemory};
 ghost use Rattle.sx_language.specs.Readers.{reader, AreTables};
+ghost use Rattle.sx_term.specs.Limits.{most_bytes, most_tokens};
 
 use crate::rule_line::line_term;
 use crate::rule_reader::RuleReader;
@@ -72,13 +73,13 @@ pub(crate) fn read_body(
 ) -> Result<Option<Term>, NotationError>
     requires can { CanRead (reader by.now) }
     requires tables { AreTables (reader by.now) tables.now }
-    requires short { IfSome (rule_data lines.now).body (λ l. length l.text ≤ 262144) }
-    requires room { length vars.now + 10000 < 2 ^ 32 }
+    requires short { IfSome (rule_data lines.now).body (λ l. length l.text ≤ most_bytes) }
+    requires room { length vars.now + most_tokens < 2 ^ 32 }
     ensures read { IfOk result (λ b. IsBody (reader by.now) (rule_data lines.now).body
         (subject_sort (reader by.now).forms form) vars.old vars.new (option_map tree b)) }
     ensures refused { IfErr result (OrMemory (IsBadBody (reader by.now) (rule_data lines.now).body
         (subject_sort (reader by.now).forms form))) }
-    ensures grows { length vars.new ≤ length vars.old + 10000 }
+    ensures grows { length vars.new ≤ length vars.old + most_tokens }
 {
     match &lines.body {
         None => Ok(None),

@@ -8,6 +8,7 @@ ghost use Rattle.sx_outline.specs.Stages.{numbered};
 ghost use Rattle.sx_notation.specs.ReadText.{IsRead, IsRefused};
 ghost use Rattle.sx_language.specs.RuleLine.{judgements, CanRead, IsLine, IsBadLine};
 ghost use Rattle.sx_language.specs.Readers.{reader, AreTables};
+ghost use Rattle.sx_term.specs.Limits.{most_bytes, most_tokens};
 
 use crate::premise::premise_of;
 use crate::rule_reader::RuleReader;
@@ -38,13 +39,13 @@ pub(crate) fn line_term(
 ) -> Result<Term, NotationError>
     requires sort { IsSort (reader by.now).parts sort }
     requires tables { AreTables (reader by.now) tables.now }
-    requires short { length line.now.text ≤ 262144 }
-    requires room { length vars.now + 10000 < 2 ^ 32 }
+    requires short { length line.now.text ≤ most_bytes }
+    requires room { length vars.now + most_tokens < 2 ^ 32 }
     ensures read { IfOk result (λ t. IsRead (reader by.now).parts (reader by.now).stems sort
         line.now.text vars.old vars.new (tree t)) }
     ensures refused { IfErr result (IsRefused (reader by.now).parts (reader by.now).stems sort
         line.now.text line.now.number) }
-    ensures grows { length vars.new ≤ length vars.old + 10000 }
+    ensures grows { length vars.new ≤ length vars.old + most_tokens }
 {
     tables.read_line(alloc, sort, line.text.bytes(), line.number, vars)
 }
@@ -59,12 +60,12 @@ fn judgement_term(
 ) -> Result<Term, NotationError>
     requires can { CanRead (reader by.now) }
     requires tables { AreTables (reader by.now) tables.now }
-    requires short { length line.now.text ≤ 262144 }
-    requires room { length vars.now + 10000 < 2 ^ 32 }
+    requires short { length line.now.text ≤ most_bytes }
+    requires room { length vars.now + most_tokens < 2 ^ 32 }
     ensures read { IfOk result (λ t. IsRead (reader by.now).parts (reader by.now).stems
         (judgements (reader by.now).parts) line.now.text vars.old vars.new (tree t)) }
     ensures refused { IfErr result (IsBadLine (reader by.now) (numbered line.now)) }
-    ensures grows { length vars.new ≤ length vars.old + 10000 }
+    ensures grows { length vars.new ≤ length vars.old + most_tokens }
 {
     let sort = judgements(by.grammar);
     line_term(alloc, by, tables, sort, line, vars)
@@ -80,12 +81,12 @@ pub(crate) fn read_line(
 ) -> Result<Premise, NotationError>
     requires can { CanRead (reader by.now) }
     requires tables { AreTables (reader by.now) tables.now }
-    requires short { length line.now.text ≤ 262144 }
-    requires room { length vars.now + 10000 < 2 ^ 32 }
+    requires short { length line.now.text ≤ most_bytes }
+    requires room { length vars.now + most_tokens < 2 ^ 32 }
     ensures read { IfOk result (λ q.
         IsLine (reader by.now) line.now.text vars.old vars.new (view.premise q)) }
     ensures refused { IfErr result (IsBadLine (reader by.now) (numbered line.now)) }
-    ensures grows { length vars.new ≤ length vars.old + 10000 }
+    ensures grows { length vars.new ≤ length vars.old + most_tokens }
 {
     match judgement_term(alloc, by, tables, line, vars) {
         Ok(term) => Ok(premise_of(by, term)),

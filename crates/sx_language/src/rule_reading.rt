@@ -12,6 +12,7 @@ ghost use Rattle.sx_outline.specs.Sized.{HasShortLines};
 ghost use Rattle.sx_language.specs.RuleTexts.{ArePremises, AreStated, IsRule};
 ghost use Rattle.sx_language.specs.RuleTexts.{IsBadPremise, IsBadConclusion, IsBadRule, OrMemory};
 ghost use Rattle.sx_language.specs.Readers.{reader, AreTables};
+ghost use Rattle.sx_term.specs.Limits.{most_bytes, most_tokens};
 
 use crate::rule_body::read_body;
 use crate::rule_line::read_line;
@@ -50,14 +51,14 @@ fn read_premises(
 ) -> Result<Vec<Premise>, NotationError>
     requires can { CanRead (reader by.now) }
     requires tables { AreTables (reader by.now) tables.now }
-    requires short { AllByRecursion (λ l. length l.text ≤ 262144) lines.now }
-    requires few { length lines.now ≤ 262144 }
+    requires short { AllByRecursion (λ l. length l.text ≤ most_bytes) lines.now }
+    requires few { length lines.now ≤ most_bytes }
     requires none { vars.now ≡ [] }
     ensures read { IfOk result (λ v. ArePremises (reader by.now) (map numbered lines.now) []
         vars.new (map view.premise v.items)) }
     ensures refused { IfErr result
         (OrMemory (IsBadPremise (reader by.now) (map numbered lines.now) [])) }
-    ensures grows { length vars.new ≤ 10000 * length lines.now }
+    ensures grows { length vars.new ≤ most_tokens * length lines.now }
 {
     let mut premises = Vec::with_capacity(alloc, lines.len())?;
     for i in 0..lines.len() {
@@ -83,13 +84,13 @@ fn read_conclusion(
 ) -> Result<Judgement, NotationError>
     requires can { CanRead (reader by.now) }
     requires tables { AreTables (reader by.now) tables.now }
-    requires short { length line.now.text ≤ 262144 }
-    requires room { length vars.now + 10000 < 2 ^ 32 }
+    requires short { length line.now.text ≤ most_bytes }
+    requires room { length vars.now + most_tokens < 2 ^ 32 }
     ensures read { IfOk result (λ j. IsLine (reader by.now) line.now.text vars.old vars.new
         (holds (view.judgement j))) }
     ensures refused { IfErr result
         (IsBadConclusion (reader by.now) (numbered line.now) vars.old) }
-    ensures grows { length vars.new ≤ length vars.old + 10000 }
+    ensures grows { length vars.new ≤ length vars.old + most_tokens }
 {
     match read_line(alloc, by, tables, line, vars) {
         Ok(Premise::Holds(judgement)) => Ok(judgement),
@@ -111,7 +112,7 @@ fn read_stated(
 ) -> Result<Stated, NotationError>
     requires can { CanRead (reader by.now) }
     requires tables { AreTables (reader by.now) tables.now }
-    requires short { HasShortLines 262144 (rule_data lines.now) }
+    requires short { HasShortLines most_bytes (rule_data lines.now) }
     requires none { vars.now ≡ [] }
     ensures read { IfOk result (λ x. AreStated (reader by.now) (rule_data lines.now) vars.new
         (map view.premise x.premises.items) (view.judgement x.conclusion)
@@ -150,7 +151,7 @@ pub(crate) fn read_rule(
 ) -> Result<ReadRule, NotationError>
     requires can { CanRead (reader by.now) }
     requires tables { AreTables (reader by.now) tables.now }
-    requires short { HasShortLines 262144 (rule_data lines.now) }
+    requires short { HasShortLines most_bytes (rule_data lines.now) }
     ensures read { IfOk result (λ x. IsRule (reader by.now) (rule_data lines.now) x.names
         (view.named x.rule) (option_map tree x.body)) }
     ensures refused { IfErr result (OrMemory (IsBadRule (reader by.now) (rule_data lines.now))) }

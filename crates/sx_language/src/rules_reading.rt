@@ -9,6 +9,7 @@ ghost use Rattle.sx_language.specs.RuleLine.{CanRead};
 ghost use Rattle.sx_outline.specs.Sized.{HasShortLines};
 ghost use Rattle.sx_language.specs.RuleTexts.{AreRules, IsFirstBad, OrMemory};
 ghost use Rattle.sx_language.specs.Readers.{reader, AreTables};
+ghost use Rattle.sx_term.specs.Limits.{most_bytes};
 
 use crate::rule_reader::RuleReader;
 use crate::rule_reading::{ReadRule, read_rule};
@@ -35,7 +36,7 @@ fn read_each(
 ) -> Result<ReadRules, NotationError>
     requires can { CanRead (reader by.now) }
     requires tables { AreTables (reader by.now) tables.now }
-    requires short { AllByRecursion (λ l. HasShortLines 262144 (rule_data l)) lines.now }
+    requires short { AllByRecursion (λ l. HasShortLines most_bytes (rule_data l)) lines.now }
     ensures read { IfOk result (λ x. AreRules (reader by.now) (map rule_data lines.now)
         x.names.items (map view.named x.rules.items) (map (option_map tree) x.bodies.items)) }
     ensures refused { IfErr result
@@ -82,7 +83,7 @@ pub fn read_rules(
     lines: &[RuleLines],
 ) -> Result<ReadRules, NotationError>
     requires can { CanRead (reader by.now) }
-    requires short { AllByRecursion (λ l. HasShortLines 262144 (rule_data l)) lines.now }
+    requires short { AllByRecursion (λ l. HasShortLines most_bytes (rule_data l)) lines.now }
     ensures read { IfOk result (λ x. AreRules (reader by.now) (map rule_data lines.now)
         x.names.items (map view.named x.rules.items) (map (option_map tree) x.bodies.items)) }
     ensures refused { IfErr result

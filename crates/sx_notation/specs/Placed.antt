@@ -8,6 +8,7 @@ use Rattle.sx_term.specs.Term.{tree}
 use Rattle.sx_grammar.specs.Grammar.{Grammar}
 use Rattle.sx_print.specs.Printed.{IsBuilt}
 use Rattle.std.specs.Prelude.{ℕ}
+use Rattle.sx_term.specs.Limits.{most_depth}
 
 -- the term, if there is one
 abbrev pub shown : Option (Bor Term) → Option Tree
@@ -16,7 +17,7 @@ shown content = option_map (λ r. tree r.now) content
 -- the term, if there is one, is at most 1,000 deep and built by the grammar
 abbrev pub IsPuttable : Grammar → ℕ → Option Tree → Type 0
 IsPuttable g variables None = Unit {0}
-IsPuttable g variables (Some t) = (depth_of t ≤ 1000) × IsBuilt g variables t
+IsPuttable g variables (Some t) = (depth_of t ≤ most_depth) × IsBuilt g variables t
 
 -- so it is of each
 abbrev pub ArePuttable : Grammar → ℕ → List (Option Tree) → Type 0

@@ -14,6 +14,7 @@ ghost use Rattle.sx_notation.specs.WhyUnread.{IsReadError};
 ghost use Rattle.sx_notation.specs.ReadText.{IsCut, IsKnownCut, IsRead, IsUncut, IsRefused};
 ghost use Rattle.sx_notation.specs.ReadText.{IsUnreadLine, of_token_error};
 ghost use Rattle.sx_notation.specs.ReadAmong.{IsNamedCut, IsReadAmong, IsRefusedAmong};
+ghost use Rattle.sx_term.specs.Limits.{most_bytes, most_tokens};
 
 use crate::named_tokens::are_named;
 use crate::names::copy_names;
@@ -87,7 +88,7 @@ fn cut_line(
     line: &[u8],
     number: u32,
 ) -> Result<Vec<Token>, NotationError>
-    requires { length line.now ≤ 262144 }
+    requires { length line.now ≤ most_bytes }
     ensures cut { IfOk result (λ ts. IsCut by.now.parts line.now ts.items) }
     ensures refused { IfErr result (λ e. (stems : Stems) →
         IsUncut by.now.parts stems line.now number e) }
@@ -106,7 +107,7 @@ fn known_tokens(
     line: &[u8],
     number: u32,
 ) -> Result<Vec<Token>, NotationError>
-    requires { length line.now ≤ 262144 }
+    requires { length line.now ≤ most_bytes }
     ensures known { IfOk result (λ ts. IsKnownCut by.now.parts by.now.stems line.now ts.items) }
     ensures refused { IfErr result (IsUncut by.now.parts by.now.stems line.now number) }
 {
@@ -130,8 +131,8 @@ fn named_tokens(
     names: &Vars,
     copy: &mut Vars,
 ) -> Result<Vec<Token>, NotationError>
-    requires short { length line.now ≤ 262144 }
-    requires room { length names.now + 10000 < 2 ^ 32 }
+    requires short { length line.now ≤ most_bytes }
+    requires room { length names.now + most_tokens < 2 ^ 32 }
     requires same { copy.old ≡ names.now }
     ensures named { IfOk result (λ ts.
         IsNamedCut by.now.parts by.now.stems names.now line.now ts.items) }
@@ -217,14 +218,14 @@ impl<'a> LineReader<'a> {
         vars: &mut Vars,
     ) -> Result<Term, NotationError>
         requires sort { IsSort self.now.parts sort }
-        requires short { length line.now ≤ 262144 }
-        requires room { length vars.now + 10000 < 2 ^ 32 }
+        requires short { length line.now ≤ most_bytes }
+        requires room { length vars.now + most_tokens < 2 ^ 32 }
         ensures read { IfOk result
             (λ t. IsRead self.now.parts self.now.stems sort line.now vars.old vars.new (tree t)) }
         ensures refused { IfErr result
             (IsRefused self.now.parts self.now.stems sort line.now number) }
         ensures kept { OnErr result (vars.new ≡ vars.old) }
-        ensures grows { length vars.new ≤ length vars.old + 10000 }
+        ensures grows { length vars.new ≤ length vars.old + most_tokens }
     {
         let tokens = known_tokens(alloc, self, line, number)?;
         let reading = reading_of(alloc, self, sort, &tokens, line.len(), number)?;
@@ -245,8 +246,8 @@ impl<'a> LineReader<'a> {
         names: &Vars,
     ) -> Result<Term, NotationError>
         requires sort { IsSort self.now.parts sort }
-        requires short { length line.now ≤ 262144 }
-        requires room { length names.now + 10000 < 2 ^ 32 }
+        requires short { length line.now ≤ most_bytes }
+        requires room { length names.now + most_tokens < 2 ^ 32 }
         ensures read { IfOk result (λ t.
             IsReadAmong self.now.parts self.now.stems sort line.now names.now (tree t)) }
         ensures refused { IfErr result

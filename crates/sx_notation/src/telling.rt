@@ -10,6 +10,7 @@ ghost use Rattle.sx_earley.specs.Tokens.{Stems};
 ghost use Rattle.sx_forest.specs.Readings.{plain_reading};
 ghost use Rattle.sx_forest.specs.Text.{texts, tree_text, IsWithin};
 ghost use Rattle.sx_notation.specs.WhyUnread.{place_in, IsUnreadAs, IsReadError};
+ghost use Rattle.sx_term.specs.Limits.{most_depth};
 
 use crate::unread::Unread;
 use std::alloc::Global;
@@ -56,7 +57,7 @@ fn tree_text(
     reading: &Reading,
     tokens: &[Token],
 ) -> Result<Text, NoMemory>
-    requires depth { reading_depth (plain_reading reading.now) ≤ 1000 }
+    requires depth { reading_depth (plain_reading reading.now) ≤ most_depth }
     requires within { IsWithin (length grammar.now.parts.productions) (length tokens.now)
         (plain_reading reading.now) }
     ensures { IfOk result (λ t. t ≡ tree_text (labels grammar.now.parts) (texts tokens.now)

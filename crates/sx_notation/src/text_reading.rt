@@ -4,6 +4,7 @@ ghost use Rattle.std.specs.Prelude.{◌≡◌, ◌+◌, ◌<◌, ◌≤◌, ◌^
 ghost use Rattle.sx_term.specs.Term.{tree};
 ghost use Rattle.sx_earley.specs.Completed.{IsSort};
 ghost use Rattle.sx_notation.specs.ReadText.{IsRead, IsRefused};
+ghost use Rattle.sx_term.specs.Limits.{most_bytes, most_tokens};
 
 use crate::line_reader::LineReader;
 use crate::notation_error::NotationError;
@@ -26,15 +27,15 @@ pub fn read_text(
     vars: &mut Vars,
 ) -> Result<Term, NotationError>
     requires sort { IsSort grammar.now.parts sort }
-    requires short { length line.now ≤ 262144 }
-    requires room { length vars.now + 10000 < 2 ^ 32 }
+    requires short { length line.now ≤ most_bytes }
+    requires room { length vars.now + most_tokens < 2 ^ 32 }
     ensures read { IfOk result
         (λ t. IsRead grammar.now.parts metas.now.stems.items sort line.now vars.old vars.new
         (tree t)) }
     ensures refused { IfErr result
         (IsRefused grammar.now.parts metas.now.stems.items sort line.now number) }
     ensures err { OnErr result (vars.new ≡ vars.old) }
-    ensures grows { length vars.new ≤ length vars.old + 10000 }
+    ensures grows { length vars.new ≤ length vars.old + most_tokens }
 {
     let reader = LineReader::new(alloc, grammar, metas)?;
     reader.read_line(alloc, sort, line, number, vars)

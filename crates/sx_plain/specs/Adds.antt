@@ -7,6 +7,7 @@ use Rattle.sx_plain.specs.declared.plain_error.PlainError.{PlainError}
 use Rattle.sx_plain.specs.declared.plain_error.PlainError.TheVariants.{Memory, Twice, UsesLater}
 use Rattle.sx_plain.specs.declared.plain_error.PlainError.TheVariants.{Drops, TooDeep, TooBig}
 use Rattle.sx_plain.specs.Plain.{Body, Table, image}
+use Rattle.sx_term.specs.Limits.{most_depth, most_size}
 
 -- the table with one more entry
 abbrev pub with_entry : Table → ℕ → Body → Table
@@ -50,7 +51,7 @@ UsesAll arity t = (v : ℕ) → v < arity → Stands v t
 abbrev pub IsAdded : ℕ → Table → Table → ℕ → ℕ → Tree → Result (Unit {0}) PlainError → Type 0
 IsAdded base old new label arity body (Ok x) =
     (old label ≡ None) × (first_uncovered base old body ≡ None) × UsesAll arity body ×
-    (depth_of (image old body) ≤ 1000) × (size_of (image old body) ≤ 1000000)
+    (depth_of (image old body) ≤ most_depth) × (size_of (image old body) ≤ most_size)
     × ((other : ℕ) → new other ≡ with_entry old label
     (record { arity = arity; flat = image old body }) other)
 IsAdded base old new label arity body (Err Memory) = Unit {0}
@@ -61,8 +62,8 @@ IsAdded base old new label arity body (Err (Drops v)) =
     (old label ≡ None) × (first_uncovered base old body ≡ None) × IsFirstDropped arity body v
 IsAdded base old new label arity body (Err (TooDeep depth)) =
     (old label ≡ None) × (first_uncovered base old body ≡ None) × UsesAll arity body ×
-    (1000 < depth_of (image old body)) × (depth ≡ depth_of (image old body))
+    (most_depth < depth_of (image old body)) × (depth ≡ depth_of (image old body))
 IsAdded base old new label arity body (Err (TooBig nodes)) =
     (old label ≡ None) × (first_uncovered base old body ≡ None) × UsesAll arity body ×
-    (depth_of (image old body) ≤ 1000) × (1000000 < size_of (image old body))
+    (depth_of (image old body) ≤ most_depth) × (most_size < size_of (image old body))
     × (nodes ≡ min (size_of (image old body)) (2 ^ 64 - 1))

@@ -3,6 +3,7 @@ use Rattle.std.specs.Prelude.{◌≡◌, ℕ, zero, suc, ◌+◌, ◌*◌, ◌�
 use Rattle.sx_term.specs.Tree.{Tree, Trees, node, lexeme, hole, none, ◌▹◌}
 use Rattle.sx_plain.specs.declared.part_use.PartUse.{PartUse}
 use Rattle.sx_plain.specs.Measures.{depth_with, size_with}
+use Rattle.sx_term.specs.Limits.{most_depth}
 
 -- no part is used yet
 abbrev pub unused : ℕ → List PartUse
@@ -63,7 +64,7 @@ used_size (u ∷ us) (n ∷ ns) = u.times * n + used_size us ns
 -- no part stands under more than 1,000 nodes
 abbrev pub AreNear : List PartUse → Type 0
 AreNear [] = Unit {0}
-AreNear (u ∷ us) = (u.above ≤ 1000) × AreNear us
+AreNear (u ∷ us) = (u.above ≤ most_depth) × AreNear us
 
 -- each of the numbers is at least 1
 abbrev pub ArePositive : List ℕ → Type 0

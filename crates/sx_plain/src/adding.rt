@@ -8,6 +8,7 @@ ghost use Rattle.sx_plain.specs.Tables.{IsFlat, FitsTable};
 ghost use Rattle.sx_plain.specs.Entries.{body};
 ghost use Rattle.sx_plain.specs.Views.{table_of};
 ghost use Rattle.sx_plain.specs.Adds.{with_entry, uncovered, first_uncovered, IsAdded};
+ghost use Rattle.sx_term.specs.Limits.{most_depth};
 
 use crate::dropped::first_dropped;
 use crate::entry::Entry;
@@ -27,7 +28,7 @@ fn is_known(table: &PlainTable, label: u32) -> bool
 /// The first label of the term, in preorder, that is not base and has no entry, or None where each
 /// label is base or has one.
 pub fn first_later(table: &PlainTable, term: &Term) -> Option<u32>
-    requires { depth_of (tree term.now) ≤ 1000 }
+    requires { depth_of (tree term.now) ≤ most_depth }
     ensures { result ≡ first_uncovered table.now.base (table_of table.now) (tree term.now) }
 {
     match term {
@@ -57,7 +58,7 @@ impl PlainTable {
         requires not_base { self.old.base ≤ label }
         requires parts { (v : ℕ) → Stands v (tree term) → v < arity }
         requires fits { FitsTable (table_of self.old) (tree term) }
-        requires shallow { depth_of (tree term) ≤ 1000 }
+        requires shallow { depth_of (tree term) ≤ most_depth }
         ensures answer { IsAdded self.old.base (table_of self.old) (table_of self.new) label arity
             (tree term) result }
         ensures err { OnErr result (table_of self.new ≡ table_of self.old) }

@@ -6,6 +6,7 @@ ghost use Rattle.sx_term.specs.Term.{tree};
 ghost use Rattle.sx_plain.specs.Plain.{image};
 ghost use Rattle.sx_plain.specs.Views.{table_of};
 ghost use Rattle.sx_plain.specs.Bare as spec;
+ghost use Rattle.sx_term.specs.Limits.{most_depth};
 
 use crate::table::PlainTable;
 use std::alloc::Global;
@@ -24,7 +25,7 @@ fn bare_kid<'a>(table: &PlainTable, label: u32, kids: &'a [Term]) -> Option<&'a 
 
 /// The part to which the term comes down where each node on top of it that gives way to a kid does.
 fn past_bare<'a>(table: &PlainTable, term: &'a Term) -> &'a Term
-    requires { depth_of (tree term.now) ≤ 1000 }
+    requires { depth_of (tree term.now) ≤ most_depth }
     ensures last { spec.bare_under (table_of table.now) (tree result.now) ≡ None }
     ensures same { image (table_of table.now) (tree result.now)
         ≡ image (table_of table.now) (tree term.entry.now) }
@@ -41,7 +42,7 @@ fn past_bare<'a>(table: &PlainTable, term: &'a Term) -> &'a Term
 
 /// Whether a node of the term gives way to a kid, so that it has no image of its own.
 pub(crate) fn has_bare(table: &PlainTable, term: &Term) -> bool
-    requires { depth_of (tree term.now) ≤ 1000 }
+    requires { depth_of (tree term.now) ≤ most_depth }
     ensures { result ≡ spec.has_bare (table_of table.now) (tree term.now) }
 {
     match term {
@@ -62,7 +63,7 @@ pub(crate) fn has_bare(table: &PlainTable, term: &Term) -> bool
 
 /// The term in which each such node gave way to its kid.
 pub(crate) fn without_bare(alloc: Global, table: &PlainTable, term: &Term) -> Result<Term, NoMemory>
-    requires { depth_of (tree term.now) ≤ 1000 }
+    requires { depth_of (tree term.now) ≤ most_depth }
     ensures none { IfOk result (λ t. spec.has_bare (table_of table.now) (tree t) ≡ false) }
     ensures same { IfOk result (λ t. image (table_of table.now) (tree t)
         ≡ image (table_of table.now) (tree term.now)) }

@@ -6,6 +6,7 @@ ghost use Rattle.sx_term.specs.Tree.{depth_of};
 ghost use Rattle.sx_term.specs.Term.{tree};
 ghost use Rattle.sx_plain.specs.Adds.{IsFirstDropped, UsesAll};
 ghost use Rattle.sx_plain.specs.Marks as spec;
+ghost use Rattle.sx_term.specs.Limits.{most_depth};
 
 use std::alloc::Global;
 use sx_term::{NoMemory, Term};
@@ -13,7 +14,7 @@ use sx_term::{NoMemory, Term};
 /// The first variable below the arity that the term has not, or None where it has each of them. A
 /// term has no more variables than its size, so that no more than one mark beyond that is kept.
 pub(crate) fn first_dropped(alloc: Global, term: &Term, arity: u32) -> Result<Option<u32>, NoMemory>
-    requires { depth_of (tree term.now) ≤ 1000 }
+    requires { depth_of (tree term.now) ≤ most_depth }
     ensures { IfOk result (λ found. MatchOption found (UsesAll arity (tree term.now))
         (λ v. IsFirstDropped arity (tree term.now) v)) }
 {
@@ -36,7 +37,7 @@ fn unmarked(alloc: Global, count: usize) -> Result<Vec<bool>, NoMemory>
 
 /// Sets the mark of each variable of the term.
 fn mark(term: &Term, marks: &mut Vec<bool>)
-    requires { depth_of (tree term.now) ≤ 1000 }
+    requires { depth_of (tree term.now) ≤ most_depth }
     ensures { marks.new.items ≡ spec.marked (tree term.now) marks.old.items }
 {
     match term {

@@ -4,6 +4,7 @@ ghost use Rattle.std.specs.Prelude.{◌≡◌, ℕ, ◌≤◌, length};
 ghost use Rattle.sx_term.specs.Tree.{depth_of};
 ghost use Rattle.sx_term.specs.Term.{tree};
 ghost use Rattle.sx_plain.specs.Uses.{IsMeasured};
+ghost use Rattle.sx_term.specs.Limits.{most_depth};
 
 use crate::part_use::PartUse;
 use sx_term::Term;
@@ -18,7 +19,7 @@ pub(crate) struct Entry {
     pub own: u64,
     pub depth: u32,
     pub uses: Vec<PartUse>,
-    ghost shallow: { depth_of (tree flat) ≤ 1000 },
+    ghost shallow: { depth_of (tree flat) ≤ most_depth },
     ghost deep: { depth ≡ depth_of (tree flat) },
     ghost many: { length uses.items ≡ arity },
     ghost measured: { ∥ IsMeasured (tree flat) own depth uses.items ∥₁ },

@@ -6,6 +6,7 @@ ghost use Rattle.sx_term.specs.Term.{tree};
 ghost use Rattle.sx_plain.specs.Tables.{IsTable};
 ghost use Rattle.sx_plain.specs.Entries.{body, bodies};
 ghost use Rattle.sx_plain.specs.Views.{table_of};
+ghost use Rattle.sx_term.specs.Limits.{most_depth};
 
 use crate::entry::Entry;
 use crate::table::PlainTable;
@@ -63,7 +64,7 @@ impl PlainTable {
     pub fn flat(&self, label: u32) -> Option<&Term>
         ensures value { MatchOption result (table_of self.now label ≡ None)
             (λ t. option_map (λ b. b.flat) (table_of self.now label) ≡ Some (tree t.now)) }
-        ensures depth { IfSome result (λ t. depth_of (tree t.now) ≤ 1000) }
+        ensures depth { IfSome result (λ t. depth_of (tree t.now) ≤ most_depth) }
     {
         match self.entry(label) {
             Some(entry) => Some(&entry.flat),

@@ -8,26 +8,27 @@ ghost use Rattle.sx_term.specs.Instances.{instance, instances, bound_by};
 ghost use Rattle.sx_plain.specs.Plain.{image, images};
 ghost use Rattle.sx_plain.specs.Tables.{FitsTable};
 ghost use Rattle.sx_plain.specs.Views.{table_of};
+ghost use Rattle.sx_term.specs.Limits.{most_depth};
 
 use crate::bare::{has_bare, without_bare};
 use crate::measure::image_measure;
 use crate::table::PlainTable;
 use std::alloc::Global;
-use sx_term::{NoMemory, Term, TermError};
+use sx_term::{MOST_DEPTH, MOST_SIZE, NoMemory, Term, TermError};
 
 /// The plain image of the term. It is measured before it is made, and refused as TooDeep where its
 /// depth is more than 1,000, and else as TooBig where it has more than 1,000,000 nodes, lexemes and
 /// variables.
 pub fn lower(alloc: Global, table: &PlainTable, term: &Term) -> Result<Term, TermError>
-    requires shallow { depth_of (tree term.now) ≤ 1000 }
+    requires shallow { depth_of (tree term.now) ≤ most_depth }
     requires fits { FitsTable (table_of table.now) (tree term.now) }
     ensures { IsWithinLimits (image (table_of table.now) (tree term.now)) result }
 {
     let measure = image_measure(table, term);
-    if measure.depth > 1000 {
+    if measure.depth > MOST_DEPTH {
         return Err(TermError::TooDeep(measure.depth));
     }
-    if measure.size > 1_000_000 {
+    if measure.size > MOST_SIZE {
         return Err(TermError::TooBig(measure.size));
     }
     if has_bare(table, term) {
@@ -42,7 +43,7 @@ pub fn lower(alloc: Global, table: &PlainTable, term: &Term) -> Result<Term, Ter
 /// The plain image. Each of its nodes is made where it stands, so that nothing is copied.
 #[cycle(made)]
 fn made(alloc: Global, table: &PlainTable, term: &Term) -> Result<Term, NoMemory>
-    requires shallow { depth_of (tree term.now) ≤ 1000 }
+    requires shallow { depth_of (tree term.now) ≤ most_depth }
     ensures { IfOk result (λ t. tree t ≡ image (table_of table.now) (tree term.now)) }
 {
     match term {
@@ -61,7 +62,7 @@ fn made(alloc: Global, table: &PlainTable, term: &Term) -> Result<Term, NoMemory
 /// The node with the plain images of these kids.
 #[cycle(made)]
 fn made_node(alloc: Global, table: &PlainTable, label: u32, kids: &[Term]) -> Result<Term, NoMemory>
-    requires shallow { greatest_depth (forest (map tree kids.now)) < 1000 }
+    requires shallow { greatest_depth (forest (map tree kids.now)) < most_depth }
     ensures { IfOk result (λ t. tree t ≡ node label
         (images (table_of table.now) (forest (map tree kids.now)))) }
 {
@@ -75,8 +76,8 @@ fn made_node(alloc: Global, table: &PlainTable, label: u32, kids: &[Term]) -> Re
 /// The flat body with the plain image of a part in the place of each of its variables.
 #[cycle(made)]
 fn filled(alloc: Global, table: &PlainTable, flat: &Term, parts: &[Term]) -> Result<Term, NoMemory>
-    requires shallow { depth_of (tree flat.now) ≤ 1000 }
-    requires parts { greatest_depth (forest (map tree parts.now)) < 1000 }
+    requires shallow { depth_of (tree flat.now) ≤ most_depth }
+    requires parts { greatest_depth (forest (map tree parts.now)) < most_depth }
     ensures { IfOk result (λ t. tree t ≡ instance
         (bound_by (listed (images (table_of table.now) (forest (map tree parts.now)))))
         (tree flat.now)) }
@@ -109,8 +110,8 @@ fn filled_node(
     kids: &[Term],
     parts: &[Term],
 ) -> Result<Term, NoMemory>
-    requires shallow { greatest_depth (forest (map tree kids.now)) < 1000 }
-    requires parts { greatest_depth (forest (map tree parts.now)) < 1000 }
+    requires shallow { greatest_depth (forest (map tree kids.now)) < most_depth }
+    requires parts { greatest_depth (forest (map tree parts.now)) < most_depth }
     ensures { IfOk result (λ t. tree t ≡ node label
         (instances (bound_by (listed (images (table_of table.now) (forest (map tree parts.now)))))
         (forest (map tree kids.now)))) }

@@ -6,6 +6,7 @@ ghost use Rattle.sx_term.specs.Term.{tree};
 ghost use Rattle.sx_term.specs.Instances.{Stands};
 ghost use Rattle.sx_plain.specs.Uses as spec;
 ghost use Rattle.sx_plain.specs.Entries.{body};
+ghost use Rattle.sx_term.specs.Limits.{most_depth, most_size};
 
 use crate::entry::Entry;
 use crate::part_use::PartUse;
@@ -15,8 +16,8 @@ use sx_term::{NoMemory, Term};
 impl Entry {
     /// The entry with this flat body.
     pub(crate) fn new(alloc: Global, arity: u32, flat: Term) -> Result<Entry, NoMemory>
-        requires shallow { depth_of (tree flat) ≤ 1000 }
-        requires small { size_of (tree flat) ≤ 1000000 }
+        requires shallow { depth_of (tree flat) ≤ most_depth }
+        requires small { size_of (tree flat) ≤ most_size }
         requires parts { (v : ℕ) → Stands v (tree flat) ↔ (v < arity) }
         ensures { IfOk result (λ e. body e ≡ record { arity = arity; flat = tree flat }) }
     {
@@ -80,7 +81,7 @@ pub(crate) fn use_at(uses: &[PartUse], part: usize) -> PartUse
 
 /// The use of a part that stands once more, under so many nodes.
 fn once_more(part: PartUse, above: u32) -> PartUse
-    requires { part.times < 1000000 }
+    requires { part.times < most_size }
     ensures { result ≡ spec.once_more above part }
 {
     PartUse {
@@ -92,7 +93,7 @@ fn once_more(part: PartUse, above: u32) -> PartUse
 /// Notes which parts stand in the term, which stands under so many nodes.
 fn note(flat: &Term, above: u32, uses: &mut Vec<PartUse>)
     requires shallow { above + depth_of (tree flat.now) ≤ 1001 }
-    requires few { spec.most_times uses.old.items + size_of (tree flat.now) ≤ 1000000 }
+    requires few { spec.most_times uses.old.items + size_of (tree flat.now) ≤ most_size }
     ensures { uses.new.items ≡ spec.noted above (tree flat.now) uses.old.items }
 {
     match flat {
@@ -114,8 +115,8 @@ fn note(flat: &Term, above: u32, uses: &mut Vec<PartUse>)
 
 /// The number of nodes and lexemes of the body.
 fn own_size(flat: &Term) -> u64
-    requires shallow { depth_of (tree flat.now) ≤ 1000 }
-    requires small { size_of (tree flat.now) ≤ 1000000 }
+    requires shallow { depth_of (tree flat.now) ≤ most_depth }
+    requires small { size_of (tree flat.now) ≤ most_size }
     ensures { result ≡ spec.own_size (tree flat.now) }
 {
     match flat {

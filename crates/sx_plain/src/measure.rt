@@ -8,6 +8,7 @@ ghost use Rattle.sx_plain.specs.Tables.{FitsTable, FitTable};
 ghost use Rattle.sx_plain.specs.Measures.{depth_with, size_with, greatest, total, image_depths};
 ghost use Rattle.sx_plain.specs.Measures.{image_sizes};
 ghost use Rattle.sx_plain.specs.Views.{table_of};
+ghost use Rattle.sx_term.specs.Limits.{most_depth};
 
 use crate::entry::Entry;
 use crate::make_entry::use_at;
@@ -25,7 +26,7 @@ pub struct Measure {
 /// The depth and the size of the plain image. Each node of the term is looked at once, and no body.
 #[cycle(measured)]
 pub fn image_measure(table: &PlainTable, term: &Term) -> Measure
-    requires shallow { depth_of (tree term.now) ≤ 1000 }
+    requires shallow { depth_of (tree term.now) ≤ most_depth }
     requires fits { FitsTable (table_of table.now) (tree term.now) }
     ensures depth { result.depth ≡ depth_of (image (table_of table.now) (tree term.now)) }
     ensures small { result.depth ≤ 1001 * depth_of (tree term.now) }
@@ -45,7 +46,7 @@ pub fn image_measure(table: &PlainTable, term: &Term) -> Measure
 /// The depth and the size of the entry's flat body with the plain images of these parts.
 #[cycle(measured)]
 fn body_measure(table: &PlainTable, entry: &Entry, parts: &[Term]) -> Measure
-    requires shallow { greatest_depth (forest (map tree parts.now)) < 1000 }
+    requires shallow { greatest_depth (forest (map tree parts.now)) < most_depth }
     requires fit { FitTable (table_of table.now) (forest (map tree parts.now)) }
     requires many { length parts.now ≡ entry.now.arity }
     ensures depth { result.depth ≡ depth_with
@@ -69,7 +70,7 @@ fn body_measure(table: &PlainTable, entry: &Entry, parts: &[Term]) -> Measure
 /// The depth and the size of a node with the plain images of these kids.
 #[cycle(measured)]
 fn node_measure(table: &PlainTable, kids: &[Term]) -> Measure
-    requires shallow { greatest_depth (forest (map tree kids.now)) < 1000 }
+    requires shallow { greatest_depth (forest (map tree kids.now)) < most_depth }
     requires fit { FitTable (table_of table.now) (forest (map tree kids.now)) }
     ensures depth { result.depth ≡ greatest (image_depths (table_of table.now)
         (map tree kids.now)) + 1 }

@@ -7,6 +7,7 @@ ghost use Rattle.sx_plain.specs.Measures.{node_size};
 ghost use Rattle.sx_plain.specs.PartMeasures.{depths_of, sizes_of};
 ghost use Rattle.sx_plain.specs.Uses.{ArePositive};
 ghost use Rattle.sx_plain.specs.Views.{table_of};
+ghost use Rattle.sx_term.specs.Limits.{most_depth};
 
 use crate::entry::Entry;
 use crate::make_entry::use_at;
@@ -21,7 +22,7 @@ impl PlainTable {
         requires positive { ArePositive (depths_of parts.now) }
         requires shallow { greatest (depths_of parts.now) ≤ 1001000 }
         ensures depth { result.depth ≡ node_depth (table_of self.now label) (depths_of parts.now) }
-        ensures small { result.depth ≤ greatest (depths_of parts.now) + 1000 }
+        ensures small { result.depth ≤ greatest (depths_of parts.now) + most_depth }
         ensures size { result.size ≡ min (node_size (table_of self.now label) (sizes_of parts.now))
             (2 ^ 64 - 1) }
     {
@@ -47,7 +48,7 @@ fn measure_of_body(entry: &Entry, parts: &[Measure]) -> Measure
     requires positive { ArePositive (depths_of parts.now) }
     requires shallow { greatest (depths_of parts.now) ≤ 1001000 }
     ensures depth { result.depth ≡ depth_with (depths_of parts.now) (tree entry.now.flat) }
-    ensures small { result.depth ≤ greatest (depths_of parts.now) + 1000 }
+    ensures small { result.depth ≤ greatest (depths_of parts.now) + most_depth }
     ensures size { result.size ≡ min (size_with (sizes_of parts.now) (tree entry.now.flat))
         (2 ^ 64 - 1) }
 {

@@ -9,6 +9,7 @@ use Rattle.sx_grammar.specs.Grammar.{Text, Grammar, Stem, Token}
 use Rattle.sx_grammar.specs.Reading.{Reading, Reads}
 use Rattle.sx_grammar.specs.Print.{term_of}
 use Rattle.sx_print.specs.Tokens.{shown}
+use Rattle.sx_term.specs.Limits.{most_tokens}
 
 abbrev mutual
   -- each lexeme of the term is a token of its kind, and none of the literals
@@ -29,7 +30,7 @@ pub record IsCutInto (literals : List Text) (tokens : List Token) (text : List �
   pub show : (stem_of : Text → Stem) → map (shown stem_of) pieces ≡ tokens
   pub cut : (metas : Bool) (blanks : List ℕ) → AreBlanks blanks →
       Cuts literals metas (length (text ++ blanks)) (text ++ blanks) pieces []
-  pub outcome : (metas : Bool) (blanks : List ℕ) → AreBlanks blanks → length tokens ≤ 10000 →
+  pub outcome : (metas : Bool) (blanks : List ℕ) → AreBlanks blanks → length tokens ≤ most_tokens →
       IsOutcome literals metas (text ++ blanks) (cutting.tokens pieces)
 
 -- the tokens have a reading as the sort at the least level whose term is this one

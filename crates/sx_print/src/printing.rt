@@ -11,6 +11,7 @@ ghost use Rattle.sx_grammar.specs.Print as plain;
 ghost use Rattle.sx_grammar.specs.Print.{Fits};
 ghost use Rattle.sx_print.specs.Printed.{text_of, IsPrintable};
 ghost use Rattle.sx_print.specs.Cut.{HasLexemes, IsCutInto, HasReading};
+ghost use Rattle.sx_term.specs.Limits.{most_depth};
 
 use crate::walk::put_term;
 use crate::writing::drop_last_blank;
@@ -29,7 +30,7 @@ pub fn print(
     vars: &Vars,
     into: &mut Vec<u8>,
 ) -> Result<(), NoMemory>
-    requires depth { depth_of (tree term.now) ≤ 1000 }
+    requires depth { depth_of (tree term.now) ≤ most_depth }
     requires printable { IsPrintable (numbered grammar.now.parts) (length vars.now) least
         (tree term.now) }
 

@@ -10,6 +10,7 @@ ghost use Rattle.sx_grammar.specs.Tables.{literals_of, IsNumberedPair};
 ghost use Rattle.sx_grammar.specs.Print.{print_symbols, print, print_each};
 ghost use Rattle.sx_print.specs.Printed.{Adds, IsBuilt, AreBuilt, brackets_below, parts_in};
 ghost use Rattle.sx_print.specs.Rows.{HasLiteralsBelow};
+ghost use Rattle.sx_term.specs.Limits.{most_depth};
 
 use crate::writing::{put_literal, put_token, put_variable};
 use sx_grammar::{Grammar, NumberedProduction, NumberedSymbol};
@@ -39,7 +40,7 @@ pub fn put_term(
     vars: &Vars,
     into: &mut Vec<u8>,
 ) -> Result<(), NoMemory>
-    requires depth { depth_of (tree term.now) ≤ 1000 }
+    requires depth { depth_of (tree term.now) ≤ most_depth }
     requires built { IsBuilt (numbered grammar.now.parts) (length vars.now) (tree term.now) }
     ensures ok { OnOk result ((place : Stem) →
         Adds (print (numbered grammar.now.parts) vars.now
@@ -73,7 +74,7 @@ fn put_symbols(
     vars: &Vars,
     into: &mut Vec<u8>,
 ) -> Result<(), NoMemory>
-    requires depth { greatest_depth (forest (map tree kids.now)) ≤ 1000 }
+    requires depth { greatest_depth (forest (map tree kids.now)) ≤ most_depth }
     requires below { HasLiteralsBelow (length (literals_of grammar.now.parts)) symbols.now }
     requires many { parts_in (map (symbol (literals_of grammar.now.parts)) symbols.now)
         ≡ length kids.now }

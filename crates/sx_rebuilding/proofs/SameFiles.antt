@@ -3,7 +3,8 @@ use Rattle.std.proofs.Common.{◌≡◌, ℕ, List, []}
 use Rattle.std.specs.Prelude.{Result, Contains}
 use Rattle.sx_outside.specs.Files.{Files}
 use Rattle.sx_steps.specs.declared.stop.Stop.{Stop}
-use Rattle.sx_steps.specs.Held.{Held, most_bytes}
+use Rattle.sx_steps.specs.Held.{Held}
+use Rattle.sx_term.specs.Limits.{most_bytes}
 use Rattle.sx_steps.specs.Steps.{Then}
 use Rattle.sx_steps.specs.Unit.{interface_file}
 use Rattle.sx_walking.proofs.Reaching.{reaches_as}

@@ -32,7 +32,8 @@ use Rattle.sx_unit.specs.Written.{UnitData, IsWritten}
 use Rattle.sx_unit.proofs.Entries.{lists_fit}
 use Rattle.sx_environment.proofs.BaseEnvironments.{base_environment_is_image}
 use Rattle.sx_outside.specs.Files.{Files}
-use Rattle.sx_steps.specs.Held.{Held, most_bytes}
+use Rattle.sx_steps.specs.Held.{Held}
+use Rattle.sx_term.specs.Limits.{most_bytes}
 use Rattle.sx_steps.specs.Unit.{interface_file}
 use Rattle.sx_steps.proofs.StepsOn.{Went}
 use Rattle.sx_accepting.specs.LanguageFiles.{language_file}

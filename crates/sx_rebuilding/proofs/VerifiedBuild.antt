@@ -9,7 +9,8 @@ use Rattle.sx_interface.specs.StatedHeader.{StatesHeader}
 use Rattle.sx_audit.specs.Meaning.{Meaning}
 use Rattle.sx_extcheck.specs.declared.budgets.Budgets.{Budgets}
 use Rattle.sx_outside.specs.Files.{Files}
-use Rattle.sx_steps.specs.Held.{Held, most_bytes}
+use Rattle.sx_steps.specs.Held.{Held}
+use Rattle.sx_term.specs.Limits.{most_bytes}
 use Rattle.sx_steps.specs.Unit.{interface_file}
 use Rattle.sx_steps.specs.Work.{Plan}
 use Rattle.sx_steps.proofs.StepsOn.{went, Went}

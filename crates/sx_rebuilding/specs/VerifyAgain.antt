@@ -12,6 +12,7 @@ use Rattle.sx_headers.specs.ReadModule.{Module}
 use Rattle.sx_closure.specs.ReadModules.{ReadsModules}
 use Rattle.sx_build.specs.BuildModules.{BuildsModule}
 use Rattle.sx_verify.specs.VerifyModule.{VerifiesModule}
+use Rattle.sx_term.specs.Limits.{most_budget}
 
 -- with these files `verify` of the module ends with a plan, but for read faults and out of memory
 abbrev pub VerifiesWell : (name : List ℕ) → Files → Type 0
@@ -25,7 +26,7 @@ VerifiesWell name files =
 abbrev pub VerifyingFollowsBuilding : Type 0
 VerifyingFollowsBuilding =
     (name : List ℕ) (budgets : Budgets) (auditors : List Meaning) (old new : Files) (plan : Plan)
-    (tries : ℕ) → is_name false name ≡ true → budgets.nodes ≤ 1000000 →
+    (tries : ℕ) → is_name false name ≡ true → budgets.nodes ≤ most_budget →
     BuildsModule name budgets auditors old (Ok plan) tries → new ≡ after plan.files old →
     (modules : List Module) → ReadsModules name old (Ok modules) →
     (m : Module) → Contains modules m → VerifiesWell m.header.name new

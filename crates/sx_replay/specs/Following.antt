@@ -16,14 +16,16 @@ use Rattle.sx_replay.specs.declared.replay_error.ReplayError.TheVariants.{TooDee
 use Rattle.sx_replay.specs.Limits.{nothing_noted}
 use Rattle.sx_replay.specs.Machine.{Frame, asks, Reading, wrong, open_at, ended, read}
 use Rattle.sx_replay.specs.Reader.{reader_trees}
+use Rattle.sx_rules.specs.Limits.{most_levels}
 
 -- what is found of an entry at a goal for which that many rules wait, and of the terms up to the
 -- next entry
 abbrev pub IsChecked : ℕ → Noted → ℕ → Result (Unit {0}) ReplayError → Type 0
-IsChecked level n number (Ok x) = (level < 3000) × (n ≡ nothing_noted)
-IsChecked level n number (Err (DeepList k)) = (3000 ≤ level) × (k ≡ number)
-IsChecked level n number (Err (TooDeep d)) = (level < 3000) × (n.deep ≡ Some d)
-IsChecked level n number (Err (TooBig b)) = (level < 3000) × (n.deep ≡ None) × (n.big ≡ Some b)
+IsChecked level n number (Ok x) = (level < most_levels) × (n ≡ nothing_noted)
+IsChecked level n number (Err (DeepList k)) = (most_levels ≤ level) × (k ≡ number)
+IsChecked level n number (Err (TooDeep d)) = (level < most_levels) × (n.deep ≡ Some d)
+IsChecked level n number (Err (TooBig b)) =
+    (level < most_levels) × (n.deep ≡ None) × (n.big ≡ Some b)
 IsChecked level n number (Err Memory) = ⊥
 IsChecked level n number (Err (WrongAt k)) = ⊥
 IsChecked level n number (Err EndsEarly) = ⊥
@@ -37,11 +39,12 @@ module _ (modes : Modes) (rules : List Rule) (hyps : Hypotheses) (goal : Goal) w
   -- at a goal, within the limits
   abbrev pub StandsOpen : List Entry → Type 0
   StandsOpen list = (g : Goal) × (fs : List Frame) × (d : ℕ) ×
-      (reading list ≡ open_at g fs nothing_noted d) × (d ≤ 3000)
+      (reading list ≡ open_at g fs nothing_noted d) × (d ≤ most_levels)
 
   -- at the end of a derivation, within the limits
   abbrev pub StandsWhole : List Entry → List Tree → Type 0
-  StandsWhole list outs = (d : ℕ) × (reading list ≡ ended outs nothing_noted d []) × (d ≤ 3000)
+  StandsWhole list outs =
+      (d : ℕ) × (reading list ≡ ended outs nothing_noted d []) × (d ≤ most_levels)
 
   -- at a goal or at the end of a derivation, with this noted and this depth
   abbrev pub StandsAt : List Entry → Noted → ℕ → Type 0
@@ -60,12 +63,12 @@ module _ (modes : Modes) (rules : List Rule) (hyps : Hypotheses) (goal : Goal) w
   IsRefused list (LongList k) = (1 ≤ k) × (k ≤ length list) ×
       ((outs : List Tree) × StandsWhole (take (k - 1) list) outs)
   IsRefused list (DeepList k) = (n : Noted) × (d : ℕ) × StandsBefore list k ×
-      StandsAt (take k list) n d × (3000 < d)
+      StandsAt (take k list) n d × (most_levels < d)
   IsRefused list (TooDeep m) = (k : ℕ) × (n : Noted) × (d : ℕ) × StandsBefore list k ×
-      StandsAt (take k list) n d × (d ≤ 3000) × (n.deep ≡ Some m)
+      StandsAt (take k list) n d × (d ≤ most_levels) × (n.deep ≡ Some m)
   IsRefused list (TooBig m) =
       (k : ℕ) × (n : Noted) × (d : ℕ) × StandsBefore list k × StandsAt (take k list) n d ×
-      (d ≤ 3000) × (n.deep ≡ None) × (n.big ≡ Some m)
+      (d ≤ most_levels) × (n.deep ≡ None) × (n.big ≡ Some m)
 
   abbrev pub IsFollowed : List Entry → Reader → Result (Vec ℕ Global) ReplayError → Type 0
   IsFollowed list r (Ok outs) = StandsWhole list (map (tree_at (reader_trees r)) outs.items)

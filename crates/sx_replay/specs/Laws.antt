@@ -14,6 +14,7 @@ use Rattle.sx_replay.specs.declared.replay_error.ReplayError.TheVariants.{Memory
 use Rattle.sx_replay.specs.Limits.{first_deep, first_big}
 use Rattle.sx_replay.specs.Fronts.{Stage, open_one, made_in, IsFront}
 use Rattle.sx_replay.specs.Replay.{IsWithin, IsReplayAnswer, IsReplayed}
+use Rattle.sx_rules.specs.Limits.{most_levels}
 
 -- a list is that of one stage of one derivation at most: its outputs, the first terms that pass a
 -- limit and its depth are determined
@@ -47,7 +48,7 @@ DerivationsAreReplayed =
     (modes : Modes) (rules : List Rule) (hyps : Hypotheses) → AllModed modes rules →
     (goal : Goal) (p : Proof) (outs : List Tree) → DerivesGoal modes rules hyps goal (p, outs) →
     first_deep (made_in modes rules p) ≡ None → first_big (made_in modes rules p) ≡ None →
-    height_of p ≤ 3000 →
+    height_of p ≤ most_levels →
     (answer : Result (Vec Term Global) ReplayError) →
     IsReplayed modes rules hyps goal (order_of p) answer → HasOutputs outs answer
 

@@ -3,6 +3,7 @@ use Rattle.std.specs.Prelude.{ℕ, ◌-◌, ◌^◌, Bool, true, false, List, []
 use Rattle.std.specs.Prelude.{nat_lt, min}
 use Rattle.sx_term.specs.Tree.{Tree, depth_of, size_of}
 use Rattle.sx_replay.specs.declared.noted.Noted.{Noted}
+use Rattle.sx_term.specs.Limits.{most_depth, most_size}
 
 -- the number where the test holds, at most the greatest number, or else what comes later
 abbrev pub first_of : Bool → ℕ → Option ℕ → Option ℕ
@@ -12,12 +13,12 @@ first_of false n later = later
 -- the depth of the first term that is deeper than 1,000
 abbrev pub first_deep : List Tree → Option ℕ
 first_deep [] = None
-first_deep (t ∷ ts) = first_of (nat_lt 1000 (depth_of t)) (depth_of t) (first_deep ts)
+first_deep (t ∷ ts) = first_of (nat_lt most_depth (depth_of t)) (depth_of t) (first_deep ts)
 
 -- the size of the first term that has more than 1,000,000 nodes
 abbrev pub first_big : List Tree → Option ℕ
 first_big [] = None
-first_big (t ∷ ts) = first_of (nat_lt 1000000 (size_of t)) (size_of t) (first_big ts)
+first_big (t ∷ ts) = first_of (nat_lt most_size (size_of t)) (size_of t) (first_big ts)
 
 -- the number, where the test holds
 abbrev pub some_when : Bool → ℕ → Option ℕ

@@ -14,6 +14,7 @@ use Rattle.sx_replay.specs.declared.replay_error.ReplayError.TheVariants.{EndsEa
 use Rattle.sx_replay.specs.declared.replay_error.ReplayError.TheVariants.{TooDeep, TooBig, DeepList}
 use Rattle.sx_replay.specs.Limits.{first_deep, first_big}
 use Rattle.sx_replay.specs.Fronts.{Stage, open_one, whole, IsFront}
+use Rattle.sx_rules.specs.Limits.{most_levels}
 
 module _ (modes : Modes) (rules : List Rule) (hyps : Hypotheses) (goal : Goal) where
   -- no term passes a limit, and no entry stands deeper than 3,000
@@ -23,7 +24,7 @@ module _ (modes : Modes) (rules : List Rule) (hyps : Hypotheses) (goal : Goal) w
     pub front : IsFront modes rules hyps goal stage list terms depth
     pub shallow : first_deep terms ≡ None
     pub small : first_big terms ≡ None
-    pub level : depth ≤ 3000
+    pub level : depth ≤ most_levels
 
   -- the entries before number k, counted from 1, are those of a derivation within the limits that
   -- has goals left
@@ -50,12 +51,14 @@ module _ (modes : Modes) (rules : List Rule) (hyps : Hypotheses) (goal : Goal) w
   IsReplayAnswer list (Err (LongList k)) = (1 ≤ k) × (k ≤ length list) ×
       ((outs : List Tree) × IsWithin (whole outs) (take (k - 1) list))
   IsReplayAnswer list (Err (DeepList k)) = (terms : List Tree) × (depth : ℕ) ×
-      IsFitting list k terms depth × (3000 < depth)
+      IsFitting list k terms depth × (most_levels < depth)
   IsReplayAnswer list (Err (TooDeep n)) =
-      (k : ℕ) × (terms : List Tree) × (depth : ℕ) × IsFitting list k terms depth × (depth ≤ 3000) ×
+      (k : ℕ) × (terms : List Tree) × (depth : ℕ) ×
+      IsFitting list k terms depth × (depth ≤ most_levels) ×
       (first_deep terms ≡ Some n)
   IsReplayAnswer list (Err (TooBig n)) =
-      (k : ℕ) × (terms : List Tree) × (depth : ℕ) × IsFitting list k terms depth × (depth ≤ 3000) ×
+      (k : ℕ) × (terms : List Tree) × (depth : ℕ) ×
+      IsFitting list k terms depth × (depth ≤ most_levels) ×
       (first_deep terms ≡ None) × (first_big terms ≡ Some n)
 
   -- what replaying a list answers

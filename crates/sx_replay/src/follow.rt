@@ -31,7 +31,7 @@ fn entry_at(list: &[Entry], index: usize) -> Entry
 }
 
 /// The most levels of a derivation.
-const MOST_LEVELS: usize = 3000;
+const MOST_LEVELS: usize = sx_rules::MOST_LEVELS as usize;
 
 /// Whether the entry with this number may stand at a goal for which `level` rules wait, and no term
 /// up to the next entry passes a limit.

@@ -6,6 +6,7 @@ ghost use Rattle.std.specs.Prelude.{length, nat_lt};
 ghost use Rattle.sx_replay.specs.Limits.{earlier, some_when, note};
 
 use sx_arena::Arena;
+use sx_term::{MOST_DEPTH, MOST_SIZE};
 
 /// The depth of the first term deeper than 1,000 and the size of the first with more than 1,000,000
 /// nodes, each the greatest number where it is more.
@@ -35,8 +36,8 @@ pub fn noted_after(arena: &Arena, terms: &[usize], noted: Noted) -> Noted
     for term in terms {
         let cell = arena.cell(*term);
         last = Noted {
-            deep: first_over(last.deep, cell.depth, 1000),
-            big: first_over(last.big, cell.size, 1_000_000),
+            deep: first_over(last.deep, cell.depth, MOST_DEPTH as u64),
+            big: first_over(last.big, cell.size, MOST_SIZE),
         };
     }
     last

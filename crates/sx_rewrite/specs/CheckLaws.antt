@@ -18,6 +18,7 @@ use Rattle.sx_rewrite.specs.PlainRules.{plain_of}
 use Rattle.sx_rewrite.specs.Rewrites.{CanRewrite}
 use Rattle.sx_rewrite.specs.RewrittenView.{IsRewriting}
 use Rattle.sx_rewrite.specs.Sound.{flat_given, flat_goal, IsSoundBy, AreSoundBy}
+use Rattle.sx_rules.specs.Limits.{most_levels}
 
 -- the set is accepted with a table that goes on from its own, by all shapes
 abbrev pub LongerTablesAreAccepted : Type 0
@@ -73,7 +74,7 @@ FoundChecksCanBeRewritten =
     (sig : Signature) (base shapes all : List Shape) (a : Accepted) (table : Table) →
     (ext : ExtRule) → ComesAfter sig base shapes all a table ext →
     (answer : Answer) → IsFirstBy sig (with_table a table) (rules_of (plain_of a)) ext answer →
-    height_of answer.0 ≤ 3000 → HasShallowBinds answer.0 →
+    height_of answer.0 ≤ most_levels → HasShallowBinds answer.0 →
     CanRewrite (plain_of a) (flat_given table sig.subjects ext) answer.0
 
 -- and each is rewritten by the set as by the set with the extension's table

@@ -10,6 +10,7 @@ use Rattle.sx_rules.specs.First.{Answer, DerivesGoal}
 use Rattle.sx_rewrite.specs.Accepted.{Accepted, Signature, IsAccepted, rules_of}
 use Rattle.sx_rewrite.specs.Lowering.{BindsFit}
 use Rattle.sx_rewrite.specs.Rewrites.{CanRewrite}
+use Rattle.sx_rules.specs.Limits.{most_levels}
 
 -- the terms of a derivation of a well sorted goal have as many parts as the table asks for
 abbrev pub DerivationsHaveFitTerms : Type 0
@@ -28,4 +29,4 @@ FoundCanBeRewritten =
     JudgementsAreSorted shapes sig.forms vars hyps.judgements →
     (goal : Goal) → GoalIsSorted shapes sig.forms sig.modes vars goal →
     (answer : Answer) → DerivesGoal sig.modes (rules_of a) hyps goal answer →
-    height_of answer.0 ≤ 3000 → HasShallowBinds answer.0 → CanRewrite a hyps answer.0
+    height_of answer.0 ≤ most_levels → HasShallowBinds answer.0 → CanRewrite a hyps answer.0

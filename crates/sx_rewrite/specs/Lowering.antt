@@ -18,6 +18,7 @@ use Rattle.sx_rewrite.specs.Givens.{givens_of, AllBelow}
 use Rattle.sx_rewrite.specs.Rewriting.{first_over}
 use Rattle.sx_rewrite.specs.LoweredSizes.{number_of}
 use Rattle.sx_rewrite.specs.Puts.{Tells}
+use Rattle.sx_rules.specs.Limits.{most_levels}
 
 -- each node of the bound terms has as many parts as the table asks for
 abbrev mutual
@@ -36,7 +37,7 @@ pub record CanLower (a : Accepted) (hyps : Hypotheses) (p : Proof) : Type 0 wher
   pub derives : Derives (rules_of a) hyps judgement p
   pub binds : HasShallowBinds p
   pub fit : BindsFit a.table p
-  pub low : lowered_height a p ≤ 3000
+  pub low : lowered_height a p ≤ most_levels
 
 -- p is lowered to q, and no term that is measured for it passes a limit
 pub record IsLoweredTo (a : Accepted) (subjects : Modes) (hyps : Hypotheses)
@@ -86,7 +87,7 @@ own_proof (Some certificate) r more qs = graft qs (proof_instance (bound_by more
 abbrev pub CanGraft : Option Proof → Proofs → Type 0
 CanGraft certificate qs =
     (p : Proof) → certificate ≡ Some p →
-    AllBelow (number_of qs) (givens_of p) × (height_of (graft qs p) ≤ 3000)
+    AllBelow (number_of qs) (givens_of p) × (height_of (graft qs p) ≤ most_levels)
 
 -- the kid is lowered where it is needed, and else a given stands in its place
 abbrev pub IsKidLowered : Accepted → Modes → Hypotheses → Bool → Proof → Proof → Type 0

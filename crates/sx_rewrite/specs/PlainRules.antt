@@ -7,6 +7,7 @@ use Rattle.sx_plain.specs.Tables.{FitsTable}
 use Rattle.sx_rules.specs.Rules.{Judgement, Premise, holds, apart, Rule}
 use Rattle.sx_plain.specs.Plain.{Table, image}
 use Rattle.sx_rewrite.specs.Accepted.{Checked, Accepted}
+use Rattle.sx_term.specs.Limits.{most_depth, most_size}
 
 -- the judgement with plain images at all its places
 abbrev pub image_judgement : Table → Judgement → Judgement
@@ -41,10 +42,10 @@ plain_named table r = record { name = r.name; rule = plain_rule table r.rule }
 -- the term is no deeper than 1,000, each of its nodes has as many parts as the table asks for,
 -- and its plain image is within the limits of terms
 pub record HasImage (table : Table) (t : Tree) : Type 0 where
-  pub shallow : depth_of t ≤ 1000
+  pub shallow : depth_of t ≤ most_depth
   pub fits : FitsTable table t
-  pub image_shallow : depth_of (image table t) ≤ 1000
-  pub image_small : size_of (image table t) ≤ 1000000
+  pub image_shallow : depth_of (image table t) ≤ most_depth
+  pub image_small : size_of (image table t) ≤ most_size
 
 -- so it is of the terms of the premise
 abbrev pub PremiseHasImage : Table → Premise → Type 0

@@ -8,6 +8,7 @@ use Rattle.sx_rewrite.specs.declared.rewrite_error.RewriteError.TheVariants.{Mem
 use Rattle.sx_rewrite.specs.declared.rewrite_error.RewriteError.TheVariants.{RewriteDeep, TooDeep}
 use Rattle.sx_rewrite.specs.declared.rewrite_error.RewriteError.TheVariants.{TooBig}
 use Rattle.sx_rewrite.specs.Rewriting.{Refusal, too_deep, too_big}
+use Rattle.sx_term.specs.Limits.{most_depth, most_size}
 
 -- the measure is that of the term
 abbrev pub IsMeasureOf : Tree → Measure → Type 0
@@ -21,7 +22,7 @@ AreMeasuresOf _ _ = ⊥
 
 -- the term passes no limit
 abbrev pub IsSmall : Tree → Type 0
-IsSmall t = (depth_of t ≤ 1000) × (size_of t ≤ 1000000)
+IsSmall t = (depth_of t ≤ most_depth) × (size_of t ≤ most_size)
 
 -- each term that passes no limit is made; in the place of another stands any term
 abbrev pub AreMadeOf : List Tree → List Tree → Type 0
@@ -31,12 +32,12 @@ AreMadeOf _ _ = ⊥
 
 -- what is measured is within the limits, or the first limit that it passes
 abbrev pub IsLimited : Measure → Result (Unit {0}) RewriteError → Type 0
-IsLimited m (Ok x) = (m.depth ≤ 1000) × (m.size ≤ 1000000)
+IsLimited m (Ok x) = (m.depth ≤ most_depth) × (m.size ≤ most_size)
 IsLimited m (Err Memory) = ⊥
 IsLimited m (Err (RewriteSpent nodes)) = ⊥
 IsLimited m (Err RewriteDeep) = ⊥
-IsLimited m (Err (TooDeep depth)) = (1000 < m.depth) × (depth ≡ m.depth)
-IsLimited m (Err (TooBig nodes)) = (m.depth ≤ 1000) × (1000000 < m.size) × (nodes ≡ m.size)
+IsLimited m (Err (TooDeep depth)) = (most_depth < m.depth) × (depth ≡ m.depth)
+IsLimited m (Err (TooBig nodes)) = (m.depth ≤ most_depth) × (most_size < m.size) × (nodes ≡ m.size)
 
 -- the error tells this refusal, or out of memory
 abbrev pub Tells : Option Refusal → RewriteError → Type 0

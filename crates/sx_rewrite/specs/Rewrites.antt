@@ -12,13 +12,14 @@ use Rattle.sx_rewrite.specs.LoweredSizes.{HasFitKids}
 use Rattle.sx_rewrite.specs.Lowers.{HypothesesBelow}
 use Rattle.sx_rewrite.specs.SourceView.{set_of}
 use Rattle.sx_rewrite.specs.Used.{lowered_nodes, lowered_height}
+use Rattle.sx_rules.specs.Limits.{most_levels}
 
 -- the proof derives a judgement by the rules of the set and is no deeper than 3,000,
 -- no term of it is deeper than 1,000, and its terms have as many parts as the table asks for
 pub record CanRewrite (a : Accepted) (hyps : Hypotheses) (p : Proof) : Type 0 where
   pub judgement : Judgement
   pub derives : Derives (rules_of a) hyps judgement p
-  pub height : height_of p ≤ 3000
+  pub height : height_of p ≤ most_levels
   pub binds : HasShallowBinds p
   pub fit : BindsFit a.table p
 

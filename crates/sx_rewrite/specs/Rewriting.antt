@@ -10,6 +10,8 @@ use Rattle.sx_rewrite.specs.Lowers.{Lowers}
 use Rattle.sx_rewrite.specs.Used.{lowered_nodes, lowered_height}
 use Rattle.sx_rewrite.specs.Measured.{Measures}
 use Rattle.sx_rewrite.specs.Copied.{copied}
+use Rattle.sx_rules.specs.Limits.{most_levels}
+use Rattle.sx_term.specs.Limits.{most_depth, most_size}
 
 -- why no lowered derivation is answered: it has more nodes than the budget, it is too deep,
 -- or a term of it passes a limit
@@ -24,8 +26,8 @@ pub data Refusal : Type 0 where
 abbrev pub first_over : List Tree → Option Refusal
 first_over [] = None
 first_over (t ∷ ts) =
-    if nat_lt 1000 (depth_of t) then Some (too_deep (depth_of t)) else
-    if nat_lt 1000000 (size_of t) then Some (too_big (min (size_of t) (2 ^ 64 - 1)))
+    if nat_lt most_depth (depth_of t) then Some (too_deep (depth_of t)) else
+    if nat_lt most_size (size_of t) then Some (too_big (min (size_of t) (2 ^ 64 - 1)))
     else first_over ts
 
 -- a lowered derivation, its judgement, and how many nodes were copied for it,
@@ -39,7 +41,7 @@ pub record Rewritten : Type 0 where
 -- and this is the first of the measured terms that passes a limit
 abbrev pub FirstOver : Accepted → Modes → Hypotheses → Proof → ℕ → Option Refusal → Type 0
 FirstOver a subjects hyps p budget over =
-    (lowered_nodes a p ≤ budget) × (lowered_height a p ≤ 3000)
+    (lowered_nodes a p ≤ budget) × (lowered_height a p ≤ most_levels)
     × ((ts : List Tree) × Measures a subjects hyps p ts × (first_over ts ≡ over))
 
 -- the lowered derivation of p from the hypotheses, or the first limit that it passes
@@ -50,5 +52,5 @@ IsRewritten a subjects hyps p budget (Ok x) =
     × FirstOver a subjects hyps p budget None
 IsRewritten a subjects hyps p budget (Err spent) = budget < lowered_nodes a p
 IsRewritten a subjects hyps p budget (Err deep) =
-    (lowered_nodes a p ≤ budget) × (3000 < lowered_height a p)
+    (lowered_nodes a p ≤ budget) × (most_levels < lowered_height a p)
 IsRewritten a subjects hyps p budget (Err over) = FirstOver a subjects hyps p budget (Some over)

@@ -12,6 +12,7 @@ use Rattle.sx_rules.specs.Derivations.{HasShallowBinds, ShallowJudgements}
 use Rattle.sx_rewrite.specs.Accepted.{Accepted, Signature, IsAccepted, rules_of}
 use Rattle.sx_rewrite.specs.Lowers.{IsImageOf, HypothesesBelow}
 use Rattle.sx_rewrite.specs.Rewriting.{Refusal, Rewritten, IsRewritten}
+use Rattle.sx_rules.specs.Limits.{most_levels}
 
 -- there is an answer
 abbrev pub RewritingAnswers : Type 0
@@ -40,7 +41,7 @@ pub record IsGoodRewriting (sig : Signature) (base : List Shape) (a : Accepted) 
   pub judgement_sorted : JudgementIsSorted base sig.forms vars x.judgement
   pub proof_sorted : ProofIsSorted base a.base vars x.proof
   pub nodes : nodes_of x.proof ≤ budget
-  pub height : height_of x.proof ≤ 3000
+  pub height : height_of x.proof ≤ most_levels
   pub places : AreShallow x.judgement.places
   pub binds : HasShallowBinds x.proof
 

@@ -10,6 +10,7 @@ use Rattle.sx_rewrite.specs.Used.{IsUsed}
 use Rattle.sx_rewrite.specs.Measured.{is_used}
 use Rattle.sx_rewrite.specs.Copied.{times_given}
 use Rattle.sx_rewrite.specs.Counts.{own_nodes, own_height, nodes_above}
+use Rattle.sx_rules.specs.Limits.{most_levels}
 
 -- the number, or the greatest u128 where it would pass it
 abbrev pub in_u128 : ℕ → ℕ
@@ -50,7 +51,7 @@ AreUsesOf i certificate (u ∷ us) = IsUseOf i certificate u × AreUsesOf (i + 1
 -- the certificate is no deeper than 3,000, and these are its own nodes, its own height,
 -- and the uses of the givens of its rule's premises
 pub record IsSizeOf (c : Checked) (size : CertificateSize) : Type 0 where
-  pub shallow : height_of c.proof ≤ 3000
+  pub shallow : height_of c.proof ≤ most_levels
   pub nodes : size.nodes ≡ in_u128 (own_nodes c.proof)
   pub height : size.height ≡ own_height c.proof
   pub many : length size.uses.items ≡ length (judgements_of c.rule.premises)
@@ -70,11 +71,12 @@ IsSizeIn (Some c) size = IsSizeOf c size
 -- no given stands under more than 3,000 nodes
 abbrev pub AreNear : List GivenUse → Type 0
 AreNear [] = Unit {0}
-AreNear (u ∷ us) = (u.above ≤ 3000) × AreNear us
+AreNear (u ∷ us) = (u.above ≤ most_levels) × AreNear us
 
 -- the numbers are those of a certificate that is no deeper than 3,000
 abbrev pub IsSmall : CertificateSize → Type 0
-IsSmall size = (in_u128 size.nodes ≡ size.nodes) × (size.height ≤ 3000) × AreNear size.uses.items
+IsSmall size =
+    (in_u128 size.nodes ≡ size.nodes) × (size.height ≤ most_levels) × AreNear size.uses.items
 
 -- the sum of the numbers, each as often as the given at its place is used
 abbrev pub used_sum : List GivenUse → List ℕ → ℕ

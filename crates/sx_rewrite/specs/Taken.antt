@@ -4,6 +4,7 @@ use Rattle.std.specs.Global.{Box}
 use Rattle.sx_rules.specs.declared.proof.Proof.{Proof as ProofOf}
 use Rattle.sx_rules.specs.Derivations.{most_height, HaveShallowBinds, proof_at}
 use Rattle.sx_rules.specs.ProofView.{boxed}
+use Rattle.sx_rules.specs.Limits.{most_levels}
 
 -- one place less is left for the kid with the number, and each kid with a place left is as before
 pub record IsTaken (number : ℕ) (left then : List ℕ) (kids now : List (Box ProofOf)) : Type 0 where
@@ -13,5 +14,5 @@ pub record IsTaken (number : ℕ) (left then : List ℕ) (kids now : List (Box P
   pub kids_many : length now ≡ length kids
   pub kept : (g : ℕ) → 0 < slice_index_or then g 0 →
       proof_at (boxed now) g ≡ proof_at (boxed kids) g
-  pub height : most_height (boxed now) ≤ 3000
+  pub height : most_height (boxed now) ≤ most_levels
   pub binds : HaveShallowBinds (boxed now)

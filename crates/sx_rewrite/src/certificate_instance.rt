@@ -14,6 +14,7 @@ ghost use Rattle.sx_rewrite.specs.Measured.{certificate_terms, certificate_terms
 ghost use Rattle.sx_rewrite.specs.Puts.{Answers};
 ghost use Rattle.sx_rewrite.specs.Put.{ArePut};
 ghost use Rattle.sx_rewrite.specs.declared.rewrite_error.RewriteError.TheVariants.{Memory};
+ghost use Rattle.sx_rules.specs.Limits.{most_levels};
 
 use crate::node_instance::node_instance;
 use crate::put_terms::PutTerms;
@@ -33,7 +34,7 @@ pub(crate) fn certificate_instance(
     puts: &PutTerms,
     givens: &mut Vec<u32>,
 ) -> Result<Box<Proof>, RewriteError>
-    requires height { spec.height_of (view.proof certificate.now) ≤ 3000 }
+    requires height { spec.height_of (view.proof certificate.now) ≤ most_levels }
     requires binds { spec.HasShallowBinds (view.proof certificate.now) }
     requires put { (more : List Tree) × ArePut more puts.now }
     ensures body { (more : List Tree) → ArePut more puts.now →
@@ -64,7 +65,7 @@ fn kid_instances(
     puts: &PutTerms,
     givens: &mut Vec<u32>,
 ) -> Result<Vec<Box<Proof>>, RewriteError>
-    requires height { spec.most_height (view.boxed kids.now) < 3000 }
+    requires height { spec.most_height (view.boxed kids.now) < most_levels }
     requires binds { spec.HaveShallowBinds (view.boxed kids.now) }
     requires put { (more : List Tree) × ArePut more puts.now }
     ensures bodies { (more : List Tree) → ArePut more puts.now →

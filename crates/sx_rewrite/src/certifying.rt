@@ -11,6 +11,7 @@ ghost use Rattle.sx_rewrite.specs.Rewriting.{first_over};
 ghost use Rattle.sx_rewrite.specs.Measured.{certificate_terms};
 ghost use Rattle.sx_rewrite.specs.Puts.{Answers};
 ghost use Rattle.sx_rewrite.specs.Put.{ArePut};
+ghost use Rattle.sx_rules.specs.Limits.{most_levels};
 
 use crate::certificate_instance::certificate_instance;
 use crate::grafting::graft;
@@ -31,14 +32,14 @@ pub(crate) fn certified(
     puts: &PutTerms,
     kids: Vec<Box<Proof>>,
 ) -> Result<Box<Proof>, RewriteError>
-    requires height { spec.height_of (view.proof certificate.now) ≤ 3000 }
+    requires height { spec.height_of (view.proof certificate.now) ≤ most_levels }
     requires binds { spec.HasShallowBinds (view.proof certificate.now) }
     requires put { (more : List Tree) × ArePut more puts.now }
     requires givens { AllBelow (length kids.items) (givens_of (view.proof certificate.now)) }
-    requires kids_height { spec.most_height (view.boxed kids.items) ≤ 3000 }
+    requires kids_height { spec.most_height (view.boxed kids.items) ≤ most_levels }
     requires kids_binds { spec.HaveShallowBinds (view.boxed kids.items) }
     requires whole { spec.height_of
-        (spec.graft (view.boxed kids.items) (view.proof certificate.now)) ≤ 3000 }
+        (spec.graft (view.boxed kids.items) (view.proof certificate.now)) ≤ most_levels }
     ensures { (more : List Tree) → ArePut more puts.now →
         Answers (first_over
         (certificate_terms (bare_rules_in base.now) (bound_by more)

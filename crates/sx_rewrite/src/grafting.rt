@@ -4,6 +4,7 @@ ghost use Rattle.std.specs.Prelude.{◌≡◌, ◌+◌, ◌<◌, ◌≤◌, leng
 ghost use Rattle.sx_rules.specs.Derivations as spec;
 ghost use Rattle.sx_rules.specs.ProofView as view;
 ghost use Rattle.sx_rewrite.specs.Givens.{givens_of, givens_of_all, AreNumbered};
+ghost use Rattle.sx_rules.specs.Limits.{most_levels};
 
 use std::mem;
 use sx_rules::Proof;
@@ -14,7 +15,7 @@ pub fn graft(body: Box<Proof>, kids: Vec<Box<Proof>>) -> Box<Proof>
     requires numbered { AreNumbered 0 (givens_of (view.proof body.value)) }
     requires many { length (givens_of (view.proof body.value)) ≡ length kids.items }
     requires shallow { spec.height_of
-        (spec.graft (view.boxed kids.items) (view.proof body.value)) ≤ 3000 }
+        (spec.graft (view.boxed kids.items) (view.proof body.value)) ≤ most_levels }
     ensures { view.proof result.value
         ≡ spec.graft (view.boxed kids.items) (view.proof body.value) }
 {
@@ -31,7 +32,7 @@ pub fn graft(body: Box<Proof>, kids: Vec<Box<Proof>>) -> Box<Proof>
 /// Then the kid after these is next.
 #[cycle(filling)]
 fn filled(proof: Proof, next: &mut usize, kids: &mut [Box<Proof>]) -> Proof
-    requires shallow { spec.height_of (view.proof proof) ≤ 3000 }
+    requires shallow { spec.height_of (view.proof proof) ≤ most_levels }
     requires numbered { AreNumbered next.old (givens_of (view.proof proof)) }
     requires many { next.old + length (givens_of (view.proof proof)) ≤ length kids.old }
     ensures grafted { view.proof result ≡ spec.graft (view.boxed kids.old) (view.proof proof) }
@@ -64,7 +65,7 @@ fn filled(proof: Proof, next: &mut usize, kids: &mut [Box<Proof>]) -> Proof
 /// Then the kid after these is next.
 #[cycle(filling)]
 fn fill_each(parts: &mut [Box<Proof>], next: &mut usize, kids: &mut [Box<Proof>])
-    requires shallow { spec.most_height (view.boxed parts.old) < 3000 }
+    requires shallow { spec.most_height (view.boxed parts.old) < most_levels }
     requires numbered { AreNumbered next.old (givens_of_all (view.boxed parts.old)) }
     requires many { next.old + length (givens_of_all (view.boxed parts.old)) ≤ length kids.old }
     ensures grafted { view.boxed parts.new

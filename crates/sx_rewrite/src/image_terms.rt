@@ -8,6 +8,7 @@ ghost use Rattle.sx_plain.specs.Tables.{FitsTable, FitTable};
 ghost use Rattle.sx_plain.specs.Views.{table_of};
 ghost use Rattle.sx_rewrite.specs.Put.{ArePut};
 ghost use Rattle.sx_rewrite.specs.PutImages.{IsPut, image_for, images_for};
+ghost use Rattle.sx_term.specs.Limits.{most_depth};
 
 use crate::put_term::PutTerm;
 use crate::put_terms::PutTerms;
@@ -25,7 +26,7 @@ pub(crate) fn image_terms(
     binds: &[Term],
 ) -> Result<PutTerms, NoMemory>
     requires many { length binds.now ≡ length sorts.now }
-    requires shallow { greatest_depth (forest (map tree binds.now)) ≤ 1000 }
+    requires shallow { greatest_depth (forest (map tree binds.now)) ≤ most_depth }
     requires fit { FitTable (table_of table.now) (forest (map tree binds.now)) }
     ensures { IfOk result
         (ArePut (images_for (table_of table.now) sorts.now (map tree binds.now))) }
@@ -57,7 +58,7 @@ fn put_image(
     sort: Sort,
     term: &Term,
 ) -> Result<PutTerm, NoMemory>
-    requires shallow { depth_of (tree term.now) ≤ 1000 }
+    requires shallow { depth_of (tree term.now) ≤ most_depth }
     requires fits { FitsTable (table_of table.now) (tree term.now) }
     ensures { IfOk result (IsPut (image_for (table_of table.now) sort (tree term.now))) }
 {
@@ -74,7 +75,7 @@ fn put_image(
 /// The plain image of the term, which is made where it passes no limit.
 /// The one refusal is out of memory.
 fn image_put(alloc: Global, table: &PlainTable, term: &Term) -> Result<PutTerm, NoMemory>
-    requires shallow { depth_of (tree term.now) ≤ 1000 }
+    requires shallow { depth_of (tree term.now) ≤ most_depth }
     requires fits { FitsTable (table_of table.now) (tree term.now) }
     ensures { IfOk result (IsPut (image (table_of table.now) (tree term.now))) }
 {

@@ -5,6 +5,7 @@ ghost use Rattle.sx_term.specs.Tree.{depth_of};
 ghost use Rattle.sx_term.specs.Term.{tree};
 ghost use Rattle.sx_plain.specs.Measures.{depth_with, size_with, greatest};
 ghost use Rattle.sx_plain.specs.PartMeasures.{depths_of, sizes_of};
+ghost use Rattle.sx_term.specs.Limits.{most_depth};
 
 use sx_plain::Measure;
 use sx_term::Term;
@@ -13,7 +14,7 @@ use sx_term::Term;
 /// for its variables. The size stays at the greatest u64. Each node of
 /// the term is looked at once, and nothing that is put.
 pub fn instance_measure(term: &Term, parts: &[Measure]) -> Measure
-    requires shallow { depth_of (tree term.now) ≤ 1000 }
+    requires shallow { depth_of (tree term.now) ≤ most_depth }
     requires parts { greatest (depths_of parts.now) ≤ 1001000 }
     ensures depth { result.depth ≡ depth_with (depths_of parts.now) (tree term.now) }
     ensures small { result.depth ≤ 1001000 + depth_of (tree term.now) }

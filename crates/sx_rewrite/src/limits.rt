@@ -4,12 +4,7 @@ ghost use Rattle.sx_rewrite.specs.Puts.{IsLimited};
 
 use crate::rewrite_error::RewriteError;
 use sx_plain::Measure;
-
-/// How deep a term may be.
-const MOST_DEPTH: u32 = 1000;
-
-/// How many nodes, lexemes and variables a term may have.
-const MOST_SIZE: u64 = 1_000_000;
+use sx_term::{MOST_DEPTH, MOST_SIZE};
 
 /// Refuses a measure that passes a limit: the depth, or else the size.
 pub fn check_measure(measure: Measure) -> Result<(), RewriteError>

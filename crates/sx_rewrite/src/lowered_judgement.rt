@@ -10,6 +10,7 @@ ghost use Rattle.sx_rules.specs.Derivations.{ShallowJudgements};
 ghost use Rattle.sx_rules.specs.ProofView as view;
 ghost use Rattle.sx_rules.specs.Sets.{bare_rules_in};
 ghost use Rattle.sx_rules.specs.Views.{judgement, hypotheses};
+ghost use Rattle.sx_term.specs.Limits.{most_depth};
 
 use crate::instance_made::instance_made;
 use crate::lowered_subject::hypothesis;
@@ -57,7 +58,7 @@ fn instance_judgement(
     binds: &[Term],
 ) -> Result<Judgement, NoMemory>
     requires places { AreShallow (judgement from.now).places }
-    requires binds { greatest_depth (forest (map tree binds.now)) ≤ 1000 }
+    requires binds { greatest_depth (forest (map tree binds.now)) ≤ most_depth }
     ensures { IfOk result (λ j. judgement j
         ≡ known.judgement_instance (bound_by (map tree binds.now)) (judgement from.now)) }
 {
@@ -69,8 +70,8 @@ fn instance_judgement(
 
 /// The instances of the terms. The one refusal is out of memory.
 fn instances(alloc: Global, terms: &[Term], binds: &[Term]) -> Result<Vec<Term>, NoMemory>
-    requires terms { greatest_depth (forest (map tree terms.now)) ≤ 1000 }
-    requires binds { greatest_depth (forest (map tree binds.now)) ≤ 1000 }
+    requires terms { greatest_depth (forest (map tree terms.now)) ≤ most_depth }
+    requires binds { greatest_depth (forest (map tree binds.now)) ≤ most_depth }
     ensures { IfOk result (λ x. map tree x.items
         ≡ map (instance (bound_by (map tree binds.now))) (map tree terms.now)) }
 {
@@ -94,7 +95,7 @@ fn own_judgement(alloc: Global, from: &Judgement) -> Result<Judgement, NoMemory>
 
 /// Equal terms. The one refusal is out of memory.
 fn copies(alloc: Global, terms: &[Term]) -> Result<Vec<Term>, NoMemory>
-    requires { greatest_depth (forest (map tree terms.now)) ≤ 1000 }
+    requires { greatest_depth (forest (map tree terms.now)) ≤ most_depth }
     ensures { IfOk result (λ x. map tree x.items ≡ map tree terms.now) }
 {
     let mut made = Vec::with_capacity(alloc, terms.len())?;

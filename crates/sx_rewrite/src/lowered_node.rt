@@ -11,6 +11,7 @@ ghost use Rattle.sx_rewrite.specs.Put.{ArePut};
 ghost use Rattle.sx_rewrite.specs.Puts.{Answers};
 ghost use Rattle.sx_rewrite.specs.Rewriting.{first_over};
 ghost use Rattle.sx_rewrite.specs.Stored.{certificate_at};
+ghost use Rattle.sx_rules.specs.Limits.{most_levels};
 
 use crate::accepted::Accepted;
 use crate::basing::based;
@@ -33,7 +34,7 @@ pub(crate) fn lowered_node(
 ) -> Result<Box<Proof>, RewriteError>
     requires put { (more : List Tree) × ArePut more puts }
     requires graft { CanGraft (certificate_at (accepted set.now) rule) (view.boxed kids.items) }
-    requires height { spec.most_height (view.boxed kids.items) ≤ 3000 }
+    requires height { spec.most_height (view.boxed kids.items) ≤ most_levels }
     requires binds { spec.HaveShallowBinds (view.boxed kids.items) }
     ensures { (more : List Tree) → ArePut more puts →
         Answers (first_over

@@ -13,6 +13,7 @@ ghost use Rattle.sx_rules.specs.ProofView as view;
 ghost use Rattle.sx_rules.specs.Sets.{forms_in, bare_rules_in};
 ghost use Rattle.sx_rules.specs.Views.{judgement, hypotheses, subjects_in};
 ghost use Rattle.sx_rules.specs.SubjectTerms.{IsSubject};
+ghost use Rattle.sx_term.specs.Limits.{most_depth};
 
 use crate::instance_made::instance_made;
 use std::alloc::Global;
@@ -70,7 +71,7 @@ fn instance_subject(
     binds: &[Term],
 ) -> Result<Option<Term>, NoMemory>
     requires places { AreShallow (judgement from.now).places }
-    requires binds { greatest_depth (forest (map tree binds.now)) ≤ 1000 }
+    requires binds { greatest_depth (forest (map tree binds.now)) ≤ most_depth }
     ensures { IfOk result
         (IsSubject (subjects_of (subjects_in (forms_in set.now))
         (known.judgement_instance (bound_by (map tree binds.now)) (judgement from.now)))) }

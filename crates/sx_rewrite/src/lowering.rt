@@ -11,6 +11,7 @@ ghost use Rattle.sx_rewrite.specs.Lowering.{AreRefused, IsKidLowered, IsKidRefus
 ghost use Rattle.sx_rewrite.specs.Needed.{needed};
 ghost use Rattle.sx_rewrite.specs.SourceView.{set_of, IsSource};
 ghost use Rattle.sx_rewrite.specs.Stored.{certificate_at};
+ghost use Rattle.sx_rules.specs.Limits.{most_levels};
 
 use crate::lowered_node::lowered_node;
 use crate::putting::put_terms;
@@ -27,7 +28,7 @@ pub(crate) fn lower_proof(
     source: &Source,
     proof: &Proof,
 ) -> Result<Box<Proof>, RewriteError>
-    requires shallow { spec.height_of (view.proof proof.now) ≤ 3000 }
+    requires shallow { spec.height_of (view.proof proof.now) ≤ most_levels }
     requires source { IsSource source.now }
     requires derived { CanLower (set_of source.now) (hypotheses source.now.given.now)
         (view.proof proof.now) }
@@ -56,7 +57,7 @@ fn lower_kids(
     rule: u32,
     kids: &[Box<Proof>],
 ) -> Result<Vec<Box<Proof>>, RewriteError>
-    requires shallow { spec.most_height (view.boxed kids.now) < 3000 }
+    requires shallow { spec.most_height (view.boxed kids.now) < most_levels }
     requires source { IsSource source.now }
     requires derived { (i : ℕ) (p : spec.Proof) →
         needed (certificate_at (accepted source.now.set.now) rule) i ≡ true →
@@ -88,7 +89,7 @@ fn lower_kid(
     number: usize,
     kid: &Proof,
 ) -> Result<Box<Proof>, RewriteError>
-    requires shallow { spec.height_of (view.proof kid.now) < 3000 }
+    requires shallow { spec.height_of (view.proof kid.now) < most_levels }
     requires source { IsSource source.now }
     requires derived { needed (certificate_at (accepted source.now.set.now) rule) number ≡ true →
         CanLower (set_of source.now) (hypotheses source.now.given.now) (view.proof kid.now) }

@@ -11,6 +11,7 @@ ghost use Rattle.sx_rewrite.specs.Rewriting.{first_over};
 ghost use Rattle.sx_rewrite.specs.Measured.{node_terms};
 ghost use Rattle.sx_rewrite.specs.Puts.{AreMeasuresOf, Answers};
 ghost use Rattle.sx_rewrite.specs.Put.{ArePut, IsMadeOf, conclusion_terms};
+ghost use Rattle.sx_term.specs.Limits.{most_depth};
 
 use crate::instance_made::instance_made;
 use crate::instance_measuring::instance_measure;
@@ -32,7 +33,7 @@ pub(crate) fn node_instance(
     binds: &[Term],
     puts: &PutTerms,
 ) -> Result<Vec<Term>, RewriteError>
-    requires shallow { greatest_depth (forest (map tree binds.now)) ≤ 1000 }
+    requires shallow { greatest_depth (forest (map tree binds.now)) ≤ most_depth }
     requires put { (more : List Tree) × ArePut more puts.now }
     ensures { (more : List Tree) → ArePut more puts.now →
         Answers (first_over
@@ -50,7 +51,7 @@ pub(crate) fn node_instance(
 /// The instances of the terms, with how deep and how big they are. Each is measured
 /// before it is made, and the first that passes a limit is refused.
 fn instances(alloc: Global, terms: &[Term], puts: &PutTerms) -> Result<PutTerms, RewriteError>
-    requires shallow { greatest_depth (forest (map tree terms.now)) ≤ 1000 }
+    requires shallow { greatest_depth (forest (map tree terms.now)) ≤ most_depth }
     requires put { (more : List Tree) × ArePut more puts.now }
     ensures { (more : List Tree) → ArePut more puts.now →
         Answers (first_over (map (instance (bound_by more)) (map tree terms.now)))
@@ -89,7 +90,7 @@ pub fn check_conclusion(base: &RuleSet, rule: u32, measures: &[Measure]) -> Resu
 /// Refuses the first of the terms that passes a limit under terms of these measures.
 /// Nothing is made.
 fn check_places(places: &[Term], measures: &[Measure]) -> Result<(), RewriteError>
-    requires shallow { greatest_depth (forest (map tree places.now)) ≤ 1000 }
+    requires shallow { greatest_depth (forest (map tree places.now)) ≤ most_depth }
     requires measured { greatest (depths_of measures.now) ≤ 1001000 }
     ensures { (binds : List Tree) → AreMeasuresOf binds measures.now →
         Answers (first_over (map (instance (bound_by binds)) (map tree places.now)))

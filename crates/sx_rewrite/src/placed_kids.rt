@@ -6,6 +6,7 @@ ghost use Rattle.sx_rules.specs.Derivations as spec;
 ghost use Rattle.sx_rules.specs.ProofView as view;
 ghost use Rattle.sx_rewrite.specs.Givens.{placed, times_among, AllBelow};
 ghost use Rattle.sx_rewrite.specs.Taken.{IsTaken};
+ghost use Rattle.sx_rules.specs.Limits.{most_levels};
 
 use std::alloc::Global;
 use std::mem;
@@ -21,7 +22,7 @@ pub(crate) fn placed_kids(
     kids: Vec<Box<Proof>>,
 ) -> Result<Vec<Box<Proof>>, NoMemory>
     requires below { AllBelow (length kids.items) givens.now.items }
-    requires height { spec.most_height (view.boxed kids.items) ≤ 3000 }
+    requires height { spec.most_height (view.boxed kids.items) ≤ most_levels }
     requires binds { spec.HaveShallowBinds (view.boxed kids.items) }
     ensures { IfOk result (λ x. view.boxed x.items
         ≡ placed (view.boxed kids.items) givens.now.items) }
@@ -59,7 +60,7 @@ fn put_kids(
     requires many { length left.old ≡ length kids.old }
     requires times { (g : ℕ) → g < length kids.old →
         slice_index_or left.old g 0 ≡ times_among g givens.now }
-    requires height { spec.most_height (view.boxed kids.old) ≤ 3000 }
+    requires height { spec.most_height (view.boxed kids.old) ≤ most_levels }
     requires binds { spec.HaveShallowBinds (view.boxed kids.old) }
     ensures { IfOk result (λ x. view.boxed x.items ≡ placed (view.boxed kids.old) givens.now) }
 {
@@ -81,7 +82,7 @@ fn take_kid(
     requires within { number < length kids.old }
     requires many { length left.old ≡ length kids.old }
     requires some { 0 < slice_index_or left.old number 0 }
-    requires height { spec.most_height (view.boxed kids.old) ≤ 3000 }
+    requires height { spec.most_height (view.boxed kids.old) ≤ most_levels }
     requires binds { spec.HaveShallowBinds (view.boxed kids.old) }
     ensures taken { OnOk result (IsTaken number left.old left.new kids.old kids.new) }
     ensures kid { IfOk result

@@ -15,6 +15,7 @@ ghost use Rattle.sx_rewrite.specs.PutSubjects.{IsReady, IsSubjectPut, AreReady, 
 ghost use Rattle.sx_rewrite.specs.Needed.{needed};
 ghost use Rattle.sx_rewrite.specs.Stored.{certificate_at};
 ghost use Rattle.sx_rewrite.specs.AcceptedView.{accepted};
+ghost use Rattle.sx_term.specs.Limits.{most_depth};
 
 use crate::lowered_subject::lowered_subject;
 use crate::put_terms::PutTerms;
@@ -105,7 +106,7 @@ fn put_subject(
 /// Puts the term for the variable in the place of what is put for it;
 /// a number past the variables has no place.
 fn put_at(puts: &mut PutTerms, variable: u32, term: Term)
-    requires { depth_of (tree term) ≤ 1000 }
+    requires { depth_of (tree term) ≤ most_depth }
     ensures { (old : List Tree) → ArePut old puts.old →
         ArePut (slice_set old variable (tree term)) puts.new }
 {

@@ -5,6 +5,7 @@ ghost use Rattle.sx_term.specs.Term.{tree};
 ghost use Rattle.sx_term.specs.Tree as deep;
 ghost use Rattle.sx_plain.specs.Measures.{greatest};
 ghost use Rattle.sx_plain.specs.PartMeasures.{depths_of};
+ghost use Rattle.sx_term.specs.Limits.{most_depth};
 
 use sx_plain::Measure;
 use sx_term::Term;
@@ -16,6 +17,6 @@ use sx_term::Term;
 pub(crate) struct PutTerms {
     pub terms: Vec<Term>,
     pub measures: Vec<Measure>,
-    ghost shallow: { deep.greatest_depth (deep.forest (map tree terms.items)) ≤ 1000 },
+    ghost shallow: { deep.greatest_depth (deep.forest (map tree terms.items)) ≤ most_depth },
     ghost measured: { greatest (depths_of measures.items) ≤ 1001000 },
 }

@@ -17,6 +17,7 @@ ghost use Rattle.sx_rewrite.specs.Put.{ArePut};
 ghost use Rattle.sx_rewrite.specs.PutImages.{images_for};
 ghost use Rattle.sx_rewrite.specs.PutSubjects.{AreReady, ArePutBelow, IsNodeOf};
 ghost use Rattle.sx_rewrite.specs.Stored.{certificate_at};
+ghost use Rattle.sx_term.specs.Limits.{most_depth};
 
 use crate::image_terms::image_terms;
 use crate::put_subjects::put_subjects;
@@ -43,7 +44,7 @@ pub(crate) fn put_terms(
     requires node { IsNodeOf (bare_rules_in source.now.rules.now)
         (subjects_in (forms_in source.now.set.now.base)) rule (length binds.now)
         (length kids.now) }
-    requires shallow { greatest_depth (forest (map tree binds.now)) ≤ 1000 }
+    requires shallow { greatest_depth (forest (map tree binds.now)) ≤ most_depth }
     requires fit { FitTable (table_of source.now.set.now.plain) (forest (map tree binds.now)) }
     ensures { IfOk result (λ p. (x : known.Rule) →
         slice_get (bare_rules_in source.now.rules.now) rule ≡ Some x →

@@ -26,7 +26,7 @@ use std::alloc::Global;
 use sx_rules::{Hyps, Proof};
 
 /// How deep a derivation may be.
-const MOST_HEIGHT: u64 = 3000;
+const MOST_HEIGHT: u64 = sx_rules::MOST_LEVELS as u64;
 
 /// What a derivation by the plain rules of the set, from base hypotheses, is lowered
 /// to. Where that has more nodes than the budget, is deeper than 3,000, or has a

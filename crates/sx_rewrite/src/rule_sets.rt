@@ -12,7 +12,7 @@ use sx_rules::{Rule, RuleError, RuleSet};
 use sx_term::{NoMemory, Shapes};
 
 /// The most rules that a set has.
-const MOST_RULES: u32 = 4096;
+const MOST_RULES: u32 = sx_rules::MOST_RULES as u32;
 
 /// The rules of the set and then more, which are good with these shapes.
 /// The one refusal is out of memory.

@@ -12,6 +12,7 @@ ghost use Rattle.sx_rewrite.specs.Copied.{times_given};
 ghost use Rattle.sx_rewrite.specs.Counts as count;
 ghost use Rattle.sx_rewrite.specs.Shallow.{IsShallow};
 ghost use Rattle.sx_rewrite.specs.Sizes.{in_u128, unused, noted, AreUsesOf, AreSizesOf};
+ghost use Rattle.sx_rules.specs.Limits.{most_levels};
 
 use crate::certificate_size::CertificateSize;
 use crate::ext_rule::ExtRule;
@@ -46,7 +47,7 @@ fn certificate_size(
     premises: &[Premise],
     certificate: &Proof,
 ) -> Result<CertificateSize, NoMemory>
-    requires { height_of (view.proof certificate.now) ≤ 3000 }
+    requires { height_of (view.proof certificate.now) ≤ most_levels }
     ensures nodes { IfOk result
         (λ size. size.nodes ≡ in_u128 (count.own_nodes (view.proof certificate.now))) }
     ensures height { IfOk result

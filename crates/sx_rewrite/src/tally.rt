@@ -5,6 +5,7 @@ ghost use Rattle.sx_rules.specs.Derivations as spec;
 ghost use Rattle.sx_rewrite.specs.Accepted as stored;
 ghost use Rattle.sx_rewrite.specs.LoweredSizes.{IsLoweredSize};
 ghost use Rattle.sx_rewrite.specs.Tallies.{IsTallyOf, IsWithKid};
+ghost use Rattle.sx_rules.specs.Limits.{most_levels};
 
 use crate::given_use::GivenUse;
 use crate::lowered_size::LoweredSize;
@@ -34,7 +35,7 @@ impl Tally {
     /// What is counted so far, with a kid of which so much is counted and whose given is used so.
     pub fn with_kid(self, given: GivenUse, kid: Tally) -> Tally
         requires used { 0 < given.times }
-        requires near { given.above ≤ 3000 }
+        requires near { given.above ≤ most_levels }
         requires low { kid.height < 2 ^ 32 }
         ensures { (a : stored.Accepted) (p : spec.Proof) → IsTallyOf a p kid →
             IsWithKid a given p self result }

@@ -7,6 +7,7 @@ ghost use Rattle.sx_rewrite.specs.AcceptedView.{accepted};
 ghost use Rattle.sx_rewrite.specs.Sizes.{IsSmall};
 ghost use Rattle.sx_rewrite.specs.LoweredSizes.{HasFitKids, HaveFitKids, IsLoweredSize};
 ghost use Rattle.sx_rewrite.specs.Tallies.{IsTallyOf, IsSizedTally, IsBaseTally, IsWithKid};
+ghost use Rattle.sx_rules.specs.Limits.{most_levels};
 
 use crate::accepted::Accepted;
 use crate::certificate_size::CertificateSize;
@@ -20,7 +21,7 @@ use sx_rules::Proof;
 /// more nodes than the budget. No memory is taken, no certificate is looked at, and
 /// no kid whose given the certificate of its node does not use.
 pub(crate) fn lowered_size(set: &Accepted, proof: &Proof, budget: u64) -> Option<LoweredSize>
-    requires shallow { height_of (view.proof proof.now) ≤ 3000 }
+    requires shallow { height_of (view.proof proof.now) ≤ most_levels }
     requires kids { HasFitKids (accepted set.now) (view.proof proof.now) }
     ensures { IsLoweredSize (accepted set.now) (view.proof proof.now) budget result }
 {
@@ -30,7 +31,7 @@ pub(crate) fn lowered_size(set: &Accepted, proof: &Proof, budget: u64) -> Option
 /// What is counted of the lowered proof.
 #[cycle(tallied)]
 fn tally(set: &Accepted, proof: &Proof) -> Tally
-    requires shallow { height_of (view.proof proof.now) ≤ 3000 }
+    requires shallow { height_of (view.proof proof.now) ≤ most_levels }
     requires kids { HasFitKids (accepted set.now) (view.proof proof.now) }
     ensures { IsTallyOf (accepted set.now) (view.proof proof.now) result }
 {
@@ -50,7 +51,7 @@ fn tally(set: &Accepted, proof: &Proof) -> Tally
 /// What is counted of a node with these kids by an extension rule whose certificate has the size.
 #[cycle(tallied)]
 fn certificate_tally(set: &Accepted, size: &CertificateSize, kids: &[Box<Proof>]) -> Tally
-    requires shallow { most_height (view.boxed kids.now) < 3000 }
+    requires shallow { most_height (view.boxed kids.now) < most_levels }
     requires fit { HaveFitKids (accepted set.now) (view.boxed kids.now) }
     requires many { length kids.now ≡ length size.now.uses.items }
     requires small { IsSmall size.now }
@@ -67,7 +68,7 @@ fn certificate_tally(set: &Accepted, size: &CertificateSize, kids: &[Box<Proof>]
 /// What is counted of a node with these kids by a base rule.
 #[cycle(tallied)]
 fn base_tally(set: &Accepted, kids: &[Box<Proof>]) -> Tally
-    requires shallow { most_height (view.boxed kids.now) < 3000 }
+    requires shallow { most_height (view.boxed kids.now) < most_levels }
     requires fit { HaveFitKids (accepted set.now) (view.boxed kids.now) }
     ensures { IsBaseTally (accepted set.now) (view.boxed kids.now) result }
 {
@@ -81,9 +82,9 @@ fn base_tally(set: &Accepted, kids: &[Box<Proof>]) -> Tally
 /// What is counted so far, with a kid whose given is used so.
 #[cycle(tallied)]
 fn with_kid(set: &Accepted, so_far: Tally, given: GivenUse, kid: &Proof) -> Tally
-    requires shallow { height_of (view.proof kid.now) < 3000 }
+    requires shallow { height_of (view.proof kid.now) < most_levels }
     requires kids { HasFitKids (accepted set.now) (view.proof kid.now) }
-    requires near { given.above ≤ 3000 }
+    requires near { given.above ≤ most_levels }
     ensures { IsWithKid (accepted set.now) given (view.proof kid.now) so_far result }
 {
     if given.times == 0 {

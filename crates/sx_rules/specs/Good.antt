@@ -13,6 +13,8 @@ use Rattle.sx_rules.specs.Views.{FormData, NamedRule, modes_of, subjects_in}
 use Rattle.sx_rules.specs.Fits.{RuleFits}
 use Rattle.sx_rules.specs.Subjects.{broken_part}
 use Rattle.sx_rules.specs.Unmoded.{unbound}
+use Rattle.sx_rules.specs.Limits.{most_rules}
+use Rattle.sx_term.specs.Limits.{most_variables}
 
 -- the name stands among the names
 abbrev pub IsAmong : List ℕ → List (List ℕ) → Type 0
@@ -22,7 +24,7 @@ IsAmong name (n ∷ names) = (n ≡ name) ⊎ IsAmong name names
 -- the rule has at most 64 variables, a new name, and is well sorted, disciplined and moded
 pub record IsGood (shapes : List Shape) (forms : List FormData) (names : List (List ℕ))
     (r : NamedRule) : Type 0 where
-  pub few : length r.rule.sorts ≤ 64
+  pub few : length r.rule.sorts ≤ most_variables
   pub fresh : IsAmong r.name names → ⊥
   pub fits : RuleFits shapes forms r.rule
   pub disciplined : IsDisciplined (subjects_in forms) r.rule
@@ -32,18 +34,19 @@ pub record IsGood (shapes : List Shape) (forms : List FormData) (names : List (L
 abbrev pub IsBreach : List Shape → List FormData → List (List ℕ) → NamedRule → RuleError → Type 0
 IsBreach shapes forms names r Memory = ⊥
 IsBreach shapes forms names r TooManyRules = ⊥
-IsBreach shapes forms names r (TooManyVars name) = (name ≡ r.name) × (64 < length r.rule.sorts)
+IsBreach shapes forms names r (TooManyVars name) =
+    (name ≡ r.name) × (most_variables < length r.rule.sorts)
 IsBreach shapes forms names r (SameRule name) =
-    (name ≡ r.name) × (length r.rule.sorts ≤ 64) × IsAmong r.name names
+    (name ≡ r.name) × (length r.rule.sorts ≤ most_variables) × IsAmong r.name names
 IsBreach shapes forms names r (SortDiffers name) =
-    (name ≡ r.name) × (length r.rule.sorts ≤ 64) × (IsAmong r.name names → ⊥) ×
+    (name ≡ r.name) × (length r.rule.sorts ≤ most_variables) × (IsAmong r.name names → ⊥) ×
     (RuleFits shapes forms r.rule → ⊥)
 IsBreach shapes forms names r (Discipline name part premise) =
-    (name ≡ r.name) × (length r.rule.sorts ≤ 64) × (IsAmong r.name names → ⊥) ×
+    (name ≡ r.name) × (length r.rule.sorts ≤ most_variables) × (IsAmong r.name names → ⊥) ×
     RuleFits shapes forms r.rule
     × (broken_part forms r.rule ≡ Some (part, premise))
 IsBreach shapes forms names r (NotModed name variable) =
-    (name ≡ r.name) × (length r.rule.sorts ≤ 64) × (IsAmong r.name names → ⊥) ×
+    (name ≡ r.name) × (length r.rule.sorts ≤ most_variables) × (IsAmong r.name names → ⊥) ×
     RuleFits shapes forms r.rule
     × (broken_part forms r.rule ≡ None) × (unbound forms r.rule ≡ Some variable)
 
@@ -63,13 +66,13 @@ IsFirstBreach shapes forms names (r ∷ rs) e =
 
 -- a rule set: at most 4,096 rules, and each is good
 abbrev pub IsRuleSet : List Shape → List FormData → List NamedRule → Type 0
-IsRuleSet shapes forms rules = (length rules ≤ 4096) × AllGood shapes forms [] rules
+IsRuleSet shapes forms rules = (length rules ≤ most_rules) × AllGood shapes forms [] rules
 
 -- why these are no rule set
 abbrev pub IsRefused : List Shape → List FormData → List NamedRule → RuleError → Type 0
 IsRefused shapes forms rules Memory = Unit {0}
-IsRefused shapes forms rules TooManyRules = 4096 < length rules
-IsRefused shapes forms rules e = (length rules ≤ 4096) × IsFirstBreach shapes forms [] rules e
+IsRefused shapes forms rules TooManyRules = most_rules < length rules
+IsRefused shapes forms rules e = (length rules ≤ most_rules) × IsFirstBreach shapes forms [] rules e
 
 -- the rule is good, or this is its first breach
 abbrev pub IsChecked : List Shape → List FormData → List (List ℕ) → NamedRule →

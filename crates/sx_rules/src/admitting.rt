@@ -10,8 +10,9 @@ ghost use Rattle.sx_rules.specs.Admitted.{IsAdmitted};
 
 use crate::checking::Checking;
 use crate::error::RuleError;
+use crate::limits::MOST_RULES;
 use crate::rule::Rule;
-use crate::rule_set::{MOST_RULES, RuleSet};
+use crate::rule_set::RuleSet;
 use std::alloc::Global;
 use sx_term::{Names, Shapes};
 

@@ -12,10 +12,7 @@ use crate::fitting::rule_fits;
 use crate::modes::unbound;
 use crate::rule::{Form, Rule};
 use std::alloc::Global;
-use sx_term::{Names, Shapes};
-
-/// The greatest number of variables of a rule.
-pub(crate) const MOST_VARIABLES: usize = 64;
+use sx_term::{MOST_VARIABLES, Names, Shapes};
 
 /// What rules are checked against: the shapes and the forms that they are of, and the names of the
 /// rules before them.

@@ -12,8 +12,9 @@ ghost use Rattle.sx_rules.specs.Made.{IsMade};
 use crate::checking::Checking;
 use crate::copying::{copy_forms, copy_rules};
 use crate::error::RuleError;
+use crate::limits::MOST_RULES;
 use crate::rule::Rule;
-use crate::rule_set::{MOST_RULES, RuleSet};
+use crate::rule_set::RuleSet;
 use std::alloc::Global;
 use sx_term::{Names, NoMemory, Shapes};
 

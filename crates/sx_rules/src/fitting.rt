@@ -11,6 +11,7 @@ ghost use Rattle.sx_rules.specs.Fits.{JudgementFits, AreOfOneKind, PremiseFits, 
 ghost use Rattle.sx_rules.specs.Fits.{RuleFits};
 ghost use Rattle.sx_term.specs.Shapes.{shape, shapes};
 ghost use Rattle.sx_rules.specs.Views.{form, forms, judgement, premise, rule};
+ghost use Rattle.sx_term.specs.Limits.{most_depth};
 
 use crate::rule::{Form, Judgement, Place, Premise, Rule};
 use sx_term::{LexKind, Shapes, Sort, Term};
@@ -69,8 +70,8 @@ pub fn judgement_fits(all: &Shapes, known: &[Form], vars: &[Sort], it: &Judgemen
 
 /// Whether both terms have the lexical sort.
 fn both_fit(all: &Shapes, vars: &[Sort], left: &Term, right: &Term, kind: LexKind) -> bool
-    requires left { depth_of (tree left.now) ≤ 1000 }
-    requires right { depth_of (tree right.now) ≤ 1000 }
+    requires left { depth_of (tree left.now) ≤ most_depth }
+    requires right { depth_of (tree right.now) ≤ most_depth }
     ensures { IsTrue result ↔ (HasSort (shapes all.now) vars.now (tree left.now) (Sort.Lex kind) ×
         HasSort (shapes all.now) vars.now (tree right.now) (Sort.Lex kind)) }
 {
@@ -82,8 +83,8 @@ fn both_fit(all: &Shapes, vars: &[Sort], left: &Term, right: &Term, kind: LexKin
 
 /// Whether the terms are of one lexical sort.
 fn are_of_one_kind(all: &Shapes, vars: &[Sort], left: &Term, right: &Term) -> bool
-    requires left { depth_of (tree left.now) ≤ 1000 }
-    requires right { depth_of (tree right.now) ≤ 1000 }
+    requires left { depth_of (tree left.now) ≤ most_depth }
+    requires right { depth_of (tree right.now) ≤ most_depth }
     ensures { IsTrue result ↔ AreOfOneKind (shapes all.now) vars.now (tree left.now)
         (tree right.now) }
 {

@@ -12,6 +12,7 @@ mod error;
 mod extend;
 mod fitting;
 mod laws;
+mod limits;
 mod list_error;
 mod list_reading;
 mod list_writing;
@@ -39,6 +40,7 @@ pub use laws::{
     good_rules_are_moded, no_breach_is_good, none_broken_is_disciplined, none_unbound_is_moded,
     one_refusal_is_due, rule_sets_are_not_refused, unbound_is_first,
 };
+pub use limits::{MOST_LEVELS, MOST_RULES};
 pub use list_error::ListError;
 pub use list_reading::{read_list, written_list_is_read};
 pub use list_writing::write_list;

@@ -3,6 +3,7 @@
 ghost use Rattle.std.specs.Prelude.{◌≡◌, ◌≤◌, IfOk};
 ghost use Rattle.sx_rules.specs.Derivations.{height_of, HasShallowBinds};
 ghost use Rattle.sx_rules.specs.ProofView as view;
+ghost use Rattle.sx_rules.specs.Limits.{most_levels};
 
 use crate::copying::copy_terms;
 use crate::proof::Proof;
@@ -11,7 +12,7 @@ use sx_term::NoMemory;
 
 /// An equal derivation. The one refusal is out of memory.
 pub fn copy_proof(alloc: Global, proof: &Proof) -> Result<Box<Proof>, NoMemory>
-    requires height { height_of (view.proof proof.now) ≤ 3000 }
+    requires height { height_of (view.proof proof.now) ≤ most_levels }
     requires binds { HasShallowBinds (view.proof proof.now) }
     ensures { IfOk result (λ p. view.proof p.value ≡ view.proof proof.now) }
 {

@@ -9,9 +9,6 @@ ghost use Rattle.sx_rules.specs.Views as view;
 use crate::rule::{Form, Rule};
 use sx_term::{Names, Shapes};
 
-/// The greatest number of rules of a set.
-pub(crate) const MOST_RULES: usize = 4096;
-
 /// Rules, each of them well sorted, disciplined and moded, with the shapes and the forms that they
 /// are of. No two have one name, and no term of them is deeper than 1,000. A rule is found by its
 /// number, or by the hash of its name.

@@ -15,6 +15,7 @@ use Rattle.sx_compiling.specs.Reached.{HasDialect}
 use Rattle.sx_sample.specs.Holding.{files_of}
 use Rattle.sx_sampling.specs.SampleSteps.{sample_name, sample_file, sample_budgets, Samples}
 use Rattle.sx_sampling.specs.Found.{IsFound, given_from}
+use Rattle.sx_term.specs.Limits.{most_budget}
 
 -- ---- one result
 
@@ -60,6 +61,6 @@ TypeErrorsAreFinal =
 pub record WalksAreWithin : Type 0 where
   pub sampled : (number : ℕ) (plan : Plan) (tries : ℕ) → Samples number (Ok plan) tries →
       (f : IsFound number) × (d : HasDialect sample_budgets (files_of number) (given_from f))
-      × (tries ≤ suc (length d.extended.set.kept.more) * 1000000)
+      × (tries ≤ suc (length d.extended.set.kept.more) * most_budget)
   pub all : (number : ℕ) (result : Result Plan StepError) (tries : ℕ) →
-      Samples number result tries → tries ≤ 4097 * 1000000
+      Samples number result tries → tries ≤ 4097 * most_budget

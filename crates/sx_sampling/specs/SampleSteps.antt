@@ -15,6 +15,7 @@ use Rattle.sx_compiling.specs.MakeUnit.{MakesUnit}
 use Rattle.sx_sample.specs.declared.summary.Summary.{Summary}
 use Rattle.sx_sample.specs.Holding.{files_of}
 use Rattle.sx_sample.specs.Summaries.{line_of}
+use Rattle.sx_term.specs.Limits.{most_budget}
 
 -- the sample module, and its file
 abbrev pub sample_name : List ℕ
@@ -25,7 +26,7 @@ sample_file = codes "Sample.mod"
 
 -- so many tries for each walk, and so many nodes for each derivation that is lowered
 abbrev pub sample_budgets : Budgets
-sample_budgets = record { tries = 1000000; nodes = 1000000 }
+sample_budgets = record { tries = most_budget; nodes = most_budget }
 
 -- what its unit is made from
 abbrev pub given_in : Module → Stated → List ImportData → Given

@@ -8,6 +8,7 @@ ghost use Rattle.sx_accepting.specs.ReadLanguage.{stated_of, HasText};
 ghost use Rattle.sx_headers.specs.ReadModule.{module_of, HasHeader};
 ghost use Rattle.sx_unit.specs.Written.{unit_of};
 ghost use Rattle.sx_sampling.specs.SampleSteps as spec;
+ghost use Rattle.sx_term.specs.Limits.{most_bytes};
 
 use std::alloc::Global;
 use std::sync::ledger::Ledger;
@@ -18,11 +19,8 @@ use sx_headers::{ModuleFile, read_module};
 use sx_importing::read_imports;
 use sx_outside::Shelf;
 use sx_steps::StepError;
-use sx_term::{Steps, Text};
+use sx_term::{MOST_BUDGET, Steps, Text};
 use sx_unit::Compiled;
-
-/// So many tries for each walk, and so many nodes for each derivation that is lowered.
-const MOST: u64 = 1000000;
 
 /// The unit of the module in its language.
 fn make_over<S: Shelf, L: Ledger>(
@@ -36,7 +34,7 @@ fn make_over<S: Shelf, L: Ledger>(
     requires file { file.now ≡ spec.sample_file }
     requires headed { (name : List ℕ)
         × HasHeader name source.now.bytes.items (module_of source.now) }
-    requires short { length source.now.bytes.items ≤ 262144 }
+    requires short { length source.now.bytes.items ≤ most_bytes }
     requires language { IsLanguage language.now.language }
     requires text { HasText source.now.header.language language.now.language }
     ensures step { WhereTold (S.content shelf.old) (λ files. Does unit_of
@@ -55,8 +53,8 @@ fn make_over<S: Shelf, L: Ledger>(
                 imports: &imports,
             };
             let budgets = Budgets {
-                tries: MOST,
-                nodes: MOST,
+                tries: MOST_BUDGET,
+                nodes: MOST_BUDGET,
             };
             let unit = make_unit(alloc, &given, budgets, shelf, steps);
             drop(imports);
@@ -77,7 +75,7 @@ fn make_read<S: Shelf, L: Ledger>(
     requires file { file.now ≡ spec.sample_file }
     requires headed { (name : List ℕ)
         × HasHeader name source.now.bytes.items (module_of source.now) }
-    requires short { length source.now.bytes.items ≤ 262144 }
+    requires short { length source.now.bytes.items ≤ most_bytes }
     ensures step { WhereTold (S.content shelf.old) (λ files. Does unit_of
         (spec.MakesRead files (module_of source.now)) result steps.old steps.new) }
     ensures reads { OnlyReads (S.content shelf.old) (S.content shelf.new)

@@ -17,9 +17,6 @@ Held limit name files (Err stop) =
     ((stop ≡ absent name) × (files name ≡ None)) ⊎
     ((stop ≡ too_long name) × IsLong limit files name) ⊎ (stop ≡ read_fault name)
 
--- the most bytes of a file, and of a derivation list
-abbrev pub most_bytes : ℕ
-most_bytes = 262144
-
+-- the most bytes of a derivation list
 abbrev pub most_list_bytes : ℕ
 most_list_bytes = 67108864

@@ -12,9 +12,6 @@ use sx_outside::{ReadAnswer, Shelf};
 use sx_term::Text;
 use sx_words::{Defect, FileDefect};
 
-/// The most bytes that a file has which is no derivation list.
-pub const MOST_BYTES: u32 = 262_144;
-
 /// The most bytes that a derivation list has.
 pub const MOST_LIST_BYTES: u32 = 67_108_864;
 

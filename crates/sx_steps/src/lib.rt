@@ -18,7 +18,7 @@ mod stops;
 mod unit;
 mod work;
 
-pub use held::{MOST_BYTES, MOST_LIST_BYTES, read_file};
+pub use held::{MOST_LIST_BYTES, read_file};
 pub use names::{joined, with_suffix};
 pub use status::Status;
 pub use step_error::StepError;

@@ -6,6 +6,7 @@ use Rattle.std.specs.Str.{IsUtf8}
 use Rattle.sx_term.specs.declared.lex_kind.LexKind.{LexKind}
 use Rattle.sx_term.specs.declared.lex_kind.LexKind.TheVariants.{Id, Num, Str}
 use Rattle.sx_term.specs.Tree.{Tree, Trees, node, lexeme, hole, none, ◌▹◌}
+use Rattle.sx_term.specs.Limits.{most_variables}
 
 -- `i`, `n` or `s`
 abbrev pub kind_byte : LexKind → ℕ
@@ -35,7 +36,7 @@ abbrev mutual
   pub IsWritable : Tree → Type 0
   IsWritable (node label kids) = AreWritable kids
   IsWritable (lexeme kind text) = (1 ≤ length text) × (length text ≤ 65535)
-  IsWritable (hole variable) = variable < 64
+  IsWritable (hole variable) = variable < most_variables
 
   -- the same of each term
   pub AreWritable : Trees → Type 0
@@ -47,7 +48,7 @@ abbrev mutual
   pub HasCore : Tree → Type 0
   HasCore (node label kids) = (label < 2 ^ 32) × HaveCore kids
   HasCore (lexeme kind text) = (1 ≤ length text) × (length text ≤ 65535) × IsUtf8 text
-  HasCore (hole variable) = variable < 64
+  HasCore (hole variable) = variable < most_variables
 
   -- the same of each term
   pub HaveCore : Trees → Type 0

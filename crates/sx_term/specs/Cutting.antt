@@ -8,6 +8,7 @@ use Rattle.unicode_ident.specs.Ident.{is_xid_start, is_xid_continue}
 use Rattle.sx_term.specs.declared.lex_kind.LexKind.TheVariants.{Id, Num, Str}
 use Rattle.sx_term.specs.declared.mark.Mark.{Mark}
 use Rattle.sx_term.specs.declared.mark.Mark.TheVariants.{Lit, Lex, Meta}
+use Rattle.sx_term.specs.Limits.{most_tokens}
 
 -- space, tab, line feed and carriage return
 abbrev pub is_blank : ℕ → Bool
@@ -143,7 +144,7 @@ pub record ComesTo (literals : List (List ℕ)) (metas : Bool) (bytes : List ℕ
     (Rest : List ℕ → Type 0) (place : ℕ) : Type 0 where
   pub utf8 : IsUtf8 bytes
   pub before : List Piece
-  pub few : length before ≤ 10000
+  pub few : length before ≤ most_tokens
   pub rest : List ℕ
   pub cuts : Cuts literals metas (length bytes) bytes before rest
   pub at : place + length rest ≡ length bytes
@@ -152,7 +153,7 @@ pub record ComesTo (literals : List (List ℕ)) (metas : Bool) (bytes : List ℕ
 -- the tokens of the text, or its first defect
 abbrev pub IsOutcome : List (List ℕ) → Bool → List ℕ → Outcome → Type 0
 IsOutcome literals metas bytes (tokens ts) =
-    IsUtf8 bytes × (length ts ≤ 10000) × Cuts literals metas (length bytes) bytes ts []
+    IsUtf8 bytes × (length ts ≤ most_tokens) × Cuts literals metas (length bytes) bytes ts []
 IsOutcome literals metas bytes (not_utf8 place) = IsValidUpTo bytes place
 IsOutcome literals metas bytes (bad_token place) =
     ComesTo literals metas bytes (IsBadToken literals metas) place

@@ -5,11 +5,12 @@ use Rattle.sx_term.specs.declared.term_error.TermError.{TermError}
 use Rattle.sx_term.specs.declared.term_error.TermError.TheVariants.{TooDeep, TooBig, Memory}
 use Rattle.sx_term.specs.Tree.{Tree, depth_of, size_of}
 use Rattle.sx_term.specs.Term.{tree}
+use Rattle.sx_term.specs.Limits.{most_depth, most_size}
 
 -- the instance within the limits, or the first limit that it passes
 abbrev pub IsWithinLimits : Tree → Result Term TermError → Type 0
-IsWithinLimits t (Ok made) = (tree made ≡ t) × (depth_of t ≤ 1000) × (size_of t ≤ 1000000)
-IsWithinLimits t (Err (TooDeep depth)) = (1000 < depth_of t) × (depth ≡ depth_of t)
-IsWithinLimits t (Err (TooBig nodes)) = (depth_of t ≤ 1000) × (1000000 < size_of t) ×
+IsWithinLimits t (Ok made) = (tree made ≡ t) × (depth_of t ≤ most_depth) × (size_of t ≤ most_size)
+IsWithinLimits t (Err (TooDeep depth)) = (most_depth < depth_of t) × (depth ≡ depth_of t)
+IsWithinLimits t (Err (TooBig nodes)) = (depth_of t ≤ most_depth) × (most_size < size_of t) ×
     (nodes ≡ min (size_of t) (2 ^ 64 - 1))
 IsWithinLimits t (Err Memory) = Unit {0}

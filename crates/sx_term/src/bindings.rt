@@ -7,6 +7,7 @@ ghost use Rattle.sx_term.specs.Tree.{depth_of};
 ghost use Rattle.sx_term.specs.Term.{tree};
 ghost use Rattle.sx_term.specs.Bindings.{lookup};
 ghost use Rattle.sx_term.specs.Bound.{bindings, entry, IsFirstAt};
+ghost use Rattle.sx_term.specs.Limits.{most_depth};
 
 use crate::binding::Binding;
 use crate::no_memory::NoMemory;
@@ -59,7 +60,7 @@ impl Bindings {
     pub fn get(&self, variable: u32) -> Option<&Term>
         ensures value { MatchOption result (lookup (bindings self.now) variable ≡ None)
             (λ term. lookup (bindings self.now) variable ≡ Some (tree term.now)) }
-        ensures depth { IfSome result (λ term. depth_of (tree term.now) ≤ 1000) }
+        ensures depth { IfSome result (λ term. depth_of (tree term.now) ≤ most_depth) }
     {
         match self.entry(variable) {
             Some(binding) => Some(&binding.term),
@@ -70,7 +71,7 @@ impl Bindings {
     /// Binds the variable to the term, in place of what it was bound to. Where memory is lacking,
     /// the map is as before.
     pub fn set(&mut self, variable: u32, term: Term) -> Result<(), NoMemory>
-        requires { depth_of (tree term) ≤ 1000 }
+        requires { depth_of (tree term) ≤ most_depth }
         ensures ok { OnOk result ((v : ℕ) → lookup (bindings self.new) v
             ≡ (if v == variable then Some (tree term) else lookup (bindings self.old) v)) }
         ensures err { OnErr result (bindings self.new ≡ bindings self.old) }
@@ -86,7 +87,7 @@ impl Bindings {
 
     /// Binds a variable that is not bound. Where memory is lacking, the map is as before.
     pub(crate) fn push(&mut self, variable: u32, term: Term) -> Result<(), NoMemory>
-        requires { depth_of (tree term) ≤ 1000 }
+        requires { depth_of (tree term) ≤ most_depth }
         ensures ok { OnOk result (bindings self.new ≡ bindings self.old
             ++ (variable, tree term) ∷ []) }
         ensures err { OnErr result (bindings self.new ≡ bindings self.old) }

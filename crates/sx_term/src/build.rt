@@ -6,6 +6,7 @@ ghost use Rattle.sx_term.specs.Tree.{Tree, depth_of, lexeme};
 ghost use Rattle.sx_term.specs.Term.{tree};
 ghost use Rattle.sx_term.specs.Core.{core, HasCore, NoDigit};
 ghost use Rattle.sx_term.specs.Reading.{Starts, IsBuilt};
+ghost use Rattle.sx_term.specs.Limits.{most_depth};
 
 use crate::lex_kind::LexKind;
 use crate::no_memory::NoMemory;
@@ -18,7 +19,7 @@ use std::alloc::Global;
 /// The term whose core text begins at the place, and the place after it.
 pub(crate) fn build(alloc: Global, text: &[u8], at: usize) -> Result<(Term, usize), NoMemory>
     requires place { at ≤ length text.now }
-    requires starts { (t : Tree) × (depth_of t ≤ 1000) × Starts (drop at text.now) t }
+    requires starts { (t : Tree) × (depth_of t ≤ most_depth) × Starts (drop at text.now) t }
     ensures { IfOk result (λ r. IsBuilt text.now at (tree r.0) r.1) }
 {
     if at == text.len() {

@@ -3,6 +3,7 @@
 ghost use Rattle.std.specs.Prelude.{◌≤◌};
 ghost use Rattle.sx_term.specs.Tree.{depth_of};
 ghost use Rattle.sx_term.specs.Term.{tree};
+ghost use Rattle.sx_term.specs.Limits.{most_depth};
 
 use crate::term::Term;
 
@@ -11,5 +12,5 @@ use crate::term::Term;
 pub(crate) struct Candidate<'a> {
     pub(crate) variable: u32,
     pub(crate) part: &'a Term,
-    ghost is_shallow: { depth_of (tree part.now) ≤ 1000 },
+    ghost is_shallow: { depth_of (tree part.now) ≤ most_depth },
 }

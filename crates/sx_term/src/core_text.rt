@@ -4,6 +4,7 @@ ghost use Rattle.std.specs.Prelude.{◌≡◌, ℕ, ◌≤◌, List, ◌++◌, O
 ghost use Rattle.sx_term.specs.Tree.{depth_of};
 ghost use Rattle.sx_term.specs.Term.{tree};
 ghost use Rattle.sx_term.specs.Core.{core, kind_byte, IsWritable, HasCore};
+ghost use Rattle.sx_term.specs.Limits.{most_depth};
 
 use crate::lex_kind::LexKind;
 use crate::no_memory::NoMemory;
@@ -14,7 +15,7 @@ use std::alloc::Global;
 /// a node; the first letter of its kind, the number of its bytes, `:` and the bytes for a lexeme;
 /// `?` and the number for a variable. Where memory is lacking, `into` is as before.
 pub fn write_core(alloc: Global, term: &Term, into: &mut Vec<u8>) -> Result<(), NoMemory>
-    requires depth { depth_of (tree term.now) ≤ 1000 }
+    requires depth { depth_of (tree term.now) ≤ most_depth }
     requires writable { IsWritable (tree term.now) }
     ensures ok { OnOk result (into.new.items ≡ into.old.items ++ core (tree term.now)) }
     ensures has_core { OnOk result (HasCore (tree term.now)) }
@@ -32,7 +33,7 @@ pub fn write_core(alloc: Global, term: &Term, into: &mut Vec<u8>) -> Result<(), 
 
 /// Appends the core text, or a front of it where memory is lacking.
 fn append_core(alloc: Global, term: &Term, into: &mut Vec<u8>) -> Result<(), NoMemory>
-    requires depth { depth_of (tree term.now) ≤ 1000 }
+    requires depth { depth_of (tree term.now) ≤ most_depth }
     requires writable { IsWritable (tree term.now) }
     ensures ok { OnOk result (into.new.items ≡ into.old.items ++ core (tree term.now)) }
     ensures has_core { OnOk result (HasCore (tree term.now)) }

@@ -6,6 +6,7 @@ ghost use Rattle.std.specs.Str.{IsUtf8};
 ghost use Rattle.sx_term.specs.declared.mark.Mark.{Mark};
 ghost use Rattle.sx_term.specs.Cutting.{Outcome, tokens, IsOutcome, AreDistinct, Cuts};
 ghost use Rattle.sx_term.specs.Spaced.{IsTokenText, spaced, placed, AreBlanks};
+ghost use Rattle.sx_term.specs.Limits.{most_tokens};
 
 /// The cutting of a text is one: it has its tokens or its first defect, and no two of them.
 pub fn one_outcome()
@@ -21,7 +22,7 @@ pub fn spaced_is_cut()
         (ending : List ℕ) →
         AllByRecursion (λ t. IsTokenText literals metas t.0 t.1) ts →
         AllByRecursion (λ t. IsUtf8 t.1) ts →
-        AreBlanks ending → length ts ≤ 10000 →
+        AreBlanks ending → length ts ≤ most_tokens →
         IsOutcome literals metas (spaced ts ++ ending) (tokens (placed 0 ts)) }
     ensures cut { (literals : List (List ℕ)) (metas : Bool) (ts : List (Mark × List ℕ))
         (ending : List ℕ) →

@@ -6,15 +6,14 @@ ghost use Rattle.sx_term.specs.Term.{tree};
 ghost use Rattle.sx_term.specs.Bindings.{instance};
 ghost use Rattle.sx_term.specs.Bound.{bindings};
 ghost use Rattle.sx_term.specs.Subst.{IsWithinLimits};
+ghost use Rattle.sx_term.specs.Limits.{most_depth};
 
 use crate::bindings::Bindings;
+use crate::limits::{MOST_DEPTH, MOST_SIZE};
 use crate::no_memory::NoMemory;
 use crate::term::Term;
 use crate::term_error::TermError;
 use std::alloc::Global;
-
-/// The greatest depth of an instance.
-const MOST_DEPTH: u32 = 1000;
 
 /// The instance: the term with each variable replaced by what it is bound to. A variable that is
 /// not bound stays.
@@ -22,7 +21,7 @@ const MOST_DEPTH: u32 = 1000;
 /// The instance is measured before it is made. It is refused as TooDeep where its depth is more
 /// than 1,000, and else as TooBig where it has more than 1,000,000 nodes, lexemes and variables.
 pub fn subst(alloc: Global, term: &Term, with: &Bindings) -> Result<Term, TermError>
-    requires { depth_of (tree term.now) ≤ 1000 }
+    requires { depth_of (tree term.now) ≤ most_depth }
     ensures { IsWithinLimits (instance (bindings with.now) (tree term.now)) result }
 {
     let depth = instance_depth(term, with);
@@ -30,7 +29,7 @@ pub fn subst(alloc: Global, term: &Term, with: &Bindings) -> Result<Term, TermEr
         return Err(TermError::TooDeep(depth));
     }
     let size = instance_size(term, with);
-    if size > 1_000_000 {
+    if size > MOST_SIZE {
         return Err(TermError::TooBig(size));
     }
     Ok(made(alloc, term, with)?)
@@ -38,9 +37,9 @@ pub fn subst(alloc: Global, term: &Term, with: &Bindings) -> Result<Term, TermEr
 
 /// The depth of the instance, without making it.
 fn instance_depth(term: &Term, with: &Bindings) -> u32
-    requires { depth_of (tree term.now) ≤ 1000 }
+    requires { depth_of (tree term.now) ≤ most_depth }
     ensures value { result ≡ depth_of (instance (bindings with.now) (tree term.now)) }
-    ensures small { result < depth_of (tree term.now) + 1000 }
+    ensures small { result < depth_of (tree term.now) + most_depth }
 {
     match term {
         Term::Node { label: _, kids } => {
@@ -60,7 +59,7 @@ fn instance_depth(term: &Term, with: &Bindings) -> u32
 
 /// The size of the instance, without making it.
 fn instance_size(term: &Term, with: &Bindings) -> u64
-    requires { depth_of (tree term.now) ≤ 1000 }
+    requires { depth_of (tree term.now) ≤ most_depth }
     ensures { result ≡ min (size_of (instance (bindings with.now) (tree term.now))) (2 ^ 64 - 1) }
 {
     match term {
@@ -81,7 +80,7 @@ fn instance_size(term: &Term, with: &Bindings) -> u64
 
 /// The instance.
 fn made(alloc: Global, term: &Term, with: &Bindings) -> Result<Term, NoMemory>
-    requires { depth_of (tree term.now) ≤ 1000 }
+    requires { depth_of (tree term.now) ≤ most_depth }
     ensures { IfOk result (λ t. tree t ≡ instance (bindings with.now) (tree term.now)) }
 {
     match term {

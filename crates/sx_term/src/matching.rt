@@ -8,6 +8,7 @@ ghost use Rattle.sx_term.specs.Bindings.{lookup};
 ghost use Rattle.sx_term.specs.Bound.{bindings};
 ghost use Rattle.sx_term.specs.Candidates.{candidates};
 ghost use Rattle.sx_term.specs.Matching.{IsFit, IsLeast, AddsOnlyOf, NoneMakesEqual};
+ghost use Rattle.sx_term.specs.Limits.{most_depth};
 
 use crate::bindings::Bindings;
 use crate::candidate::Candidate;
@@ -27,8 +28,8 @@ pub fn match_term(
     term: &Term,
     bound: &mut Bindings,
 ) -> Result<Fit, NoMemory>
-    requires pattern_depth { depth_of (tree pattern.now) ≤ 1000 }
-    requires term_depth { depth_of (tree term.now) ≤ 1000 }
+    requires pattern_depth { depth_of (tree pattern.now) ≤ most_depth }
+    requires term_depth { depth_of (tree term.now) ≤ most_depth }
     ensures fit { IfOk result (λ fit. IsFit (bindings bound.old) (bindings bound.new)
         (tree pattern.now) (tree term.now) fit) }
     ensures err { OnErr result (bindings bound.new ≡ bindings bound.old) }
@@ -47,7 +48,7 @@ fn known<'a>(bound: &'a Bindings, parts: &'a [Candidate<'a>], variable: u32) -> 
         ≡ None)
         (λ part. lookup (bindings bound.now ++ candidates parts.now) variable
         ≡ Some (tree part.now)) }
-    ensures depth { IfSome result (λ part. depth_of (tree part.now) ≤ 1000) }
+    ensures depth { IfSome result (λ part. depth_of (tree part.now) ≤ most_depth) }
 {
     if let Some(binding) = bound.entry(variable) {
         return Some(&binding.term);
@@ -68,8 +69,8 @@ fn collect<'a>(
     bound: &Bindings,
     parts: &mut Vec<Candidate<'a>>,
 ) -> Result<bool, NoMemory>
-    requires pattern_depth { depth_of (tree pattern.now) ≤ 1000 }
-    requires term_depth { depth_of (tree term.now) ≤ 1000 }
+    requires pattern_depth { depth_of (tree pattern.now) ≤ most_depth }
+    requires term_depth { depth_of (tree term.now) ≤ most_depth }
     ensures { IfOk result (λ fits. MatchBool fits
         (IsLeast (bindings bound.now ++ candidates parts.old.items)
         (bindings bound.now ++ candidates parts.new.items) (tree pattern.now) (tree term.now)

@@ -6,6 +6,7 @@ ghost use Rattle.sx_term.specs.Tree.{depth_of, greatest_depth, forest};
 ghost use Rattle.sx_term.specs.Term.{tree};
 ghost use Rattle.sx_term.specs.Sorts.{Shape, HasSort, KidsHaveSorts};
 ghost use Rattle.sx_term.specs.Shapes.{shape, shapes};
+ghost use Rattle.sx_term.specs.Limits.{most_depth};
 
 use crate::con::Con;
 use crate::no_memory::NoMemory;
@@ -54,7 +55,7 @@ impl Shapes {
     /// these sorts.
     #[cycle(fits)]
     pub fn fits(&self, term: &Term, vars: &[Sort], sort: Sort) -> bool
-        requires { depth_of (tree term.now) ≤ 1000 }
+        requires { depth_of (tree term.now) ≤ most_depth }
         ensures { IsTrue result ↔ HasSort (shapes self.now) vars.now (tree term.now) sort }
     {
         match term {
@@ -116,7 +117,7 @@ fn go_on_from(all: &[Con], first: &[Con]) -> bool
 /// Whether the terms have these sorts, each its own.
 #[cycle(fits)]
 fn kids_fit(all: &Shapes, terms: &[Term], vars: &[Sort], sorts: &[Sort]) -> bool
-    requires { greatest_depth (forest (map tree terms.now)) ≤ 1000 }
+    requires { greatest_depth (forest (map tree terms.now)) ≤ most_depth }
     ensures { IsTrue result ↔ KidsHaveSorts (shapes all.now) vars.now
         (forest (map tree terms.now)) sorts.now }
 {

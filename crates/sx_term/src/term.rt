@@ -4,6 +4,7 @@ ghost use Rattle.std.specs.Prelude.{◌≡◌, ℕ, ◌+◌, ◌-◌, ◌^◌, �
 ghost use Rattle.std.specs.Prelude.{MatchOption, Some, None, map, min};
 ghost use Rattle.sx_term.specs.Tree.{depth_of, greatest_depth, forest, size_of, part_at};
 ghost use Rattle.sx_term.specs.Term.{tree};
+ghost use Rattle.sx_term.specs.Limits.{most_depth};
 
 use crate::lex_kind::LexKind;
 use crate::no_memory::NoMemory;
@@ -28,7 +29,7 @@ impl Term {
     /// The size: the number of nodes, lexemes and variables, or the greatest u64 where there are
     /// more.
     pub fn size(&self) -> u64
-        requires { depth_of (tree self.now) ≤ 1000 }
+        requires { depth_of (tree self.now) ≤ most_depth }
         ensures { result ≡ min (size_of (tree self.now)) (2 ^ 64 - 1) }
     {
         match self {
@@ -46,7 +47,7 @@ impl Term {
 
     /// The depth, from 1.
     pub fn depth(&self) -> u32
-        requires { depth_of (tree self.now) ≤ 1000 }
+        requires { depth_of (tree self.now) ≤ most_depth }
         ensures { result ≡ depth_of (tree self.now) }
     {
         match self {
@@ -65,8 +66,8 @@ impl Term {
     /// Whether the terms are equal: label by label, kid by kid, and lexemes by kind and bytes.
     #[cycle(same)]
     pub fn same(&self, other: &Term) -> bool
-        requires self_depth { depth_of (tree self.now) ≤ 1000 }
-        requires other_depth { depth_of (tree other.now) ≤ 1000 }
+        requires self_depth { depth_of (tree self.now) ≤ most_depth }
+        requires other_depth { depth_of (tree other.now) ≤ most_depth }
         ensures { IsTrue result ↔ (tree self.now ≡ tree other.now) }
     {
         match (self, other) {
@@ -91,7 +92,7 @@ impl Term {
 
     /// An equal term. The one refusal is out of memory.
     pub fn copy(&self, alloc: Global) -> Result<Term, NoMemory>
-        requires { depth_of (tree self.now) ≤ 1000 }
+        requires { depth_of (tree self.now) ≤ most_depth }
         ensures { IfOk result (λ t. tree t ≡ tree self.now) }
     {
         match self {
@@ -137,8 +138,8 @@ impl Term {
 /// Whether there are as many terms, and each is equal to the other's at its place.
 #[cycle(same)]
 fn same_kids(left: &[Term], right: &[Term]) -> bool
-    requires left_depth { greatest_depth (forest (map tree left.now)) ≤ 1000 }
-    requires right_depth { greatest_depth (forest (map tree right.now)) ≤ 1000 }
+    requires left_depth { greatest_depth (forest (map tree left.now)) ≤ most_depth }
+    requires right_depth { greatest_depth (forest (map tree right.now)) ≤ most_depth }
     ensures { IsTrue result ↔ (map tree left.now ≡ map tree right.now) }
 {
     if left.len() != right.len() {

@@ -4,16 +4,14 @@ ghost use Rattle.std.specs.Prelude.{◌≡◌, ◌≤◌, ◌++◌, [], ◌∷�
 ghost use Rattle.sx_term.specs.Cutting.{IsOutcome};
 ghost use Rattle.sx_token.specs.Table.{IsTable};
 ghost use Rattle.sx_token.specs.Tokens.{pieces, outcome_of};
+ghost use Rattle.sx_term.specs.Limits.{most_bytes};
 
 use crate::front::{Front, front_of};
 use crate::table::Table;
 use crate::token::{Token, text_of};
 use crate::token_error::TokenError;
 use std::alloc::Global;
-use sx_term::Mark;
-
-/// The most tokens that a text may have.
-const MOST_TOKENS: usize = 10_000;
+use sx_term::{MOST_TOKENS, Mark};
 
 fn push_token(
     alloc: Global,
@@ -45,7 +43,7 @@ pub(crate) fn cut(
     metas: bool,
 ) -> Result<Vec<Token>, TokenError>
     requires table { IsTable table.now.literals.now table.now }
-    requires short { length text.now ≤ 262144 }
+    requires short { length text.now ≤ most_bytes }
     ensures { IfSome (outcome_of result) (IsOutcome table.now.literals.now metas text.now) }
 {
     let mut out = Vec::new(alloc);

@@ -4,6 +4,7 @@
 ghost use Rattle.std.specs.Prelude.{◌≡◌, ◌<◌, ◌≤◌, ◌^◌, length, IfSome};
 ghost use Rattle.sx_term.specs.Cutting.{Outcome, IsOutcome, AreDistinct};
 ghost use Rattle.sx_token.specs.Tokens.{outcome_of};
+ghost use Rattle.sx_term.specs.Limits.{most_bytes};
 
 mod cut;
 mod front;
@@ -27,7 +28,7 @@ pub fn tokens(
 ) -> Result<Vec<Token>, TokenError>
     requires distinct { AreDistinct literals.now }
     requires few { length literals.now < 2 ^ 32 }
-    requires short { length bytes.now ≤ 262144 }
+    requires short { length bytes.now ≤ most_bytes }
 
     // The answer is the cutting of the text, or its first defect, unless memory runs out.
     ensures outcome { IfSome (outcome_of result) (IsOutcome literals.now metas bytes.now) }

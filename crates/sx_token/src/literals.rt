@@ -3,6 +3,7 @@
 ghost use Rattle.std.specs.Prelude.{◌≡◌, ◌<◌, ◌≤◌, ◌^◌, length, IfOk, IfSome};
 ghost use Rattle.sx_term.specs.Cutting.{AreDistinct, Outcome, IsOutcome};
 ghost use Rattle.sx_token.specs.Tokens.{outcome_of};
+ghost use Rattle.sx_term.specs.Limits.{most_bytes};
 
 use crate::cut::cut;
 use crate::table::{Table, make_table};
@@ -46,7 +47,7 @@ impl<'a> Literals<'a> {
 
     /// The tokens of the text, or its first defect. Metavariables stand only where `metas` is true.
     pub fn tokens(&self, alloc: Global, bytes: &[u8], metas: bool) -> Result<Vec<Token>, TokenError>
-        requires { length bytes.now ≤ 262144 }
+        requires { length bytes.now ≤ most_bytes }
 
         // The answer is the cutting of the text, or its first defect, unless memory runs out.
         ensures outcome { IfSome (outcome_of result) (IsOutcome self.now metas bytes.now) }

@@ -18,7 +18,8 @@ use Rattle.sx_replay.specs.declared.replay_error.ReplayError.{ReplayError}
 use Rattle.sx_replay.specs.declared.replay_error.ReplayError.TheVariants as replay_error
 use Rattle.sx_words.specs.Commands.{Meant, builds, compiles, checks, verifies, samples}
 use Rattle.sx_steps.specs.declared.stop.Stop.{Stop}
-use Rattle.sx_steps.specs.Held.{Held, most_bytes, most_list_bytes}
+use Rattle.sx_steps.specs.Held.{Held, most_list_bytes}
+use Rattle.sx_term.specs.Limits.{most_bytes}
 use Rattle.sx_steps.specs.Lower.{Lower}
 use Rattle.sx_steps.specs.Refusal.{bad_word}
 use Rattle.sx_steps.specs.Steps.{NoTries, Trying, Untried, AndThen}

@@ -17,7 +17,8 @@ use Rattle.sx_replay.proofs.OneAnswer.{one_answer}
 use Rattle.sx_words.specs.Commands.{Meant, builds, compiles, checks, verifies, samples}
 use Rattle.sx_top.specs.CoreTexts.{subject_text, term_lines}
 use Rattle.sx_top.specs.FindFirst.{no_hypotheses, rules_of}
-use Rattle.sx_steps.specs.Held.{Held, most_bytes}
+use Rattle.sx_steps.specs.Held.{Held}
+use Rattle.sx_term.specs.Limits.{most_bytes}
 use Rattle.sx_steps.specs.Lower.{Lower}
 use Rattle.sx_top.specs.LowerStops.{core_stop}
 use Rattle.sx_top.specs.Proper.{IsProper}

@@ -12,7 +12,8 @@ use Rattle.sx_derive.proofs.BlamedOnce.{stuck_goal_is_unique}
 use Rattle.sx_steps.specs.declared.stop.Stop.{Stop}
 use Rattle.sx_top.specs.CoreStops.{underivable}
 use Rattle.sx_top.specs.FindFirst.{no_hypotheses, rules_of}
-use Rattle.sx_steps.specs.Held.{Held, most_bytes}
+use Rattle.sx_steps.specs.Held.{Held}
+use Rattle.sx_term.specs.Limits.{most_bytes}
 use Rattle.sx_top.specs.Search.{goal_events, ComesTo, Searches}
 use Rattle.sx_top.specs.Written.{Equals, Compares}
 use Rattle.sx_steps.proofs.Ones.{IsOne, then_one, held_one}

@@ -4,6 +4,7 @@ use Rattle.sx_words.specs.Commands.{Meant, builds, compiles, checks, verifies, s
 use Rattle.sx_words.specs.Commands.{Spells, IsMisfit}
 use Rattle.sx_steps.specs.declared.stop.Stop.{Stop}
 use Rattle.sx_steps.specs.Refusal.{bad_word}
+use Rattle.sx_term.specs.Limits.{most_budget}
 
 -- the command that the words spell, or the first word after which no command can follow
 abbrev pub Commands : List (List ℕ) → Result Meant Stop → Type 0
@@ -12,7 +13,7 @@ Commands words (Err stop) = (place : ℕ) × IsMisfit words place × (stop ≡ b
 
 -- a build has at most 1,000,000 tries to spend, and a sample from 1 to 300 names
 abbrev pub IsWithin : Meant → Type 0
-IsWithin (builds of_core name tries nodes audits) = tries ≤ 1000000
+IsWithin (builds of_core name tries nodes audits) = tries ≤ most_budget
 IsWithin (checks name tries nodes) = Unit {0}
 IsWithin (compiles name tries nodes audits) = Unit {0}
 IsWithin (verifies of_core name) = Unit {0}

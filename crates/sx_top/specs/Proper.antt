@@ -18,6 +18,7 @@ use Rattle.sx_derive.specs.declared.listed.Listed.{Listed}
 use Rattle.sx_top.specs.FindFirst.{no_hypotheses, rules_of}
 use Rattle.sx_top.specs.ReadCore.{rule_names}
 use Rattle.sx_top.specs.Terms.{AreTerms}
+use Rattle.sx_rules.specs.Limits.{most_levels}
 
 -- The rules are moded and have distinct names, the terms of rules and goal have core texts, and
 -- those of the goal are no deeper than 1,000.
@@ -33,7 +34,7 @@ pub record IsProper (problem : Problem) : Type 0 where
 pub record IsGiven (problem : Problem) (answer : Answer) : Type 0 where
   pub derives : DerivesGoal (modes_of problem.forms) (rules_of problem) no_hypotheses problem.goal
       answer
-  pub height : height_of answer.0 ≤ 3000
+  pub height : height_of answer.0 ≤ most_levels
   pub outputs : AreTerms answer.1
 
 -- the list is that of such an answer

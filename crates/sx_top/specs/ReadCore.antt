@@ -7,7 +7,8 @@ use Rattle.sx_steps.specs.declared.stop.Stop.{Stop}
 use Rattle.sx_steps.specs.Steps.{Then}
 use Rattle.sx_steps.specs.Lower.{Lower}
 use Rattle.sx_top.specs.LowerStops.{core_stop}
-use Rattle.sx_steps.specs.Held.{Held, most_bytes}
+use Rattle.sx_steps.specs.Held.{Held}
+use Rattle.sx_term.specs.Limits.{most_bytes}
 
 -- the file of a core problem
 abbrev pub core_file : List ℕ → List ℕ

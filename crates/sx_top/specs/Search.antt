@@ -11,6 +11,7 @@ use Rattle.sx_steps.specs.declared.stop.Stop.{Stop}
 use Rattle.sx_top.specs.FindFirst.{no_hypotheses, rules_of}
 use Rattle.sx_top.specs.CoreStops.{underivable}
 use Rattle.sx_steps.specs.Stops.{tries_spent, depth_spent, too_deep, too_big}
+use Rattle.sx_rules.specs.Limits.{most_levels}
 
 -- the events of the problem's goal, without hypotheses
 abbrev pub goal_events : Problem → List (Event Answer)
@@ -21,7 +22,7 @@ goal_events problem = events (modes_of problem.forms) (rules_of problem) no_hypo
 abbrev pub IsStuckGoal : Problem → Blame → Type 0
 IsStuckGoal problem blame =
     IsStuck (modes_of problem.forms) (subjects_in problem.forms)
-    (rules_of problem) no_hypotheses 3000 problem.goal [] blame
+    (rules_of problem) no_hypotheses most_levels problem.goal [] blame
 
 -- the limit that the walk passed
 abbrev pub passed : List ℕ → Cause → Stop

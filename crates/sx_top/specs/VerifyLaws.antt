@@ -12,13 +12,13 @@ use Rattle.sx_derive.specs.Walk.{events}
 use Rattle.sx_derive.specs.Search.{found, walk}
 use Rattle.sx_replay.specs.Fronts.{whole}
 use Rattle.sx_replay.specs.Replay.{IsWithin}
-use Rattle.sx_steps.specs.Held.{most_bytes}
 use Rattle.sx_top.specs.ReadCore.{core_file, Reads}
 use Rattle.sx_top.specs.Search.{Searches}
 use Rattle.sx_top.specs.CoreTexts.{term_lines}
 use Rattle.sx_top.specs.BuildCore.{core_plan}
 use Rattle.sx_verify.specs.Verified.{verified_plan}
 use Rattle.sx_top.specs.VerifyCore.{VerifiesWhole}
+use Rattle.sx_term.specs.Limits.{most_budget, most_bytes}
 
 -- what a walk finds is within the limits of replaying: no term that it makes passes one, and no
 -- entry stands deeper than 3,000
@@ -38,6 +38,6 @@ BuiltIsVerified =
     (name : List ℕ) (budget : ℕ) (files : Files) (problem : Problem) (answer : Answer) →
     Reads (core_file name) files (Ok problem) →
     Searches (core_file name) budget problem (Ok answer) →
-    budget ≤ 1000000 → length (term_lines answer.1) ≤ most_bytes →
+    budget ≤ most_budget → length (term_lines answer.1) ≤ most_bytes →
     VerifiesWhole name (after ((core_plan name problem answer).files) files)
     (Ok (verified_plan name (nodes_of answer.0)))

@@ -9,17 +9,18 @@ ghost use Rattle.sx_top.specs.LowerStops.{core_stop};
 ghost use Rattle.sx_top.specs.Proper.{IsProper};
 ghost use Rattle.sx_top.specs.ReadCore.{Reads};
 ghost use Rattle.sx_steps.specs.Stop.{Gives, OnlyReads, IsNoFault};
+ghost use Rattle.sx_term.specs.Limits.{most_bytes};
 
 use crate::core_stops::bad_core;
 use std::alloc::Global;
 use sx_core::{CoreProblem, read_core_file};
 use sx_outside::Shelf;
-use sx_steps::{MOST_BYTES, StepError, read_file};
-use sx_term::Text;
+use sx_steps::{StepError, read_file};
+use sx_term::{MOST_BYTES, Text};
 
 /// The problem that the bytes of the file state.
 fn state_problem(alloc: Global, file: &Text, bytes: &[u8]) -> Result<CoreProblem, StepError>
-    requires { length bytes.now ≤ 262144 }
+    requires { length bytes.now ≤ most_bytes }
     ensures step { Gives problem (Lower (core_stop file.now) (IsCoreAnswer bytes.now)) result }
     ensures proper { IfOk result (λ p. IsProper (problem p)) }
     ensures no_fault { IsNoFault result }

@@ -6,8 +6,8 @@ ghost use Rattle.sx_steps.specs.Stop.{Gives, OnlyReads, IsNoFault};
 
 use std::alloc::Global;
 use sx_outside::Shelf;
-use sx_steps::{MOST_BYTES, StepError, about, read_file};
-use sx_term::Text;
+use sx_steps::{StepError, about, read_file};
+use sx_term::{MOST_BYTES, Text};
 use sx_words::{ClosureDefect, Defect};
 
 /// The bytes are the text.

@@ -18,6 +18,7 @@ use Rattle.sx_rules.specs.Sorts.{GoalIsSorted}
 use Rattle.sx_rules.specs.Views.{FormData, modes_of, sorts_of, places_at}
 use Rattle.sx_notation.specs.Language.{sorts_with}
 use Rattle.sx_typing.specs.Outcomes.{LeadsTo}
+use Rattle.sx_term.specs.Limits.{most_depth}
 
 -- the term that stands at a place with this role, where it is no output
 abbrev pub input_at : Tree → Tree → Role → List Tree
@@ -61,8 +62,8 @@ MainGoalsHaveLexemes =
 
 abbrev pub MainGoalsAreShallow : Type 0
 MainGoalsAreShallow =
-    (places : List Place) (environment subject : Tree) → depth_of environment ≤ 1000 →
-    depth_of subject ≤ 1000 → AreShallow (main_terms places environment subject)
+    (places : List Place) (environment subject : Tree) → depth_of environment ≤ most_depth →
+    depth_of subject ≤ most_depth → AreShallow (main_terms places environment subject)
 
 -- a path that leads to a part of the term that was read leads to a place of the reading
 abbrev pub PartsHavePlaces : Type 0

@@ -30,6 +30,7 @@ use Rattle.sx_typing.specs.Goals.{rules_of, goal, goal_events, IsBody, IsTyped}
 use Rattle.sx_typing.specs.Outcomes.{no_hypotheses}
 use Rattle.sx_typing.specs.Source.{Source, main_sort, bytes_before}
 use Rattle.sx_typing.specs.Spots.{line_at, column_at}
+use Rattle.sx_rules.specs.Limits.{most_levels}
 
 -- ---- the body
 
@@ -64,7 +65,7 @@ stuck_text d goal reason = told_text (telling_in d) goal reason
 abbrev pub IsStuckGoal : Source → (subject : Tree) → Blame → Type 0
 IsStuckGoal s subject blame =
     IsStuck (modes_of s.dialect.language.forms) (subjects_in s.dialect.language.forms)
-    (rules_of s.dialect) no_hypotheses 3000 (goal s subject) [] blame
+    (rules_of s.dialect) no_hypotheses most_levels (goal s subject) [] blame
 
 -- the token at which the part begins that the stuck goal speaks of
 abbrev pub IsStuckAt : List Token → Reading → Blame → Source → (line column : ℕ) → Type 0

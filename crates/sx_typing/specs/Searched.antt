@@ -18,6 +18,7 @@ use Rattle.sx_derive.specs.Stuck.{Blame, IsStuck}
 use Rattle.sx_derive.specs.BlameTerms.{BlameIsShallow}
 use Rattle.sx_notation.specs.Language.{RuleHasLexemes}
 use Rattle.sx_typing.specs.Outcomes.{bare, no_hypotheses, LeadsTo, IsBlameIn}
+use Rattle.sx_rules.specs.Limits.{most_levels}
 
 -- the goal is of one of the forms and well sorted, its lexemes are tokens, it is no deeper than
 -- 1,000, and its subject is this term
@@ -57,5 +58,6 @@ ExhaustedGoalsFit =
     (vars : List Sort) (top : Tree) (goal : Goal) → IsGoalFor literals shapes forms vars top goal →
     (wanted : Option (List Tree)) (budget : ℕ) (blame : Blame) →
     walk wanted budget (events (modes_of forms) (bare rules) no_hypotheses goal 1) ≡ exhausted →
-    IsStuck (modes_of forms) (subjects_in forms) (bare rules) no_hypotheses 3000 goal [] blame →
+    IsStuck (modes_of forms) (subjects_in forms) (bare rules) no_hypotheses most_levels goal []
+    blame →
     IsBlameIn shapes forms vars top blame × BlameIsShallow blame

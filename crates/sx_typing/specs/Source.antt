@@ -18,6 +18,7 @@ use Rattle.sx_interface.specs.HeaderView.{header_view}
 use Rattle.sx_notation.specs.Language.{LanguageData, sorts_with}
 use Rattle.sx_typing.specs.declared.source.Source.{Source as SourceOf}
 use Rattle.sx_typing.specs.Dialects.{DialectData, IsDialectOf, dialect_of}
+use Rattle.sx_term.specs.Limits.{most_bytes, most_depth}
 
 -- the dialect, the bytes and the header of the module's file, and the environment
 pub record Source : Type 0 where
@@ -49,7 +50,7 @@ main_sort d role = only_sort (sorts_with role (places_at d.forms d.main.form))
 pub record IsGoodTerm (literals : List Text) (shapes : List Shape) (sort : Sort) (t : Tree) :
     Type 0 where
   pub sorted : HasSort shapes [] t sort
-  pub depth : depth_of t ≤ 1000
+  pub depth : depth_of t ≤ most_depth
   pub lexemes : HasLexemes literals t
 
 -- such a term of the dialect, for the place of the main form with this role: its lexemes are no
@@ -61,7 +62,7 @@ IsTermFor d role t = IsGoodTerm (literals_of d.language.parts) (shapes_of d.part
 -- the conditions of reading and typing
 pub record CanType (s : SourceOf) : Type 0 where
   pub dialect : IsDialectOf s.dialect
-  pub short : length s.bytes.now ≤ 262144
+  pub short : length s.bytes.now ≤ most_bytes
   pub environment : IsTermFor (dialect_of s.dialect) In (tree s.environment.now)
 
 -- how many bytes stand before the body

@@ -12,6 +12,7 @@ ghost use Rattle.sx_derive.specs.Search.{tries_of};
 ghost use Rattle.sx_derive.specs.Walk.{events};
 ghost use Rattle.sx_typing.specs.MainGoals.{input_at, main_terms, main_goal};
 ghost use Rattle.sx_typing.specs.Outcomes.{bare, no_hypotheses};
+ghost use Rattle.sx_term.specs.Limits.{most_depth};
 
 use std::alloc::Global;
 use std::sync::ledger::Ledger;
@@ -28,8 +29,8 @@ fn add_term(
     subject: &Term,
     into: &mut Vec<Term>,
 ) -> Result<(), NoMemory>
-    requires environment { depth_of (tree environment.now) ≤ 1000 }
-    requires subject { depth_of (tree subject.now) ≤ 1000 }
+    requires environment { depth_of (tree environment.now) ≤ most_depth }
+    requires subject { depth_of (tree subject.now) ≤ most_depth }
     ensures { IfOk result (λ x. map tree into.new.items ≡ map tree into.old.items ++ input_at
         (tree environment.now) (tree subject.now) role) }
 {
@@ -48,8 +49,8 @@ fn main_terms(
     environment: &Term,
     subject: &Term,
 ) -> Result<Vec<Term>, NoMemory>
-    requires environment { depth_of (tree environment.now) ≤ 1000 }
-    requires subject { depth_of (tree subject.now) ≤ 1000 }
+    requires environment { depth_of (tree environment.now) ≤ most_depth }
+    requires subject { depth_of (tree subject.now) ≤ most_depth }
     ensures { IfOk result (λ v. map tree v.items ≡ main_terms places.now (tree environment.now)
         (tree subject.now)) }
 {
@@ -69,8 +70,8 @@ pub fn main_goal(
     subject: &Term,
 ) -> Result<Goal, NoMemory>
     requires form { language.now.main.form < length (forms_in language.now.rules) }
-    requires environment { depth_of (tree environment.now) ≤ 1000 }
-    requires subject { depth_of (tree subject.now) ≤ 1000 }
+    requires environment { depth_of (tree environment.now) ≤ most_depth }
+    requires subject { depth_of (tree subject.now) ≤ most_depth }
     ensures { IfOk result (λ g.
         goal_of g ≡ main_goal (forms_in language.now.rules) language.now.main.form
         (tree environment.now) (tree subject.now)) }

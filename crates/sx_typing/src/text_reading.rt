@@ -11,6 +11,7 @@ ghost use Rattle.sx_forest.specs.Readings.{plain_reading};
 ghost use Rattle.sx_notation.specs.WhyUnread.{IsUnreadAs, IsReadError};
 ghost use Rattle.sx_typing.specs.Body.{IsCut, ReadsAs};
 ghost use Rattle.sx_typing.specs.Unread.{of_token_error, IsUnreadText};
+ghost use Rattle.sx_term.specs.Limits.{most_bytes};
 
 use crate::body::Body;
 use crate::unread_text::UnreadText;
@@ -43,7 +44,7 @@ fn token_error(error: TokenError) -> UnreadText
 
 /// The tokens of the text.
 fn cut_text(alloc: Global, grammar: &Grammar, text: &[u8]) -> Result<Vec<Token>, UnreadText>
-    requires { length text.now ≤ 262144 }
+    requires { length text.now ≤ most_bytes }
     ensures cut { IfOk result (λ ts. IsCut grammar.now.parts text.now ts.items) }
     ensures refused { IfErr result (λ e. (sort : Sort) →
         IsUnreadText grammar.now.parts sort text.now e) }
@@ -106,7 +107,7 @@ pub fn read_text(
     text: &[u8],
 ) -> Result<Body, UnreadText>
     requires sort { IsSort grammar.now.parts sort }
-    requires short { length text.now ≤ 262144 }
+    requires short { length text.now ≤ most_bytes }
     ensures read { IfOk result
         (λ b. ReadsAs grammar.now.parts sort text.now b.tokens.items (plain_reading b.reading)
         (tree b.term)) }

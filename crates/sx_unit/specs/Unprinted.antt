@@ -13,25 +13,26 @@ use Rattle.sx_words.specs.declared.print_defect.PrintDefect.TheVariants.{Bytes, 
 use Rattle.sx_words.specs.declared.print_defect.PrintDefect.TheVariants.{Depth, Ambiguous}
 use Rattle.sx_typing.specs.Body.{IsCut, ReadsOnly}
 use Rattle.sx_unit.specs.Texts.{printed}
+use Rattle.sx_term.specs.Limits.{most_bytes, most_tokens}
 
 -- of a file with so many bytes, in which the term is printed as the sort: which limit is passed
 -- first, or that no limit is passed and there are two readings, with the texts of two
 abbrev pub IsUnprintable : Parts → Sort → (size : ℕ) → (shown : List ℕ) → (t : Tree) → PrintDefect →
     Type 0
-IsUnprintable p sort size shown t (Bytes n) = (262144 < size) × (n ≡ size)
-IsUnprintable p sort size shown t (Tokens n) = (size ≤ 262144) × (10000 < n) ×
+IsUnprintable p sort size shown t (Bytes n) = (most_bytes < size) × (n ≡ size)
+IsUnprintable p sort size shown t (Tokens n) = (size ≤ most_bytes) × (most_tokens < n) ×
     (n ≡ length (printed p t)) × ((ts : List Token) → IsCut p shown ts → ⊥)
 IsUnprintable p sort size shown t Items =
-    (size ≤ 262144) × ((ts : List Token) × IsCut p shown ts ×
+    (size ≤ most_bytes) × ((ts : List Token) × IsCut p shown ts ×
     IsAnswer (numbered p) (plain_tokens [] ts) (number_of sort) too_hard)
 IsUnprintable p sort size shown t (Depth n) =
-    (size ≤ 262144) × ((ts : List Token) × IsCut p shown ts ×
+    (size ≤ most_bytes) × ((ts : List Token) × IsCut p shown ts ×
     IsAnswer (numbered p) (plain_tokens [] ts) (number_of sort) (too_deep n))
 IsUnprintable p sort size shown t (Ambiguous one other) =
-    (size ≤ 262144) × ((ts : List Token) × IsCut p shown ts × AreTwo p [] sort ts one other)
+    (size ≤ most_bytes) × ((ts : List Token) × IsCut p shown ts × AreTwo p [] sort ts one other)
 
 -- of such a file: it is short enough, and what is printed has only one reading, that of the term
 pub record IsPrintable (p : Parts) (sort : Sort) (size : ℕ) (shown : List ℕ) (t : Tree) : Type 0
   where
-    pub short : size ≤ 262144
+    pub short : size ≤ most_bytes
     pub read : ReadsOnly p sort shown t

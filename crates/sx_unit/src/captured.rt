@@ -6,6 +6,7 @@ ghost use Rattle.sx_term.specs.Tree.{depth_of};
 ghost use Rattle.sx_grammar.specs.Tables.{literals_of};
 ghost use Rattle.sx_interface.specs.FreeNames.{AreFree, IsFirstIn};
 ghost use Rattle.sx_unit.specs.Captured.{name_of, IsFree, IsCaptured};
+ghost use Rattle.sx_term.specs.Limits.{most_depth};
 
 use sx_grammar::Grammar;
 use sx_term::{LexKind, Term, Text};
@@ -28,7 +29,7 @@ fn captured_name<'a>(grammar: &Grammar, kind: LexKind, text: &'a Text) -> Option
 
 /// The first name in the term, in preorder, that is a literal of the grammar.
 pub(crate) fn captured<'a>(grammar: &Grammar, term: &'a Term) -> Option<&'a Text>
-    requires { depth_of (tree term.now) ≤ 1000 }
+    requires { depth_of (tree term.now) ≤ most_depth }
     ensures { MatchOption result
         (IsFree (literals_of grammar.entry.now.parts) (tree term.entry.now))
         (λ word. IsCaptured (literals_of grammar.entry.now.parts) (tree term.entry.now) word.now) }

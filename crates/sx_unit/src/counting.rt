@@ -10,6 +10,7 @@ ghost use Rattle.sx_grammar.specs.Print.{print, print_symbols, print_each, in_br
 ghost use Rattle.sx_grammar.specs.Tables.{literals_of};
 ghost use Rattle.sx_print.specs.Printed.{IsBuilt, AreBuilt, brackets_below, parts_in};
 ghost use Rattle.sx_unit.specs.Texts.{printed};
+ghost use Rattle.sx_term.specs.Limits.{most_depth};
 
 use sx_grammar::{Grammar, NumberedProduction, NumberedSymbol};
 use sx_term::Term;
@@ -34,7 +35,7 @@ fn count_brackets(grammar: &Grammar, production: &NumberedProduction, least: u8)
 /// number where they are more.
 #[cycle(count)]
 fn count_at(grammar: &Grammar, term: &Term, least: u8) -> u64
-    requires depth { depth_of (tree term.now) ≤ 1000 }
+    requires depth { depth_of (tree term.now) ≤ most_depth }
     requires built { IsBuilt (numbered grammar.now.parts) 0 (tree term.now) }
     ensures { (place : Stem) →
         result ≡ min (length (print (numbered grammar.now.parts) [] (tree term.now) place least))
@@ -54,7 +55,7 @@ fn count_at(grammar: &Grammar, term: &Term, least: u8) -> u64
 /// The same of the symbols with the kids in their places.
 #[cycle(count)]
 fn count_symbols(grammar: &Grammar, symbols: &[NumberedSymbol], kids: &[Term]) -> u64
-    requires depth { greatest_depth (forest (map tree kids.now)) ≤ 1000 }
+    requires depth { greatest_depth (forest (map tree kids.now)) ≤ most_depth }
     requires many { parts_in (map (symbol (literals_of grammar.now.parts)) symbols.now) ≡ length
         kids.now }
     requires built { AreBuilt (numbered grammar.now.parts) 0 (forest (map tree kids.now)) }
@@ -84,7 +85,7 @@ fn count_symbols(grammar: &Grammar, symbols: &[NumberedSymbol], kids: &[Term]) -
 /// How many tokens are printed of a term without variables, or the greatest number where they are
 /// more.
 pub(crate) fn count_tokens(grammar: &Grammar, term: &Term) -> u64
-    requires depth { depth_of (tree term.now) ≤ 1000 }
+    requires depth { depth_of (tree term.now) ≤ most_depth }
     requires fits { (sort : ℕ) ×
         Fits (numbered grammar.now.parts) [] (of_sort sort) (tree term.now) }
     ensures { result ≡ min (length (printed grammar.now.parts (tree term.now))) (2 ^ 64 - 1) }

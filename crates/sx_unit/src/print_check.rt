@@ -24,6 +24,7 @@ ghost use Rattle.sx_typing.specs.Body.{IsCut};
 ghost use Rattle.sx_unit.specs.PrintRefused.{IsPrintRefusal, IsUnreadPrint};
 ghost use Rattle.sx_unit.specs.Texts.{printed, print_text};
 ghost use Rattle.sx_unit.specs.Unprinted.{IsPrintable};
+ghost use Rattle.sx_term.specs.Limits.{most_bytes, most_depth, most_tokens};
 
 use crate::counting::count_tokens;
 use std::alloc::Global;
@@ -36,10 +37,10 @@ use sx_token::{Token, TokenError, tokens};
 use sx_words::PrintDefect;
 
 /// The most bytes that a file may have.
-pub(crate) const MOST_BYTES: usize = 262_144;
+pub(crate) const MOST_BYTES: usize = sx_term::MOST_BYTES as usize;
 
 /// The most tokens that a printed text may have.
-const MOST_TOKENS: u64 = 10_000;
+const MOST_TOKENS: u64 = sx_term::MOST_TOKENS as u64;
 
 /// Why a printed text cannot be written.
 #[derive(Drop)]
@@ -63,7 +64,7 @@ impl From<NoMemory> for PrintRefusal {
 
 /// The tokens of a text that has tokens.
 fn cut_print(alloc: Global, grammar: &Grammar, shown: &[u8]) -> Result<Vec<Token>, NoMemory>
-    requires short { length shown.now ≤ 262144 }
+    requires short { length shown.now ≤ most_bytes }
     requires cut { (ps : List Piece) ×
         IsOutcome (literals_of grammar.now.parts) false shown.now (cutting.tokens ps) }
     ensures cut { IfOk result (λ v. IsCut grammar.now.parts shown.now v.items) }
@@ -113,7 +114,7 @@ fn read_print(
     tokens: &[Token],
 ) -> Result<(), PrintRefusal>
     requires sort { IsSort grammar.now.parts sort }
-    requires short { length tokens.now ≤ 10000 }
+    requires short { length tokens.now ≤ most_tokens }
     requires stems { HaveStems [] tokens.now }
     requires read { (r : Reading) ×
         ReadsWhole (numbered grammar.now.parts) (plain_tokens [] tokens.now) (number_of sort) r }
@@ -145,7 +146,7 @@ pub(crate) fn check_print(
     shown: &[u8],
 ) -> Result<u32, PrintRefusal>
     requires sort { IsSort grammar.now.parts sort }
-    requires depth { depth_of (tree term.now) ≤ 1000 }
+    requires depth { depth_of (tree term.now) ≤ most_depth }
     requires fits { Fits (numbered grammar.now.parts) [] (of_sort (number_of sort))
         (tree term.now) }
     requires lexemes { HasLexemes (literals_of grammar.now.parts) (tree term.now) }

@@ -8,7 +8,8 @@ use Rattle.sx_outline.specs.Laws.{OneHeaderAnswer}
 use Rattle.sx_outside.specs.Files.{Files}
 use Rattle.sx_imports.specs.Walk.{Name}
 use Rattle.sx_steps.specs.Agree.{IsNoReadFault, AnswersBy}
-use Rattle.sx_steps.specs.Held.{Held, most_bytes}
+use Rattle.sx_steps.specs.Held.{Held}
+use Rattle.sx_term.specs.Limits.{most_bytes}
 use Rattle.sx_steps.specs.declared.stop.Stop.{Stop}
 use Rattle.sx_steps.proofs.Ones.{IsOne, as_answer, then_one, held_one, ok_same, err_same}
 use Rattle.sx_steps.proofs.Ones.{ok_no_err, some_same, none_some}

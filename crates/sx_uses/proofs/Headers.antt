@@ -7,7 +7,7 @@ use Rattle.sx_outline.specs.declared.outline_error.OutlineError.{OutlineError}
 use Rattle.sx_outline.specs.declared.outline_error.OutlineError.TheVariants.{Notation}
 use Rattle.sx_outline.specs.Known.{kept_lines}
 use Rattle.sx_outline.specs.Headers.{HeaderData, begun, with_use, AreUses, IsLanguageNext, IsHeaderOf, IsHeaderAnswer}
-use Rattle.sx_steps.specs.Held.{most_bytes}
+use Rattle.sx_term.specs.Limits.{most_bytes}
 use Rattle.sx_steps.proofs.Ones.{ok_same, ok_no_err}
 use Rattle.sx_uses.specs.ExtensionFile.{Extension, IsStated}
 

@@ -2,7 +2,7 @@
 use Rattle.std.specs.Prelude.{ℕ, ◌≤◌, List, ◌++◌, length, map, codes, Ok}
 use Rattle.std.specs.Global.{Vec}
 use Rattle.sx_outline.specs.Headers.{HeaderData, header, IsHeaderAnswer}
-use Rattle.sx_steps.specs.Held.{most_bytes}
+use Rattle.sx_term.specs.Limits.{most_bytes}
 use Rattle.sx_uses.specs.declared.extension_file.ExtensionFile.{ExtensionFile}
 
 -- the bytes of an extension's file, and its header

@@ -7,7 +7,8 @@ use Rattle.sx_outside.specs.Files.{Files}
 use Rattle.sx_words.specs.declared.extension_defect.ExtensionDefect.TheVariants as extension_defect
 use Rattle.sx_words.specs.declared.refusal.Defect.TheVariants as defect
 use Rattle.sx_steps.specs.declared.stop.Stop.{Stop}
-use Rattle.sx_steps.specs.Held.{Held, most_bytes}
+use Rattle.sx_steps.specs.Held.{Held}
+use Rattle.sx_term.specs.Limits.{most_bytes}
 use Rattle.sx_steps.specs.Refusal.{about}
 use Rattle.sx_steps.specs.Steps.{Then}
 use Rattle.sx_steps.specs.Stops.{not_utf8, kind_text, bad_line}

@@ -5,13 +5,14 @@ ghost use Rattle.sx_outside.specs.Told.{WhereTold};
 ghost use Rattle.sx_steps.specs.Stop.{Gives, OnlyReads, IsNoFault};
 ghost use Rattle.sx_uses.specs.ExtensionFile.{extension_of, extension_file, IsStated};
 ghost use Rattle.sx_uses.specs.ReadExtension.{header_stop, StatesExtension, ReadsFile};
+ghost use Rattle.sx_term.specs.Limits.{most_bytes};
 
 use crate::extension_file::ExtensionFile;
 use std::alloc::Global;
 use sx_outline::{OutlineError, read_extension_header};
 use sx_outside::Shelf;
-use sx_steps::{MOST_BYTES, StepError, Stop, bad_line, read_file, refused, with_suffix};
-use sx_term::{NoMemory, Text};
+use sx_steps::{StepError, Stop, bad_line, read_file, refused, with_suffix};
+use sx_term::{MOST_BYTES, NoMemory, Text};
 use sx_words::{Defect, FileDefect};
 
 /// The refusal of bytes that state no header.
@@ -37,7 +38,7 @@ fn state_extension(
     bytes: Vec<u8>,
 ) -> Result<ExtensionFile, StepError>
     requires file { file.now ≡ extension_file name.now }
-    requires short { length bytes.items ≤ 262144 }
+    requires short { length bytes.items ≤ most_bytes }
     ensures step { Gives extension_of (StatesExtension name.now bytes.items) result }
     ensures named { IfOk result (λ x. x.header.name ≡ name.now) }
     ensures stated { IfOk result (λ x. IsStated (extension_of x)) }

@@ -22,7 +22,8 @@ use Rattle.sx_outside.specs.Files.{Files}
 use Rattle.sx_words.specs.declared.closure_defect.Kept.TheVariants as kept
 use Rattle.sx_steps.specs.declared.stop.Stop.{Stop}
 use Rattle.sx_steps.specs.Agree.{IsNoReadFault}
-use Rattle.sx_steps.specs.Held.{Held, most_bytes}
+use Rattle.sx_steps.specs.Held.{Held}
+use Rattle.sx_term.specs.Limits.{most_bytes}
 use Rattle.sx_steps.specs.Steps.{NoTries}
 use Rattle.sx_steps.specs.Unit.{base_file, list_file, interface_file}
 use Rattle.sx_steps.proofs.Ones.{as_answer, held_one, trying_by, no_tries_one, answers_so}

@@ -27,7 +27,8 @@ use Rattle.sx_outside.specs.Files.{Files}
 use Rattle.sx_words.specs.declared.closure_defect.Kept.{Kept}
 use Rattle.sx_words.specs.declared.closure_defect.Kept.TheVariants as kept
 use Rattle.sx_steps.specs.declared.stop.Stop.{Stop}
-use Rattle.sx_steps.specs.Held.{Held, most_bytes, most_list_bytes}
+use Rattle.sx_steps.specs.Held.{Held, most_list_bytes}
+use Rattle.sx_term.specs.Limits.{most_bytes}
 use Rattle.sx_steps.specs.Stops.{not_utf8}
 use Rattle.sx_steps.specs.Unit.{base_file, list_file, interface_file}
 use Rattle.sx_steps.proofs.Ones.{ok_no_err}

@@ -17,6 +17,7 @@ use Rattle.sx_replay.specs.Replay.{IsReplayAnswer}
 use Rattle.sx_steps.specs.declared.stop.Stop.{Stop}
 use Rattle.sx_steps.specs.Lower.{Lower}
 use Rattle.sx_verify.specs.Lists.{replay_stop}
+use Rattle.sx_term.specs.Limits.{most_depth}
 
 -- the goal of the main form with this environment and this subject
 abbrev pub goal_in : LanguageData → (environment subject : Tree) → Goal
@@ -25,7 +26,7 @@ goal_in d environment subject = main_goal d.forms d.main.form environment subjec
 -- a term of the language for the place of the main form with this role, without variables and at
 -- most 1,000 deep
 abbrev pub IsTermOf : LanguageData → Role → Tree → Type 0
-IsTermOf d role t = HasSort (shapes_of d.parts) [] t (main_sort d role) × (depth_of t ≤ 1000)
+IsTermOf d role t = HasSort (shapes_of d.parts) [] t (main_sort d role) × (depth_of t ≤ most_depth)
 
 -- the goal is that of the main form with such terms
 pub record IsMainGoal (d : LanguageData) (goal : Goal) : Type 0 where

@@ -11,7 +11,8 @@ use Rattle.sx_unit.specs.Texts.{print_text}
 use Rattle.sx_outside.specs.Files.{Files}
 use Rattle.sx_words.specs.declared.closure_defect.Kept.TheVariants as kept
 use Rattle.sx_steps.specs.declared.stop.Stop.{Stop}
-use Rattle.sx_steps.specs.Held.{Held, most_bytes}
+use Rattle.sx_steps.specs.Held.{Held}
+use Rattle.sx_term.specs.Limits.{most_bytes}
 use Rattle.sx_steps.specs.Steps.{Then}
 use Rattle.sx_steps.specs.Unit.{base_file, list_file, interface_file}
 use Rattle.sx_steps.specs.Work.{Plan}

@@ -7,6 +7,7 @@ ghost use Rattle.sx_steps.specs.Stop.{Gives, IsNoFault};
 ghost use Rattle.sx_headers.specs.ReadModule.{module_of};
 ghost use Rattle.sx_verify.specs.BaseFits.{names_of, IsOther, IsFirst, IsBaseOf, IsMisfit};
 ghost use Rattle.sx_verify.specs.BaseFits.{FitsBeside};
+ghost use Rattle.sx_term.specs.Limits.{most_bytes};
 
 use std::alloc::Global;
 use sx_headers::{ModuleFile, bad_line_of_header, row_line};
@@ -72,7 +73,7 @@ pub(crate) fn fit_beside(
     interface: &Interface,
     base: &ModuleFile,
 ) -> Result<(), StepError>
-    requires { length base.now.bytes.items ≤ 262144 }
+    requires { length base.now.bytes.items ≤ most_bytes }
     ensures step { Gives (λ done. done)
         (FitsBeside file.now (interface_view interface.now) (module_of base.now)) result }
     ensures fits { IfOk result

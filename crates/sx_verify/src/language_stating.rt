@@ -6,6 +6,7 @@ ghost use Rattle.sx_notation.specs.Language.{IsLanguage};
 ghost use Rattle.sx_steps.specs.Stop.{Gives, IsNoFault};
 ghost use Rattle.sx_accepting.specs.LanguageFiles.{language_file};
 ghost use Rattle.sx_accepting.specs.ReadLanguage.{stated_of, StatesLanguage, HasText};
+ghost use Rattle.sx_term.specs.Limits.{most_bytes};
 
 use std::alloc::Global;
 use sx_accepting::{LanguageFile, bad_language};
@@ -21,7 +22,7 @@ pub(crate) fn state_language(
     bytes: &[u8],
     digest: Digest,
 ) -> Result<LanguageFile, StepError>
-    requires short { length bytes.now ≤ 262144 }
+    requires short { length bytes.now ≤ most_bytes }
     requires digest { digest.bytes ≡ sha256 bytes.now }
     ensures step { Gives stated_of (StatesLanguage name.now bytes.now) result }
     ensures fit { IfOk result (λ l. IsLanguage l.language) }

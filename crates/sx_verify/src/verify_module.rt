@@ -11,6 +11,7 @@ ghost use Rattle.sx_steps.specs.Work.{plan_of};
 ghost use Rattle.sx_verify.specs.AskedFiles.{HasFiles};
 ghost use Rattle.sx_verify.specs.VerifyModule as spec;
 ghost use Rattle.sx_verify.specs.WrittenFiles.{IsWritten, written_of};
+ghost use Rattle.sx_term.specs.Limits.{most_bytes};
 
 use crate::asked::Asked;
 use crate::kept_imports::read_all_kept;
@@ -22,8 +23,8 @@ use std::alloc::Global;
 use sx_importing::keep_digest;
 use sx_interface::{Digest, Import, digest};
 use sx_outside::Shelf;
-use sx_steps::{MOST_BYTES, StepError, Work, read_file, with_suffix};
-use sx_term::Text;
+use sx_steps::{StepError, Work, read_file, with_suffix};
+use sx_term::{MOST_BYTES, Text};
 use sx_words::Kept;
 
 /// The steps from the interfaces of the imports. The language's file has these bytes and this
@@ -38,7 +39,7 @@ fn verify_language<S: Shelf>(
 ) -> Result<Work, StepError>
     requires files { HasFiles asked.now }
     requires written { IsWritten written.now }
-    requires short { length bytes.now ≤ 262144 }
+    requires short { length bytes.now ≤ most_bytes }
     requires found { found.bytes ≡ sha256 bytes.now }
     requires imports { AllByRecursion IsShort (interfaces_of imports.now) }
     requires read { map (λ it. it.name) (interfaces_of imports.now) ≡
@@ -75,7 +76,7 @@ fn verify_imports<S: Shelf>(
 ) -> Result<Work, StepError>
     requires files { HasFiles asked.now }
     requires written { IsWritten written.now }
-    requires short { length bytes.now ≤ 262144 }
+    requires short { length bytes.now ≤ most_bytes }
     requires found { found.bytes ≡ sha256 bytes.now }
     ensures step { WhereTold (S.content shelf.old)
         (λ files. Gives plan_of (spec.VerifiesImports asked.now.name.now files
@@ -104,7 +105,7 @@ fn verify_bytes<S: Shelf>(
 ) -> Result<Work, StepError>
     requires files { HasFiles asked.now }
     requires written { IsWritten written.now }
-    requires short { length bytes.now ≤ 262144 }
+    requires short { length bytes.now ≤ most_bytes }
     ensures step { WhereTold (S.content shelf.old)
         (λ files. Gives plan_of (spec.VerifiesDigest asked.now.name.now files
         (written_of written.now) bytes.now) result) }

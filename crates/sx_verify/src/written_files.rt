@@ -11,6 +11,7 @@ ghost use Rattle.sx_verify.specs.AskedFiles.{HasFiles};
 ghost use Rattle.sx_verify.specs.BaseFits.{IsBaseOf};
 ghost use Rattle.sx_verify.specs.VerifyModule as spec;
 ghost use Rattle.sx_verify.specs.WrittenFiles.{IsWritten, written_of};
+ghost use Rattle.sx_term.specs.Limits.{most_bytes};
 
 use crate::asked::Asked;
 use crate::base_fits::fit_beside;
@@ -31,7 +32,7 @@ pub(crate) struct WrittenFiles {
 /// The base file fits the interface, and has the digest that this keeps.
 fn compare_base(asked: &Asked, interface: &Interface, base: &ModuleFile) -> Result<(), StepError>
     requires files { HasFiles asked.now }
-    requires short { length base.now.bytes.items ≤ 262144 }
+    requires short { length base.now.bytes.items ≤ most_bytes }
     ensures step { Gives (λ done. spec.both (interface_view interface.now) (module_of base.now))
         (spec.FitsBase asked.now.name.now (interface_view interface.now) (module_of base.now))
         result }
@@ -52,7 +53,7 @@ fn compare_base(asked: &Asked, interface: &Interface, base: &ModuleFile) -> Resu
 /// The base file that was read, beside the interface.
 fn beside(asked: &Asked, interface: Interface, base: ModuleFile) -> Result<WrittenFiles, StepError>
     requires files { HasFiles asked.now }
-    requires short { length base.bytes.items ≤ 262144 }
+    requires short { length base.bytes.items ≤ most_bytes }
     requires names { AreNames base.header.imports.items }
     ensures step { Gives written_of
         (spec.FitsBase asked.now.name.now (interface_view interface) (module_of base)) result }

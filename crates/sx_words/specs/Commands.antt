@@ -8,6 +8,7 @@ use Rattle.sx_lines.specs.Words.{is_name}
 use Rattle.sx_words.specs.declared.row.Row.{Row}
 use Rattle.sx_words.specs.declared.verb.Verb.{Verb}
 use Rattle.sx_words.specs.declared.verb.Verb.TheVariants.{Build, Compile, Check, Verify}
+use Rattle.sx_term.specs.Limits.{most_budget}
 
 -- an option
 pub data Given : Type 0 where
@@ -63,8 +64,8 @@ NoColon text = AllByRecursion (λ b. (b == colon) ≡ false) text
 -- a number of tries or nodes is from 1 to 1,000,000, and a kind has no colon
 abbrev pub IsGiven : Given → Type 0
 IsGiven core = Unit {0}
-IsGiven (tries n) = (1 ≤ n) × (n ≤ 1000000)
-IsGiven (nodes n) = (1 ≤ n) × (n ≤ 1000000)
+IsGiven (tries n) = (1 ≤ n) × (n ≤ most_budget)
+IsGiven (nodes n) = (1 ≤ n) × (n ≤ most_budget)
 IsGiven (audit kind setting) = NoColon kind
 
 -- ---- what there is
@@ -174,7 +175,7 @@ MayStand verb place s (option ∷ options) =
 
 -- what is not said of tries and nodes is 1,000,000
 abbrev pub or_most : Option ℕ → ℕ
-or_most n = unwrap_or n 1000000
+or_most n = unwrap_or n most_budget
 
 -- the command of this name, with what its options say
 unfoldable pub meant : Verb → Settings → List ℕ → Meant

@@ -9,6 +9,7 @@ use Rattle.sx_words.specs.declared.verb.Verb.TheVariants.{Build, Compile, Check,
 use Rattle.sx_words.specs.Commands.{Given, core, tries, nodes, audit, Settings, Meant, samples}
 use Rattle.sx_words.specs.Commands.{verb_word, colon, takes, is_new}
 use Rattle.sx_words.specs.Commands.{nothing_said, with_option, meant}
+use Rattle.sx_term.specs.Limits.{most_budget}
 
 -- the first that there is
 abbrev pub or_else : {A : Type 0} → Option A → Option A → Option A
@@ -31,7 +32,7 @@ at_colon (b ∷ text) = if b == colon then Some ([], text) else option_map (λ p
 
 -- the number that a word gives after this front
 unfoldable pub number_after : List ℕ → List ℕ → Option ℕ
-number_after front word = option_and_then (count_of 1000000) (after front word)
+number_after front word = option_and_then (count_of most_budget) (after front word)
 
 -- the kind and the setting that a word gives
 unfoldable pub audit_after : List ℕ → Option (List ℕ × List ℕ)

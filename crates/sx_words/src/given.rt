@@ -8,6 +8,7 @@ ghost use Rattle.sx_words.specs.Texts.{AreUtf8, IsGivenUtf8, IsFirstColon};
 ghost use Rattle.sx_words.specs.Commands.{NoColon};
 
 use sx_lines::{after, number_within};
+use sx_term::MOST_BUDGET;
 
 /// An option, as a word spells it.
 #[derive(Clone, Copy)]
@@ -71,7 +72,7 @@ fn number_after(front: &[u8], word: &[u8]) -> Option<u64>
     ensures { result ≡ spec.number_after front.now word.now }
 {
     match after(word, front) {
-        Some(digits) => count_of(1_000_000, digits),
+        Some(digits) => count_of(MOST_BUDGET, digits),
         None => None,
     }
 }

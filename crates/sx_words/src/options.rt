@@ -16,10 +16,7 @@ use crate::row::row_of;
 use crate::verb::Verb;
 use indexmap::IndexSet;
 use std::alloc::Global;
-use sx_term::{NoMemory, Text};
-
-/// The most tries and nodes, and what stands where nothing is said.
-const MOST: u64 = 1_000_000;
+use sx_term::{MOST_BUDGET, NoMemory, Text};
 
 /// What the options say so far.
 #[derive(Drop)]
@@ -164,8 +161,8 @@ pub(crate) fn command(
         audits,
     } = said;
     drop(kinds);
-    let tries = tries.unwrap_or(MOST);
-    let nodes = nodes.unwrap_or(MOST);
+    let tries = tries.unwrap_or(MOST_BUDGET);
+    let nodes = nodes.unwrap_or(MOST_BUDGET);
     match verb {
         Verb::Build => Ok(Command::Build {
             core,

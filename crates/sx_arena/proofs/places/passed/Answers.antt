@@ -5,17 +5,17 @@ use Rattle.sx_arena.proofs.places.passed.Goals as goal
 pub cell-cell-requires-clause-within : goal.cell-cell-requires-clause-within
 cell-cell-requires-clause-within c = below_zero _ _ c.requires.terms c.loop-term.term-index c.loop-term-test.true
 
-pub returns-then-cell-gt1000 : goal.returns-then-cell-gt1000
-returns-then-cell-gt1000 c =
-    limit_deep _ _ _ _ c.loop-term-test.true (depth_read _ _ _ c.cell-cell.ensures) c.if-cell-gt1000.true c.loop-term.invariant
+pub returns-then-cell : goal.returns-then-cell
+returns-then-cell c =
+    limit_deep _ _ _ _ c.loop-term-test.true (depth_read _ _ _ c.cell-cell.ensures) c.if-cell.true c.loop-term.invariant
 
-pub returns-then-cell-gt1000000 : goal.returns-then-cell-gt1000000
-returns-then-cell-gt1000000 c =
-    limit_big _ _ _ _ _ c.loop-term-test.true (depth_read _ _ _ c.cell-cell.ensures) c.if-cell-gt1000.false (size_read _ _ _ c.cell-cell.ensures) c.if-cell-gt1000000.true c.loop-term.invariant
+pub returns-then-cell-gt-MOST_SIZE : goal.returns-then-cell-gt-MOST_SIZE
+returns-then-cell-gt-MOST_SIZE c =
+    limit_big _ _ _ _ _ c.loop-term-test.true (depth_read _ _ _ c.cell-cell.ensures) c.if-cell.false (size_read _ _ _ c.cell-cell.ensures) c.if-cell-gt-MOST_SIZE.true c.loop-term.invariant
 
 pub loop-term-preserved : goal.loop-term-preserved
 loop-term-preserved c =
-    limit_none _ _ _ _ _ c.loop-term-test.true (depth_read _ _ _ c.cell-cell.ensures) c.if-cell-gt1000.false (size_read _ _ _ c.cell-cell.ensures) c.if-cell-gt1000000.false c.loop-term.invariant
+    limit_none _ _ _ _ _ c.loop-term-test.true (depth_read _ _ _ c.cell-cell.ensures) c.if-cell.false (size_read _ _ _ c.cell-cell.ensures) c.if-cell-gt-MOST_SIZE.false c.loop-term.invariant
 
 pub returns : goal.returns
 returns c = limit_end _ _ c.loop-term.term-index c.loop-term-test.false c.loop-term.invariant

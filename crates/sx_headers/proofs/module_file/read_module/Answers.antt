@@ -1,6 +1,7 @@
 use Rattle.std.proofs.Common.{ℕ}
 use Rattle.std.specs.Global.{Vec}
-use Rattle.sx_steps.specs.Held.{Held, most_bytes}
+use Rattle.sx_steps.specs.Held.{Held}
+use Rattle.sx_term.specs.Limits.{most_bytes}
 use Rattle.sx_steps.proofs.StepsOn.{goes_next, stops_first}
 use Rattle.sx_headers.specs.ReadModule.{module_of, StatesModule}
 use Rattle.sx_headers.proofs.module_file.read_module.Goals as goal

@@ -2,7 +2,8 @@ use Rattle.std.proofs.Common.{ℕ, List, subst}
 use Rattle.std.specs.Global.{Vec}
 use Rattle.sx_core.specs.Problem.{problem}
 use Rattle.sx_core.specs.CoreRead.{IsCoreAnswer}
-use Rattle.sx_steps.specs.Held.{Held, most_bytes}
+use Rattle.sx_steps.specs.Held.{Held}
+use Rattle.sx_term.specs.Limits.{most_bytes}
 use Rattle.sx_steps.specs.Lower.{Lower}
 use Rattle.sx_top.specs.LowerStops.{core_stop}
 use Rattle.sx_steps.specs.Stop.{Gives}

@@ -1,6 +1,7 @@
 use Rattle.std.proofs.Common.{ℕ, List, subst}
 use Rattle.std.specs.Global.{Vec}
-use Rattle.sx_steps.specs.Held.{Held, most_bytes}
+use Rattle.sx_steps.specs.Held.{Held}
+use Rattle.sx_term.specs.Limits.{most_bytes}
 use Rattle.sx_top.specs.Written.{Equals}
 use Rattle.sx_steps.specs.Stop.{Gives}
 use Rattle.sx_steps.proofs.StepsOn.{goes_next, stops_first}

@@ -1,7 +1,8 @@
 use Rattle.std.proofs.Common.{ℕ, List, subst}
 use Rattle.std.specs.Prelude.{Ok, Err}
 use Rattle.std.specs.Global.{Vec}
-use Rattle.sx_steps.specs.Held.{Held, most_bytes}
+use Rattle.sx_steps.specs.Held.{Held}
+use Rattle.sx_term.specs.Limits.{most_bytes}
 use Rattle.sx_steps.specs.Stop.{Gives}
 use Rattle.sx_steps.proofs.StepsOn.{goes_next, stops_first}
 use Rattle.sx_uses.specs.ExtensionFile.{extension_of, extension_file}

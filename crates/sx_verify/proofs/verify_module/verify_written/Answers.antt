@@ -1,7 +1,8 @@
 use Rattle.std.proofs.Common.{ℕ, List, subst, ◌∙◌, Vec}
 use Rattle.std.specs.Global.{Global}
 use Rattle.std.specs.Prelude.{Ok, Err}
-use Rattle.sx_steps.specs.Held.{Held, most_bytes}
+use Rattle.sx_steps.specs.Held.{Held}
+use Rattle.sx_term.specs.Limits.{most_bytes}
 use Rattle.sx_steps.specs.Stop.{Gives}
 use Rattle.sx_steps.specs.Work.{plan_of}
 use Rattle.sx_steps.proofs.StepsOn.{goes_next, stops_first}

@@ -10,8 +10,8 @@ returns c =
     let held = c.in_ok-made.ensures.image in
     let d = c.in_ok-measure.ensures.measure.depth in
     let s = c.in_ok-measure.ensures.measure.size in
-    let f = c.if-measure-gt1000.false in
-    let g = c.if-measure-gt1000000.false in (
+    let f = c.if-measure-gt-MOST_DEPTH.false in
+    let g = c.if-measure-gt-MOST_SIZE.false in (
       held,
       record {
         measures = measures_stay table (trees c.args.arena.now) (trees c.made.new.arena) c.measured.new.notes.items held.extends c.in_ok-measure.ensures.known;
