@@ -7,7 +7,7 @@ use std::marker::Brand;
 use std::process::ExitCode;
 use std::sync::ledger::{Blank, Ledger};
 use sx_audit::{Auditor, makers};
-use sx_host::{ArgumentsError, Folder, Input, Output, read_arguments};
+use sx_host::{ArgumentsError, Folder, StandardInput, StandardOutput, read_arguments};
 use sx_outside::Sink;
 use sx_term::{NoMemory, Steps, Text};
 use sx_top::{Status, run};
@@ -25,8 +25,8 @@ fn run_with<L: Ledger>(
 {
     let mut steps = Steps::<L>::new(blank);
     let mut folder = Folder::new(rt);
-    let mut input = Input::new(rt);
-    let mut output = Output::new(rt);
+    let mut input = StandardInput::new(rt);
+    let mut output = StandardOutput::new(rt);
     run(
         rt.alloc(),
         words,
@@ -55,7 +55,7 @@ fn run_words(rt: &HostRuntime, words: &[Text]) -> Result<Status, NoMemory> {
 
 /// Says that the words are no texts.
 fn refuse_words(rt: &HostRuntime) -> Status {
-    let _ = Output::new(rt).write(b"soundx: words: word 1\n");
+    let _ = StandardOutput::new(rt).write(b"soundx: words: word 1\n");
     Status::Words
 }
 

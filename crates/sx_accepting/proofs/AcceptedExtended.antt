@@ -16,7 +16,7 @@ use Rattle.sx_rules.specs.Good.{IsRuleSet}
 use Rattle.sx_rules.specs.Sets.{forms_in, rules_in}
 use Rattle.sx_rules.specs.Views.{FormData, NamedRule, named}
 use Rattle.sx_rewrite.specs.declared.ext_rule.ExtRule.{ExtRule as ExtRuleOf}
-use Rattle.sx_rewrite.specs.Accepted.{ExtRule, Checked, basic, checked, rule_in, rules_of}
+use Rattle.sx_rewrite.specs.Accepted.{ExtRule, Checked, basic, checked, rule_in, extended_rules}
 use Rattle.sx_rewrite.specs.Accepted.{Signature, IsAccepted}
 use Rattle.sx_rewrite.specs.Accepting.{AreStored}
 use Rattle.sx_rewrite.specs.Extensions.{Extension as Added, Fits, with_table}
@@ -75,7 +75,7 @@ base_moded modes (r ∷ base) more h = (h.0, base_moded modes base more h.1)
 
 -- what is stored of rules that are checked
 are_stored : (c : Check) → AllModed c.sig.modes c.set.base →
-    AllModed c.sig.modes (rules_of (plain_of c.set)) →
+    AllModed c.sig.modes (extended_rules (plain_of c.set)) →
     (es : List ExtRuleOf) (ss : List Checked) (count : ℕ) → AreChecked c es count (Ok ss) →
     AreStored c.sig c.labels c.set (map ext_rule es) ss
 are_stored c base plain [] [] count h = tt

@@ -34,11 +34,11 @@ use Rattle.sx_outline.specs.Stages.{RuleData}
 use Rattle.sx_term.specs.Tree.{Tree}
 use Rattle.sx_extcheck.specs.declared.accept_error.AcceptError.TheVariants.{Memory, Rule}
 use Rattle.sx_extcheck.specs.declared.budgets.Budgets.{Budgets}
-use Rattle.sx_extcheck.specs.declared.rule_defect.RuleDefect.{RuleDefect}
-use Rattle.sx_extcheck.specs.declared.rule_defect.RuleDefect.TheVariants.{Rejected, BudgetSpent}
-use Rattle.sx_extcheck.specs.declared.rule_defect.RuleDefect.TheVariants.{DepthSpent, TooDeep}
-use Rattle.sx_extcheck.specs.declared.rule_defect.RuleDefect.TheVariants.{TooBig, RewriteSpent}
-use Rattle.sx_extcheck.specs.declared.rule_defect.RuleDefect.TheVariants.{RewriteDeep}
+use Rattle.sx_extcheck.specs.declared.rule_refusal.RuleRefusal.{RuleRefusal}
+use Rattle.sx_extcheck.specs.declared.rule_refusal.RuleRefusal.TheVariants.{Rejected, BudgetSpent}
+use Rattle.sx_extcheck.specs.declared.rule_refusal.RuleRefusal.TheVariants.{DepthSpent, TooDeep}
+use Rattle.sx_extcheck.specs.declared.rule_refusal.RuleRefusal.TheVariants.{TooBig, RewriteSpent}
+use Rattle.sx_extcheck.specs.declared.rule_refusal.RuleRefusal.TheVariants.{RewriteDeep}
 use Rattle.sx_extcheck.specs.Accepts.{AreChecked}
 use Rattle.sx_extcheck.specs.Checks.{Check, IsRefusedFor}
 use Rattle.sx_extcheck.specs.CheckView.{check_with, CanCheck}
@@ -124,7 +124,7 @@ module _ (shapes : List Shape) (forms : List FormData) where
 
   -- the rule that is refused has none of the names before
   refused-fresh : (c : Check) (names : List Text) (es : List ExtRuleOf) (count : ℕ) (name : Text)
-      (defect : RuleDefect) → AllGood shapes forms names (map (λ e. named e.rule) es) →
+      (defect : RuleRefusal) → AllGood shapes forms names (map (λ e. named e.rule) es) →
       IsAmong name names →
       AreChecked c es count (Err (Rule name defect)) → ⊥
   refused-fresh c names [] count name defect good k h = h

@@ -9,7 +9,7 @@ use Rattle.sx_rewrite.specs.Accepted.{ExtRule, Checked, IsAccepted}
 use Rattle.sx_rewrite.specs.ExtensionView.{ext_rule}
 use Rattle.sx_extcheck.specs.declared.accept_error.AcceptError.{AcceptError}
 use Rattle.sx_extcheck.specs.declared.accept_error.AcceptError.TheVariants.{Memory, Rule}
-use Rattle.sx_extcheck.specs.declared.rule_defect.RuleDefect.{RuleDefect}
+use Rattle.sx_extcheck.specs.declared.rule_refusal.RuleRefusal.{RuleRefusal}
 use Rattle.sx_extcheck.specs.Accepts.{AreChecked}
 use Rattle.sx_extcheck.specs.Agree.{Agree}
 use Rattle.sx_extcheck.specs.Checks.{Check, tries_for, IsStoredFor, IsRefusedFor}
@@ -43,7 +43,7 @@ module _ (c : Check) (base shapes : List Shape) (ok : IsAccepted c.sig base shap
     stored_as : (s : Checked) → IsStoredFor c f s → IsStoredFor c e s
     stored_as s h = subst (λ (x : ExtRule). IsStoredFor c x s) (sym same) h
 
-    refused_as : (d : RuleDefect) → IsRefusedFor c f d → IsRefusedFor c e d
+    refused_as : (d : RuleRefusal) → IsRefusedFor c f d → IsRefusedFor c e d
     refused_as d h = subst (λ (x : ExtRule). IsRefusedFor c x d) (sym same) h
 
     summed : (m n rest more : ℕ) → m ≡ tries_for c e + rest → n ≡ tries_for c f + more →

@@ -6,11 +6,11 @@ use Rattle.sx_words.specs.declared.refusal.Defect.{Defect}
 use Rattle.sx_words.specs.declared.refusal.Defect.TheVariants as defect
 use Rattle.sx_steps.specs.Stops.{at}
 use Rattle.sx_extcheck.specs.Agree.{DefectData, unsound, other, defect_as_data}
-use Rattle.sx_extcheck.specs.declared.rule_defect.RuleDefect.{RuleDefect}
-use Rattle.sx_extcheck.specs.declared.rule_defect.RuleDefect.TheVariants.{Rejected, BudgetSpent}
-use Rattle.sx_extcheck.specs.declared.rule_defect.RuleDefect.TheVariants.{DepthSpent, TooDeep}
-use Rattle.sx_extcheck.specs.declared.rule_defect.RuleDefect.TheVariants.{TooBig, RewriteSpent}
-use Rattle.sx_extcheck.specs.declared.rule_defect.RuleDefect.TheVariants.{RewriteDeep}
+use Rattle.sx_extcheck.specs.declared.rule_refusal.RuleRefusal.{RuleRefusal}
+use Rattle.sx_extcheck.specs.declared.rule_refusal.RuleRefusal.TheVariants.{Rejected, BudgetSpent}
+use Rattle.sx_extcheck.specs.declared.rule_refusal.RuleRefusal.TheVariants.{DepthSpent, TooDeep}
+use Rattle.sx_extcheck.specs.declared.rule_refusal.RuleRefusal.TheVariants.{TooBig, RewriteSpent}
+use Rattle.sx_extcheck.specs.declared.rule_refusal.RuleRefusal.TheVariants.{RewriteDeep}
 use Rattle.sx_stuck.specs.StuckText.{stuck_text}
 use Rattle.sx_accepting.specs.AcceptanceStops.{Refusing, telling_for, defect_of}
 use Rattle.sx_accepting.specs.Refusals.{RefusedRulesStopAlike}
@@ -20,7 +20,7 @@ abbrev by_data : Refusing → Text → DefectData → Defect
 by_data r name (unsound b) = defect.Goal (stuck_text (telling_for r name) b.goal b.reason)
 by_data r name (other what) = defect_of r name what
 
-is_by_data : (r : Refusing) (name : Text) (what : RuleDefect) →
+is_by_data : (r : Refusing) (name : Text) (what : RuleRefusal) →
     defect_of r name what ≡ by_data r name (defect_as_data what)
 is_by_data r name (Rejected b) = refl
 is_by_data r name (BudgetSpent n) = refl

@@ -8,7 +8,7 @@ use Rattle.sx_notation.specs.declared.notation_error.NotationError.{NotationErro
 use Rattle.sx_notation.specs.declared.notation_error.NotationError.TheVariants as notation_error
 use Rattle.sx_extcheck.specs.declared.accept_error.AcceptError.{AcceptError}
 use Rattle.sx_extcheck.specs.declared.accept_error.AcceptError.TheVariants as accept_error
-use Rattle.sx_extcheck.specs.declared.rule_defect.RuleDefect.TheVariants as rule_defect
+use Rattle.sx_extcheck.specs.declared.rule_refusal.RuleRefusal.TheVariants as rule_defect
 use Rattle.sx_extension.specs.declared.plain_defect.PlainDefect.TheVariants as plain_defect
 use Rattle.sx_extension.specs.declared.extension_error.ExtensionError.{ExtensionError}
 use Rattle.sx_extension.specs.declared.extension_error.ExtensionError.TheVariants

@@ -29,7 +29,7 @@ use Rattle.sx_derive.proofs.BlameDepths.{stuck_goal_is_shallow}
 use Rattle.sx_derive.proofs.Blamed.{exhausted_has_no_stop}
 use Rattle.sx_rewrite.specs.declared.accepted.Accepted.{Accepted as AcceptedOf}
 use Rattle.sx_rewrite.specs.declared.ext_rule.ExtRule.{ExtRule as ExtRuleOf}
-use Rattle.sx_rewrite.specs.Accepted.{Accepted, IsAccepted, Signature, ExtRule, rules_of}
+use Rattle.sx_rewrite.specs.Accepted.{Accepted, IsAccepted, Signature, ExtRule, extended_rules}
 use Rattle.sx_rewrite.specs.AcceptedView.{accepted, signature}
 use Rattle.sx_rewrite.specs.Extensions.{BodyFits, with_table}
 use Rattle.sx_rewrite.specs.ExtensionView.{ext_rule}
@@ -44,7 +44,7 @@ use Rattle.sx_rewrite.proofs.LongerTables.{plain_rules_stay}
 use Rattle.sx_rewrite.proofs.LoweredSorted.{list-more-sorted, judgements-more-sorted, moded-base}
 use Rattle.sx_rewrite.proofs.PlainSets.{plain_rules_are_accepted}
 use Rattle.sx_extcheck.specs.declared.budgets.Budgets.{Budgets}
-use Rattle.sx_extcheck.specs.declared.rule_defect.RuleDefect.TheVariants.{Rejected}
+use Rattle.sx_extcheck.specs.declared.rule_refusal.RuleRefusal.TheVariants.{Rejected}
 use Rattle.sx_extcheck.specs.Checks.{Check, by_base, over_for, search_for, IsRefusedFor}
 use Rattle.sx_extcheck.specs.CheckView.{check_with, CanCheck}
 use Rattle.sx_extcheck.specs.Searches.{Search, IsShallowSearch}
@@ -153,7 +153,7 @@ module _ (set : AcceptedOf) (k : IsKept set) (plain : PlainTable) (budgets : Bud
               small-outputs modes places places-small;
         }
 
-  moded-by : (b : Bool) → AllModed sig.modes (if b then own.base else rules_of (plain_of
+  moded-by : (b : Bool) → AllModed sig.modes (if b then own.base else extended_rules (plain_of
       (with_table own table)))
   moded-by true = moded-base sig.modes own.base own.more longer-set.moded
   moded-by false = plain-set.moded
@@ -196,14 +196,14 @@ module _ (set : AcceptedOf) (k : IsKept set) (plain : PlainTable) (budgets : Bud
         (subst (λ (fs : List FormData). IsRuleSet (shapes_in set.plain_rules) fs
         (rules_in set.plain_rules)) k.plain.forms_are k.plain_set)
 
-    plain-bare : rules_of (plain_of (with_table own table)) ≡ map (λ (q : NamedRule). q.rule)
+    plain-bare : extended_rules (plain_of (with_table own table)) ≡ map (λ (q : NamedRule). q.rule)
         (rules_in set.plain_rules)
     plain-bare =
-        ap rules_of (plain_rules_stay sig base shapes own can.after.accepted table
+        ap extended_rules (plain_rules_stay sig base shapes own can.after.accepted table
         can.after.goes_on.keeps)
         ∙ sym k.plain_rules ∙ sym (bare-named set.plain_rules.rules.items)
 
-    by-plain-rules : (b : Blame) → StuckBy (rules_of (plain_of (with_table own table))) b →
+    by-plain-rules : (b : Blame) → StuckBy (extended_rules (plain_of (with_table own table))) b →
         IsSortedBlame can.all (forms_in set.base) vars b
     by-plain-rules b s =
         blame-more shapes can.all can.after.goes_on.begins (forms_in set.base) vars b
@@ -215,7 +215,7 @@ module _ (set : AcceptedOf) (k : IsKept set) (plain : PlainTable) (budgets : Bud
         (subst (λ (rs : List Rule). StuckBy rs b) plain-bare s))
 
     sorted-by : (v : Bool) → by_base c ext ≡ v → (b : Blame) →
-        StuckBy (if v then own.base else rules_of (plain_of (with_table own table))) b →
+        StuckBy (if v then own.base else extended_rules (plain_of (with_table own table))) b →
         IsSortedBlame can.all (forms_in set.base) vars b
     sorted-by true e b s = by-base-rules e b s
     sorted-by false e b s = by-plain-rules b s

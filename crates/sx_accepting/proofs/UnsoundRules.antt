@@ -5,7 +5,7 @@ use Rattle.std.specs.Prelude.{Ok, Err, Some}
 use Rattle.sx_rules.specs.Modes.{AllModed}
 use Rattle.sx_rules.specs.Views.{named}
 use Rattle.sx_rewrite.specs.declared.ext_rule.ExtRule.{ExtRule as ExtRuleOf}
-use Rattle.sx_rewrite.specs.Accepted.{rules_of}
+use Rattle.sx_rewrite.specs.Accepted.{extended_rules}
 use Rattle.sx_rewrite.specs.ExtensionView.{ext_rule}
 use Rattle.sx_rewrite.specs.PlainRules.{plain_of}
 use Rattle.sx_rewrite.proofs.LoweredSorted.{moded-base}
@@ -14,8 +14,8 @@ use Rattle.sx_rewrite.proofs.Sound.{rejected_is_unsound}
 use Rattle.sx_extcheck.specs.declared.accept_error.AcceptError.{AcceptError}
 use Rattle.sx_extcheck.specs.declared.accept_error.AcceptError.TheVariants.{Memory, Rule}
 use Rattle.sx_extcheck.specs.declared.budgets.Budgets.{Budgets}
-use Rattle.sx_extcheck.specs.declared.rule_defect.RuleDefect.{RuleDefect}
-use Rattle.sx_extcheck.specs.declared.rule_defect.RuleDefect.TheVariants as rule_defect
+use Rattle.sx_extcheck.specs.declared.rule_refusal.RuleRefusal.{RuleRefusal}
+use Rattle.sx_extcheck.specs.declared.rule_refusal.RuleRefusal.TheVariants as rule_defect
 use Rattle.sx_extcheck.specs.Accepts.{AreChecked, HasUnsound}
 use Rattle.sx_extcheck.specs.Checks.{Check}
 use Rattle.sx_extcheck.proofs.StoredRules.{checked-rejected}
@@ -68,7 +68,7 @@ module _ (Q : Stop → Type 0) where
 
   -- ---- extensions that are accepted
 
-  no_defect : (file : List ℕ) (r : Refusing) (name : List ℕ) (d : RuleDefect) → ((b : Blame) → d ≡ rule_defect.Rejected b → (stop : Stop) → stop.file ≡ file → stop.refusal.place ≡ places.Rule name → Q stop) →
+  no_defect : (file : List ℕ) (r : Refusing) (name : List ℕ) (d : RuleRefusal) → ((b : Blame) → d ≡ rule_defect.Rejected b → (stop : Stop) → stop.file ≡ file → stop.refusal.place ≡ places.Rule name → Q stop) →
       OnTypeError Q (acceptance_stop file r (Rule name d))
   no_defect file r name (rule_defect.Rejected b) so = λ h. so b refl (at (places.Rule name) file (defect_of r name (rule_defect.Rejected b))) refl refl
   no_defect file r name (rule_defect.BudgetSpent n) so = λ h. absurd h
@@ -80,7 +80,7 @@ module _ (Q : Stop → Type 0) where
 
 -- ---- a rule that is not sound
 
-module _ (c : Check) (base_moded : AllModed c.sig.modes c.set.base) (plain_moded : AllModed c.sig.modes (rules_of (plain_of c.set))) where
+module _ (c : Check) (base_moded : AllModed c.sig.modes c.set.base) (plain_moded : AllModed c.sig.modes (extended_rules (plain_of c.set))) where
   unsound_among : (es : List ExtRuleOf) (count : ℕ) (name : List ℕ) (b : Blame) → AreChecked c es count (Err (Rule name (rule_defect.Rejected b))) → HasUnsound c es name
   unsound_among [] count name b h = absurd h
   unsound_among (e ∷ es) count name b (inl (same, refused, n)) =
@@ -122,7 +122,7 @@ module _ (l : BaseLanguage) (budgets : Budgets) where
 
     refused : (e : AcceptError) (tries : ℕ) → HaveChecks c read tries (Err e) → (r : Refusing) → OnTypeError Q (acceptance_stop file r e)
     refused Memory tries h r = tt
-    refused (Rule name d) tries h r = no_defect Q file r name d (λ b is. rejected name b tries (subst (λ (w : RuleDefect). HaveChecks c read tries (Err (Rule name w))) is h))
+    refused (Rule name d) tries h r = no_defect Q file r name d (λ b is. rejected name b tries (subst (λ (w : RuleRefusal). HaveChecks c read tries (Err (Rule name w))) is h))
 
     accepts_final : FinalTrying Q (Accepts l budgets file x read)
     accepts_final stop tries h = on_stop Q (acceptance_stop file _ h.0) stop (refused h.0 tries h.1 _) h.2

@@ -16,8 +16,8 @@ use Rattle.sx_steps.specs.declared.stop.Stop.{Stop}
 use Rattle.sx_steps.specs.Stops.{at}
 use Rattle.sx_extcheck.specs.declared.accept_error.AcceptError.{AcceptError}
 use Rattle.sx_extcheck.specs.declared.accept_error.AcceptError.TheVariants.{Memory, Rule}
-use Rattle.sx_extcheck.specs.declared.rule_defect.RuleDefect.{RuleDefect}
-use Rattle.sx_extcheck.specs.declared.rule_defect.RuleDefect.TheVariants as rule_defect
+use Rattle.sx_extcheck.specs.declared.rule_refusal.RuleRefusal.{RuleRefusal}
+use Rattle.sx_extcheck.specs.declared.rule_refusal.RuleRefusal.TheVariants as rule_defect
 use Rattle.sx_stuck.specs.StuckText.{Telling, stuck_text, CanTell}
 use Rattle.sx_accepting.specs.declared.refusing.Refusing.{Refusing as RefusingOf}
 
@@ -57,7 +57,7 @@ abbrev pub telling_for : Refusing → Text → Telling
 telling_for r name = telling_with r (vars_named r.names r.vars name)
 
 -- the stuck goal of a rule that is not sound can be told
-abbrev pub CanTellDefect : Refusing → Text → RuleDefect → Type 0
+abbrev pub CanTellDefect : Refusing → Text → RuleRefusal → Type 0
 CanTellDefect r name (rule_defect.Rejected blame) = CanTell (telling_for r name) (blame_of blame)
 CanTellDefect r name _ = Unit {0}
 
@@ -71,7 +71,7 @@ abbrev pub unsound : Telling → BlameOf → Defect
 unsound t blame = defect.Goal (stuck_text t (blame_of blame).goal (blame_of blame).reason)
 
 -- why the rule with this name is refused
-abbrev pub defect_of : Refusing → Text → RuleDefect → Defect
+abbrev pub defect_of : Refusing → Text → RuleRefusal → Defect
 defect_of r name (rule_defect.Rejected blame) = unsound (telling_for r name) blame
 defect_of r name (rule_defect.BudgetSpent tries) = defect.Budget (budget_defect.Tries tries)
 defect_of r name (rule_defect.DepthSpent depth) = defect.Budget budget_defect.Depth

@@ -18,7 +18,7 @@ use Rattle.sx_derive.specs.declared.blame.Blame.{Blame as BlameOf}
 use Rattle.sx_rewrite.specs.declared.accepted.Accepted.{Accepted as AcceptedOf}
 use Rattle.sx_rewrite.specs.declared.ext_rule.ExtRule.{ExtRule as ExtRuleOf}
 use Rattle.sx_rewrite.specs.declared.extension_data.ExtensionData.{ExtensionData}
-use Rattle.sx_rewrite.specs.Accepted.{rules_of, IsAccepted}
+use Rattle.sx_rewrite.specs.Accepted.{extended_rules, IsAccepted}
 use Rattle.sx_rewrite.specs.AcceptedView.{accepted, signature}
 use Rattle.sx_rewrite.specs.Extensions.{Fits}
 use Rattle.sx_rewrite.specs.ExtensionView.{ext_rule, named_rules}
@@ -27,8 +27,8 @@ use Rattle.sx_rewrite.specs.Stored.{ArePlain}
 use Rattle.sx_extcheck.specs.declared.accept_error.AcceptError.{AcceptError}
 use Rattle.sx_extcheck.specs.declared.accept_error.AcceptError.TheVariants.{Rule}
 use Rattle.sx_extcheck.specs.declared.budgets.Budgets.{Budgets}
-use Rattle.sx_extcheck.specs.declared.rule_defect.RuleDefect.{RuleDefect}
-use Rattle.sx_extcheck.specs.declared.rule_defect.RuleDefect.TheVariants.{Rejected}
+use Rattle.sx_extcheck.specs.declared.rule_refusal.RuleRefusal.{RuleRefusal}
+use Rattle.sx_extcheck.specs.declared.rule_refusal.RuleRefusal.TheVariants.{Rejected}
 use Rattle.sx_extcheck.specs.Accepts.{check_for, AreChecked}
 use Rattle.sx_extcheck.specs.Agree.{defect_as_data}
 use Rattle.sx_extcheck.specs.Checks.{IsRefusedFor}
@@ -50,7 +50,7 @@ pub record IsKept (set : AcceptedOf) : Type 0 where
   pub plain : ArePlain (shapes_in set.rules) (shapes_in set.plain_rules) (forms_in set.base)
       (forms_in set.plain_rules) (table_of set.plain) (rules_in set.rules)
       (rules_in set.plain_rules)
-  pub plain_rules : bare_rules_in set.plain_rules ≡ rules_of (plain_of (accepted set))
+  pub plain_rules : bare_rules_in set.plain_rules ≡ extended_rules (plain_of (accepted set))
   pub forms : forms_in set.rules ≡ forms_in set.base
   pub labels : set.plain.base ≡ length (shapes_in set.base)
 
@@ -105,6 +105,6 @@ RefusedExtensionsCanBeTold =
 -- the stop of a rule that is refused depends on the stuck goal as plain data alone
 abbrev pub RefusedRulesStopAlike : Type 0
 RefusedRulesStopAlike =
-    (file : Text) (r : Refusing) (name : Text) (one other : RuleDefect) →
+    (file : Text) (r : Refusing) (name : Text) (one other : RuleRefusal) →
     defect_as_data one ≡ defect_as_data other →
     acceptance_stop file r (Rule name one) ≡ acceptance_stop file r (Rule name other)

@@ -9,7 +9,7 @@ ghost use Rattle.sx_accepting.specs.AcceptanceStops.{refusing_of, vars_named};
 use crate::refusing::Refusing;
 use std::alloc::Global;
 use sx_derive::Blame;
-use sx_extcheck::{AcceptError, RuleDefect};
+use sx_extcheck::{AcceptError, RuleRefusal};
 use sx_steps::{Stop, refused_at};
 use sx_stuck::{Telling, stuck_text};
 use sx_term::{NoMemory, Text, Vars};
@@ -81,20 +81,20 @@ fn rule_defect(
     alloc: Global,
     refusing: &Refusing,
     name: &Text,
-    what: RuleDefect,
+    what: RuleRefusal,
 ) -> Result<Defect, NoMemory>
     requires { stops.CanTellDefect (refusing_of refusing.now) name.now what }
     ensures { IfOk result (λ defect. defect
         ≡ stops.defect_of (refusing_of refusing.now) name.now what) }
 {
     match what {
-        RuleDefect::Rejected(blame) => rejected(alloc, refusing, name, &blame),
-        RuleDefect::BudgetSpent(tries) => Ok(Defect::Budget(BudgetDefect::Tries(tries))),
-        RuleDefect::DepthSpent(_) => Ok(Defect::Budget(BudgetDefect::Depth)),
-        RuleDefect::TooDeep(depth) => Ok(Defect::Text(TextDefect::TooDeep(depth))),
-        RuleDefect::TooBig(size) => Ok(Defect::Text(TextDefect::TooBig(size))),
-        RuleDefect::RewriteSpent(nodes) => Ok(Defect::Budget(BudgetDefect::Nodes(nodes))),
-        RuleDefect::RewriteDeep => Ok(Defect::Budget(BudgetDefect::RewriteDepth)),
+        RuleRefusal::Rejected(blame) => rejected(alloc, refusing, name, &blame),
+        RuleRefusal::BudgetSpent(tries) => Ok(Defect::Budget(BudgetDefect::Tries(tries))),
+        RuleRefusal::DepthSpent(_) => Ok(Defect::Budget(BudgetDefect::Depth)),
+        RuleRefusal::TooDeep(depth) => Ok(Defect::Text(TextDefect::TooDeep(depth))),
+        RuleRefusal::TooBig(size) => Ok(Defect::Text(TextDefect::TooBig(size))),
+        RuleRefusal::RewriteSpent(nodes) => Ok(Defect::Budget(BudgetDefect::Nodes(nodes))),
+        RuleRefusal::RewriteDeep => Ok(Defect::Budget(BudgetDefect::RewriteDepth)),
     }
 }
 

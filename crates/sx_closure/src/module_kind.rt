@@ -12,7 +12,7 @@ use sx_headers::ModuleFile;
 use sx_outside::Shelf;
 use sx_steps::{StepError, Stop, about, with_suffix};
 use sx_term::{NoMemory, Text};
-use sx_walking::{FileKind, copies};
+use sx_walking::{WalkedKind, copies};
 use sx_words::{ClosureDefect, Defect};
 
 /// The modules with a language.
@@ -39,7 +39,7 @@ fn language_differs(alloc: Global, name: &Text, language: &Text) -> Result<Stop,
     }
 }
 
-impl FileKind for ModuleKind<'_> {
+impl WalkedKind for ModuleKind<'_> {
     type File = ModuleFile;
 
     ghost Data = { Module };

@@ -18,7 +18,7 @@ use Rattle.sx_rewrite.proofs.Lowerings.{lowered_are_derivations}
 use Rattle.sx_audit.specs.Preorder.{IsDerivationList}
 use Rattle.sx_extcheck.specs.declared.budgets.Budgets.{Budgets}
 use Rattle.sx_typing.specs.Dialects.{DialectData, IsDialect}
-use Rattle.sx_typing.specs.Goals.{rules_of, goal}
+use Rattle.sx_typing.specs.Goals.{dialect_rules, goal}
 use Rattle.sx_typing.specs.Outcomes.{bare, no_hypotheses}
 use Rattle.sx_typing.specs.Refused.{HasTyping}
 use Rattle.sx_typing.proofs.Walks.{typings_are_first}
@@ -37,10 +37,10 @@ module _ (m : ModuleData) (is : IsDialect m.source.dialect) (b : Budgets) (u : U
   abbrev low : Rewritten
   low = made.lowering.lowered
 
-  moded : AllModed (modes_of d.language.forms) (rules_of d)
+  moded : AllModed (modes_of d.language.forms) (dialect_rules d)
   moded = good_moded (shapes_of d.parts) d.language.forms [] d.rules is.rule_set.1
 
-  first : IsFirst (modes_of d.language.forms) (rules_of d) no_hypotheses
+  first : IsFirst (modes_of d.language.forms) (dialect_rules d) no_hypotheses
       (goal m.source typing.body.subject) None typing.answer
   first =
       typings_are_first m.source b.tries typing.body.subject typing.output typing.answer moded

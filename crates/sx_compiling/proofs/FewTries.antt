@@ -8,7 +8,7 @@ use Rattle.sx_derive.proofs.FewNodes.{tries_within}
 use Rattle.sx_extcheck.specs.declared.budgets.Budgets.{Budgets}
 use Rattle.sx_typing.specs.Goals.{goal_events}
 use Rattle.sx_typing.specs.Refused.{HasWalked}
-use Rattle.sx_typing.specs.Source.{Source}
+use Rattle.sx_typing.specs.BodySource.{BodySource}
 use Rattle.sx_unit.specs.Written.{UnitData}
 use Rattle.sx_environment.specs.SeenFrom.{SeenFrom}
 use Rattle.sx_outside.specs.Files.{Files}
@@ -34,7 +34,7 @@ use Rattle.sx_compiling.proofs.RuleTries.{last_none, extends_within, kept_within
 use Rattle.sx_compiling.proofs.StepTries.{Most, trying_most, untried_most, passed}
 
 -- the tries of a walk are at most those that it may spend
-within_budget : (s : Source) (budget tries : ℕ) → HasWalked s budget tries → tries ≤ budget
+within_budget : (s : BodySource) (budget tries : ℕ) → HasWalked s budget tries → tries ≤ budget
 within_budget s budget tries (inl walked) =
     let few = tries_within None budget (goal_events s walked.0.subject) in
     let is = walked.1 in

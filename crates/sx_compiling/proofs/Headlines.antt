@@ -29,7 +29,7 @@ use Rattle.sx_typing.specs.Body.{ReadsOnly}
 use Rattle.sx_typing.specs.Dialects.{DialectData, IsDialect}
 use Rattle.sx_typing.specs.MainGoals.{main_goal}
 use Rattle.sx_typing.specs.Outcomes.{bare, no_hypotheses}
-use Rattle.sx_typing.specs.Source.{main_sort}
+use Rattle.sx_typing.specs.BodySource.{main_sort}
 use Rattle.sx_typing.proofs.OneBody.{one_cut}
 use Rattle.sx_unit.specs.Modules.{ModuleData}
 use Rattle.sx_unit.specs.Texts.{print_text, print_line, base_text, interface_of}

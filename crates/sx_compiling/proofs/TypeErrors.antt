@@ -15,7 +15,7 @@ use Rattle.sx_interface.specs.Interfaces.{InterfaceParts}
 use Rattle.sx_notation.specs.declared.unread.Unread.{Unread}
 use Rattle.sx_notation.specs.declared.unread.Unread.TheVariants as unread
 use Rattle.sx_typing.specs.Dialects.{DialectData, IsDialect}
-use Rattle.sx_typing.specs.Goals.{rules_of}
+use Rattle.sx_typing.specs.Goals.{dialect_rules}
 use Rattle.sx_typing.specs.Refused.{IsUntyped}
 use Rattle.sx_unit.specs.declared.module_error.ModuleError.{ModuleError}
 use Rattle.sx_unit.specs.declared.module_error.ModuleError.TheVariants as module_error
@@ -52,7 +52,7 @@ use Rattle.sx_compiling.specs.Laws.{HasNoType, HasUnsoundRule, TypeErrorsAreFina
 use Rattle.sx_compiling.proofs.MadeUnits.{dialect_by, dialect_is}
 
 -- the rules of a dialect can be followed
-is_moded : (d : DialectData) → IsDialect d → AllModed (modes_of d.language.forms) (rules_of d)
+is_moded : (d : DialectData) → IsDialect d → AllModed (modes_of d.language.forms) (dialect_rules d)
 is_moded d is = good_moded (shapes_of d.parts) d.language.forms [] d.rules is.rule_set.1
 
 module _ (Q : Stop → Type 0) where

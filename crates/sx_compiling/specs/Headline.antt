@@ -29,10 +29,10 @@ use Rattle.sx_interface.specs.Stated.{StatesInterface, IsDigest, IsWithin}
 use Rattle.sx_interface.specs.StatedHeader.{StatesHeader}
 use Rattle.sx_notation.specs.Language.{LanguageData}
 use Rattle.sx_typing.specs.Body.{IsCut}
-use Rattle.sx_typing.specs.Goals.{rules_of, goal}
+use Rattle.sx_typing.specs.Goals.{dialect_rules, goal}
 use Rattle.sx_typing.specs.MainGoals.{main_goal}
 use Rattle.sx_typing.specs.Outcomes.{bare, no_hypotheses}
-use Rattle.sx_typing.specs.Source.{Source, main_sort}
+use Rattle.sx_typing.specs.BodySource.{BodySource, main_sort}
 use Rattle.sx_unit.specs.Modules.{ModuleData}
 use Rattle.sx_unit.specs.Texts.{derivation_text}
 use Rattle.sx_unit.specs.Unit.{IsUnit}
@@ -95,12 +95,13 @@ pub record HasDerivation (d : LanguageData) (environment : Tree) (header : Heade
 -- The body of the source reads in exactly one way by the grammar of the dialect. By the rules of
 -- the dialect its goal has this first derivation, which is lowered to this one of the judgement;
 -- and the stated signature reads in exactly one way by that grammar, as the output of the first.
-pub record IsDesugared (s : Source) (stated : Text) (lowered : Proof) (j : Judgement) : Type 0 where
+pub record IsDesugared (s : BodySource) (stated : Text) (lowered : Proof) (j : Judgement) :
+    Type 0 where
   pub subject : Tree
   pub output : Tree
   pub proof : Proof
   pub body : ReadsOneWay s.dialect.parts (main_sort s.dialect.language Sub) s.header.body subject
-  pub first : IsFirst (modes_of s.dialect.language.forms) (rules_of s.dialect) no_hypotheses
+  pub first : IsFirst (modes_of s.dialect.language.forms) (dialect_rules s.dialect) no_hypotheses
       (goal s subject) None (proof, output ∷ [])
   pub lowers : Lowers s.dialect.set (subjects_in s.dialect.language.forms) no_hypotheses proof
       lowered j

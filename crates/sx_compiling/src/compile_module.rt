@@ -1,7 +1,7 @@
 //! The step that compiles a module.
 
 ghost use Rattle.std.specs.Prelude.{IfOk};
-ghost use Rattle.sx_typing.specs.Source.{CanType};
+ghost use Rattle.sx_typing.specs.BodySource.{CanType};
 ghost use Rattle.sx_unit.specs.Modules.{module_of};
 ghost use Rattle.sx_unit.specs.Written.{unit_of};
 ghost use Rattle.sx_steps.specs.Stop.{Does, IsNoFault};

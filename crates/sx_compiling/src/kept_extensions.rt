@@ -13,7 +13,7 @@ use sx_outside::{CleanShelf, Shelf};
 use sx_steps::{StepError, with_suffix};
 use sx_term::{NoMemory, Text};
 use sx_uses::{ExtensionFile, ExtensionKind, read_extension_file};
-use sx_walking::FileKind;
+use sx_walking::WalkedKind;
 
 /// The extensions that are written for a language, with the files that were read before.
 #[derive(Clone, Copy)]
@@ -59,7 +59,7 @@ fn state_again(
     }
 }
 
-impl FileKind for KeptExtensions<'_> {
+impl WalkedKind for KeptExtensions<'_> {
     type File = ExtensionFile;
 
     ghost Data = { Extension };

@@ -7,7 +7,7 @@ ghost use Rattle.sx_term.specs.declared.role.Role.TheVariants.{In};
 ghost use Rattle.sx_grammar.specs.Tables.{literals_of};
 ghost use Rattle.sx_notation.specs.Language.{language_data};
 ghost use Rattle.sx_typing.specs.Dialects.{IsDialectOf};
-ghost use Rattle.sx_typing.specs.Source.{IsTermFor};
+ghost use Rattle.sx_typing.specs.BodySource.{IsTermFor};
 ghost use Rattle.sx_interface.specs.FreeNames.{AreFree};
 ghost use Rattle.sx_unit.specs.Written.{unit_of};
 ghost use Rattle.sx_environment.specs.SeenFrom.{seen_from};
@@ -38,7 +38,7 @@ use sx_importing::make_environment;
 use sx_outside::{CleanShelf, Shelf};
 use sx_steps::StepError;
 use sx_term::{Steps, Term};
-use sx_typing::Source;
+use sx_typing::BodySource;
 use sx_unit::{Compiled, ModuleSource};
 use sx_uses::ExtensionFile;
 
@@ -60,7 +60,7 @@ fn make_in<L: Ledger>(
     ensures no_fault { IsNoFault result }
 {
     let module = ModuleSource {
-        source: Source {
+        source: BodySource {
             dialect: seen.dialect,
             header: &given.source.header,
             bytes: &given.source.bytes,

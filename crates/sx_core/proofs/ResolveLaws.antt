@@ -7,7 +7,8 @@ use Rattle.sx_term.specs.declared.role.Role.{Role}
 use Rattle.sx_rules.specs.declared.rule.Place.{Place}
 use Rattle.sx_rules.specs.Views.{FormData}
 use Rattle.sx_core.specs.File.{SortRow, ConRow, PlaceRow, FormRow}
-use Rattle.sx_core.specs.Stated.{NamesSort, NameSorts, IsUntyped, AreUntyped, MayHave, MayStandAt, ArePlaces, AreCons, AreForms, AreDistinct, subject_count, one_when}
+use Rattle.sx_core.specs.Stated.{NamesSort, NameSorts, MayHave, MayStandAt, ArePlaces, AreCons, AreForms, AreDistinct, subject_count, one_when}
+use Rattle.sx_term.specs.Untyped.{IsUntypedSort, AreUntypedSorts}
 use Rattle.sx_rules.specs.Views.{is_sub}
 use Rattle.sx_core.specs.Resolving.{sort_names, IsConOf, IsPlaceOf, IsFormOf}
 use Rattle.std.proofs.lemmas.Bool.{false≢true}
@@ -16,26 +17,26 @@ use Rattle.std.proofs.lemmas.List.{take_all}
 use Rattle.std.specs.Prelude.{IsTrue, ◌↔◌}
 use Rattle.sx_core.proofs.SortLaws.{take_one, some_same, none_some, sort_same, sorts_same}
 
-pub untyped_snoc : (ss : List Sort) (s : Sort) → AreUntyped ss → IsUntyped s → AreUntyped (ss ++ s ∷ [])
+pub untyped_snoc : (ss : List Sort) (s : Sort) → AreUntypedSorts ss → IsUntypedSort s → AreUntypedSorts (ss ++ s ∷ [])
 untyped_snoc [] s h k = (k, tt)
 untyped_snoc (t ∷ ss) s h k = (h.0, untyped_snoc ss s h.1 k)
 
-pub untyped_at : (ss : List Sort) (i : ℕ) (s : Sort) → AreUntyped ss → slice_get ss i ≡ Some s → IsUntyped s
+pub untyped_at : (ss : List Sort) (i : ℕ) (s : Sort) → AreUntypedSorts ss → slice_get ss i ≡ Some s → IsUntypedSort s
 untyped_at [] i s h e = absurd (none_some s e)
-untyped_at (t ∷ ss) zero s h e = subst IsUntyped (some_same t s e) h.0
+untyped_at (t ∷ ss) zero s h e = subst IsUntypedSort (some_same t s e) h.0
 untyped_at (t ∷ ss) (suc i) s h e = untyped_at ss i s h.1 e
 
-pub untyped_differs : (ss : List Sort) (i : ℕ) (d : Sort) (r : Bool) → i < length ss → r ≡ false → (IsTrue r ↔ IsUntyped (get_or ss i d)) → IsTrue false ↔ AreUntyped ss
+pub untyped_differs : (ss : List Sort) (i : ℕ) (d : Sort) (r : Bool) → i < length ss → r ≡ false → (IsTrue r ↔ IsUntypedSort (get_or ss i d)) → IsTrue false ↔ AreUntypedSorts ss
 untyped_differs ss i d r lt e w = (
   (λ t. let q : false ≡ true = t in absurd (false≢true q)),
   λ h. sym e ∙ w.1 (untyped_at ss i (get_or ss i d) h (slice_get-get_or ss i d lt)),
 )
 
-pub untyped_more : (ss : List Sort) (i : ℕ) (d : Sort) (r : Bool) → i < length ss → r ≡ true → (IsTrue r ↔ IsUntyped (get_or ss i d)) → AreUntyped (take i ss) → AreUntyped (take (i + 1) ss)
-untyped_more ss i d r lt e w h = subst AreUntyped (sym (take_one ss i (get_or ss i d) (slice_get-get_or ss i d lt))) (untyped_snoc (take i ss) (get_or ss i d) h (w.0 e))
+pub untyped_more : (ss : List Sort) (i : ℕ) (d : Sort) (r : Bool) → i < length ss → r ≡ true → (IsTrue r ↔ IsUntypedSort (get_or ss i d)) → AreUntypedSorts (take i ss) → AreUntypedSorts (take (i + 1) ss)
+untyped_more ss i d r lt e w h = subst AreUntypedSorts (sym (take_one ss i (get_or ss i d) (slice_get-get_or ss i d lt))) (untyped_snoc (take i ss) (get_or ss i d) h (w.0 e))
 
-pub untyped_all : (ss : List Sort) (i : ℕ) → length ss ≤ i → AreUntyped (take i ss) → IsTrue true ↔ AreUntyped ss
-untyped_all ss i le h = ((λ t. subst AreUntyped (take_all i ss le) h), λ k. refl)
+pub untyped_all : (ss : List Sort) (i : ℕ) → length ss ≤ i → AreUntypedSorts (take i ss) → IsTrue true ↔ AreUntypedSorts ss
+untyped_all ss i le h = ((λ t. subst AreUntypedSorts (take_all i ss le) h), λ k. refl)
 
 pub subjects_snoc : (ps : List Place) (p : Place) → subject_count (ps ++ p ∷ []) ≡ subject_count ps + one_when (is_sub p.role)
 subjects_snoc [] p = omega arith

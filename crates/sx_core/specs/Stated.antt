@@ -7,6 +7,7 @@ use Rattle.sx_term.specs.declared.sort.Sort.TheVariants.{Lex, Plain, Typed}
 use Rattle.sx_term.specs.Tree.{Tree, depth_of}
 use Rattle.sx_term.specs.Core.{HasCore}
 use Rattle.sx_term.specs.Sorts.{Shape, HaveSorts}
+use Rattle.sx_term.specs.Untyped.{IsUntypedSort, AreUntypedSorts}
 use Rattle.sx_lines.specs.Words.{is_name}
 use Rattle.sx_term.specs.declared.role.Role.{Role}
 use Rattle.sx_term.specs.declared.role.Role.TheVariants.{In, Sub, Out}
@@ -70,21 +71,10 @@ NameSorts rows [] [] = Unit {0}
 NameSorts rows (name ∷ names) (sort ∷ sorts) = NamesSort rows name sort × NameSorts rows names sorts
 NameSorts rows _ _ = ⊥
 
--- the sort is lexical or plain
-abbrev pub IsUntyped : Sort → Type 0
-IsUntyped (Lex kind) = Unit {0}
-IsUntyped (Plain n) = Unit {0}
-IsUntyped (Typed n) = ⊥
-
--- each sort is lexical or plain
-abbrev pub AreUntyped : List Sort → Type 0
-AreUntyped [] = Unit {0}
-AreUntyped (sort ∷ sorts) = IsUntyped sort × AreUntyped sorts
-
 -- a constructor may have these parts: its sort is not lexical, and a plain one has no typed part
 abbrev pub MayHave : Sort → List Sort → Type 0
 MayHave (Lex kind) kids = ⊥
-MayHave (Plain n) kids = AreUntyped kids
+MayHave (Plain n) kids = AreUntypedSorts kids
 MayHave (Typed n) kids = Unit {0}
 
 -- the lines state these constructors
@@ -99,9 +89,9 @@ AreCons rows _ _ _ = ⊥
 -- a place of this role may have the sort: a subject a typed one, another place one that is not
 -- typed
 abbrev pub MayStandAt : Role → Sort → Type 0
-MayStandAt In sort = IsUntyped sort
+MayStandAt In sort = IsUntypedSort sort
 MayStandAt Sub sort = (n : ℕ) × (sort ≡ Typed n)
-MayStandAt Out sort = IsUntyped sort
+MayStandAt Out sort = IsUntypedSort sort
 
 -- the lines state these places
 abbrev pub ArePlaces : List SortRow → List PlaceRow → List Place → Type 0

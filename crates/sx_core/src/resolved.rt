@@ -6,7 +6,8 @@ ghost use Rattle.sx_term.specs.Shapes.{shape};
 ghost use Rattle.sx_rules.specs.declared.rule.Place.{Place as PlaceOf};
 ghost use Rattle.sx_rules.specs.Views.{FormData, form, is_sub};
 ghost use Rattle.sx_core.specs.Stated as spec;
-ghost use Rattle.sx_core.specs.Stated.{IsUntyped, AreUntyped, MayHave, MayStandAt, ArePlaces};
+ghost use Rattle.sx_core.specs.Stated.{MayHave, MayStandAt, ArePlaces};
+ghost use Rattle.sx_term.specs.Untyped.{IsUntypedSort, AreUntypedSorts};
 ghost use Rattle.sx_core.specs.Rows.{con_row, place_row, form_row};
 ghost use Rattle.sx_core.specs.Resolving.{rows_in, IsSortTable, NoneIs, IsConOf, IsPlaceOf};
 ghost use Rattle.sx_core.specs.Resolving.{IsFormOf};
@@ -20,7 +21,7 @@ use sx_term::{Con, Role, Sort};
 
 /// Whether the sort is lexical or plain.
 fn is_untyped(sort: Sort) -> bool
-    ensures { IsTrue result ↔ IsUntyped sort }
+    ensures { IsTrue result ↔ IsUntypedSort sort }
 {
     match sort {
         Sort::Lex(_) => true,
@@ -31,7 +32,7 @@ fn is_untyped(sort: Sort) -> bool
 
 /// Whether each sort is lexical or plain.
 fn are_untyped(sorts: &[Sort]) -> bool
-    ensures { IsTrue result ↔ AreUntyped sorts.now }
+    ensures { IsTrue result ↔ AreUntypedSorts sorts.now }
 {
     for i in 0..sorts.len() {
         if !is_untyped(sorts[i]) {

@@ -1,6 +1,7 @@
 //! Items, each once, that are found by their hashes.
 
-ghost use Rattle.std.specs.Prelude.{◌≡◌, [], OnOk, OnErr, IsTrue, IsFalse, Contains, length, slice_get};
+ghost use Rattle.std.specs.Prelude.{◌≡◌, [], OnOk, OnErr, IsTrue, IsFalse, Contains, length};
+ghost use Rattle.std.specs.Prelude.{slice_get};
 ghost use Rattle.sx_grammar.specs.Tally.{EachOnce};
 ghost use Rattle.sx_earley.specs.ItemSet.{hash_of, IsAdded};
 

@@ -16,7 +16,7 @@ use Rattle.sx_print.specs.Cut.{HasLexemes}
 use Rattle.sx_rewrite.proofs.LoweredSorted.{more-sorted}
 use Rattle.sx_interface.specs.Interfaces.{InterfaceParts}
 use Rattle.sx_typing.specs.Dialects.{IsDialect}
-use Rattle.sx_typing.specs.Source.{IsTermFor, main_sort}
+use Rattle.sx_typing.specs.BodySource.{IsTermFor, main_sort}
 use Rattle.sx_typing.proofs.Lexemes.{without_more}
 use Rattle.sx_typing.proofs.MainSorts.{main_sort_is}
 use Rattle.sx_environment.specs.declared.row.Row.TheVariants.{Signature, Stated}

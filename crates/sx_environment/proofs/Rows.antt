@@ -11,7 +11,7 @@ use Rattle.sx_grammar.specs.Told.{shapes_of}
 use Rattle.sx_interface.specs.Interfaces.{InterfaceParts}
 use Rattle.sx_typing.specs.Dialects.{IsDialect}
 use Rattle.sx_typing.specs.declared.unread_text.UnreadText.{UnreadText}
-use Rattle.sx_typing.specs.Source.{IsGoodTerm, main_sort}
+use Rattle.sx_typing.specs.BodySource.{IsGoodTerm, main_sort}
 use Rattle.sx_typing.specs.Unread.{IsUnreadText}
 use Rattle.sx_typing.proofs.MainSorts.{signature_is_sort}
 use Rattle.sx_typing.proofs.ReadSorted.{read_good}

@@ -8,7 +8,7 @@ use Rattle.sx_grammar.specs.Parts.{Parts}
 use Rattle.sx_plain.specs.Plain.{image}
 use Rattle.sx_interface.specs.Interfaces.{InterfaceParts}
 use Rattle.sx_typing.specs.Body.{ReadsOnly}
-use Rattle.sx_typing.specs.Source.{main_sort}
+use Rattle.sx_typing.specs.BodySource.{main_sort}
 use Rattle.sx_environment.specs.declared.row.Row.{Row}
 use Rattle.sx_environment.specs.declared.row.Row.TheVariants.{Signature, Stated}
 use Rattle.sx_environment.specs.SeenFrom.{SeenFrom}

@@ -6,7 +6,7 @@ ghost use Rattle.sx_term.specs.Term.{tree};
 ghost use Rattle.sx_term.specs.Tree.{Tree, depth_of};
 ghost use Rattle.sx_interface.specs.InterfaceView.{interface_view};
 ghost use Rattle.sx_typing.specs.Dialects.{IsDialectOf};
-ghost use Rattle.sx_typing.specs.Source.{IsTermFor};
+ghost use Rattle.sx_typing.specs.BodySource.{IsTermFor};
 ghost use Rattle.sx_environment.specs.Environments as known;
 ghost use Rattle.sx_environment.specs.Environments.{IsEnvironment};
 ghost use Rattle.sx_environment.specs.ImportErrors.{HasNone, IsBadImport};

@@ -11,7 +11,7 @@ use Rattle.sx_rules.specs.Views.{premise, named, rule}
 use Rattle.sx_rules.specs.Derivations.{Proof, nodes_of}
 use Rattle.sx_rules.specs.EntryView.{entry, entries}
 use Rattle.sx_plain.specs.Measures.{total}
-use Rattle.sx_rewrite.specs.Accepted.{Accepted, rules_of}
+use Rattle.sx_rewrite.specs.Accepted.{Accepted, extended_rules}
 use Rattle.sx_rewrite.proofs.Instanced.{bare-found, bare-none}
 use Rattle.sx_expand.specs.Standing.{IsListed, AreEndsFrom}
 use Rattle.sx_expand.specs.Steps.{AreSteps}
@@ -33,7 +33,7 @@ module _ (a : Accepted) (es : List EntryOf) (i : ℕ) where
       let e = given-stands es i x n p (listed-within p h) same is h.stands in
       let f = ap nodes_of e in omega (arith, f)
 
-  module _ (x : EntryOf) (r : ℕ) (same : x ≡ get_or es i x) (is : x ≡ Rule r) (rs : List RuleOf) (all : map rule rs ≡ rules_of a) where
+  module _ (x : EntryOf) (r : ℕ) (same : x ≡ get_or es i x) (is : x ≡ Rule r) (rs : List RuleOf) (all : map rule rs ≡ extended_rules a) where
     -- there is a rule where a node by it stands
     pub no-rule : slice_get (map named rs) r ≡ None → (p : Proof) → IsListed a (entries es) i p → ⊥
     no-rule none p h =

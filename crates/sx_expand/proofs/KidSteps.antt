@@ -18,7 +18,7 @@ use Rattle.sx_rules.specs.Views.{premise, judgement}
 use Rattle.sx_arena.specs.Arena.{Extends}
 use Rattle.sx_arena.specs.Matching.{Assignment}
 use Rattle.sx_rewrite.specs.declared.rewrite_error.RewriteError.{RewriteError}
-use Rattle.sx_rewrite.specs.Accepted.{Accepted, rules_of, IsAccepted}
+use Rattle.sx_rewrite.specs.Accepted.{Accepted, extended_rules, IsAccepted}
 use Rattle.sx_rewrite.specs.Lowering.{BindsFit, AllBindsFit, CanLower, IsRefused, needed_terms, IsKidRefused}
 use Rattle.sx_rewrite.specs.LoweredSizes.{number_of}
 use Rattle.sx_rewrite.specs.Measured.{Measures, MeasuresEach}
@@ -94,7 +94,7 @@ within-number (x ⊳ ps) (suc i) p e = let h = within-number ps i p e in omega (
 pub record KidsSoFar (l : Reading) (n : Node) (ps : List PremiseOf) (i at : ℕ) (terms : List Tree) (w : Work) (numbers : List (Option ℕ)) (d : NodeData) : Type 0 where
   pub left : Proofs
   pub row : StandInRow l.listing at left
-  pub each : DeriveEach (rules_of (set_by l)) (hyps_by l) (map (judgement_instance (bound_by d.binds)) (judgements_of (map premise (drop i ps)))) left
+  pub each : DeriveEach (extended_rules (set_by l)) (hyps_by l) (map (judgement_instance (bound_by d.binds)) (judgements_of (map premise (drop i ps)))) left
   pub binds : HaveShallowBinds left
   pub fit : AllBindsFit (set_by l).table left
   pub from : (m : ℕ) → proof_at left m ≡ proof_at d.kids (length numbers + m)
@@ -126,12 +126,12 @@ module _ (l : Reading) (good : IsReading l) (n : Node) (d : NodeData) (is : IsNo
     pub kids-start : (at : ℕ) (terms : List Tree) (w : Work) (numbers : List (Option ℕ)) → at ≡ n.at + 1 → numbers ≡ [] → AreFollowed l d.rule d.binds d.rule.premises (bindings_of terms w) → KidsSoFar l n ps 0 at terms w numbers d
     kids-start at terms w numbers e none f =
         let row = listed-kids (set_in l.listing) (entries_in l.listing) n.at n.number d.binds d.kids is.can.stands in
-        let b = is-by (rules_of a) (hyps_by l) n.number d.rule d.judgement d.binds d.kids is.found is.can.derives in
+        let b = is-by (extended_rules a) (hyps_by l) n.number d.rule d.judgement d.binds d.kids is.found is.can.derives in
         let zero_many : length numbers ≡ 0 = ap length none in
         record {
           left = d.kids;
           row = subst (λ (i : ℕ). StandInRow l.listing i d.kids) (sym e) row;
-          each = subst (λ (xs : List Premise). DeriveEach (rules_of a) (hyps_by l) (map (judgement_instance (bound_by d.binds)) (judgements_of xs)) d.kids) (sym premises_are) b.each;
+          each = subst (λ (xs : List Premise). DeriveEach (extended_rules a) (hyps_by l) (map (judgement_instance (bound_by d.binds)) (judgements_of xs)) d.kids) (sym premises_are) b.each;
           binds = is.can.binds.1;
           fit = is.can.fit.1;
           from = λ m. ap (proof_at d.kids) (let z : m ≡ length numbers + m = omega (arith, zero_many) in z);
@@ -144,7 +144,7 @@ module _ (l : Reading) (good : IsReading l) (n : Node) (d : NodeData) (is : IsNo
     pub kids-end : length ps ≤ i → IsNodeRead l n terms w numbers d
     kids-end past =
         let none = ap (λ (xs : List PremiseOf). map premise xs) (drop_all i ps past) in
-        let each = subst (λ (xs : List Premise). DeriveEach (rules_of a) (hyps_by l) (map (judgement_instance (bound_by d.binds)) (judgements_of xs)) so.left) none so.each in
+        let each = subst (λ (xs : List Premise). DeriveEach (extended_rules a) (hyps_by l) (map (judgement_instance (bound_by d.binds)) (judgements_of xs)) so.left) none so.each in
         let many = so.many ∙ ap (λ (k : ℕ). length numbers + k) (empty so.left each) in
         record {
           followed = subst (λ (xs : List Premise). AreFollowed l d.rule d.binds xs (bindings_of terms w)) none so.followed;
@@ -154,7 +154,7 @@ module _ (l : Reading) (good : IsReading l) (n : Node) (d : NodeData) (is : IsNo
           };
         }
       where
-        empty : (left : Proofs) → DeriveEach (rules_of a) (hyps_by l) [] left → number_of left ≡ 0
+        empty : (left : Proofs) → DeriveEach (extended_rules a) (hyps_by l) [] left → number_of left ≡ 0
         empty no_more h = refl
         empty (q ⊳ qs) h = absurd h
 
@@ -165,7 +165,7 @@ module _ (l : Reading) (good : IsReading l) (n : Node) (d : NodeData) (is : IsNo
           record {
             left = so.left;
             row = so.row;
-            each = subst (λ (xs : List Premise). DeriveEach (rules_of a) (hyps_by l) (map (judgement_instance (bound_by d.binds)) (judgements_of xs)) so.left) row so.each;
+            each = subst (λ (xs : List Premise). DeriveEach (extended_rules a) (hyps_by l) (map (judgement_instance (bound_by d.binds)) (judgements_of xs)) so.left) row so.each;
             binds = so.binds;
             fit = so.fit;
             from = so.from;
@@ -187,15 +187,15 @@ module _ (l : Reading) (good : IsReading l) (n : Node) (d : NodeData) (is : IsNo
           pub at_kid : proof_at d.kids (length numbers) ≡ Some first
           pub listed : StandsIn l.listing at first
           pub next : StandInRow l.listing (at + nodes_of first) rest
-          pub derives : Derives (rules_of a) (hyps_by l) (judgement_instance (bound_by d.binds) (judgement j)) first
-          pub each : DeriveEach (rules_of a) (hyps_by l) (map (judgement_instance (bound_by d.binds)) (judgements_of (map premise (drop (i + 1) ps)))) rest
+          pub derives : Derives (extended_rules a) (hyps_by l) (judgement_instance (bound_by d.binds) (judgement j)) first
+          pub each : DeriveEach (extended_rules a) (hyps_by l) (map (judgement_instance (bound_by d.binds)) (judgements_of (map premise (drop (i + 1) ps)))) rest
           pub binds : HasShallowBinds first × HaveShallowBinds rest
           pub fit : BindsFit a.table first × AllBindsFit a.table rest
 
         pub next-kid : NextKid
-        next-kid = go so.left refl (subst (λ (xs : List Premise). DeriveEach (rules_of a) (hyps_by l) (map (judgement_instance (bound_by d.binds)) (judgements_of xs)) so.left) row_here so.each)
+        next-kid = go so.left refl (subst (λ (xs : List Premise). DeriveEach (extended_rules a) (hyps_by l) (map (judgement_instance (bound_by d.binds)) (judgements_of xs)) so.left) row_here so.each)
           where
-            go : (left : Proofs) → so.left ≡ left → DeriveEach (rules_of a) (hyps_by l) (judgement_instance (bound_by d.binds) (judgement j) ∷ map (judgement_instance (bound_by d.binds)) (judgements_of (map premise (drop (i + 1) ps)))) left → NextKid
+            go : (left : Proofs) → so.left ≡ left → DeriveEach (extended_rules a) (hyps_by l) (judgement_instance (bound_by d.binds) (judgement j) ∷ map (judgement_instance (bound_by d.binds)) (judgements_of (map premise (drop (i + 1) ps)))) left → NextKid
             go no_more e h = absurd h
             go (q ⊳ qs) e h =
                 let s = listed-first (set_in l.listing) (entries_in l.listing) at q qs (subst (λ (x : Proofs). StandInRow l.listing at x) e so.row) in
@@ -232,7 +232,7 @@ module _ (l : Reading) (good : IsReading l) (n : Node) (d : NodeData) (is : IsNo
               record {
                 can = record {
                   stands = subst (λ (m : ℕ). StandsIn l.listing m x.first) (sym there) x.listed;
-                  derives = subst (λ (y : JudgementOf). Derives (rules_of a) (hyps_by l) (judgement_instance (bound_by d.binds) (judgement y)) x.first) (sym for_premise) x.derives;
+                  derives = subst (λ (y : JudgementOf). Derives (extended_rules a) (hyps_by l) (judgement_instance (bound_by d.binds) (judgement y)) x.first) (sym for_premise) x.derives;
                   binds = x.binds.0;
                   fit = x.fit.0;
                   low = λ e.

@@ -7,7 +7,7 @@ use Rattle.sx_rules.specs.Discipline.{subjects_of}
 use Rattle.sx_rules.specs.Instances.{bound_by}
 use Rattle.sx_rules.specs.Rules.{Judgement, Rule, Hypotheses, judgement_instance}
 use Rattle.sx_rules.specs.Derivations.{Proof, Proofs, by, given, no_more, ◌⊳◌, proof_at, Derives, DeriveEach}
-use Rattle.sx_rewrite.specs.Accepted.{Accepted, rules_of, Signature, IsAccepted}
+use Rattle.sx_rewrite.specs.Accepted.{Accepted, extended_rules, Signature, IsAccepted}
 use Rattle.sx_rewrite.specs.LoweredSizes.{number_of}
 use Rattle.sx_rewrite.specs.Lowering.{AreLoweredTo}
 use Rattle.sx_rewrite.specs.Lowers.{HypothesesBelow}
@@ -69,7 +69,7 @@ pub record KidsLoweredTo (a : Accepted) (sig : Signature) (hyps : Hypotheses) (n
   pub subjects : AreKidSubjects sig.subjects a.base hyps need terms news numbers
 
 module _ (sig : Signature) (base shapes : List Shape) (a : Accepted) (ok : IsAccepted sig base shapes a) (hyps : Hypotheses) (below : HypothesesBelow (length base) hyps) where
-  pub kids-lowered : (need : ℕ → Bool) (terms : List Tree) (kids : Proofs) (numbers : List (Option ℕ)) (js : List Judgement) → DeriveEach (rules_of a) hyps js kids → AreKidsRead a sig.subjects hyps need terms kids numbers →
+  pub kids-lowered : (need : ℕ → Bool) (terms : List Tree) (kids : Proofs) (numbers : List (Option ℕ)) (js : List Judgement) → DeriveEach (extended_rules a) hyps js kids → AreKidsRead a sig.subjects hyps need terms kids numbers →
       KidsLoweredTo a sig hyps need terms kids numbers
   kids-lowered need terms kids numbers js derived read =
       let all = all_lowered sig base shapes a ok hyps kids js derived in
@@ -97,7 +97,7 @@ module _ (sig : Signature) (base shapes : List Shape) (a : Accepted) (ok : IsAcc
               let w = lowered-at a sig hyps kids all.0 all.1 i p.0 all.2 p.1 in
               let o : Some q ≡ Some w.other = sym (masked-at need 0 all.0 i q (zeroed i n) f) ∙ w.at in
               let same : w.other ≡ q = cc in
-              let j = derived-at (rules_of a) hyps js kids i p.0 derived p.1 in
+              let j = derived-at (extended_rules a) hyps js kids i p.0 derived p.1 in
               let d = subst (λ (x : Proof). Derives a.base hyps w.judgement x) same (lowered_are_derivations sig base shapes a ok hyps below p.0 w.other j.0 w.judgement j.1 w.lowers).0 in
               let is = (read.each i p.0 n p.1).subject w.other w.judgement w.lowers in
               record {

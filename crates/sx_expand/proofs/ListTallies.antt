@@ -7,7 +7,7 @@ use Rattle.sx_rules.specs.Orders.{Entry}
 use Rattle.sx_plain.specs.Measures.{total, greatest}
 use Rattle.sx_rewrite.specs.declared.certificate_size.CertificateSize.{CertificateSize}
 use Rattle.sx_rewrite.specs.declared.given_use.GivenUse.{GivenUse}
-use Rattle.sx_rewrite.specs.declared.tally.Tally.{Tally}
+use Rattle.sx_rewrite.specs.declared.lowered_tally.LoweredTally.{LoweredTally}
 use Rattle.sx_rewrite.specs.Accepted.{Accepted}
 use Rattle.sx_rewrite.specs.Copied.{copied, copied_of}
 use Rattle.sx_rewrite.specs.LoweredSizes.{number_of}
@@ -21,7 +21,7 @@ use Rattle.sx_expand.proofs.Standing.{nodes-some, stands-within, listed-first}
 use Rattle.sx_expand.proofs.Rows.{UpTo, head-is, row-ended}
 
 -- what is counted of those before a place, by the uses of their givens
-pub record SizedSoFar (a : Accepted) (list : List Entry) (size : CertificateSize) (here i : ℕ) (all : Tally) (ps : Proofs) : Type 0 where
+pub record SizedSoFar (a : Accepted) (list : List Entry) (size : CertificateSize) (here i : ℕ) (all : LoweredTally) (ps : Proofs) : Type 0 where
   pub left : Proofs
   pub row : AreListed a list here left
   pub many : number_of left + i ≡ length size.uses.items
@@ -32,12 +32,12 @@ pub record SizedSoFar (a : Accepted) (list : List Entry) (size : CertificateSize
   pub small : all.height ≤ 3000 * (most_height ps + 1)
   pub copied : in_u64 (all.copied + used_copies (drop i size.uses.items) (lowered_nodes_of a left) (copied_of a left)) ≡ in_u64 (used_copies size.uses.items (lowered_nodes_of a ps) (copied_of a ps))
 
-abbrev pub Sizing : Accepted → List Entry → CertificateSize → ℕ → ℕ → ℕ → Tally → Type 0
+abbrev pub Sizing : Accepted → List Entry → CertificateSize → ℕ → ℕ → ℕ → LoweredTally → Type 0
 Sizing a list size first here i all = (ps : Proofs) → AreListed a list first ps → number_of ps ≡ length size.uses.items → SizedSoFar a list size here i all ps
 
-pub sizing-first : (a : Accepted) (list : List Entry) (size : CertificateSize) (first : ℕ) (all : Tally) → all ≡ record { nodes = size.nodes; height = size.height; copied = 0 } → in_u128 size.nodes ≡ size.nodes → size.height ≤ 3000 → Sizing a list size first first 0 all
+pub sizing-first : (a : Accepted) (list : List Entry) (size : CertificateSize) (first : ℕ) (all : LoweredTally) → all ≡ record { nodes = size.nodes; height = size.height; copied = 0 } → in_u128 size.nodes ≡ size.nodes → size.height ≤ 3000 → Sizing a list size first first 0 all
 sizing-first a list size first all e within small ps row many =
-    subst (λ (x : Tally). SizedSoFar a list size first 0 x ps) (sym e) (record {
+    subst (λ (x : LoweredTally). SizedSoFar a list size first 0 x ps) (sym e) (record {
       left = ps;
       row = row;
       many = omega (arith, many);
@@ -79,10 +79,10 @@ next-kid a list ends here (p ⊳ ps) high known l h row =
       row = subst (λ (x : ℕ). AreListed a list x ps) (sym e) f.1;
     }
 
-pub some-left : (a : Accepted) (list : List Entry) (size : CertificateSize) (here i : ℕ) (all : Tally) (ps : Proofs) → i < length size.uses.items → (so : SizedSoFar a list size here i all ps) → 0 < number_of so.left
+pub some-left : (a : Accepted) (list : List Entry) (size : CertificateSize) (here i : ℕ) (all : LoweredTally) (ps : Proofs) → i < length size.uses.items → (so : SizedSoFar a list size here i all ps) → 0 < number_of so.left
 some-left a list size here i all ps l so = let m = so.many in omega (arith, l, m)
 
-pub sizing-more : (a : Accepted) (list : List Entry) (ends : List ℕ) (size : CertificateSize) (first here i : ℕ) (old new : Tally) (u : GivenUse) → AreEnds a list ends → i < length size.uses.items → u ≡ get_or size.uses.items i u →
+pub sizing-more : (a : Accepted) (list : List Entry) (ends : List ℕ) (size : CertificateSize) (first here i : ℕ) (old new : LoweredTally) (u : GivenUse) → AreEnds a list ends → i < length size.uses.items → u ≡ get_or size.uses.items i u →
     ((p : Proof) → IsListed a list here p → IsWithKid a u p old new) → Sizing a list size first here i old → Sizing a list size first (get_or ends here 0) (i + 1) new
 sizing-more a list ends size first here i old new u known l at_u one so ps row many =
     let s = so ps row many in
@@ -121,7 +121,7 @@ sizing-more a list ends size first here i old new u known l at_u one so ps row m
       copied = omega (arith, c, hc, sc);
     }
 
-pub sizing-last : (a : Accepted) (list : List Entry) (size : CertificateSize) (first here i : ℕ) (all : Tally) → length size.uses.items ≤ i → Sizing a list size first here i all → (ps : Proofs) → AreListed a list first ps → number_of ps ≡ length size.uses.items → IsSizedTally a size ps all
+pub sizing-last : (a : Accepted) (list : List Entry) (size : CertificateSize) (first here i : ℕ) (all : LoweredTally) → length size.uses.items ≤ i → Sizing a list size first here i all → (ps : Proofs) → AreListed a list first ps → number_of ps ≡ length size.uses.items → IsSizedTally a size ps all
 sizing-last a list size first here i all l so ps row many =
     let s = so ps row many in
     let none = drop_all i size.uses.items l in
@@ -140,7 +140,7 @@ sizing-last a list size first here i all l so ps row many =
     }
 
 -- the same of derivations that are all used once, under one node
-pub record BasedSoFar (a : Accepted) (list : List Entry) (here end : ℕ) (all : Tally) (ps : Proofs) : Type 0 where
+pub record BasedSoFar (a : Accepted) (list : List Entry) (here end : ℕ) (all : LoweredTally) (ps : Proofs) : Type 0 where
   pub left : Proofs
   pub up : UpTo a list here end left
   pub low : most_height left ≤ most_height ps
@@ -151,12 +151,12 @@ pub record BasedSoFar (a : Accepted) (list : List Entry) (here end : ℕ) (all :
   pub small : all.height ≤ 3000 * (most_height ps + 1)
   pub copied : in_u64 (all.copied + total (copied_of a left)) ≡ in_u64 (total (copied_of a ps))
 
-abbrev pub Basing : Accepted → List Entry → ℕ → ℕ → ℕ → Tally → Type 0
+abbrev pub Basing : Accepted → List Entry → ℕ → ℕ → ℕ → LoweredTally → Type 0
 Basing a list first end here all = (ps : Proofs) → UpTo a list first end ps → BasedSoFar a list here end all ps
 
-pub basing-first : (a : Accepted) (list : List Entry) (first end : ℕ) (all : Tally) → all ≡ record { nodes = 1; height = 1; copied = 0 } → Basing a list first end first all
+pub basing-first : (a : Accepted) (list : List Entry) (first end : ℕ) (all : LoweredTally) → all ≡ record { nodes = 1; height = 1; copied = 0 } → Basing a list first end first all
 basing-first a list first end all e ps up =
-    subst (λ (x : Tally). BasedSoFar a list first end x ps) (sym e) (record {
+    subst (λ (x : LoweredTally). BasedSoFar a list first end x ps) (sym e) (record {
       left = ps;
       up = up;
       low = omega arith;
@@ -168,7 +168,7 @@ basing-first a list first end all e ps up =
       copied = (let z : 0 + total (copied_of a ps) ≡ total (copied_of a ps) = omega arith in ap in_u64 z);
     })
 
-pub basing-more : (a : Accepted) (list : List Entry) (ends : List ℕ) (first end here : ℕ) (old new : Tally) → AreEnds a list ends → here < end →
+pub basing-more : (a : Accepted) (list : List Entry) (ends : List ℕ) (first end here : ℕ) (old new : LoweredTally) → AreEnds a list ends → here < end →
     ((p : Proof) → IsListed a list here p → IsWithKid a (record { times = 1; above = 1 }) p old new) → Basing a list first end here old → Basing a list first end (get_or ends here 0) new
 basing-more a list ends first end here old new known l one so ps up =
     let s = so ps up in
@@ -203,7 +203,7 @@ basing-more a list ends first end here old new known l one so ps up =
       copied = omega (arith, c, hc, sc, oz);
     }
 
-pub basing-last : (a : Accepted) (list : List Entry) (first end here : ℕ) (all : Tally) → end ≤ here → Basing a list first end here all → (ps : Proofs) → UpTo a list first end ps → IsBaseTally a ps all
+pub basing-last : (a : Accepted) (list : List Entry) (first end here : ℕ) (all : LoweredTally) → end ≤ here → Basing a list first end here all → (ps : Proofs) → UpTo a list first end ps → IsBaseTally a ps all
 basing-last a list first end here all l so ps up =
     let s = so ps up in
     let none = row-ended a list here end s.left l s.up in

@@ -8,7 +8,7 @@ use Rattle.sx_rules.specs.Discipline.{AreBareSubjects}
 use Rattle.sx_rules.specs.Rules.{Rule, Hypotheses, judgements_of}
 use Rattle.sx_rules.specs.Sets.{shapes_in}
 use Rattle.sx_rewrite.specs.declared.rewrite_error.RewriteError.{RewriteError}
-use Rattle.sx_rewrite.specs.Accepted.{Known, rule_in, Accepted, known_of, rules_of, Signature, IsAccepted}
+use Rattle.sx_rewrite.specs.Accepted.{Known, rule_in, Accepted, known_of, extended_rules, Signature, IsAccepted}
 use Rattle.sx_rewrite.specs.Lowering.{CanLower}
 use Rattle.sx_rewrite.specs.Needed.{needed}
 use Rattle.sx_rewrite.specs.PutSubjects.{IsNodeOf}
@@ -60,14 +60,14 @@ module _ (l : Reading) (good : IsReading l) (n : Node) (need : n.is_needed ≡ t
   lowered : KidsLoweredTo a sig (hyps_by l) (needed (certificate_at a n.number)) terms d.kids numbers
   lowered =
       kids-lowered sig base shapes a ok (hyps_by l) good.given.below (needed (certificate_at a n.number)) terms d.kids numbers _
-      (is-by (rules_of a) (hyps_by l) n.number d.rule d.judgement d.binds d.kids is.found is.can.derives).each (read.kids need)
+      (is-by (extended_rules a) (hyps_by l) n.number d.rule d.judgement d.binds d.kids is.found is.can.derives).each (read.kids need)
 
   pub kids-have-subjects : (hyps : Hypotheses) × (kids : Proofs) × AreKidSubjects sig.subjects a.base hyps (needed (certificate_at a n.number)) terms kids numbers
   kids-have-subjects = ((hyps_by l), lowered.news, lowered.subjects)
 
-  pub node-of : (rules : List Rule) → rules ≡ rules_of a → (count : ℕ) → count ≡ length d.binds → IsNodeOf rules sig.subjects n.number count (length numbers)
+  pub node-of : (rules : List Rule) → rules ≡ extended_rules a → (count : ℕ) → count ≡ length d.binds → IsNodeOf rules sig.subjects n.number count (length numbers)
   node-of rules same count many =
-      let b = is-by (rules_of a) (hyps_by l) n.number d.rule d.judgement d.binds d.kids is.found is.can.derives in
+      let b = is-by (extended_rules a) (hyps_by l) n.number d.rule d.judgement d.binds d.kids is.found is.can.derives in
       let bare = (accepted-disciplined sig base shapes a ok n.number known-here.0 known-here.1).bare in
       record {
         rule = d.rule;

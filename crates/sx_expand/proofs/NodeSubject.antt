@@ -15,7 +15,7 @@ use Rattle.sx_rules.specs.Derivations.{Proof, Proofs, by, given, no_more, ◌⊳
 use Rattle.sx_rules.proofs.Instancing.{map_instance-bound}
 use Rattle.sx_rules.proofs.Moded.{outputs-map}
 use Rattle.sx_arena.specs.Arena.{tree_at}
-use Rattle.sx_rewrite.specs.Accepted.{Known, basic, checked, Checked, rule_in, Accepted, known_of, rules_of, Signature, IsAccepted, flat_conclusion}
+use Rattle.sx_rewrite.specs.Accepted.{Known, basic, checked, Checked, rule_in, Accepted, known_of, extended_rules, Signature, IsAccepted, flat_conclusion}
 use Rattle.sx_rewrite.specs.Flat.{flat_judgement, flat_hypotheses}
 use Rattle.sx_rewrite.specs.Lowering.{CanLower}
 use Rattle.sx_rewrite.specs.Lowers.{LowersTo, Lowers, HypothesesBelow}
@@ -208,11 +208,11 @@ module _ (sig : Signature) (base shapes : List Shape) (a : Accepted) (ok : IsAcc
   kids-many : number_of kl.news ≡ length (judgements_of (rule_in known).premises)
   kids-many = kl.lowered.many ∙ go can.derives
     where
-      go : Derives (rules_of a) hyps can.judgement (by r binds kids) → number_of kids ≡ length (judgements_of (rule_in known).premises)
+      go : Derives (extended_rules a) hyps can.judgement (by r binds kids) → number_of kids ≡ length (judgements_of (rule_in known).premises)
       go (found, at, many, concluded, apart_ones, each) =
           let o : Some found ≡ Some (rule_in known) = sym at ∙ rule-at (known_of a) r known at_r in
           let same : found ≡ rule_in known = cc in
-          each-many (rules_of a) hyps (judgement_instance (bound_by binds)) (judgements_of found.premises) kids each ∙ ap (λ (x : Rule). length (judgements_of x.premises)) same
+          each-many (extended_rules a) hyps (judgement_instance (bound_by binds)) (judgements_of found.premises) kids each ∙ ap (λ (x : Rule). length (judgements_of x.premises)) same
 
   k-subjects : (other : List Tree) × (subjects_of sig.subjects k ≡ map (instance (bound_by other)) (subjects_of sig.subjects (own_judgement a.table sig.subjects known)))
   k-subjects = go l

@@ -5,21 +5,21 @@ use Rattle.sx_term.specs.Tree.{Tree}
 use Rattle.sx_rules.specs.Rules.{Rule, judgements_of}
 use Rattle.sx_rules.specs.Derivations.{Proof, Proofs, by}
 use Rattle.sx_rules.specs.Orders.{Entry, of_rule}
-use Rattle.sx_rewrite.specs.Accepted.{Known, basic, checked, Checked, Accepted, known_of, rules_of, rule_in}
+use Rattle.sx_rewrite.specs.Accepted.{Known, basic, checked, Checked, Accepted, known_of, extended_rules, rule_in}
 use Rattle.sx_rewrite.specs.LoweredSizes.{number_of, FitKids, HasFitKids}
 use Rattle.sx_rewrite.specs.Stored.{stored_in}
 use Rattle.sx_rewrite.proofs.Known.{known-at}
 use Rattle.sx_expand.specs.LoweredOrders.{all_entries, grafted_order, order_at}
 
 -- a node has a kid for each judgement among the premises of its rule
-pub kids-many : (a : Accepted) (r : ℕ) (binds : List Tree) (kids : Proofs) (rule : Rule) → HasFitKids a (by r binds kids) → slice_get (rules_of a) r ≡ Some rule → number_of kids ≡ length (judgements_of rule.premises)
+pub kids-many : (a : Accepted) (r : ℕ) (binds : List Tree) (kids : Proofs) (rule : Rule) → HasFitKids a (by r binds kids) → slice_get (extended_rules a) r ≡ Some rule → number_of kids ≡ length (judgements_of rule.premises)
 kids-many a r binds kids rule fit at_r =
     let known = known-at (known_of a) r rule at_r in
     let f : FitKids (Some known.0) kids = subst (λ (o : Option Known). FitKids o kids) known.1 fit.0 in
     f ∙ ap (λ (x : Rule). length (judgements_of x.premises)) known.2
 
 -- and there is such a rule
-pub never-ruleless : (a : Accepted) (r : ℕ) (binds : List Tree) (kids : Proofs) → HasFitKids a (by r binds kids) → slice_get (rules_of a) r ≡ None → ⊥
+pub never-ruleless : (a : Accepted) (r : ℕ) (binds : List Tree) (kids : Proofs) → HasFitKids a (by r binds kids) → slice_get (extended_rules a) r ≡ None → ⊥
 never-ruleless a r binds kids fit none = go (known_of a) r none fit.0
   where
     go : (ks : List Known) (n : ℕ) → slice_get (map rule_in ks) n ≡ None → FitKids (slice_get ks n) kids → ⊥

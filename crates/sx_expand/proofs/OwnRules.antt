@@ -11,7 +11,7 @@ use Rattle.sx_rules.specs.Sets.{forms_in, shapes_in, bare_rules_in}
 use Rattle.sx_plain.specs.Plain.{Table}
 use Rattle.sx_rewrite.specs.declared.accepted.Accepted.{Accepted as AcceptedOf}
 use Rattle.sx_rewrite.specs.Accepted.{Known, basic, checked, Checked, Accepted}
-use Rattle.sx_rewrite.specs.Accepted.{known_of, rules_of, IsAccepted}
+use Rattle.sx_rewrite.specs.Accepted.{known_of, extended_rules, IsAccepted}
 use Rattle.sx_rewrite.specs.AcceptedView.{accepted, signature}
 use Rattle.sx_rewrite.specs.PlainRules.{plain_checked, plain_of}
 use Rattle.sx_rewrite.specs.Stored.{stored_in, body_in, certificate_at, flat_body_at}
@@ -103,7 +103,7 @@ module _ (set : AcceptedOf) (rules : RuleSet) where
 
     pub extended-rules :
         IsAccepted (signature set) (shapes_in set.base) (shapes_in set.rules) (accepted set) →
-        bare_rules_in set.rules ≡ rules_of (accepted set) → forms_in set.rules ≡ forms_in set.base →
+        bare_rules_in set.rules ≡ extended_rules (accepted set) → forms_in set.rules ≡ forms_in set.base →
         AreRules set rules
     extended-rules ok bare forms = subst (AreRules set) (sym same) (record {
       accepted_with = ok;
@@ -122,14 +122,14 @@ module _ (set : AcceptedOf) (rules : RuleSet) where
 
   pub plain-rules : rules ≡ set.plain_rules → set_with set rules ≡ plain_of (accepted set) →
       IsAccepted (signature set) (shapes_in set.base) (shapes_in set.rules) (accepted set) →
-      bare_rules_in set.plain_rules ≡ rules_of (plain_of (accepted set)) →
+      bare_rules_in set.plain_rules ≡ extended_rules (plain_of (accepted set)) →
       forms_in set.plain_rules ≡ forms_in set.base → AreRules set rules
   plain-rules same is ok bare forms = record {
     accepted_with =
         subst (IsAccepted (signature set) (shapes_in set.base) (shapes_in set.rules)) (sym is)
         (plain_rules_are_accepted (signature set) (shapes_in set.base) (shapes_in set.rules)
         (accepted set) ok);
-    rules_are = ap bare_rules_in same ∙ bare ∙ ap rules_of (sym is);
+    rules_are = ap bare_rules_in same ∙ bare ∙ ap extended_rules (sym is);
     forms_are = ap forms_in same ∙ forms;
     proofs_are = λ r. ap (λ (a : Accepted). certificate_at a r) is ∙ plain-proof (accepted set) r;
     bodies_are = λ r. ap (λ (a : Accepted). flat_body_at a r) is ∙ plain-body (accepted set) r;

@@ -11,7 +11,7 @@ use Rattle.sx_rules.specs.Rules.{Judgement, Rule}
 use Rattle.sx_arena.specs.Arena.{tree_at, AreBelow}
 use Rattle.sx_rewrite.specs.declared.rewrite_error.RewriteError.{RewriteError}
 use Rattle.sx_rewrite.specs.declared.rewrite_error.RewriteError.TheVariants.{Memory}
-use Rattle.sx_rewrite.specs.Accepted.{rules_of}
+use Rattle.sx_rewrite.specs.Accepted.{extended_rules}
 use Rattle.sx_rewrite.specs.Rewriting.{first_over}
 use Rattle.sx_expand.specs.declared.reading.Reading.{Reading}
 use Rattle.sx_expand.specs.declared.read.Read.{Read}
@@ -57,15 +57,15 @@ module _ (l : Reading) (at : ℕ) (need : Bool) (j : Judgement) (p : Proof)
         let e = given-stands l.listing.list.now at x n p can-within here is can.stands.stands in
         record {
           is = e;
-          found = subst (λ (q : Proof). Derives (rules_of (set_by l)) (hyps_by l) j q) e can.derives;
+          found = subst (λ (q : Proof). Derives (extended_rules (set_by l)) (hyps_by l) j q) e can.derives;
         }
 
   module _ (r : ℕ) (binds : List Tree) (kids : Proofs) (same : p ≡ by r binds kids) where
     pub node-for : NodeFor l at r need j binds kids
     node-for = go (subst (λ (x : Proof). CanRead l at need j x) same can)
       where
-        ruled : Derives (rules_of (set_by l)) (hyps_by l) j (by r binds kids) →
-            (rule : Rule) × (slice_get (rules_of (set_by l)) r ≡ Some rule)
+        ruled : Derives (extended_rules (set_by l)) (hyps_by l) j (by r binds kids) →
+            (rule : Rule) × (slice_get (extended_rules (set_by l)) r ≡ Some rule)
         ruled (rule, found, many, concluded, apart_ones, each) = (rule, found)
 
         go : CanRead l at need j (by r binds kids) → NodeFor l at r need j binds kids

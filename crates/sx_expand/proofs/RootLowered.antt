@@ -20,7 +20,7 @@ use Rattle.sx_plain.specs.Plain.{image}
 use Rattle.sx_arena.specs.Arena.{tree_at, AreBelow}
 use Rattle.sx_arena.proofs.Arenas.{maps_same, below_more}
 use Rattle.sx_arena.proofs.Growing.{extends-length}
-use Rattle.sx_rewrite.specs.Accepted.{Accepted, Signature, IsAccepted, rules_of}
+use Rattle.sx_rewrite.specs.Accepted.{Accepted, Signature, IsAccepted, extended_rules}
 use Rattle.sx_rewrite.specs.Lowers.{Lowers}
 use Rattle.sx_rewrite.specs.Measured.{AllPass, ProofPasses, node_terms}
 use Rattle.sx_rewrite.specs.Puts.{IsSmall}
@@ -110,7 +110,7 @@ module _ (l : Reading) (good : IsReading l) where
           let small = places-small set.base (hyps_by l) (given-small l.listing.set.now (hyps_by l) good.given) q k d.0 (measured_are_all sig base shapes set ok (hyps_by l) p q k measured.0 lowers measured.1 is_small (not-over measured.0 (kid.small measured.0 measured.1))) in
           let outs : List Bool = map (λ (x : Place). is_out x.role) ps in
           let subs : List Bool = map (λ (x : Place). is_sub x.role) ps in
-          let js-many = places-many shapes sig.forms (rules_of set) ok.sorted (hyps_by l) (given-many l.listing.set.now (hyps_by l) good.given) p j root.can.derives ∙ length-map ps (λ (x : Place). x.sort) in
+          let js-many = places-many shapes sig.forms (extended_rules set) ok.sorted (hyps_by l) (given-many l.listing.set.now (hyps_by l) good.given) p j root.can.derives ∙ length-map ps (λ (x : Place). x.sort) in
           let ks-many = places-many base sig.forms set.base ok.base_sorted (hyps_by l) (given-many l.listing.set.now (hyps_by l) good.given) q k d.0 ∙ ap (λ (n : ℕ). length (sig.forms n)) d.1.same_form ∙ length-map ps (λ (x : Place). x.sort) in
           let roles-many = length-map ps (λ (x : Place). x.role) in
           let subs-many = length-map ps (λ (x : Place). is_sub x.role) in
@@ -121,7 +121,7 @@ module _ (l : Reading) (good : IsReading l) where
           let subject = subst (λ (n : ℕ). IsSubjectAt (terms_in new) (outputs (sig.subjects n) k.places) r.subject) d.1.same_form (kid.subject q k lowers) in
           let own = one-subject (terms_in new) (outputs subs k.places) r.subject (omega (arith, few, here)) subject in
           let shallow = both-shallow outs j.places (subst AreShallow terms-are near) root.near in
-          let fits = places-fit shapes sig.forms (rules_of set) ok.sorted base set.table ok.desugars (hyps_by l) (λ i x e. given-fits l.listing.set.now (hyps_by l) good.given i x e set.table ok.desugars.is_table) p j root.can.derives root.can.fit in
+          let fits = places-fit shapes sig.forms (extended_rules set) ok.sorted base set.table ok.desugars (hyps_by l) (λ i x e. given-fits l.listing.set.now (hyps_by l) good.given i x e set.table ok.desugars.is_table) p j root.can.derives root.can.fit in
           let n = extends-length (terms_in old) (terms_in new) on.extends in
           subst (λ (f : ℕ). StandAt set.table (terms_in new) r.subject (roles_of (places_at forms f)) numbers r.outputs.items k.places) form-is
           (stand-at set.table (terms_in new) r.subject (roles_of ps) numbers r.outputs.items j.places k.places

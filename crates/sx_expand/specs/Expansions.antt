@@ -13,7 +13,7 @@ use Rattle.sx_rules.specs.Views.{FormData, judgement, places_at, subjects_in}
 use Rattle.sx_rewrite.specs.declared.lowered.Lowered.{Lowered}
 use Rattle.sx_rewrite.specs.declared.rewrite_error.RewriteError.{RewriteError}
 use Rattle.sx_rewrite.specs.declared.rewrite_error.RewriteError.TheVariants.{Memory}
-use Rattle.sx_rewrite.specs.Accepted.{Accepted, IsAccepted, Signature, rules_of}
+use Rattle.sx_rewrite.specs.Accepted.{Accepted, IsAccepted, Signature, extended_rules}
 use Rattle.sx_rewrite.specs.Rewrites.{CanRewrite}
 use Rattle.sx_rewrite.specs.Rewriting.{IsRewritten}
 use Rattle.sx_rewrite.specs.RewrittenView.{IsRewriting}
@@ -27,7 +27,7 @@ HasOneSubject forms form = length (outputs (subjects_in forms form) (places_at f
 -- can be rewritten. No output is deeper than 1,000.
 pub record IsListedFrom (modes : Modes) (a : Accepted) (hyps : Hypotheses) (goal : Goal)
     (list : List Entry) (answer : Answer) : Type 0 where
-  pub derives : DerivesGoal modes (rules_of a) hyps goal answer
+  pub derives : DerivesGoal modes (extended_rules a) hyps goal answer
   pub list_is : list ≡ order_of answer.0
   pub rewritable : CanRewrite a hyps answer.0
   pub near : AreShallow answer.1

@@ -8,7 +8,8 @@ use Rattle.sx_rules.specs.Discipline.{subjects_of}
 use Rattle.sx_rules.specs.Modes.{Modes}
 use Rattle.sx_rules.specs.Orders.{order_of}
 use Rattle.sx_rewrite.specs.declared.rewrite_error.RewriteError.{RewriteError}
-use Rattle.sx_rewrite.specs.Accepted.{Accepted, Known, Signature, IsAccepted, known_of, rules_of}
+use Rattle.sx_rewrite.specs.Accepted.{Accepted, Known, Signature, IsAccepted, known_of}
+use Rattle.sx_rewrite.specs.Accepted.{extended_rules}
 use Rattle.sx_rewrite.specs.Lowering.{CanLower, AreLoweredTo, IsRefused}
 use Rattle.sx_rewrite.specs.Lowers.{Lowers, HypothesesBelow}
 use Rattle.sx_rewrite.specs.Measured.{Measures}
@@ -32,7 +33,7 @@ KidsAreLowered =
     (sig : Signature) (base shapes : List Shape) (a : Accepted) → IsAccepted sig base shapes a →
     (hyps : Hypotheses) → HypothesesBelow (length base) hyps →
     (need : ℕ → Bool) (terms : List Tree) (kids : Proofs) (numbers : List (Option ℕ)) →
-    (js : List Judgement) → DeriveEach (rules_of a) hyps js kids →
+    (js : List Judgement) → DeriveEach (extended_rules a) hyps js kids →
     AreKidsRead a sig.subjects hyps need terms kids numbers →
     (news : Proofs) × AreLoweredTo a sig.subjects hyps need kids news
     × AreKidSubjects sig.subjects a.base hyps need terms news numbers

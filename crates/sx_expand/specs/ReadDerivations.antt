@@ -7,7 +7,7 @@ use Rattle.sx_rules.specs.Rules.{Judgement}
 use Rattle.sx_arena.specs.Arena.{tree_at, AreBelow}
 use Rattle.sx_rewrite.specs.declared.rewrite_error.RewriteError.{RewriteError}
 use Rattle.sx_rewrite.specs.declared.rewrite_error.RewriteError.TheVariants.{Memory}
-use Rattle.sx_rewrite.specs.Accepted.{rules_of}
+use Rattle.sx_rewrite.specs.Accepted.{extended_rules}
 use Rattle.sx_rewrite.specs.Lowering.{BindsFit, IsRefused}
 use Rattle.sx_rewrite.specs.Used.{lowered_height}
 use Rattle.sx_expand.specs.declared.read.Read.{Read}
@@ -22,7 +22,7 @@ use Rattle.sx_rules.specs.Limits.{most_levels}
 pub record CanRead (l : Reading) (at : ℕ) (is_needed : Bool) (j : Judgement) (p : Proof) :
     Type 0 where
   pub stands : StandsIn l.listing at p
-  pub derives : Derives (rules_of (set_by l)) (hyps_by l) j p
+  pub derives : Derives (extended_rules (set_by l)) (hyps_by l) j p
   pub binds : HasShallowBinds p
   pub fit : BindsFit (set_by l).table p
   pub low : is_needed ≡ true → lowered_height (set_by l) p ≤ most_levels

@@ -9,7 +9,7 @@ use Rattle.sx_rules.specs.Rules.{Judgement, Premise, holds, Rule, judgement_inst
 use Rattle.sx_rules.specs.Views.{judgement}
 use Rattle.sx_arena.specs.Matching.{Assignment}
 use Rattle.sx_rewrite.specs.declared.rewrite_error.RewriteError.{RewriteError}
-use Rattle.sx_rewrite.specs.Accepted.{rules_of}
+use Rattle.sx_rewrite.specs.Accepted.{extended_rules}
 use Rattle.sx_rewrite.specs.Needed.{needed}
 use Rattle.sx_rewrite.specs.Stored.{certificate_at}
 use Rattle.sx_expand.specs.declared.kid.Kid.{Kid}
@@ -34,7 +34,7 @@ proof_by n d = by n.number d.binds d.kids
 
 -- the node stands in the list and is by the rule
 pub record IsNodeIn (l : Reading) (n : Node) (d : NodeData) : Type 0 where
-  pub found : slice_get (rules_of (set_by l)) n.number ≡ Some d.rule
+  pub found : slice_get (extended_rules (set_by l)) n.number ≡ Some d.rule
   pub can : CanRead l n.at n.is_needed d.judgement (proof_by n d)
 
 -- of a node with these terms so much is bound with these premises left

@@ -9,7 +9,7 @@ use Rattle.sx_rules.specs.declared.rule_set.RuleSet.{RuleSet}
 use Rattle.sx_rules.specs.Views.{FormData, hypotheses, places_at}
 use Rattle.sx_rewrite.specs.declared.accepted.Accepted.{Accepted as AcceptedOf}
 use Rattle.sx_plain.specs.Views.{table_of}
-use Rattle.sx_rewrite.specs.Accepted.{Accepted, Signature, IsAccepted, rules_of}
+use Rattle.sx_rewrite.specs.Accepted.{Accepted, Signature, IsAccepted, extended_rules}
 use Rattle.sx_rewrite.specs.AcceptedView.{accepted, signature}
 use Rattle.sx_rewrite.specs.Copied.{copied}
 use Rattle.sx_rewrite.specs.LoweredSizes.{HasFitKids}
@@ -40,7 +40,7 @@ pub record CountsAs (a b : Accepted) (p : Proof) : Type 0 where
 pub record AreRules (set : AcceptedOf) (rules : RuleSet) : Type 0 where
   pub accepted_with : IsAccepted (signature set) (shapes_in set.base) (shapes_in set.rules)
       (set_with set rules)
-  pub rules_are : bare_rules_in rules ≡ rules_of (set_with set rules)
+  pub rules_are : bare_rules_in rules ≡ extended_rules (set_with set rules)
   pub forms_are : forms_in rules ≡ forms_in set.base
   pub proofs_are : (r : ℕ) → certificate_at (set_with set rules) r ≡ certificate_at (accepted set) r
   pub bodies_are : (r : ℕ) → flat_body_at (set_with set rules) r ≡ flat_body_at (accepted set) r

@@ -7,7 +7,7 @@ ghost use Rattle.sx_rules.specs.Derivations as spec;
 ghost use Rattle.sx_rules.specs.Rules as known;
 ghost use Rattle.sx_rules.specs.Views.{judgement};
 ghost use Rattle.sx_arena.specs.Arena.{AreBelow};
-ghost use Rattle.sx_rewrite.specs.Accepted.{rules_of};
+ghost use Rattle.sx_rewrite.specs.Accepted.{extended_rules};
 ghost use Rattle.sx_rewrite.specs.Needed.{needed};
 ghost use Rattle.sx_rewrite.specs.Stored.{certificate_at};
 ghost use Rattle.sx_expand.specs.Followed.{IsWork, bindings_of};

@@ -11,7 +11,7 @@ ghost use Rattle.sx_rules.specs.Limits.{most_levels};
 
 use crate::ends::{entry_at, number_at};
 use crate::listing::Listing;
-use sx_rewrite::{CertificateSize, GivenUse, LoweredSize, Tally};
+use sx_rewrite::{CertificateSize, GivenUse, LoweredSize, LoweredTally};
 use sx_rules::Entry;
 
 /// How big the derivation with these entries is when it is lowered, or None exactly where it
@@ -28,7 +28,7 @@ pub(crate) fn listed_size(listing: &Listing, budget: u64) -> Option<LoweredSize>
 
 /// What is counted of the derivation that begins with the entry at the place.
 #[cycle(tallied)]
-fn tally(listing: &Listing, at: usize) -> Tally
+fn tally(listing: &Listing, at: usize) -> LoweredTally
     requires ends { HasEnds listing.now }
     requires stands { (p : spec.Proof) × StandsIn listing.now at p × (height_of p ≤ most_levels) }
     ensures { (p : spec.Proof) → StandsIn listing.now at p →
@@ -42,14 +42,14 @@ fn tally(listing: &Listing, at: usize) -> Tally
                 None => base_tally(listing, at + 1, end),
             }
         }
-        Entry::Given(_) => Tally::of_one(),
+        Entry::Given(_) => LoweredTally::of_one(),
     }
 }
 
 /// What is counted of a node over the derivations from the first place on by an extension
 /// rule whose certificate has the size.
 #[cycle(tallied)]
-fn certificate_tally(listing: &Listing, size: &CertificateSize, first: usize) -> Tally
+fn certificate_tally(listing: &Listing, size: &CertificateSize, first: usize) -> LoweredTally
     requires ends { HasEnds listing.now }
     requires stand { (ps : spec.Proofs) × StandInRow listing.now first ps
         × (number_of ps ≡ length size.now.uses.items) × (most_height ps < most_levels) }
@@ -70,14 +70,14 @@ fn certificate_tally(listing: &Listing, size: &CertificateSize, first: usize) ->
 /// What is counted of a node over the derivations from the first place up to the end by a
 /// base rule.
 #[cycle(tallied)]
-fn base_tally(listing: &Listing, first: usize, end: usize) -> Tally
+fn base_tally(listing: &Listing, first: usize, end: usize) -> LoweredTally
     requires ends { HasEnds listing.now }
     requires stand { (ps : spec.Proofs) × StandInRow listing.now first ps
         × (first + nodes_of_all ps ≡ end) × (most_height ps < most_levels) }
     ensures { (ps : spec.Proofs) → StandInRow listing.now first ps →
         first + nodes_of_all ps ≡ end → IsBaseTally (set_in listing.now) ps result }
 {
-    let mut all = Tally::of_one();
+    let mut all = LoweredTally::of_one();
     let mut at = first;
     while at < end {
         all = with_kid(listing, all, GivenUse { times: 1, above: 1 }, at);
@@ -88,7 +88,7 @@ fn base_tally(listing: &Listing, first: usize, end: usize) -> Tally
 
 /// What is counted so far, with the kid at the place, whose given is used so.
 #[cycle(tallied)]
-fn with_kid(listing: &Listing, so_far: Tally, given: GivenUse, at: usize) -> Tally
+fn with_kid(listing: &Listing, so_far: LoweredTally, given: GivenUse, at: usize) -> LoweredTally
     requires ends { HasEnds listing.now }
     requires stands { (p : spec.Proof) × StandsIn listing.now at p × (height_of p < most_levels) }
     requires near { given.above ≤ most_levels }

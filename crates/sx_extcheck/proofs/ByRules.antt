@@ -23,7 +23,7 @@ use Rattle.sx_derive.proofs.Walked.{found_is_first}
 use Rattle.sx_rewrite.specs.declared.ext_rule.ExtRule.{ExtRule as ExtRuleOf}
 use Rattle.sx_rewrite.specs.declared.lowered.Lowered.{Lowered}
 use Rattle.sx_rewrite.specs.declared.rewrite_error.RewriteError.{RewriteError}
-use Rattle.sx_rewrite.specs.Accepted.{ExtRule, Accepted, rules_of, Signature, IsAccepted}
+use Rattle.sx_rewrite.specs.Accepted.{ExtRule, Accepted, extended_rules, Signature, IsAccepted}
 use Rattle.sx_rewrite.specs.AcceptedView.{accepted, signature}
 use Rattle.sx_rewrite.specs.Extensions.{with_table, BodyFits}
 use Rattle.sx_rewrite.specs.ExtensionView.{ext_rule}
@@ -66,7 +66,7 @@ module _ (k : Checking) (e : ExtRuleOf) (given : Hyps) (goal : FlatGoal) (flat :
   base-search b = λ i. record {
     modes = search.modes;
     subjects = search.subjects;
-    rules = if (sym b i) then a.base else rules_of (plain_of (with_table a table));
+    rules = if (sym b i) then a.base else extended_rules (plain_of (with_table a table));
     hyps = flat.premises i;
     goal = flat.conclusion i;
     wanted = flat.wanted i;
@@ -75,8 +75,8 @@ module _ (k : Checking) (e : ExtRuleOf) (given : Hyps) (goal : FlatGoal) (flat :
   stays : plain_of (with_table a table) ≡ with_table (plain_of a) table
   stays = plain_rules_stay (signature k.set.now) (shapes_in k.set.now.base) (shapes_in k.set.now.rules) a flat.can.after.accepted table flat.can.after.goes_on.keeps
 
-  module _ (forms_are : forms_in k.set.now.plain_rules ≡ forms_in k.set.now.base) (rules_are : bare_rules_in k.set.now.plain_rules ≡ rules_of (plain_of a)) where
-    pub plain-first : search_of k.set.now.plain_rules given goal ≡ by_rules (rules_of (plain_of a))
+  module _ (forms_are : forms_in k.set.now.plain_rules ≡ forms_in k.set.now.base) (rules_are : bare_rules_in k.set.now.plain_rules ≡ extended_rules (plain_of a)) where
+    pub plain-first : search_of k.set.now.plain_rules given goal ≡ by_rules (extended_rules (plain_of a))
     plain-first = λ i. record {
       modes = modes_of (forms_are i);
       subjects = subjects_in (forms_are i);
@@ -88,22 +88,22 @@ module _ (k : Checking) (e : ExtRuleOf) (given : Hyps) (goal : FlatGoal) (flat :
 
     pub plain-search : by_base (check_of k) (ext_rule e) ≡ false → search_of k.set.now.plain_rules given goal ≡ search
     plain-search b =
-        plain-first ∙ ap (λ (x : Accepted). by_rules (rules_of x)) (sym stays)
-        ∙ (λ i. by_rules (if (sym b i) then a.base else rules_of (plain_of (with_table a table))))
+        plain-first ∙ ap (λ (x : Accepted). by_rules (extended_rules x)) (sym stays)
+        ∙ (λ i. by_rules (if (sym b i) then a.base else extended_rules (plain_of (with_table a table))))
 
     -- the first derivation by base and plain rules
     module _ (tries : ℕ) (p : Proof) (outs : List Tree) (ends : ending_of (search_of k.set.now.plain_rules given goal) tries ≡ found (p, outs)) where
-      first : IsFirst search.modes (rules_of (plain_of a)) search.hyps search.goal (Some search.wanted) (p, outs)
+      first : IsFirst search.modes (extended_rules (plain_of a)) search.hyps search.goal (Some search.wanted) (p, outs)
       first =
-          found_is_first search.modes (rules_of (plain_of a)) search.hyps
+          found_is_first search.modes (extended_rules (plain_of a)) search.hyps
           (plain_rules_are_accepted (signature k.set.now) (shapes_in k.set.now.base) (shapes_in k.set.now.rules) a flat.can.after.accepted).moded
           search.goal (Some search.wanted) tries 1 (p, outs) (subst (λ (s : Search). ending_of s tries ≡ found (p, outs)) plain-first ends)
 
-      pub plain-derives : Derives (rules_of (plain_of a)) search.hyps (flat_goal table (signature k.set.now).subjects (ext_rule e)) p
+      pub plain-derives : Derives (extended_rules (plain_of a)) search.hyps (flat_goal table (signature k.set.now).subjects (ext_rule e)) p
       plain-derives =
           let d = first.derives in
           let same = judgement_known search.modes d.0 (flat_goal table (signature k.set.now).subjects (ext_rule e)) d.1 (d.2 ∙ first.is_wanted) in
-          subst (λ (j : Judgement). Derives (rules_of (plain_of a)) search.hyps j p) same d.3
+          subst (λ (j : Judgement). Derives (extended_rules (plain_of a)) search.hyps j p) same d.3
 
       pub plain-rewrites : height_of p ≤ 3000 → HasShallowBinds p → CanRewrite (plain_of a) (hypotheses given) p
       plain-rewrites h b =
@@ -115,8 +115,8 @@ module _ (k : Checking) (e : ExtRuleOf) (given : Hyps) (goal : FlatGoal) (flat :
           IsListedFrom (signature k.set.now).modes (plain_of a) (hypotheses given) (goal_view goal.goal) list (p, outs)
       plain-listed list e low binds near = record {
         derives =
-            subst (λ (x : Hypotheses). DerivesGoal search.modes (rules_of (plain_of a)) x (goal_view goal.goal) (p, outs)) (sym flat.premises)
-            (subst (λ (g : Goal). DerivesGoal search.modes (rules_of (plain_of a)) search.hyps g (p, outs)) (sym flat.conclusion) first.derives);
+            subst (λ (x : Hypotheses). DerivesGoal search.modes (extended_rules (plain_of a)) x (goal_view goal.goal) (p, outs)) (sym flat.premises)
+            (subst (λ (g : Goal). DerivesGoal search.modes (extended_rules (plain_of a)) search.hyps g (p, outs)) (sym flat.conclusion) first.derives);
         list_is = e;
         rewritable = plain-rewrites low binds;
         near = near;
@@ -147,7 +147,7 @@ one-subject shapes others vars more t (u ∷ (v ∷ us)) (x ∷ []) h k = absurd
 one-subject shapes others vars more t (u ∷ (v ∷ us)) (x ∷ (y ∷ xs)) h k = absurd h.1
 
 module _ (k : Checking) (e : ExtRuleOf) (given : Hyps) (goal : FlatGoal) (flat : IsFlatRule k e given goal)
-    (forms_are : forms_in k.set.now.plain_rules ≡ forms_in k.set.now.base) (rules_are : bare_rules_in k.set.now.plain_rules ≡ rules_of (plain_of (accepted k.set.now)))
+    (forms_are : forms_in k.set.now.plain_rules ≡ forms_in k.set.now.base) (rules_are : bare_rules_in k.set.now.plain_rules ≡ extended_rules (plain_of (accepted k.set.now)))
     (tries : ℕ) (p : Proof) (outs : List Tree) (ends : ending_of (search_of k.set.now.plain_rules given goal) tries ≡ found (p, outs)) where
   abbrev sig : Signature
   sig = signature k.set.now

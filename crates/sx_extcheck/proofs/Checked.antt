@@ -26,7 +26,7 @@ use Rattle.sx_rewrite.specs.RewrittenView.{rewritten, IsRewriting}
 use Rattle.sx_rewrite.specs.Stored.{checked_with}
 use Rattle.sx_extcheck.specs.declared.check_error.CheckError.{CheckError}
 use Rattle.sx_extcheck.specs.declared.check_error.CheckError.TheVariants.{Memory, Defect}
-use Rattle.sx_extcheck.specs.declared.rule_defect.RuleDefect.TheVariants.{Rejected, BudgetSpent, DepthSpent, TooDeep, TooBig, RewriteSpent, RewriteDeep}
+use Rattle.sx_extcheck.specs.declared.rule_refusal.RuleRefusal.TheVariants.{Rejected, BudgetSpent, DepthSpent, TooDeep, TooBig, RewriteSpent, RewriteDeep}
 use Rattle.sx_extcheck.specs.Checks.{Check, by_base, search_for, over_for, IsStoredFor}
 use Rattle.sx_extcheck.specs.CheckView.{IsRuleChecked}
 use Rattle.sx_extcheck.specs.FlatTerms.{listed_term}

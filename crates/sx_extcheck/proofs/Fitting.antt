@@ -14,7 +14,7 @@ use Rattle.sx_plain.specs.Views.{table_of}
 use Rattle.sx_derive.specs.declared.blame.Blame.{Blame}
 use Rattle.sx_rewrite.specs.declared.accepted.Accepted.{Accepted as AcceptedOf}
 use Rattle.sx_rewrite.specs.declared.ext_rule.ExtRule.{ExtRule as ExtRuleOf}
-use Rattle.sx_rewrite.specs.Accepted.{ExtRule, Checked, rules_of, IsAccepted, AllDisciplined}
+use Rattle.sx_rewrite.specs.Accepted.{ExtRule, Checked, extended_rules, IsAccepted, AllDisciplined}
 use Rattle.sx_rewrite.specs.AcceptedView.{accepted, signature}
 use Rattle.sx_rewrite.specs.Accepting.{AreStored}
 use Rattle.sx_rewrite.specs.Extensions.{with_table, GoesOn, BodiesFit}
@@ -24,7 +24,7 @@ use Rattle.sx_rewrite.proofs.Sound.{rejected_is_unsound}
 use Rattle.sx_extcheck.specs.declared.accept_error.AcceptError.{AcceptError}
 use Rattle.sx_extcheck.specs.declared.accept_error.AcceptError.TheVariants.{Memory, Rule}
 use Rattle.sx_extcheck.specs.declared.budgets.Budgets.{Budgets}
-use Rattle.sx_extcheck.specs.declared.rule_defect.RuleDefect.TheVariants.{Rejected, BudgetSpent, DepthSpent, TooDeep, TooBig, RewriteSpent, RewriteDeep}
+use Rattle.sx_extcheck.specs.declared.rule_refusal.RuleRefusal.TheVariants.{Rejected, BudgetSpent, DepthSpent, TooDeep, TooBig, RewriteSpent, RewriteDeep}
 use Rattle.sx_extcheck.specs.Accepts.{AreChecked, HasUnsound, RejectsUnsound}
 use Rattle.sx_extcheck.specs.Checks.{Check, over_for, IsStoredFor}
 use Rattle.sx_extcheck.specs.CheckView.{check_with, CanCheck}
@@ -70,7 +70,7 @@ module _ (set : AcceptedOf) (plain : PlainTable) (budgets : Budgets) where
     checked-images es ss rest can.1 more,
   )
 
-  module _ (base_moded : AllModed (signature set).modes (bare_rules_in set.base)) (plain_moded : AllModed (signature set).modes (rules_of (plain_of (with_table (accepted set) (table_of plain))))) where
+  module _ (base_moded : AllModed (signature set).modes (bare_rules_in set.base)) (plain_moded : AllModed (signature set).modes (extended_rules (plain_of (with_table (accepted set) (table_of plain))))) where
     pub all-stored : (es : List ExtRuleOf) (ss : List Checked) (count : ℕ) → AreChecked c es count (Ok ss) →
         AreStored (signature set) (length (shapes_in set.base)) (with_table (accepted set) (table_of plain)) (map ext_rule es) ss
     all-stored [] [] count h = tt

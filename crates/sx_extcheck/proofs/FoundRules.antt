@@ -21,7 +21,7 @@ use Rattle.sx_rewrite.specs.declared.ext_rule.ExtRule.{ExtRule as ExtRuleOf}
 use Rattle.sx_rewrite.specs.declared.flat.Flat.{Flat}
 use Rattle.sx_rewrite.specs.declared.lowered.Lowered.{Lowered}
 use Rattle.sx_rewrite.specs.declared.rewrite_error.RewriteError.{RewriteError}
-use Rattle.sx_rewrite.specs.Accepted.{Accepted, rules_of}
+use Rattle.sx_rewrite.specs.Accepted.{Accepted, extended_rules}
 use Rattle.sx_rewrite.specs.AcceptedView.{accepted, signature}
 use Rattle.sx_rewrite.specs.ExtensionView.{ext_rule}
 use Rattle.sx_rewrite.specs.PlainRules.{plain_of}
@@ -78,7 +78,7 @@ module _ (k : Checking) (e : ExtRuleOf) (given : Hyps) (goal : FlatGoal) (list :
   pub asked-shallow_given : ShallowJudgements (hypotheses given).judgements
   asked-shallow_given = (given-good k e given goal f.flat).near
 
-  module _ (forms_are : forms_in k.set.now.plain_rules ≡ forms_in k.set.now.base) (rules_are : bare_rules_in k.set.now.plain_rules ≡ rules_of (plain_of own)) where
+  module _ (forms_are : forms_in k.set.now.plain_rules ≡ forms_in k.set.now.base) (rules_are : bare_rules_in k.set.now.plain_rules ≡ extended_rules (plain_of own)) where
     abbrev tries : ℕ
     tries = k.budgets.tries
 

@@ -14,7 +14,7 @@ use Rattle.sx_extcheck.specs.declared.accept_error.AcceptError.{AcceptError}
 use Rattle.sx_extcheck.specs.declared.accept_error.AcceptError.TheVariants.{Memory, Rule}
 use Rattle.sx_extcheck.specs.declared.check_error.CheckError.{CheckError}
 use Rattle.sx_extcheck.specs.declared.check_error.CheckError.TheVariants.{Memory as NoMemory, Defect}
-use Rattle.sx_extcheck.specs.declared.rule_defect.RuleDefect.{RuleDefect}
+use Rattle.sx_extcheck.specs.declared.rule_refusal.RuleRefusal.{RuleRefusal}
 use Rattle.sx_extcheck.specs.Accepts.{AreChecked, WereChecked, IsRefusal}
 use Rattle.sx_extcheck.specs.Checks.{Check, tries_for, IsStoredFor, IsRefusedFor}
 use Rattle.sx_extcheck.specs.CheckView.{IsRuleChecked}
@@ -115,7 +115,7 @@ module _ (c : Check) (es : List ExtRuleOf) (first : ℕ) where
       front-refused NoMemory (Rule name d) now h n s = absurd s
       front-refused (Defect d) Memory now h n s = front-memory now (omega (arith, n)) (omega (arith, n))
       front-refused (Defect d) (Rule name x) now h n s =
-          ended (Rule name x) (tries_for c (ext_rule e)) now n (inl (s.0, subst (λ (y : RuleDefect). IsRefusedFor c (ext_rule e) y) (sym s.1) h, refl))
+          ended (Rule name x) (tries_for c (ext_rule e)) now n (inl (s.0, subst (λ (y : RuleRefusal). IsRefusedFor c (ext_rule e) y) (sym s.1) h, refl))
 
     pub front-end : length es ≤ i → (flats : Vec Flat) → flats.items ≡ fs → WereChecked c es first last (Ok flats)
     front-end l flats same =

@@ -13,7 +13,7 @@ use Rattle.sx_plain.specs.Adds.{uncovered, or_else, first_uncovered, first_uncov
 use Rattle.sx_plain.proofs.AddLaws.{covered}
 use Rattle.sx_derive.specs.Search.{found, exhausted}
 use Rattle.sx_derive.proofs.Walked.{found_is_first, exhausted_means_none}
-use Rattle.sx_rewrite.specs.Accepted.{ExtRule, Checked, rules_of}
+use Rattle.sx_rewrite.specs.Accepted.{ExtRule, Checked, extended_rules}
 use Rattle.sx_rewrite.specs.Accepting.{IsStored, IsRejected}
 use Rattle.sx_rewrite.specs.Lowers.{Lowers}
 use Rattle.sx_rewrite.specs.PlainRules.{plain_of}
@@ -51,7 +51,7 @@ not-base n table None e h = cc
 not-base n table (Some t) e h = let q : true ≡ false = sym (ap is_none (all-known n table t h)) ∙ e in cc
 
 -- of a check by moded rules
-module _ (c : Check) (ext : ExtRule) (base_moded : AllModed c.sig.modes c.set.base) (plain_moded : AllModed c.sig.modes (rules_of (plain_of c.set))) where
+module _ (c : Check) (ext : ExtRule) (base_moded : AllModed c.sig.modes c.set.base) (plain_moded : AllModed c.sig.modes (extended_rules (plain_of c.set))) where
   abbrev s : Search
   s = search_for c ext
 
@@ -59,7 +59,7 @@ module _ (c : Check) (ext : ExtRule) (base_moded : AllModed c.sig.modes c.set.ba
   by_these rules = record { modes = s.modes; subjects = s.subjects; rules = rules; hyps = s.hyps; goal = s.goal; wanted = s.wanted }
 
   abbrev rules_by : Bool → List Rule
-  rules_by b = if b then c.set.base else rules_of (plain_of c.set)
+  rules_by b = if b then c.set.base else extended_rules (plain_of c.set)
 
   first-by : (rules : List Rule) → AllModed c.sig.modes rules → (p : Proof) (outs : List Tree) → ending_of (by_these rules) c.tries ≡ found (p, outs) →
       IsFirst c.sig.modes rules s.hyps s.goal (Some s.wanted) (p, outs)
@@ -80,7 +80,7 @@ module _ (c : Check) (ext : ExtRule) (base_moded : AllModed c.sig.modes c.set.ba
       inr (
         not-base c.labels c.set.table ext.body b,
         (p, outs),
-        first-by (rules_of (plain_of c.set)) plain_moded p outs (subst (λ (v : Bool). ending_of (by_these (rules_by v)) c.tries ≡ found (p, outs)) b ends),
+        first-by (extended_rules (plain_of c.set)) plain_moded p outs (subst (λ (v : Bool). ending_of (by_these (rules_by v)) c.tries ≡ found (p, outs)) b ends),
         record {
           same_rule = ap (λ (y : Checked). y.rule) same;
           judgement = x.judgement;
@@ -96,4 +96,4 @@ module _ (c : Check) (ext : ExtRule) (base_moded : AllModed c.sig.modes c.set.ba
     where
       go : (b : Bool) → by_base c ext ≡ b → IsRejected c.sig c.labels c.set ext
       go true e = (c.set.base, inl (is-base c.labels c.set.table ext.body e, refl), none-by c.set.base base_moded (subst (λ (v : Bool). ending_of (by_these (rules_by v)) c.tries ≡ exhausted) e ends))
-      go false e = (rules_of (plain_of c.set), inr (not-base c.labels c.set.table ext.body e, refl), none-by (rules_of (plain_of c.set)) plain_moded (subst (λ (v : Bool). ending_of (by_these (rules_by v)) c.tries ≡ exhausted) e ends))
+      go false e = (extended_rules (plain_of c.set), inr (not-base c.labels c.set.table ext.body e, refl), none-by (extended_rules (plain_of c.set)) plain_moded (subst (λ (v : Bool). ending_of (by_these (rules_by v)) c.tries ≡ exhausted) e ends))

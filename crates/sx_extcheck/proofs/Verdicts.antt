@@ -11,14 +11,14 @@ use Rattle.sx_derive.specs.Search.{Ending, found, stopped, spent as no_tries, ex
 use Rattle.sx_derive.specs.Stuck.{Blame}
 use Rattle.sx_derive.specs.Walk.{Cause, depth_spent, too_deep as deep_term, too_big as big_term}
 use Rattle.sx_derive.proofs.BlamedOnce.{stuck_goal_is_unique}
-use Rattle.sx_rewrite.specs.Accepted.{ExtRule, Checked, IsAccepted, rules_of}
+use Rattle.sx_rewrite.specs.Accepted.{ExtRule, Checked, IsAccepted, extended_rules}
 use Rattle.sx_rewrite.specs.PlainRules.{plain_of}
 use Rattle.sx_rewrite.specs.Rewriting.{Refusal, Rewritten, IsRewritten, spent, deep, too_deep, too_big}
 use Rattle.sx_rewrite.proofs.LoweredSorted.{moded-base}
 use Rattle.sx_rewrite.proofs.PlainSets.{plain_rules_are_accepted}
 use Rattle.sx_rewrite.proofs.Rewriting.{rewriting_is_unique}
-use Rattle.sx_extcheck.specs.declared.rule_defect.RuleDefect.{RuleDefect}
-use Rattle.sx_extcheck.specs.declared.rule_defect.RuleDefect.TheVariants.{Rejected, BudgetSpent, DepthSpent, TooDeep, TooBig, RewriteSpent, RewriteDeep}
+use Rattle.sx_extcheck.specs.declared.rule_refusal.RuleRefusal.{RuleRefusal}
+use Rattle.sx_extcheck.specs.declared.rule_refusal.RuleRefusal.TheVariants.{Rejected, BudgetSpent, DepthSpent, TooDeep, TooBig, RewriteSpent, RewriteDeep}
 use Rattle.sx_extcheck.specs.Agree.{DefectData, unsound, other, defect_as_data}
 use Rattle.sx_extcheck.specs.Checks.{Check, by_base, search_for, over_for, EndsSo, IsLowered, IsStoredFor, IsRefusedFor}
 use Rattle.sx_extcheck.specs.Searches.{Search, StuckIn}
@@ -37,13 +37,13 @@ abbrev head_of : List Tree → Option Tree
 head_of [] = None
 head_of (t ∷ ts) = Some t
 
-abbrev limit_of : ℕ → Refusal → RuleDefect
+abbrev limit_of : ℕ → Refusal → RuleRefusal
 limit_of nodes spent = RewriteSpent nodes
 limit_of nodes deep = RewriteDeep
 limit_of nodes (too_deep n) = TooDeep n
 limit_of nodes (too_big n) = TooBig n
 
-abbrev cause_tells : Cause → RuleDefect
+abbrev cause_tells : Cause → RuleRefusal
 cause_tells depth_spent = DepthSpent 3000
 cause_tells (deep_term depth) = TooDeep (min depth (2 ^ 64 - 1))
 cause_tells (big_term size) = TooBig (min size (2 ^ 64 - 1))
@@ -95,10 +95,10 @@ module _ (c : Check) (ext : ExtRule) where
         ∙ ap (λ (x : Checked). let v : Verdict = inl x in v) (sym same),
   )
 
-  told : (d e : RuleDefect) → d ≡ e → let v : Verdict = inr (other d) in let w : Verdict = inr (other e) in v ≡ w
-  told d e q = ap (λ (x : RuleDefect). let v : Verdict = inr (other x) in v) q
+  told : (d e : RuleRefusal) → d ≡ e → let v : Verdict = inr (other d) in let w : Verdict = inr (other e) in v ≡ w
+  told d e q = ap (λ (x : RuleRefusal). let v : Verdict = inr (other x) in v) q
 
-  pub refused-verdict : (d : RuleDefect) → IsRefusedFor c ext d → IsVerdict (inr (defect_as_data d))
+  pub refused-verdict : (d : RuleRefusal) → IsRefusedFor c ext d → IsVerdict (inr (defect_as_data d))
   refused-verdict (Rejected b) h = (stuck _, h, refl)
   refused-verdict (BudgetSpent n) (h, e) = (ended no_tries, (h, tt), told (BudgetSpent c.tries) (BudgetSpent n) (ap BudgetSpent (sym e)))
   refused-verdict (DepthSpent n) (h, e) = (ended (stopped depth_spent), (h, tt), told (DepthSpent 3000) (DepthSpent n) (ap DepthSpent (sym e)))
@@ -117,7 +117,7 @@ module _ (c : Check) (ext : ExtRule) where
     plain_ok : IsAccepted c.sig base shapes (plain_of c.set)
     plain_ok = plain_rules_are_accepted c.sig base shapes c.set ok
 
-    moded : (b : Bool) → AllModed c.sig.modes (if b then c.set.base else rules_of (plain_of c.set))
+    moded : (b : Bool) → AllModed c.sig.modes (if b then c.set.base else extended_rules (plain_of c.set))
     moded true = moded-base c.sig.modes c.set.base c.set.more ok.moded
     moded false = plain_ok.moded
 
@@ -170,7 +170,7 @@ module _ (c : Check) (ext : ExtRule) where
         checked_in (inl x) y = x
         checked_in (inr x) y = y
 
-    pub refused-once : (d e : RuleDefect) → IsRefusedFor c ext d → IsRefusedFor c ext e → defect_as_data d ≡ defect_as_data e
+    pub refused-once : (d e : RuleRefusal) → IsRefusedFor c ext d → IsRefusedFor c ext e → defect_as_data d ≡ defect_as_data e
     refused-once d e h i =
         ap (λ (v : Verdict). data_in v (defect_as_data d)) (one-verdict (inr (defect_as_data d)) (inr (defect_as_data e)) (refused-verdict d h) (refused-verdict e i))
       where
@@ -178,7 +178,7 @@ module _ (c : Check) (ext : ExtRule) where
         data_in (inl x) y = y
         data_in (inr x) y = x
 
-    pub not-both : (s : Checked) (d : RuleDefect) → IsStoredFor c ext s → IsRefusedFor c ext d → ⊥
+    pub not-both : (s : Checked) (d : RuleRefusal) → IsStoredFor c ext s → IsRefusedFor c ext d → ⊥
     not-both s d h i =
         subst (λ (v : Verdict). IsLeft v) (one-verdict (inl s) (inr (defect_as_data d)) (stored-verdict s h) (refused-verdict d i)) tt
       where

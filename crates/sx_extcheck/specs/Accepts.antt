@@ -28,7 +28,7 @@ use Rattle.sx_extcheck.specs.declared.check_error.CheckError.TheVariants.{
   Defect,
 }
 use Rattle.sx_extcheck.specs.declared.refused.Refused.{Refused}
-use Rattle.sx_extcheck.specs.declared.rule_defect.RuleDefect.TheVariants.{Rejected}
+use Rattle.sx_extcheck.specs.declared.rule_refusal.RuleRefusal.TheVariants.{Rejected}
 use Rattle.sx_extcheck.specs.CheckView.{check_with}
 use Rattle.sx_extcheck.specs.Checks.{Check, tries_for, IsStoredFor, IsRefusedFor}
 

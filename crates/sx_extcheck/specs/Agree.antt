@@ -14,8 +14,8 @@ use Rattle.sx_extcheck.specs.declared.accept_error.AcceptError.{AcceptError}
 use Rattle.sx_extcheck.specs.declared.accept_error.AcceptError.TheVariants.{Memory, Rule}
 use Rattle.sx_extcheck.specs.declared.budgets.Budgets.{Budgets}
 use Rattle.sx_extcheck.specs.declared.refused.Refused.{Refused}
-use Rattle.sx_extcheck.specs.declared.rule_defect.RuleDefect.{RuleDefect}
-use Rattle.sx_extcheck.specs.declared.rule_defect.RuleDefect.TheVariants.{
+use Rattle.sx_extcheck.specs.declared.rule_refusal.RuleRefusal.{RuleRefusal}
+use Rattle.sx_extcheck.specs.declared.rule_refusal.RuleRefusal.TheVariants.{
   Rejected,
   BudgetSpent,
   DepthSpent,
@@ -29,10 +29,10 @@ use Rattle.sx_extcheck.specs.Accepts.{check_for, IsOutcome}
 -- a defect, whose stuck goal, where it has one, is plain data
 pub data DefectData : Type 0 where
   unsound : Blame → DefectData
-  other : RuleDefect → DefectData
+  other : RuleRefusal → DefectData
 
 -- the defect so
-abbrev pub defect_as_data : RuleDefect → DefectData
+abbrev pub defect_as_data : RuleRefusal → DefectData
 defect_as_data (Rejected b) = unsound (blame_of b)
 defect_as_data (BudgetSpent n) = other (BudgetSpent n)
 defect_as_data (DepthSpent n) = other (DepthSpent n)

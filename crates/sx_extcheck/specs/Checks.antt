@@ -31,7 +31,7 @@ use Rattle.sx_plain.specs.Adds.{first_uncovered}
 use Rattle.sx_derive.specs.Blames.{blame_of}
 use Rattle.sx_derive.specs.Search.{Ending, found, stopped, spent as no_tries, exhausted}
 use Rattle.sx_derive.specs.Walk.{depth_spent, too_deep as deep_term, too_big as big_term}
-use Rattle.sx_rewrite.specs.Accepted.{ExtRule, Checked, Accepted, rules_of, Signature}
+use Rattle.sx_rewrite.specs.Accepted.{ExtRule, Checked, Accepted, extended_rules, Signature}
 use Rattle.sx_rewrite.specs.PlainRules.{plain_of}
 use Rattle.sx_rewrite.specs.Rewriting.{
   Refusal,
@@ -44,8 +44,8 @@ use Rattle.sx_rewrite.specs.Rewriting.{
   first_over,
 }
 use Rattle.sx_rewrite.specs.Sound.{flat_given, flat_goal}
-use Rattle.sx_extcheck.specs.declared.rule_defect.RuleDefect.{RuleDefect}
-use Rattle.sx_extcheck.specs.declared.rule_defect.RuleDefect.TheVariants.{
+use Rattle.sx_extcheck.specs.declared.rule_refusal.RuleRefusal.{RuleRefusal}
+use Rattle.sx_extcheck.specs.declared.rule_refusal.RuleRefusal.TheVariants.{
   Rejected,
   BudgetSpent,
   DepthSpent,
@@ -86,7 +86,7 @@ module _ (c : Check) (ext : ExtRule) where
       record {
         modes = c.sig.modes;
         subjects = c.sig.subjects;
-        rules = if by_base then c.set.base else rules_of (plain_of c.set);
+        rules = if by_base then c.set.base else extended_rules (plain_of c.set);
         hyps = flat_given c.set.table c.sig.subjects ext;
         goal = goal_of c.sig.modes j;
         wanted = outputs_of c.sig.modes j;
@@ -129,7 +129,7 @@ module _ (c : Check) (ext : ExtRule) where
   IsStoredFor s = IsStoredByBase s ⊎ IsStoredLowered s
 
   -- why the rule is refused
-  abbrev pub IsRefusedFor : RuleDefect → Type 0
+  abbrev pub IsRefusedFor : RuleRefusal → Type 0
   IsRefusedFor (Rejected b) = EndsSo exhausted × StuckIn search_for (blame_of b)
   IsRefusedFor (BudgetSpent n) = EndsSo no_tries × (n ≡ c.tries)
   IsRefusedFor (DepthSpent n) = EndsSo (stopped depth_spent) × (n ≡ most_levels)

@@ -7,7 +7,7 @@ use Rattle.sx_plain.specs.Views.{table_of}
 use Rattle.sx_derive.specs.declared.blame.Blame.{Blame}
 use Rattle.sx_rewrite.specs.declared.accepted.Accepted.{Accepted as AcceptedOf}
 use Rattle.sx_rewrite.specs.declared.extension_data.ExtensionData.{ExtensionData}
-use Rattle.sx_rewrite.specs.Accepted.{ExtRule, Checked, rules_of, IsAccepted}
+use Rattle.sx_rewrite.specs.Accepted.{ExtRule, Checked, extended_rules, IsAccepted}
 use Rattle.sx_rewrite.specs.AcceptedView.{accepted, signature}
 use Rattle.sx_rewrite.specs.Accepting.{IsStored}
 use Rattle.sx_rewrite.specs.Extensions.{Fits}
@@ -15,7 +15,7 @@ use Rattle.sx_rewrite.specs.ExtensionView.{ext_rule}
 use Rattle.sx_rewrite.specs.PlainRules.{plain_of}
 use Rattle.sx_rewrite.specs.Sound.{IsSoundBy}
 use Rattle.sx_extcheck.specs.declared.budgets.Budgets.{Budgets}
-use Rattle.sx_extcheck.specs.declared.rule_defect.RuleDefect.TheVariants.{Rejected}
+use Rattle.sx_extcheck.specs.declared.rule_refusal.RuleRefusal.TheVariants.{Rejected}
 use Rattle.sx_extcheck.specs.Accepts.{check_for, IsOutcome, AddsSound}
 use Rattle.sx_extcheck.specs.Checks.{Check, IsStoredFor, IsRefusedFor}
 
@@ -24,14 +24,14 @@ use Rattle.sx_extcheck.specs.Checks.{Check, IsStoredFor, IsRefusedFor}
 abbrev pub CheckedRulesAreStored : Type 0
 CheckedRulesAreStored =
     (c : Check) (ext : ExtRule) →
-    AllModed c.sig.modes c.set.base → AllModed c.sig.modes (rules_of (plain_of c.set)) →
+    AllModed c.sig.modes c.set.base → AllModed c.sig.modes (extended_rules (plain_of c.set)) →
     (s : Checked) → IsStoredFor c ext s → IsStored c.sig c.labels c.set ext s
 
 -- a rule that is rejected is sound by nothing
 abbrev pub RejectedRulesAreUnsound : Type 0
 RejectedRulesAreUnsound =
     (c : Check) (ext : ExtRule) →
-    AllModed c.sig.modes c.set.base → AllModed c.sig.modes (rules_of (plain_of c.set)) →
+    AllModed c.sig.modes c.set.base → AllModed c.sig.modes (extended_rules (plain_of c.set)) →
     (b : Blame) → IsRefusedFor c ext (Rejected b) →
     (s : Checked) → IsSoundBy c.sig.subjects c.labels c.set ext s → ⊥
 

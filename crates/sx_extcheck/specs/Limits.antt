@@ -9,7 +9,7 @@ use Rattle.sx_rewrite.specs.declared.rewrite_error.RewriteError.TheVariants.{
 }
 use Rattle.sx_extcheck.specs.declared.check_error.CheckError.{CheckError}
 use Rattle.sx_extcheck.specs.declared.check_error.CheckError.TheVariants.{Memory, Defect}
-use Rattle.sx_extcheck.specs.declared.rule_defect.RuleDefect.TheVariants.{
+use Rattle.sx_extcheck.specs.declared.rule_refusal.RuleRefusal.TheVariants.{
   TooDeep,
   TooBig,
   RewriteSpent,

@@ -34,7 +34,7 @@ use Rattle.sx_derive.specs.Walk.{depth_spent, too_deep, too_big, events}
 use Rattle.sx_extcheck.specs.declared.check_error.CheckError.{CheckError}
 use Rattle.sx_extcheck.specs.declared.check_error.CheckError.TheVariants.{Memory, Defect}
 use Rattle.sx_extcheck.specs.declared.flat_goal.FlatGoal.{FlatGoal}
-use Rattle.sx_extcheck.specs.declared.rule_defect.RuleDefect.TheVariants.{
+use Rattle.sx_extcheck.specs.declared.rule_refusal.RuleRefusal.TheVariants.{
   Rejected,
   BudgetSpent,
   DepthSpent,

@@ -1,6 +1,6 @@
 //! Why no extension is added.
 
-use crate::rule_defect::RuleDefect;
+use crate::rule_refusal::RuleRefusal;
 use std::alloc::AllocFailed;
 use sx_term::Text;
 use thiserror::Error;
@@ -13,7 +13,7 @@ pub enum AcceptError {
     Memory,
     /// The rule with this name, the first that is refused, has this defect.
     #[error("a rule is refused")]
-    Rule(Text, RuleDefect),
+    Rule(Text, RuleRefusal),
 }
 
 impl<T: Drop> From<AllocFailed<T>> for AcceptError {

@@ -1,6 +1,6 @@
 //! Why nothing is stored of a rule.
 
-use crate::rule_defect::RuleDefect;
+use crate::rule_refusal::RuleRefusal;
 use std::alloc::AllocError;
 use sx_term::NoMemory;
 
@@ -8,7 +8,7 @@ use sx_term::NoMemory;
 #[derive(Drop)]
 pub(crate) enum CheckError {
     Memory,
-    Defect(RuleDefect),
+    Defect(RuleRefusal),
 }
 
 impl From<NoMemory> for CheckError {

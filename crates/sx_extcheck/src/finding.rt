@@ -13,7 +13,7 @@ ghost use Rattle.sx_extcheck.specs.Searches.{
 
 use crate::check_error::CheckError;
 use crate::flat_goal::FlatGoal;
-use crate::rule_defect::RuleDefect;
+use crate::rule_refusal::RuleRefusal;
 use std::alloc::Global;
 use std::sync::ledger::Ledger;
 use sx_derive::{DeriveError, Derived, Listed, derive, derive_list};
@@ -84,10 +84,10 @@ fn walk_defect(e: DeriveError) -> CheckError
 {
     match e {
         DeriveError::Memory => CheckError::Memory,
-        DeriveError::Underivable(blame) => CheckError::Defect(RuleDefect::Rejected(blame)),
-        DeriveError::BudgetSpent(tries) => CheckError::Defect(RuleDefect::BudgetSpent(tries)),
-        DeriveError::DepthSpent(depth) => CheckError::Defect(RuleDefect::DepthSpent(depth)),
-        DeriveError::TooDeep(depth) => CheckError::Defect(RuleDefect::TooDeep(depth)),
-        DeriveError::TooBig(nodes) => CheckError::Defect(RuleDefect::TooBig(nodes)),
+        DeriveError::Underivable(blame) => CheckError::Defect(RuleRefusal::Rejected(blame)),
+        DeriveError::BudgetSpent(tries) => CheckError::Defect(RuleRefusal::BudgetSpent(tries)),
+        DeriveError::DepthSpent(depth) => CheckError::Defect(RuleRefusal::DepthSpent(depth)),
+        DeriveError::TooDeep(depth) => CheckError::Defect(RuleRefusal::TooDeep(depth)),
+        DeriveError::TooBig(nodes) => CheckError::Defect(RuleRefusal::TooBig(nodes)),
     }
 }

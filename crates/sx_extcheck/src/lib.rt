@@ -25,7 +25,7 @@ mod laws;
 mod refused;
 mod rewrite_defect;
 mod rule_checking;
-mod rule_defect;
+mod rule_refusal;
 mod storing;
 
 pub use accept_error::AcceptError;
@@ -35,4 +35,4 @@ pub use laws::{
     added_rules_are_sound, checked_rules_are_stored, one_outcome_is_due, rejected_rules_are_unsound,
 };
 pub use refused::Refused;
-pub use rule_defect::RuleDefect;
+pub use rule_refusal::RuleRefusal;

@@ -4,7 +4,7 @@ ghost use Rattle.std.specs.Prelude.{◌≡◌};
 ghost use Rattle.sx_extcheck.specs.Limits.{defect_of};
 
 use crate::check_error::CheckError;
-use crate::rule_defect::RuleDefect;
+use crate::rule_refusal::RuleRefusal;
 use sx_rewrite::RewriteError;
 
 /// Out of memory, or the defect of a rule that passes this limit.
@@ -13,9 +13,9 @@ pub(crate) fn rewrite_defect(e: RewriteError) -> CheckError
 {
     match e {
         RewriteError::Memory => CheckError::Memory,
-        RewriteError::RewriteSpent(nodes) => CheckError::Defect(RuleDefect::RewriteSpent(nodes)),
-        RewriteError::RewriteDeep => CheckError::Defect(RuleDefect::RewriteDeep),
-        RewriteError::TooDeep(depth) => CheckError::Defect(RuleDefect::TooDeep(depth)),
-        RewriteError::TooBig(nodes) => CheckError::Defect(RuleDefect::TooBig(nodes)),
+        RewriteError::RewriteSpent(nodes) => CheckError::Defect(RuleRefusal::RewriteSpent(nodes)),
+        RewriteError::RewriteDeep => CheckError::Defect(RuleRefusal::RewriteDeep),
+        RewriteError::TooDeep(depth) => CheckError::Defect(RuleRefusal::TooDeep(depth)),
+        RewriteError::TooBig(nodes) => CheckError::Defect(RuleRefusal::TooBig(nodes)),
     }
 }

@@ -7,10 +7,10 @@
 
 mod arguments;
 mod folder;
-mod input;
-mod output;
+mod standard_input;
+mod standard_output;
 
 pub use arguments::{ArgumentsError, read_arguments};
 pub use folder::Folder;
-pub use input::Input;
-pub use output::Output;
+pub use standard_input::StandardInput;
+pub use standard_output::StandardOutput;

@@ -3,7 +3,7 @@
 ghost use Rattle.std.specs.Prelude.{IfOk};
 ghost use Rattle.sx_term.specs.Term.{tree};
 ghost use Rattle.sx_term.specs.declared.role.Role.TheVariants.{In};
-ghost use Rattle.sx_typing.specs.Source.{IsTermFor};
+ghost use Rattle.sx_typing.specs.BodySource.{IsTermFor};
 ghost use Rattle.sx_environment.specs.SeenFrom.{CanSee, interfaces_of, seen_from};
 ghost use Rattle.sx_steps.specs.Stop.{Gives, IsNoFault};
 ghost use Rattle.sx_importing.specs.MakeEnvironment.{SeesImports};

@@ -9,7 +9,7 @@ use Rattle.sx_rules.specs.Modes.{Modes}
 use Rattle.sx_rules.specs.Rules.{Premise, holds, apart, Rule, judgements_of}
 use Rattle.sx_plain.specs.Plain.{Table, image}
 use Rattle.sx_rewrite.specs.Accepted.{Accepted, Checked, ExtRule, IsAccepted, Signature}
-use Rattle.sx_rewrite.specs.Accepted.{basic, checked, rule_in, rules_of}
+use Rattle.sx_rewrite.specs.Accepted.{basic, checked, rule_in, extended_rules}
 use Rattle.sx_rewrite.specs.Extensions.{with_table}
 use Rattle.sx_rewrite.specs.Flat.{flat_judgement}
 use Rattle.sx_rewrite.specs.PlainRules.{image_premise, plain_checked, plain_of, plain_rule}
@@ -114,7 +114,7 @@ module _ (P : LexKind → List ℕ → Type 0) where
         ext.rule.conclusion.places h.rule.conclusion in
         let ins = inputs_lexemes P (sig.modes conclusion.form) conclusion.places all in
         let binds =
-        kept P sig.modes (rules_of (plain_of a)) hyps ok_plain.moded plain_have.rules given l.proof
+        kept P sig.modes (extended_rules (plain_of a)) hyps ok_plain.moded plain_have.rules given l.proof
         conclusion l.derives ins in
         let low =
         lowered P sig base shapes (plain_of a) ok_plain plain_have hyps given l.proof l.lowered
@@ -156,7 +156,7 @@ grown_sets_keep_lexemes literals sig base shapes all a e ok x sound have rules_h
     record {
       rules = subst (λ (rs : List Rule). AllByRecursion (RuleLexemesAre P) rs)
           (sym (all-rules a.base a.more e.stored))
-          (all_both (RuleLexemesAre P) (rules_of a) (map rule_in (map checked e.stored)) have.rules
+          (all_both (RuleLexemesAre P) (extended_rules a) (map rule_in (map checked e.stored)) have.rules
           rules);
       bodies = all_both (BodyLexemesAre P) a.more e.stored have.bodies
           (stored_bodies P sig base all n so_far first so_far_has e.rules e.stored sound

@@ -10,9 +10,9 @@ use Rattle.sx_rules.specs.Derivations.{Proof, Proofs, by, given, no_more, ◌⊳
 use Rattle.sx_rules.specs.Discipline.{IsSubjectIn}
 use Rattle.sx_rules.specs.Modes.{Modes, outputs}
 use Rattle.sx_rules.specs.Rules.{Judgement, Premise, holds, apart, Rule, Hypotheses, judgements_of}
-use Rattle.sx_rules.specs.Typed.{IsUntyped}
+use Rattle.sx_rules.specs.Typed.{IsUntypedVariable}
 use Rattle.sx_plain.specs.Plain.{Table}
-use Rattle.sx_rewrite.specs.Accepted.{Checked, flat_conclusion, Known, basic, checked, rule_in, Accepted, known_of, rules_of, Signature, IsAccepted}
+use Rattle.sx_rewrite.specs.Accepted.{Checked, flat_conclusion, Known, basic, checked, rule_in, Accepted, known_of, extended_rules, Signature, IsAccepted}
 use Rattle.sx_rewrite.specs.Flat.{flat_places}
 use Rattle.sx_rewrite.specs.Lowers.{SubjectsAreLowered, AreLoweredBinds, LowersTo, Lowers, LowersEach}
 use Rattle.sx_rewrite.proofs.Known.{rule-at, accepted-typed}
@@ -71,17 +71,17 @@ module _ (P : LexKind → List ℕ → Type 0) where
         (v : ℕ) → v < length (rule_in known).sorts → LexemesAre P (bound_by more v)
     values r known binds more ks at_r h b k v l = go ((accepted-typed sig base shapes a ok r known at_r).1 v l)
       where
-        go : IsUntyped (rule_in known).sorts v ⊎ IsSubjectIn sig.subjects v (judgements_of (rule_in known).premises) → LexemesAre P (bound_by more v)
+        go : IsUntypedVariable (rule_in known).sorts v ⊎ IsSubjectIn sig.subjects v (judgements_of (rule_in known).premises) → LexemesAre P (bound_by more v)
         go (inl u) = subst (λ (t : Tree). LexemesAre P t) (sym (b.images v u)) (image_lexemes P a.table have.table (bound_by binds v) (bound_lexemes P binds h v))
         go (inr x) = lowered_subject sig.subjects (bound_by more) (rule_in known).premises ks v k b.subjects_are x
 
     result : (r : ℕ) (known : Known) (more : List Tree) (qs : Proofs) (q : Proof) (k : Judgement) → slice_get (known_of a) r ≡ Some known → AllLexemesAre P more →
         LowersTo a.table sig.subjects known r more qs q k → JudgementLexemesAre P k
     result r (basic rule) more qs q k at_r h l =
-        let own = rule_at P (rules_of a) r rule have.rules (rule-at (known_of a) r (basic rule) at_r) in
+        let own = rule_at P (extended_rules a) r rule have.rules (rule-at (known_of a) r (basic rule) at_r) in
         subst (λ (x : Judgement). JudgementLexemesAre P x) (sym l.1) (judgement_lexemes P more h rule.conclusion own.conclusion)
     result r (checked c) more qs q k at_r h l =
-        let own = rule_at P (rules_of a) r c.rule have.rules (rule-at (known_of a) r (checked c) at_r) in
+        let own = rule_at P (extended_rules a) r c.rule have.rules (rule-at (known_of a) r (checked c) at_r) in
         let flat = flat_lexemes a.table have.table c.body (body_at a.base a.more r c have.bodies at_r) (sig.subjects c.rule.conclusion.form) c.rule.conclusion.places own.conclusion in
         subst (λ (x : Judgement). JudgementLexemesAre P x) (sym l.1) (judgement_lexemes P more h (flat_conclusion a.table sig.subjects c) flat)
 
@@ -104,4 +104,4 @@ module _ (P : LexKind → List ℕ → Type 0) where
 pub lowered_keep_lexemes : LoweredKeepLexemes
 lowered_keep_lexemes literals sig base shapes a ok have hyps given_have p q j k d g l =
     let P = IsToken literals in
-    lowered P sig base shapes a ok have hyps given_have p q k (kept P sig.modes (rules_of a) hyps ok.moded have.rules given_have p j d g).1 l
+    lowered P sig base shapes a ok have hyps given_have p q k (kept P sig.modes (extended_rules a) hyps ok.moded have.rules given_have p j d g).1 l

@@ -7,7 +7,7 @@ use Rattle.sx_rules.specs.Derivations.{Proof, Derives}
 use Rattle.sx_rules.specs.Modes.{Modes, inputs_of, AllModed}
 use Rattle.sx_rules.specs.Rules.{Judgement, Rule, Hypotheses}
 use Rattle.sx_plain.specs.Plain.{Table, image}
-use Rattle.sx_rewrite.specs.Accepted.{Accepted, Signature, IsAccepted, rules_of}
+use Rattle.sx_rewrite.specs.Accepted.{Accepted, Signature, IsAccepted, extended_rules}
 use Rattle.sx_rewrite.specs.Extensions.{Extension, Fits, extended, with_table}
 use Rattle.sx_rewrite.specs.Lowers.{Lowers}
 use Rattle.sx_rewrite.specs.Sound.{AreSoundBy}
@@ -39,7 +39,7 @@ LoweredKeepLexemes =
     IsAccepted sig base shapes a → SetLexemesAre (IsToken literals) a →
     (hyps : Hypotheses) →
     AllByRecursion (JudgementLexemesAre (IsToken literals)) hyps.judgements →
-    (p q : Proof) (j k : Judgement) → Derives (rules_of a) hyps j p →
+    (p q : Proof) (j k : Judgement) → Derives (extended_rules a) hyps j p →
     AllLexemesAre (IsToken literals) (inputs_of sig.modes j) →
     Lowers a sig.subjects hyps p q k →
     JudgementLexemesAre (IsToken literals) k

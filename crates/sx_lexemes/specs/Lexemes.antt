@@ -7,7 +7,7 @@ use Rattle.sx_term.specs.Spaced.{IsTokenText}
 use Rattle.sx_term.specs.Tree.{Tree, Trees, node, lexeme, hole, none, ◌▹◌}
 use Rattle.sx_rules.specs.Rules.{Judgement, Premise, holds, apart, Rule}
 use Rattle.sx_plain.specs.Plain.{Body, Table}
-use Rattle.sx_rewrite.specs.Accepted.{ExtRule, Checked, Accepted, rules_of}
+use Rattle.sx_rewrite.specs.Accepted.{ExtRule, Checked, Accepted, extended_rules}
 
 -- the text is a token of the kind, and none of the literals
 abbrev pub IsToken : (literals : List (List ℕ)) → LexKind → List ℕ → Type 0
@@ -59,6 +59,6 @@ BodyLexemesAre P c = IfSome c.body (LexemesAre P)
 
 -- and of the rules, the flat bodies and the plain table of an accepted set
 pub record SetLexemesAre (P : LexKind → List ℕ → Type 0) (a : Accepted) : Type 0 where
-  pub rules : AllByRecursion (RuleLexemesAre P) (rules_of a)
+  pub rules : AllByRecursion (RuleLexemesAre P) (extended_rules a)
   pub bodies : AllByRecursion (BodyLexemesAre P) a.more
   pub table : TableLexemesAre P a.table

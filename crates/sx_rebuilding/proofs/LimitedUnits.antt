@@ -25,7 +25,7 @@ use Rattle.sx_rewrite.proofs.Lowerings.{lowered_are_derivations}
 use Rattle.sx_extcheck.specs.declared.budgets.Budgets.{Budgets}
 use Rattle.sx_notation.specs.Language.{sort_when, sorts_with}
 use Rattle.sx_typing.specs.Dialects.{DialectData, IsDialect}
-use Rattle.sx_typing.specs.Goals.{rules_of}
+use Rattle.sx_typing.specs.Goals.{dialect_rules}
 use Rattle.sx_typing.specs.MainGoals.{input_at, main_terms, main_goal}
 use Rattle.sx_typing.specs.Outcomes.{bare, no_hypotheses}
 use Rattle.sx_typing.proofs.Walks.{typings_are_first}
@@ -135,7 +135,7 @@ module _ (budgets : Budgets) (files : Files) (g : Given) (l : HasLanguage g) (u 
   pub texts : IsWritten m terms low.lowered.proof u
   texts = made.gives.made.written
 
-  pub moded : AllModed (modes_of forms) (rules_of d)
+  pub moded : AllModed (modes_of forms) (dialect_rules d)
   moded = subst (λ (rules : List Rule). AllModed (modes_of forms) rules) (sym is.rules_are)
       is.accepted.moded
 

@@ -6,7 +6,7 @@ use Rattle.sx_rules.specs.Rules.{Rule}
 use Rattle.sx_rules.specs.Views.{FormData}
 use Rattle.sx_plain.specs.Plain.{Table}
 use Rattle.sx_rewrite.specs.declared.flat.Flat.{Flat}
-use Rattle.sx_rewrite.specs.Accepted.{ExtRule, Checked, checked, rule_in, Accepted, rules_of, IsAccepted}
+use Rattle.sx_rewrite.specs.Accepted.{ExtRule, Checked, checked, rule_in, Accepted, extended_rules, IsAccepted}
 use Rattle.sx_rewrite.specs.Sound.{AreSoundBy}
 use Rattle.sx_rewrite.specs.Extensions.{Extension, with_table, extended, Fits, without_extensions, HasGrownSoundly}
 use Rattle.sx_rewrite.specs.Stored.{checked_with, checked_of, accepted_from, signature_of, IsHeld}
@@ -75,11 +75,11 @@ module _ (base old new : List Rule) (table : Table) (flats : List Flat) (first :
         let sig = signature_of forms in
         let ok = accepted_sets_grow sig base_shapes shapes all before extension held.accepted fits sound in
         let moved = subst (λ (a : Accepted). IsAccepted sig base_shapes all a) (sym added-as) ok in
-        let own_rules = ap (λ (x : List Rule). rules_of before ++ x) (checked-rules rules more lengths) in
-        let rules_are : new ≡ rules_of (extended before extension) = grown ∙ ap (λ (x : List Rule). x ++ rules) held.rules_are ∙ sym own_rules ∙ sym (all-rules base before.more extension.stored) in
+        let own_rules = ap (λ (x : List Rule). extended_rules before ++ x) (checked-rules rules more lengths) in
+        let rules_are : new ≡ extended_rules (extended before extension) = grown ∙ ap (λ (x : List Rule). x ++ rules) held.rules_are ∙ sym own_rules ∙ sym (all-rules base before.more extension.stored) in
         record {
           accepted = subst (λ (x : List Shape). IsAccepted sig base_shapes x (accepted_from base new ext_table all_flats)) (sym shapes_are) moved;
-          rules_are = rules_are ∙ ap rules_of (sym added-as);
+          rules_are = rules_are ∙ ap extended_rules (sym added-as);
           same_forms = forms_are ∙ held.same_forms;
         }
 

@@ -10,7 +10,7 @@ use Rattle.sx_rules.specs.Views.{FormData, NamedRule, modes_of, subjects_in, sor
 use Rattle.sx_rules.specs.Good.{IsRuleSet}
 use Rattle.sx_plain.specs.Plain.{Table}
 use Rattle.sx_rewrite.specs.declared.flat.Flat.{Flat}
-use Rattle.sx_rewrite.specs.Accepted.{Accepted, rules_of, AllDisciplined, IsAccepted}
+use Rattle.sx_rewrite.specs.Accepted.{Accepted, extended_rules, AllDisciplined, IsAccepted}
 use Rattle.sx_rewrite.specs.Extensions.{without_extensions, HasGrownSoundly}
 use Rattle.sx_rewrite.specs.Kinds.{HaveSortsFor}
 use Rattle.sx_rewrite.specs.Stored.{checked_of, accepted_from, signature_of, IsHeld}
@@ -49,7 +49,7 @@ begins-held ss ts fs gs os rs table flats shapes_are forms_are rules_are t f goo
     let moved = subst (λ (a : Accepted). IsAccepted sig ss ss a) (sym same) ok in
     record {
       accepted = subst (λ (x : List Shape). IsAccepted sig ss x (accepted_from (map rule os) (map rule rs) table flats)) (sym shapes_are) moved;
-      rules_are = same-bare rs os rules_are ∙ sym (same-rules (map rule os)) ∙ ap rules_of (sym same);
+      rules_are = same-bare rs os rules_are ∙ sym (same-rules (map rule os)) ∙ ap extended_rules (sym same);
       same_forms = forms_are;
     }
 

@@ -15,7 +15,7 @@ use Rattle.sx_plain.specs.Tables.{IsCovered, AreCovered, Begins, IsBodyFor, Desu
 use Rattle.sx_plain.proofs.Tables.{begins-at, kids-bound}
 use Rattle.sx_rewrite.specs.declared.lowered.Lowered.{Lowered}
 use Rattle.sx_rewrite.specs.declared.rewrite_error.RewriteError.{RewriteError}
-use Rattle.sx_rewrite.specs.Accepted.{ExtRule, Checked, Accepted, rules_of, AllDisciplined, Signature, IsAccepted}
+use Rattle.sx_rewrite.specs.Accepted.{ExtRule, Checked, Accepted, extended_rules, AllDisciplined, Signature, IsAccepted}
 use Rattle.sx_rewrite.specs.Extensions.{BodyFits, BodiesFit, with_table, GoesOn, ComesAfter}
 use Rattle.sx_rewrite.specs.Accepting.{AreStored}
 use Rattle.sx_rewrite.specs.CheckLaws.{LongerTablesAreAccepted, FlatPremisesAreBase, FlatGoalsStay, ChecksHaveFitTerms, FoundChecksCanBeRewritten, ChecksAreRewrittenAlike, ChecksAreSound, StoredExtensionsAreSound}
@@ -101,10 +101,10 @@ module _ (sig : Signature) (base shapes all : List Shape) (a : Accepted) (table 
   plain : IsAccepted sig base shapes (plain_of a)
   plain = plain_rules_are_accepted sig base shapes a x.accepted
 
-  proof-sorted : (p : Proof) → Derives (rules_of (plain_of a)) hyps goal p → ProofIsSorted shapes (rules_of (plain_of a)) vars p
-  proof-sorted p d = (derivations_are_sorted sig.modes (rules_of (plain_of a)) hyps shapes sig.forms vars plain.moded plain.sorted given-sorted goal p d goal-inputs).1
+  proof-sorted : (p : Proof) → Derives (extended_rules (plain_of a)) hyps goal p → ProofIsSorted shapes (extended_rules (plain_of a)) vars p
+  proof-sorted p d = (derivations_are_sorted sig.modes (extended_rules (plain_of a)) hyps shapes sig.forms vars plain.moded plain.sorted given-sorted goal p d goal-inputs).1
 
-  rewritten-alike : (p : Proof) → Derives (rules_of (plain_of a)) hyps goal p → (budget : ℕ) (result : Result Lowered RewriteError) →
+  rewritten-alike : (p : Proof) → Derives (extended_rules (plain_of a)) hyps goal p → (budget : ℕ) (result : Result Lowered RewriteError) →
       IsRewriting (plain_of a) sig.subjects hyps p budget result ↔ IsRewriting (plain_of (with_table a table)) sig.subjects hyps p budget result
   rewritten-alike p d budget result =
       let alike = longer_tables_rewrite_alike sig base shapes (plain_of a) plain table x.goes_on.keeps hyps vars p (proof-sorted p d) budget result in
@@ -123,7 +123,7 @@ flat_goals_stay sig base shapes all a table ext x = goal-sorted sig base shapes 
 pub checks_have_fit_terms : ChecksHaveFitTerms
 checks_have_fit_terms sig base shapes all a table ext x p d =
     let own = proof-sorted sig base shapes all a table ext x p d in
-    binds-fit base shapes a.table ext.rule.sorts x.accepted.desugars (rules_of (plain_of a)) p own
+    binds-fit base shapes a.table ext.rule.sorts x.accepted.desugars (extended_rules (plain_of a)) p own
 
 pub found_checks_can_be_rewritten : FoundChecksCanBeRewritten
 found_checks_can_be_rewritten sig base shapes all a table ext x answer is_first low near =

@@ -11,7 +11,7 @@ use Rattle.sx_rules.proofs.Sorted.{derivations_are_sorted}
 use Rattle.sx_plain.specs.Plain.{Table}
 use Rattle.sx_plain.specs.Tables.{Desugars, FitTable}
 use Rattle.sx_plain.proofs.Tables.{sorted-fits}
-use Rattle.sx_rewrite.specs.Accepted.{rules_of}
+use Rattle.sx_rewrite.specs.Accepted.{extended_rules}
 use Rattle.sx_rewrite.specs.FitLaws.{DerivationsHaveFitTerms, FoundCanBeRewritten}
 use Rattle.sx_rewrite.specs.Lowering.{BindsFit, AllBindsFit}
 
@@ -33,8 +33,8 @@ module _ (base shapes : List Shape) (table : Table) (vars : List Sort) (d : Desu
 
 pub derivations_have_fit_terms : DerivationsHaveFitTerms
 derivations_have_fit_terms sig base shapes a ok hyps vars given_sorted p j d g =
-    let own = derivations_are_sorted sig.modes (rules_of a) hyps shapes sig.forms vars ok.moded ok.sorted given_sorted j p d g in
-    binds-fit base shapes a.table vars ok.desugars (rules_of a) p own.1
+    let own = derivations_are_sorted sig.modes (extended_rules a) hyps shapes sig.forms vars ok.moded ok.sorted given_sorted j p d g in
+    binds-fit base shapes a.table vars ok.desugars (extended_rules a) p own.1
 
 pub found_can_be_rewritten : FoundCanBeRewritten
 found_can_be_rewritten sig base shapes a ok hyps vars given_sorted goal sorted answer (j, is_goal, outs, d) low near =

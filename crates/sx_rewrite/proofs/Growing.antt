@@ -13,7 +13,7 @@ use Rattle.sx_plain.specs.Plain.{Table, image}
 use Rattle.sx_plain.specs.Tables.{Begins}
 use Rattle.sx_plain.proofs.Tables.{sorted-below, images_stay}
 use Rattle.sx_rewrite.specs.Flat.{flat_places, flat_judgement, flat_pairs, flat_hypotheses}
-use Rattle.sx_rewrite.specs.Accepted.{ExtRule, Checked, flat_conclusion, Known, basic, checked, rule_in, Accepted, rules_of, AllCertified, AllDisciplined, Signature, IsAccepted}
+use Rattle.sx_rewrite.specs.Accepted.{ExtRule, Checked, flat_conclusion, Known, basic, checked, rule_in, Accepted, extended_rules, AllCertified, AllDisciplined, Signature, IsAccepted}
 use Rattle.sx_rewrite.specs.Sound.{AreSoundBy}
 use Rattle.sx_rewrite.specs.Extensions.{with_table, extended, BodiesFit, GoesOn}
 use Rattle.sx_rewrite.specs.AcceptLaws.{BaseRulesAreAccepted, AcceptedSetsGrow, GrowthGoesOn}
@@ -188,7 +188,7 @@ longer sig base shapes all a table ok x = record {
   fits = ok.fits;
   typed = ok.typed;
   base_sorted = ok.base_sorted;
-  sorted = rules-more shapes all x.begins sig.forms (rules_of a) ok.sorted;
+  sorted = rules-more shapes all x.begins sig.forms (extended_rules a) ok.sorted;
   moded = ok.moded;
   disciplined = ok.disciplined;
   desugars = x.desugars;
@@ -209,11 +209,11 @@ accepted_sets_grow sig base shapes all a e ok x s =
       typed = first.typed;
       base_sorted = first.base_sorted;
       sorted = subst (λ (rs : List Rule). RulesAreSorted all sig.forms rs) rules
-          (sorted-both all sig.forms (rules_of a) (map rule_in (map checked e.stored)) first.sorted (subst (λ (rs : List Rule). RulesAreSorted all sig.forms rs) same x.sorted));
+          (sorted-both all sig.forms (extended_rules a) (map rule_in (map checked e.stored)) first.sorted (subst (λ (rs : List Rule). RulesAreSorted all sig.forms rs) same x.sorted));
       moded = subst (λ (rs : List Rule). AllModed sig.modes rs) rules
-          (moded-both sig.modes (rules_of a) (map rule_in (map checked e.stored)) first.moded (subst (λ (rs : List Rule). AllModed sig.modes rs) same x.moded));
+          (moded-both sig.modes (extended_rules a) (map rule_in (map checked e.stored)) first.moded (subst (λ (rs : List Rule). AllModed sig.modes rs) same x.moded));
       disciplined = subst (λ (rs : List Rule). AllDisciplined sig.subjects rs) rules
-          (disciplined-both sig.subjects (rules_of a) (map rule_in (map checked e.stored)) first.disciplined (subst (λ (rs : List Rule). AllDisciplined sig.subjects rs) same x.disciplined));
+          (disciplined-both sig.subjects (extended_rules a) (map rule_in (map checked e.stored)) first.disciplined (subst (λ (rs : List Rule). AllDisciplined sig.subjects rs) same x.disciplined));
       desugars = first.desugars;
       certified = certified-both sig base shapes a.base a.table e.table x.goes_on.keeps a.more e.stored first.certified new;
     }

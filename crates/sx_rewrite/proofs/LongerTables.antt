@@ -13,7 +13,7 @@ use Rattle.sx_plain.specs.Plain.{Table}
 use Rattle.sx_rewrite.specs.declared.lowered.Lowered.{Lowered}
 use Rattle.sx_rewrite.specs.declared.rewrite_error.RewriteError.{RewriteError}
 use Rattle.sx_rewrite.specs.declared.rewrite_error.RewriteError.TheVariants.{Memory, RewriteSpent, RewriteDeep, TooDeep, TooBig}
-use Rattle.sx_rewrite.specs.Accepted.{Checked, Known, basic, checked, rule_in, Accepted, known_of, rules_of}
+use Rattle.sx_rewrite.specs.Accepted.{Checked, Known, basic, checked, rule_in, Accepted, known_of, extended_rules}
 use Rattle.sx_rewrite.specs.CheckLaws.{PlainRulesStay, LongerTablesRewriteAlike}
 use Rattle.sx_rewrite.specs.Copied.{copied, copied_of, copied_at}
 use Rattle.sx_rewrite.specs.Extensions.{with_table}
@@ -77,7 +77,7 @@ module _ (a : Accepted) (table : Table) where
 
 -- lowering by tables that agree at the labels of the shapes
 module _ (shapes : List Shape) (forms : FormSorts) (subjects : Modes) (a : Accepted) (table : Table) (keeps : (label : ℕ) → label < length shapes → a.table label ≡ table label)
-    (sorted : RulesAreSorted shapes forms (rules_of a)) (vars : List Sort) (hyps : Hypotheses) where
+    (sorted : RulesAreSorted shapes forms (extended_rules a)) (vars : List Sort) (hyps : Hypotheses) where
   abbrev after : Accepted
   after = with_table a table
 
@@ -94,14 +94,14 @@ module _ (shapes : List Shape) (forms : FormSorts) (subjects : Modes) (a : Accep
       (l.0, l.1 ∙ ap (judgement_instance (bound_by more)) (same-flat shapes forms subjects a.table table keeps c.rule.sorts c.body c.rule.conclusion h.0))
 
   -- the bindings of a node have the sorts of its rule, as it is known
-  own-sorts : (r : ℕ) (known : Known) (rule : Rule) (binds : List Tree) → slice_get (known_of a) r ≡ Some known → slice_get (rules_of a) r ≡ Some rule → HaveSorts shapes vars binds rule.sorts → HaveSorts shapes vars binds (rule_in known).sorts
+  own-sorts : (r : ℕ) (known : Known) (rule : Rule) (binds : List Tree) → slice_get (known_of a) r ≡ Some known → slice_get (extended_rules a) r ≡ Some rule → HaveSorts shapes vars binds rule.sorts → HaveSorts shapes vars binds (rule_in known).sorts
   own-sorts r known rule binds at_k at_r h =
       let same_some : Some rule ≡ Some (rule_in known) = sym at_r ∙ rule-at (known_of a) r known at_k in
       let same : rule ≡ rule_in known = cc in
       subst (λ (x : Rule). HaveSorts shapes vars binds x.sorts) same h
 
   mutual
-    lowers-alike : (p q : Proof) (k : Judgement) → ProofIsSorted shapes (rules_of a) vars p → Lowers a subjects hyps p q k → Lowers after subjects hyps p q k
+    lowers-alike : (p q : Proof) (k : Judgement) → ProofIsSorted shapes (extended_rules a) vars p → Lowers a subjects hyps p q k → Lowers after subjects hyps p q k
     lowers-alike (given i) q k h l = l
     lowers-alike (by r binds kids) q k (rule, at_r, h, kids_sorted) (known, qs, ks, more, at_k, each, x, to) = (
       known,
@@ -111,10 +111,10 @@ module _ (shapes : List Shape) (forms : FormSorts) (subjects : Modes) (a : Accep
       at_k,
       each-alike kids qs ks kids_sorted each,
       binds-alike (rule_in known) binds more ks (own-sorts r known rule binds at_k at_r h) x,
-      to-alike known r more qs q k (sorted-at shapes forms (rules_of a) r (rule_in known) sorted (rule-at (known_of a) r known at_k)) to,
+      to-alike known r more qs q k (sorted-at shapes forms (extended_rules a) r (rule_in known) sorted (rule-at (known_of a) r known at_k)) to,
     )
 
-    each-alike : (ps qs : Proofs) (ks : List Judgement) → ProofsAreSorted shapes (rules_of a) vars ps → LowersEach a subjects hyps ps qs ks → LowersEach after subjects hyps ps qs ks
+    each-alike : (ps qs : Proofs) (ks : List Judgement) → ProofsAreSorted shapes (extended_rules a) vars ps → LowersEach a subjects hyps ps qs ks → LowersEach after subjects hyps ps qs ks
     each-alike no_more no_more [] h l = tt
     each-alike no_more no_more (k ∷ ks) h l = absurd l
     each-alike no_more (q ⊳ qs) ks h l = absurd l
@@ -127,7 +127,7 @@ module _ (shapes : List Shape) (forms : FormSorts) (subjects : Modes) (a : Accep
   terms-alike (checked c) r more tss = refl
 
   mutual
-    measures-alike : (p : Proof) (ts : List Tree) → ProofIsSorted shapes (rules_of a) vars p → Measures a subjects hyps p ts → Measures after subjects hyps p ts
+    measures-alike : (p : Proof) (ts : List Tree) → ProofIsSorted shapes (extended_rules a) vars p → Measures a subjects hyps p ts → Measures after subjects hyps p ts
     measures-alike (given i) ts h m = m
     measures-alike (by r binds kids) ts (rule, at_r, h, kids_sorted) (known, qs, ks, more, tss, at_k, each, x, below, is) = (
       known,
@@ -142,14 +142,14 @@ module _ (shapes : List Shape) (forms : FormSorts) (subjects : Modes) (a : Accep
       is ∙ terms-alike known r more tss,
     )
 
-    each_measured-alike : (ps : Proofs) (tss : List (List Tree)) → ProofsAreSorted shapes (rules_of a) vars ps → MeasuresEach a subjects hyps ps tss → MeasuresEach after subjects hyps ps tss
+    each_measured-alike : (ps : Proofs) (tss : List (List Tree)) → ProofsAreSorted shapes (extended_rules a) vars ps → MeasuresEach a subjects hyps ps tss → MeasuresEach after subjects hyps ps tss
     each_measured-alike no_more [] h m = tt
     each_measured-alike no_more (ts ∷ tss) h m = absurd m
     each_measured-alike (p ⊳ ps) [] h m = absurd m
     each_measured-alike (p ⊳ ps) (ts ∷ tss) h m = (measures-alike p ts h.0 m.0, each_measured-alike ps tss h.1 m.1)
 
   -- what rewriting answers
-  module _ (p : Proof) (is_sorted : ProofIsSorted shapes (rules_of a) vars p) (budget : ℕ) where
+  module _ (p : Proof) (is_sorted : ProofIsSorted shapes (extended_rules a) vars p) (budget : ℕ) where
     over-alike : (o : Option Refusal) → FirstOver a subjects hyps p budget o → FirstOver after subjects hyps p budget o
     over-alike o (n, h, (ts, m, e)) = (
       subst (λ (x : ℕ). x ≤ budget) (sym (nodes a table p)) n,

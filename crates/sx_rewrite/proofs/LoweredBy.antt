@@ -6,7 +6,7 @@ use Rattle.sx_term.specs.Sorts.{Shape}
 use Rattle.sx_rules.specs.Rules.{Rule, Hypotheses, judgements_of}
 use Rattle.sx_rules.specs.Derivations.{Proof, Proofs, by, given, no_more, ◌⊳◌, proof_at, Derives, ShallowJudgements, height_of, most_height, HaveShallowBinds, graft}
 use Rattle.sx_rewrite.specs.declared.rewrite_error.RewriteError.{RewriteError}
-use Rattle.sx_rewrite.specs.Accepted.{Known, basic, checked, rule_in, Accepted, known_of, rules_of, Signature, IsAccepted}
+use Rattle.sx_rewrite.specs.Accepted.{Known, basic, checked, rule_in, Accepted, known_of, extended_rules, Signature, IsAccepted}
 use Rattle.sx_rewrite.specs.Stored.{stored_in, certificate_at}
 use Rattle.sx_rewrite.specs.Givens.{givens_of, givens_of_all, AllBelow}
 use Rattle.sx_rewrite.specs.Lowers.{HypothesesBelow}
@@ -56,7 +56,7 @@ module _ (sig : Signature) (base shapes : List Shape) (a : Accepted) (ok : IsAcc
   known-here : (known : Known) × (slice_get (known_of a) r ≡ Some known)
   known-here = go can.derives
     where
-      go : Derives (rules_of a) hyps can.judgement (by r binds kids) → (known : Known) × (slice_get (known_of a) r ≡ Some known)
+      go : Derives (extended_rules a) hyps can.judgement (by r binds kids) → (known : Known) × (slice_get (known_of a) r ≡ Some known)
       go (found, at, many, concluded, apart_ones, each) = let k = known-at (known_of a) r found at in (k.0, k.1)
 
   abbrev known : Known
@@ -90,7 +90,7 @@ module _ (sig : Signature) (base shapes : List Shape) (a : Accepted) (ok : IsAcc
     pub by-binds : HaveShallowBinds news
     by-binds = kids-binds sig base shapes a ok hyps below near r binds kids can known at_r news is-known
 
-    pub by-node : IsNodeOf (rules_of a) sig.subjects r (length binds) (number_of news)
+    pub by-node : IsNodeOf (extended_rules a) sig.subjects r (length binds) (number_of news)
     by-node = record {
       rule = rule_in known;
       at = rule-at (known_of a) r known at_r;
@@ -118,7 +118,7 @@ module _ (sig : Signature) (base shapes : List Shape) (a : Accepted) (ok : IsAcc
               whole-low sig base shapes a ok hyps below near r binds kids can known at_r news is-known c.proof uses high,
             )
 
-    module _ (n : ℕ) (many : n ≡ number_of news) (more : List Tree) (x : Rule) (at_x : slice_get (rules_of a) r ≡ Some x)
+    module _ (n : ℕ) (many : n ≡ number_of news) (more : List Tree) (x : Rule) (at_x : slice_get (extended_rules a) r ≡ Some x)
         (put : ArePutBelow sig.subjects a.base hyps (needed cert) (judgements_of x.premises) news n (images_for a.table x.sorts binds) more) where
       put-known : ArePutBelow sig.subjects a.base hyps (need_of known) (judgements_of (rule_in known).premises) news n (images_for a.table (rule_in known).sorts binds) more
       put-known =

@@ -8,7 +8,7 @@ use Rattle.sx_rules.specs.Rules.{Judgement, Rule, Hypotheses, judgement_instance
 use Rattle.sx_rules.specs.Derivations.{Proof, Proofs, by, given, no_more, ◌⊳◌, proof_at, put_for, Derives, DeriveEach, height_of, most_height, HasShallowBinds, HaveShallowBinds, ShallowJudgements, graft, grafts}
 use Rattle.sx_plain.specs.Plain.{Table}
 use Rattle.sx_plain.specs.Measures.{greatest}
-use Rattle.sx_rewrite.specs.Accepted.{Known, basic, checked, Accepted, known_of, rules_of, Signature, IsAccepted}
+use Rattle.sx_rewrite.specs.Accepted.{Known, basic, checked, Accepted, known_of, extended_rules, Signature, IsAccepted}
 use Rattle.sx_rewrite.specs.Stored.{stored_in}
 use Rattle.sx_rewrite.specs.Lowers.{Lowers, LowersEach, HypothesesBelow}
 use Rattle.sx_rewrite.specs.Used.{IsUsed, IsUsedAmong, grafted_height, grafted_height_of, height_at, lowered_height, lowered_heights_of}
@@ -165,15 +165,15 @@ module _ (sig : Signature) (base shapes : List Shape) (a : Accepted) (ok : IsAcc
     node-heights : lowered_height a (by r binds kids) ≡ height_at (Some known) (lowered_heights_of a kids)
     node-heights = ap (λ (o : Option Known). height_at o (lowered_heights_of a kids)) at_r
 
-    kids-derive : (js : List Judgement) × DeriveEach (rules_of a) hyps js kids
+    kids-derive : (js : List Judgement) × DeriveEach (extended_rules a) hyps js kids
     kids-derive = go can.derives
       where
-        go : Derives (rules_of a) hyps can.judgement (by r binds kids) → (js : List Judgement) × DeriveEach (rules_of a) hyps js kids
+        go : Derives (extended_rules a) hyps can.judgement (by r binds kids) → (js : List Judgement) × DeriveEach (extended_rules a) hyps js kids
         go (rule, at, many, concluded, apart_ones, each) = (map (judgement_instance (bound_by binds)) (judgements_of rule.premises), each)
 
     pub kid-can : (i : ℕ) (p : Proof) → need_of known i ≡ true → proof_at kids i ≡ Some p → CanLower a hyps p
     kid-can i p n e =
-        let d = derives-at (rules_of a) hyps kids-derive.0 kids i p kids-derive.1 e in
+        let d = derives-at (extended_rules a) hyps kids-derive.0 kids i p kids-derive.1 e in
         let h = height-at a kids i p e in
         let h1 = h.1 in
         let k = kid-low known (lowered_heights_of a kids) i n h.0 in

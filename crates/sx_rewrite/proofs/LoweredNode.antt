@@ -11,13 +11,13 @@ use Rattle.sx_rules.specs.Rules.{Judgement, Rule, Hypotheses, judgements_of}
 use Rattle.sx_rules.specs.Modes.{Modes}
 use Rattle.sx_rules.specs.Sorts.{IsUntypedSort}
 use Rattle.sx_rules.specs.Discipline.{subjects_of, IsSubjectIn}
-use Rattle.sx_rules.specs.Typed.{IsUntyped}
+use Rattle.sx_rules.specs.Typed.{IsUntypedVariable}
 use Rattle.sx_rules.specs.Derivations.{Proof, Proofs, by, given, no_more, ◌⊳◌, proof_at, Derives, ShallowJudgements, proof_instance, graft}
 use Rattle.sx_rules.proofs.Instancing.{map_instance-same}
 use Rattle.sx_rules.proofs.Disciplined.{untyped_clash}
 use Rattle.sx_plain.specs.Plain.{Table, image}
 use Rattle.sx_rewrite.specs.declared.rewrite_error.RewriteError.{RewriteError}
-use Rattle.sx_rewrite.specs.Accepted.{Checked, Known, basic, checked, rule_in, Accepted, known_of, rules_of, Signature, IsAccepted}
+use Rattle.sx_rewrite.specs.Accepted.{Checked, Known, basic, checked, rule_in, Accepted, known_of, extended_rules, Signature, IsAccepted}
 use Rattle.sx_rewrite.specs.Lowers.{SubjectsAreLowered, AreLoweredBinds, LowersTo, Lowers, LowersEach, HypothesesBelow}
 use Rattle.sx_rewrite.specs.Used.{IsUsed, StandsInProof, StandsInProofs, LowersWhereUsed, SubjectsWhereUsed, AreUsedBinds}
 use Rattle.sx_rewrite.specs.LoweredSizes.{number_of}
@@ -204,7 +204,7 @@ module _ (sig : Signature) (base shapes : List Shape) (a : Accepted) (ok : IsAcc
   pub binds-many : length binds ≡ length rule.sorts
   binds-many = go can.derives
     where
-      go : Derives (rules_of a) hyps can.judgement (by r binds kids) → length binds ≡ length (rule_in known).sorts
+      go : Derives (extended_rules a) hyps can.judgement (by r binds kids) → length binds ≡ length (rule_in known).sorts
       go (found, at, many, concluded, apart_ones, each) =
           let q : Some found ≡ Some (rule_in known) = sym at ∙ rule-at (known_of a) r known at_r in
           let same : found ≡ rule_in known = cc in
@@ -215,12 +215,12 @@ module _ (sig : Signature) (base shapes : List Shape) (a : Accepted) (ok : IsAcc
     more-many : length more ≡ length rule.sorts
     more-many = put.many ∙ images-many a.table rule.sorts binds binds-many
 
-    not-subject : (v : ℕ) → IsUntyped rule.sorts v → IsSubjectIn sig.subjects v (judgements_of rule.premises) → ⊥
+    not-subject : (v : ℕ) → IsUntypedVariable rule.sorts v → IsSubjectIn sig.subjects v (judgements_of rule.premises) → ⊥
     not-subject v u x =
         let t = subject_typed sig.subjects shapes sig.forms ok.typed rule.sorts rule.premises v (accepted-sorted sig base shapes a ok r known at_r).1 x in
         untyped_clash rule.sorts v t.0 u t.1
 
-    more-images : (v : ℕ) → IsUntyped rule.sorts v → bound_by more v ≡ image a.table (bound_by binds v)
+    more-images : (v : ℕ) → IsUntypedVariable rule.sorts v → bound_by more v ≡ image a.table (bound_by binds v)
     more-images v u = put.others v (not-subject v u) ∙ images-at a.table rule.sorts binds v u.0 binds-many u.1 u.2
 
     module _ (os : Proofs) (ls : List Judgement) (each : LowersEach a sig.subjects hyps kids os ls) (other : List Tree) (d : AreLoweredBinds a.table sig.subjects rule binds other ls) where

@@ -16,7 +16,7 @@ use Rattle.sx_plain.specs.Views.{table_of}
 use Rattle.sx_rewrite.specs.declared.put_terms.PutTerms.{PutTerms}
 use Rattle.sx_rewrite.specs.declared.rewrite_error.RewriteError.{RewriteError}
 use Rattle.sx_rewrite.specs.declared.source.Source.{Source}
-use Rattle.sx_rewrite.specs.Accepted.{Accepted, rules_of}
+use Rattle.sx_rewrite.specs.Accepted.{Accepted, extended_rules}
 use Rattle.sx_rewrite.specs.AcceptedView.{accepted, signature}
 use Rattle.sx_rewrite.specs.Lowering.{CanLower, IsLoweredTo, AreLoweredTo, IsRefused, AreRefused, own_terms, own_proof, CanGraft}
 use Rattle.sx_rewrite.specs.LoweredSizes.{number_of}
@@ -125,7 +125,7 @@ module _ (s : Source) (source : IsSource s) (p : ProofOf) (r : ℕ) (bs : Vec Te
                 (images_for (table_of s.set.now.plain) x.rule.sorts (map tree terms)) more
             w = f x.rule x.at
 
-            at_rule : slice_get (rules_of set) r ≡ Some x.rule
+            at_rule : slice_get (extended_rules set) r ≡ Some x.rule
             at_rule = ap (λ (rules : List Rule). slice_get rules r) (sym source.rules_are) ∙ x.at
 
             put : ArePutBelow (subjects_in (forms_in s.set.now.base)) (bare_rules_in s.set.now.base) hyps (needed cert) (judgements_of x.rule.premises) (boxed news) (length lowered)

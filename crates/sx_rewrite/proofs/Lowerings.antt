@@ -8,7 +8,7 @@ use Rattle.sx_rules.specs.Instances.{instance, Stands, StandsAmong, bound_by}
 use Rattle.sx_rules.specs.Rules.{Judgement, Premise, holds, apart, Rule, Hypotheses, judgement_instance, judgements_of, IsPair, AreApart, AllApart}
 use Rattle.sx_rules.specs.Modes.{Modes, inputs, outputs, inputs_of, outputs_of}
 use Rattle.sx_rules.specs.Sorts.{FormSorts, JudgementIsSorted, PremisesAreSorted}
-use Rattle.sx_rules.specs.Typed.{IsUntyped, TypedInSubjects}
+use Rattle.sx_rules.specs.Typed.{IsUntypedVariable, TypedInSubjects}
 use Rattle.sx_rules.specs.Derivations.{Proof, Proofs, by, given, no_more, ◌⊳◌, Derives, DeriveEach, proof_instance, hypotheses_instance, pair_instance}
 use Rattle.sx_rules.specs.DerivationLaws.{PairsApart}
 use Rattle.sx_rules.proofs.Instancing.{instance-same, map_instance-same}
@@ -20,7 +20,7 @@ use Rattle.sx_plain.proofs.Images.{image-instance}
 use Rattle.sx_rewrite.proofs.Images.{map_image-instance, lexemes-image, stands-map_image}
 use Rattle.sx_plain.proofs.Tables.{stands-image, base-stays, sorted-below}
 use Rattle.sx_rewrite.specs.Flat.{flat_places, flat_judgement, flat_pairs, flat_hypotheses}
-use Rattle.sx_rewrite.specs.Accepted.{flat_conclusion, Known, basic, checked, rule_in, Accepted, known_of, rules_of, Signature, IsAccepted}
+use Rattle.sx_rewrite.specs.Accepted.{flat_conclusion, Known, basic, checked, rule_in, Accepted, known_of, extended_rules, Signature, IsAccepted}
 use Rattle.sx_rewrite.specs.Lowers.{SubjectsAreLowered, AreLoweredBinds, LowersTo, Lowers, LowersEach, IsImageOf, AreBelow, JudgementsBelow, PairsBelow, HypothesesBelow}
 use Rattle.sx_rewrite.specs.Laws.{LoweredAreDerivations}
 use Rattle.sx_rewrite.proofs.Known.{basic-at, certified-at, sorted-at, rule-at, accepted-typed}
@@ -98,8 +98,8 @@ module _ (rules : List Rule) (n : ℕ) (table : Table) (is : IsTable n table) (s
   EachLoweredTo _ _ _ = ⊥
 
   -- what holds under the lowered substitution s' in place of s
-  module _ (rule : Rule) (s s' : ℕ → Tree) (imaged : (v : ℕ) → IsUntyped rule.sorts v → s' v ≡ image table (s v)) where
-    flat_others : (j : Judgement) → ((v : ℕ) → StandsAmong v (inputs_of subjects j) → IsUntyped rule.sorts v) →
+  module _ (rule : Rule) (s s' : ℕ → Tree) (imaged : (v : ℕ) → IsUntypedVariable rule.sorts v → s' v ≡ image table (s v)) where
+    flat_others : (j : Judgement) → ((v : ℕ) → StandsAmong v (inputs_of subjects j) → IsUntypedVariable rule.sorts v) →
         map (image table) (inputs_of subjects (judgement_instance s j)) ≡ map (instance s') (map (image table) (inputs_of subjects j))
     flat_others j u =
         ap (map (image table)) (inputs-map s (subjects j.form) j.places)
@@ -107,12 +107,12 @@ module _ (rules : List Rule) (n : ℕ) (table : Table) (is : IsTable n table) (s
         ∙ map_instance-same (λ v. image table (s v)) s' (map (image table) (inputs_of subjects j))
         (λ v h. sym (imaged v (u v (stands-map_image table (inputs_of subjects j) v h))))
 
-    flat_instance : (t : Tree) → ((v : ℕ) → Stands v t → IsUntyped rule.sorts v) → image table (instance s t) ≡ instance s' (image table t)
+    flat_instance : (t : Tree) → ((v : ℕ) → Stands v t → IsUntypedVariable rule.sorts v) → image table (instance s t) ≡ instance s' (image table t)
     flat_instance t u =
         image-instance table s t
         ∙ instance-same (λ v. image table (s v)) s' (image table t) (λ v h. sym (imaged v (u v (stands-image table t v h))))
 
-    lowered_premise : (j k : Judgement) → ((v : ℕ) → StandsAmong v (inputs_of subjects j) → IsUntyped rule.sorts v) →
+    lowered_premise : (j k : Judgement) → ((v : ℕ) → StandsAmong v (inputs_of subjects j) → IsUntypedVariable rule.sorts v) →
         IsImageOf table subjects k (judgement_instance s j) → map (instance s') (outputs_of subjects j) ≡ outputs_of subjects k →
         k ≡ judgement_instance s' (flat_judgement table subjects None j)
     lowered_premise j k u h e =
@@ -138,7 +138,7 @@ module _ (rules : List Rule) (n : ℕ) (table : Table) (is : IsTable n table) (s
       lowered_premises ps ks qs u.1 h.1 e.1,
     )
 
-    lowered_pair : (t u : Tree) → ((v : ℕ) → Stands v t ⊎ Stands v u → IsUntyped rule.sorts v) → AreApart hyps (instance s t) (instance s u) →
+    lowered_pair : (t u : Tree) → ((v : ℕ) → Stands v t ⊎ Stands v u → IsUntypedVariable rule.sorts v) → AreApart hyps (instance s t) (instance s u) →
         AreApart hyps (instance s' (image table t)) (instance s' (image table u))
     lowered_pair t u k h =
         let a = apart-image n table is hyps (instance s t) (instance s u) below.1 h in
@@ -151,7 +151,7 @@ module _ (rules : List Rule) (n : ℕ) (table : Table) (is : IsTable n table) (s
     lowered_pairs (holds j ∷ ps) u h = lowered_pairs ps u.1 h
     lowered_pairs (apart t v ∷ ps) u h = (lowered_pair t v u.0 h.0, lowered_pairs ps u.1 h.1)
 
-    pub lowered_conclusion : (subject : Option Tree) → ((v : ℕ) → StandsAmong v (inputs_of subjects rule.conclusion) → IsUntyped rule.sorts v) →
+    pub lowered_conclusion : (subject : Option Tree) → ((v : ℕ) → StandsAmong v (inputs_of subjects rule.conclusion) → IsUntypedVariable rule.sorts v) →
         IsImageOf table subjects (judgement_instance s' (flat_judgement table subjects subject rule.conclusion)) (judgement_instance s rule.conclusion)
     lowered_conclusion subject u = record {
       same_form = refl;
@@ -238,19 +238,19 @@ module _ (sig : Signature) (base shapes : List Shape) (a : Accepted) (ok : IsAcc
       (here, subst (λ (x : Judgement). IsImageOf a.table sig.subjects k x) e flat)
 
   mutual
-    pub lowered : (p : Proof) (q : Proof) (j k : Judgement) → Derives (rules_of a) hyps j p → Lowers a sig.subjects hyps p q k → Goes j k q
+    pub lowered : (p : Proof) (q : Proof) (j k : Judgement) → Derives (extended_rules a) hyps j p → Lowers a sig.subjects hyps p q k → Goes j k q
     lowered (given i) q j k d l = given_lowered i q j k d l
     lowered (by r binds kids) q j k (rule, at_r, many, concluded, apart_ones, each) (known, qs, ks, more, at_k, ls, b, l) =
         let same_some : Some rule ≡ Some (rule_in known) = sym at_r ∙ rule-at (known_of a) r known at_k in
         let same_rule : rule ≡ rule_in known = cc in
         let apart' = subst (λ (x : Rule). AllApart hyps (bound_by binds) x.premises) same_rule apart_ones in
-        let each' = subst (λ (x : Rule). DeriveEach (rules_of a) hyps (map (judgement_instance (bound_by binds)) (judgements_of x.premises)) kids) same_rule each in
+        let each' = subst (λ (x : Rule). DeriveEach (extended_rules a) hyps (map (judgement_instance (bound_by binds)) (judgements_of x.premises)) kids) same_rule each in
         let concluded' = subst (λ (x : Rule). judgement_instance (bound_by binds) x.conclusion ≡ j) same_rule concluded in
         subst (λ (x : Judgement). Goes x k q) concluded'
         (rule_lowered r known binds more qs ks q k at_k b apart'
         (each_lowered kids qs (map (judgement_instance (bound_by binds)) (judgements_of (rule_in known).premises)) ks each' ls) l)
 
-    pub each_lowered : (ps : Proofs) (qs : Proofs) (js ks : List Judgement) → DeriveEach (rules_of a) hyps js ps → LowersEach a sig.subjects hyps ps qs ks → EachGoes js ks qs
+    pub each_lowered : (ps : Proofs) (qs : Proofs) (js ks : List Judgement) → DeriveEach (extended_rules a) hyps js ps → LowersEach a sig.subjects hyps ps qs ks → EachGoes js ks qs
     each_lowered no_more no_more [] [] d l = tt
     each_lowered no_more no_more [] (k ∷ ks) d l = absurd l
     each_lowered no_more no_more (j ∷ js) ks d l = absurd d

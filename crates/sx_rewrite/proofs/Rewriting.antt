@@ -7,7 +7,7 @@ use Rattle.sx_term.specs.Sorts.{Shape}
 use Rattle.sx_rules.specs.Instances.{bound_by}
 use Rattle.sx_rules.specs.Rules.{Judgement, Rule, Hypotheses, judgement_instance}
 use Rattle.sx_rules.specs.Derivations.{Proof, Proofs, by, given, no_more, ◌⊳◌, Derives, HasShallowBinds, HaveShallowBinds, AreShallow, ShallowJudgements}
-use Rattle.sx_rewrite.specs.Accepted.{Accepted, Signature, IsAccepted, rules_of}
+use Rattle.sx_rewrite.specs.Accepted.{Accepted, Signature, IsAccepted, extended_rules}
 use Rattle.sx_rewrite.specs.Used.{lowered_nodes, lowered_height}
 use Rattle.sx_rewrite.specs.Measured.{Measures, node_terms, AllPass, ProofPasses, ProofsPass}
 use Rattle.sx_rewrite.specs.Rewriting.{Refusal, spent, deep, too_deep, too_big, first_over, Rewritten, FirstOver, IsRewritten}
@@ -49,7 +49,7 @@ module _ (sig : Signature) (base shapes : List Shape) (a : Accepted) (ok : IsAcc
   refused (too_deep n) t h = h
   refused (too_big n) t h = h
 
-  answered : (j : Judgement) → Derives (rules_of a) hyps j p → (answer : Answer) × IsRewritten a sig.subjects hyps p budget answer
+  answered : (j : Judgement) → Derives (extended_rules a) hyps j p → (answer : Answer) × IsRewritten a sig.subjects hyps p budget answer
   answered j d = by_nodes (either budget (lowered_nodes a p)) (either 3000 (lowered_height a p))
     where
       by_terms : lowered_nodes a p ≤ budget → lowered_height a p ≤ 3000 → (ts : List Tree) → Measures a sig.subjects hyps p ts → (o : Option Refusal) → first_over ts ≡ o →

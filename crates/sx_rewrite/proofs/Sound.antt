@@ -18,7 +18,7 @@ use Rattle.sx_plain.specs.Plain.{Table, image}
 use Rattle.sx_plain.specs.Tables.{Begins, Desugars}
 use Rattle.sx_plain.proofs.Tables.{sorted-below}
 use Rattle.sx_rewrite.specs.Flat.{flat_places, flat_judgement, flat_pairs, flat_hypotheses}
-use Rattle.sx_rewrite.specs.Accepted.{ExtRule, Checked, flat_conclusion, Accepted, rules_of, Signature, IsAccepted}
+use Rattle.sx_rewrite.specs.Accepted.{ExtRule, Checked, flat_conclusion, Accepted, extended_rules, Signature, IsAccepted}
 use Rattle.sx_rewrite.specs.Lowers.{JudgementsBelow, PairsBelow, HypothesesBelow}
 use Rattle.sx_rewrite.specs.PlainRules.{plain_of}
 use Rattle.sx_rewrite.specs.Sound.{flat_given, flat_goal, IsLoweredBody, IsFlatBody, IsSoundBy, HasBaseSyntax}
@@ -137,7 +137,7 @@ module _ (sig : Signature) (base shapes : List Shape) (a : Accepted) (ok : IsAcc
         certified = subst (λ (x : Judgement). Derives a.base given x answer.0) same d.3;
       }
 
-  sound-lowered : (answer : Answer) (c : Checked) → (HasBaseSyntax (length base) a.table ext.body → ⊥) → IsFirstBy sig a (rules_of (plain_of a)) ext answer → IsStoredLowered sig a ext answer.0 c →
+  sound-lowered : (answer : Answer) (c : Checked) → (HasBaseSyntax (length base) a.table ext.body → ⊥) → IsFirstBy sig a (extended_rules (plain_of a)) ext answer → IsStoredLowered sig a ext answer.0 c →
       IsSoundBy sig.subjects (length base) a ext c
   sound-lowered answer c m first st =
       let j = flat_goal a.table sig.subjects ext in
@@ -148,7 +148,7 @@ module _ (sig : Signature) (base shapes : List Shape) (a : Accepted) (ok : IsAcc
         proof = answer.0;
         lowered = c.proof;
         judgement = st.judgement;
-        derives = subst (λ (x : Judgement). Derives (rules_of (plain_of a)) given x answer.0) same d.3;
+        derives = subst (λ (x : Judgement). Derives (extended_rules (plain_of a)) given x answer.0) same d.3;
         lowers = st.lowers;
         subject = st.is_subject;
       } in

@@ -11,7 +11,7 @@ use Rattle.sx_plain.specs.Plain.{Table}
 use Rattle.sx_plain.specs.Views.{table_of}
 use Rattle.sx_rewrite.specs.declared.flat.Flat.{Flat}
 use Rattle.sx_rewrite.specs.declared.source.Source.{Source}
-use Rattle.sx_rewrite.specs.Accepted.{Known, basic, checked, Checked, Accepted, rules_of, IsAccepted}
+use Rattle.sx_rewrite.specs.Accepted.{Known, basic, checked, Checked, Accepted, extended_rules, IsAccepted}
 use Rattle.sx_rewrite.specs.AcceptedView.{accepted, signature}
 use Rattle.sx_rewrite.specs.Copied.{copied}
 use Rattle.sx_rewrite.specs.LoweredSizes.{HasFitKids}
@@ -73,11 +73,11 @@ module _ (s : Source) where
         ∙ ap (λ (rs : List Rule). accepted_from (bare_rules_in a.base) rs (table_of a.plain) a.flats.items) bare
         ∙ plain-same (bare_rules_in a.base) (bare_rules_in a.rules) (table_of a.plain) a.flats.items
 
-    pub plain-source : IsAccepted (signature s.set.now) (shapes_in s.set.now.base) (shapes_in s.set.now.rules) (accepted s.set.now) → bare_rules_in s.set.now.plain_rules ≡ rules_of (plain_of (accepted s.set.now)) →
+    pub plain-source : IsAccepted (signature s.set.now) (shapes_in s.set.now.base) (shapes_in s.set.now.rules) (accepted s.set.now) → bare_rules_in s.set.now.plain_rules ≡ extended_rules (plain_of (accepted s.set.now)) →
         AreGood (length (shapes_in s.set.now.base)) (hypotheses s.given.now) → IsSource s
     plain-source ok bare good = record {
       accepted_with = subst (IsAccepted (signature s.set.now) (shapes_in s.set.now.base) (shapes_in s.set.now.rules)) (sym plain-set) (plain_rules_are_accepted (signature s.set.now) (shapes_in s.set.now.base) (shapes_in s.set.now.rules) (accepted s.set.now) ok);
-      rules_are = ap bare_rules_in rules-is ∙ bare ∙ ap rules_of (sym plain-set);
+      rules_are = ap bare_rules_in rules-is ∙ bare ∙ ap extended_rules (sym plain-set);
       proofs_are = λ r. ap (λ (a : Accepted). certificate_at a r) plain-set ∙ plain-proofs (table_of s.set.now.plain) (accepted s.set.now).base (accepted s.set.now).more r;
       below = good.below;
       near = good.near;
@@ -93,11 +93,11 @@ module _ (s : Source) where
     pub extended-set : set_of s ≡ accepted s.set.now
     extended-set = let a = s.set.now in ap (λ (rs : RuleSet). accepted_from (bare_rules_in a.base) (bare_rules_in rs) (table_of a.plain) a.flats.items) rules-is
 
-    pub extended-source : IsAccepted (signature s.set.now) (shapes_in s.set.now.base) (shapes_in s.set.now.rules) (accepted s.set.now) → bare_rules_in s.set.now.rules ≡ rules_of (accepted s.set.now) →
+    pub extended-source : IsAccepted (signature s.set.now) (shapes_in s.set.now.base) (shapes_in s.set.now.rules) (accepted s.set.now) → bare_rules_in s.set.now.rules ≡ extended_rules (accepted s.set.now) →
         AreGood (length (shapes_in s.set.now.base)) (hypotheses s.given.now) → IsSource s
     extended-source ok bare good = record {
       accepted_with = subst (IsAccepted (signature s.set.now) (shapes_in s.set.now.base) (shapes_in s.set.now.rules)) (sym extended-set) ok;
-      rules_are = ap bare_rules_in rules-is ∙ bare ∙ ap rules_of (sym extended-set);
+      rules_are = ap bare_rules_in rules-is ∙ bare ∙ ap extended_rules (sym extended-set);
       proofs_are = λ r. ap (λ (a : Accepted). certificate_at a r) extended-set;
       below = good.below;
       near = good.near;

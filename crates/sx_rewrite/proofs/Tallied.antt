@@ -17,8 +17,8 @@ use Rattle.sx_rules.proofs.ProofRows.{proof-at_by}
 use Rattle.sx_plain.specs.Measures.{total, greatest}
 use Rattle.sx_rewrite.specs.declared.given_use.GivenUse.{GivenUse}
 use Rattle.sx_rewrite.specs.declared.certificate_size.CertificateSize.{CertificateSize}
-use Rattle.sx_rewrite.specs.declared.tally.Tally.{Tally}
-use Rattle.sx_rewrite.specs.Accepted.{Known, basic, checked, Checked, Accepted, known_of, rules_of, rule_in}
+use Rattle.sx_rewrite.specs.declared.lowered_tally.LoweredTally.{LoweredTally}
+use Rattle.sx_rewrite.specs.Accepted.{Known, basic, checked, Checked, Accepted, known_of, extended_rules, rule_in}
 use Rattle.sx_rewrite.specs.Stored.{stored_in}
 use Rattle.sx_rewrite.specs.Used.{lowered_nodes, lowered_nodes_of, lowered_height, lowered_heights_of, nodes_at, height_at}
 use Rattle.sx_rewrite.specs.Copied.{copied, copied_of, copied_at}
@@ -32,17 +32,17 @@ use Rattle.sx_rewrite.proofs.Noted.{kids-drop}
 
 -- a derivation has the kids that its rules ask for
 mutual
-  pub derived-fit : (a : Accepted) (hyps : Hypotheses) (j : Judgement) (p : Proof) → Derives (rules_of a) hyps j p → HasFitKids a p
+  pub derived-fit : (a : Accepted) (hyps : Hypotheses) (j : Judgement) (p : Proof) → Derives (extended_rules a) hyps j p → HasFitKids a p
   derived-fit a hyps j (by r binds kids) (rule, at, many, is, apart, each) =
       let known = known-at (known_of a) r rule at in
       let js = map (judgement_instance (bound_by binds)) (judgements_of rule.premises) in
-      let n = all_derived-many (rules_of a) hyps js kids each in
+      let n = all_derived-many (extended_rules a) hyps js kids each in
       let m = length-map (judgements_of rule.premises) (judgement_instance (bound_by binds)) in
       let same : length (judgements_of (rule_in known.0).premises) ≡ length (judgements_of rule.premises) = ap (λ (x : Rule). length (judgements_of x.premises)) known.2 in
       (subst (λ (o : Option Known). FitKids o kids) (sym known.1) (omega (arith, n, m, same)), all_derived-fit a hyps js kids each)
   derived-fit a hyps j (given i) d = tt
 
-  all_derived-fit : (a : Accepted) (hyps : Hypotheses) (js : List Judgement) (ps : Proofs) → DeriveEach (rules_of a) hyps js ps → HaveFitKids a ps
+  all_derived-fit : (a : Accepted) (hyps : Hypotheses) (js : List Judgement) (ps : Proofs) → DeriveEach (extended_rules a) hyps js ps → HaveFitKids a ps
   all_derived-fit a hyps js no_more d = tt
   all_derived-fit a hyps [] (p ⊳ ps) d = absurd d
   all_derived-fit a hyps (j ∷ js) (p ⊳ ps) d = (derived-fit a hyps j p d.0, all_derived-fit a hyps js ps d.1)
@@ -131,7 +131,7 @@ module _ (a : Accepted) (p : Proof) (r : ℕ) (binds : List Tree) (kids : Proofs
   pub by-height : height_of p ≡ most_height kids + 1
   by-height = ap height_of is
 
-  pub sized-tally : (size : CertificateSize) → IsSizeIn (stored_in (slice_get (known_of a) r)) size → UsesPremises (stored_in (slice_get (known_of a) r)) → FitKids (slice_get (known_of a) r) kids → (t : Tally) → IsSizedTally a size kids t → IsTallyOf a p t
+  pub sized-tally : (size : CertificateSize) → IsSizeIn (stored_in (slice_get (known_of a) r)) size → UsesPremises (stored_in (slice_get (known_of a) r)) → FitKids (slice_get (known_of a) r) kids → (t : LoweredTally) → IsSizedTally a size kids t → IsTallyOf a p t
   sized-tally size sized only fit t h =
       let b = node-by a (slice_get (known_of a) r) size kids sized only fit in
       let e = ap height_of is in
@@ -143,7 +143,7 @@ module _ (a : Accepted) (p : Proof) (r : ℕ) (binds : List Tree) (kids : Proofs
         copied = h.copied ∙ b.copied ∙ ap (λ (q : Proof). in_u64 (copied a q)) (sym is);
       }
 
-  pub base-tally : stored_in (slice_get (known_of a) r) ≡ None → FitKids (slice_get (known_of a) r) kids → (t : Tally) → IsBaseTally a kids t → IsTallyOf a p t
+  pub base-tally : stored_in (slice_get (known_of a) r) ≡ None → FitKids (slice_get (known_of a) r) kids → (t : LoweredTally) → IsBaseTally a kids t → IsTallyOf a p t
   base-tally none fit t h =
       let b = base-node (slice_get (known_of a) r) kids (lowered_nodes_of a kids) (lowered_heights_of a kids) (copied_of a kids) none fit in
       let e = ap height_of is in
@@ -155,8 +155,8 @@ module _ (a : Accepted) (p : Proof) (r : ℕ) (binds : List Tree) (kids : Proofs
         copied = h.copied ∙ ap in_u64 (b.copied ∙ ap (copied a) (sym is));
       }
 
-pub given-tally : (a : Accepted) (p : Proof) (n : ℕ) (t : Tally) → p ≡ given n → t ≡ record { nodes = 1; height = 1; copied = 0 } → IsTallyOf a p t
-given-tally a p n t is e = subst (λ (x : Tally). IsTallyOf a p x) (sym e) (subst (λ (q : Proof). IsTallyOf a q (record { nodes = 1; height = 1; copied = 0 })) (sym is) (record { nodes = refl; height = refl; small = omega arith; copied = refl }))
+pub given-tally : (a : Accepted) (p : Proof) (n : ℕ) (t : LoweredTally) → p ≡ given n → t ≡ record { nodes = 1; height = 1; copied = 0 } → IsTallyOf a p t
+given-tally a p n t is e = subst (λ (x : LoweredTally). IsTallyOf a p x) (sym e) (subst (λ (q : Proof). IsTallyOf a q (record { nodes = 1; height = 1; copied = 0 })) (sym is) (record { nodes = refl; height = refl; small = omega arith; copied = refl }))
 
 -- a node and its kids
 module _ (a : Accepted) (p : ProofOf) (r : ℕ) (binds : Vec Term Global) (kids : Vec (Box ProofOf Global) Global) (ks : List (Box ProofOf Global)) (is : p ≡ By r binds kids) (same : ks ≡ kids.items) where
@@ -172,10 +172,10 @@ module _ (a : Accepted) (p : ProofOf) (r : ℕ) (binds : Vec Term Global) (kids 
   pub node-many : (size : CertificateSize) → IsSizeIn (stored_in (slice_get (known_of a) r)) size → HasFitKids a (proof p) → length ks ≡ length size.uses.items
   node-many size sized fit = sym (number-boxed ks) ∙ sized-many a r size (boxed ks) sized (node-fit fit).0
 
-  pub node-sized : (size : CertificateSize) → IsSizeIn (stored_in (slice_get (known_of a) r)) size → UsesPremises (stored_in (slice_get (known_of a) r)) → HasFitKids a (proof p) → (t : Tally) → IsSizedTally a size (boxed ks) t → IsTallyOf a (proof p) t
+  pub node-sized : (size : CertificateSize) → IsSizeIn (stored_in (slice_get (known_of a) r)) size → UsesPremises (stored_in (slice_get (known_of a) r)) → HasFitKids a (proof p) → (t : LoweredTally) → IsSizedTally a size (boxed ks) t → IsTallyOf a (proof p) t
   node-sized size sized only fit t h = sized-tally a (proof p) r (map tree binds.items) (boxed ks) node-is size sized only (node-fit fit).0 t h
 
-  pub node-based : stored_in (slice_get (known_of a) r) ≡ None → HasFitKids a (proof p) → (t : Tally) → IsBaseTally a (boxed ks) t → IsTallyOf a (proof p) t
+  pub node-based : stored_in (slice_get (known_of a) r) ≡ None → HasFitKids a (proof p) → (t : LoweredTally) → IsBaseTally a (boxed ks) t → IsTallyOf a (proof p) t
   node-based none fit t h = base-tally a (proof p) r (map tree binds.items) (boxed ks) node-is none (node-fit fit).0 t h
 
 -- the kid at a place
@@ -192,7 +192,7 @@ kid-fit a (x ∷ ks) zero k q h l e s = subst (λ (y : ProofOf). HasFitKids a (p
 kid-fit a (x ∷ ks) (suc i) k q h l e s = kid-fit a ks i k q h.1 (omega (arith, l)) e s
 
 -- what is counted of the kids before a place, by the uses of their givens
-pub record KidsSoFar (a : Accepted) (size : CertificateSize) (ks : List (Box ProofOf Global)) (i : ℕ) (all : Tally) : Type 0 where
+pub record KidsSoFar (a : Accepted) (size : CertificateSize) (ks : List (Box ProofOf Global)) (i : ℕ) (all : LoweredTally) : Type 0 where
   pub nodes : in_u128 (all.nodes + used_sum (drop i size.uses.items) (lowered_nodes_of a (boxed (drop i ks)))) ≡ in_u128 (size.nodes + used_sum size.uses.items (lowered_nodes_of a (boxed ks)))
   pub within : in_u128 all.nodes ≡ all.nodes
   pub height : max all.height (used_most (drop i size.uses.items) (lowered_heights_of a (boxed (drop i ks)))) ≡ max size.height (used_most size.uses.items (lowered_heights_of a (boxed ks)))
@@ -201,7 +201,7 @@ pub record KidsSoFar (a : Accepted) (size : CertificateSize) (ks : List (Box Pro
       ≡ in_u64 (used_copies size.uses.items (lowered_nodes_of a (boxed ks)) (copied_of a (boxed ks)))
 
 -- what one kid more adds
-pub kids-on : (a : Accepted) (size : CertificateSize) (ks : List (Box ProofOf Global)) (i : ℕ) (old new : Tally) (u : GivenUse) (k : Box ProofOf Global) (q : ProofOf) →
+pub kids-on : (a : Accepted) (size : CertificateSize) (ks : List (Box ProofOf Global)) (i : ℕ) (old new : LoweredTally) (u : GivenUse) (k : Box ProofOf Global) (q : ProofOf) →
     i < length ks → length ks ≡ length size.uses.items → u ≡ get_or size.uses.items i u → k ≡ get_or ks i k → q ≡ k.value →
     IsWithKid a u (proof q) old new → KidsSoFar a size ks i old → KidsSoFar a size ks (i + 1) new
 kids-on a size ks i old new u k q l many at_u at_k same h so =
@@ -231,9 +231,9 @@ kids-on a size ks i old new u k q l many at_u at_k same h so =
       copied = omega (arith, c, hc, sc);
     }
 
-pub kids-first : (a : Accepted) (size : CertificateSize) (ks : List (Box ProofOf Global)) (all : Tally) → all ≡ record { nodes = size.nodes; height = size.height; copied = 0 } → in_u128 size.nodes ≡ size.nodes → size.height ≤ 3000 → KidsSoFar a size ks 0 all
+pub kids-first : (a : Accepted) (size : CertificateSize) (ks : List (Box ProofOf Global)) (all : LoweredTally) → all ≡ record { nodes = size.nodes; height = size.height; copied = 0 } → in_u128 size.nodes ≡ size.nodes → size.height ≤ 3000 → KidsSoFar a size ks 0 all
 kids-first a size ks all e within small =
-    subst (λ (x : Tally). KidsSoFar a size ks 0 x) (sym e) (record {
+    subst (λ (x : LoweredTally). KidsSoFar a size ks 0 x) (sym e) (record {
       nodes = refl;
       within = within;
       height = refl;
@@ -254,7 +254,7 @@ used_copies-none : (us : List GivenUse) → used_copies us [] [] ≡ 0
 used_copies-none [] = refl
 used_copies-none (u ∷ us) = refl
 
-module _ (a : Accepted) (size : CertificateSize) (ks : List (Box ProofOf Global)) (i : ℕ) (all : Tally) (end : length ks ≤ i) (so : KidsSoFar a size ks i all) where
+module _ (a : Accepted) (size : CertificateSize) (ks : List (Box ProofOf Global)) (i : ℕ) (all : LoweredTally) (end : length ks ≤ i) (so : KidsSoFar a size ks i all) where
   none-left : drop i ks ≡ []
   none-left = drop_all i ks end
 
@@ -278,7 +278,7 @@ module _ (a : Accepted) (size : CertificateSize) (ks : List (Box ProofOf Global)
   kids-last = record { nodes = kids-nodes; height = kids-heights; small = so.small; copied = kids-copied }
 
 -- the same of kids that are all used once, under one node
-pub record BaseSoFar (a : Accepted) (ks : List (Box ProofOf Global)) (i : ℕ) (all : Tally) : Type 0 where
+pub record BaseSoFar (a : Accepted) (ks : List (Box ProofOf Global)) (i : ℕ) (all : LoweredTally) : Type 0 where
   pub nodes : in_u128 (all.nodes + total (lowered_nodes_of a (boxed (drop i ks)))) ≡ in_u128 (total (lowered_nodes_of a (boxed ks)) + 1)
   pub within : in_u128 all.nodes ≡ all.nodes
   pub height : max all.height (greatest (lowered_heights_of a (boxed (drop i ks))) + 1) ≡ greatest (lowered_heights_of a (boxed ks)) + 1
@@ -286,9 +286,9 @@ pub record BaseSoFar (a : Accepted) (ks : List (Box ProofOf Global)) (i : ℕ) (
   pub small : all.height ≤ 3000 * (most_height (boxed ks) + 1)
   pub copied : in_u64 (all.copied + total (copied_of a (boxed (drop i ks)))) ≡ in_u64 (total (copied_of a (boxed ks)))
 
-pub base-first : (a : Accepted) (ks : List (Box ProofOf Global)) (all : Tally) → all ≡ record { nodes = 1; height = 1; copied = 0 } → BaseSoFar a ks 0 all
+pub base-first : (a : Accepted) (ks : List (Box ProofOf Global)) (all : LoweredTally) → all ≡ record { nodes = 1; height = 1; copied = 0 } → BaseSoFar a ks 0 all
 base-first a ks all e =
-    subst (λ (x : Tally). BaseSoFar a ks 0 x) (sym e) (record {
+    subst (λ (x : LoweredTally). BaseSoFar a ks 0 x) (sym e) (record {
       nodes = ap in_u128 (omega arith);
       within = refl;
       height = omega arith;
@@ -303,7 +303,7 @@ one_time n = grind arith
 pub no_time : (n : ℕ) → 0 * n ≡ 0
 no_time n = grind arith
 
-pub base-on : (a : Accepted) (ks : List (Box ProofOf Global)) (i : ℕ) (old new : Tally) (k : Box ProofOf Global) (q : ProofOf) → i < length ks → k ≡ get_or ks i k → q ≡ k.value →
+pub base-on : (a : Accepted) (ks : List (Box ProofOf Global)) (i : ℕ) (old new : LoweredTally) (k : Box ProofOf Global) (q : ProofOf) → i < length ks → k ≡ get_or ks i k → q ≡ k.value →
     IsWithKid a (record { times = 1; above = 1 }) (proof q) old new → BaseSoFar a ks i old → BaseSoFar a ks (i + 1) new
 base-on a ks i old new k q l at_k same h so =
     let ps = kids-drop ks i k q l at_k same in
@@ -331,7 +331,7 @@ base-on a ks i old new k q l at_k same h so =
       copied = omega (arith, c, hc, sc, oz);
     }
 
-module _ (a : Accepted) (ks : List (Box ProofOf Global)) (i : ℕ) (all : Tally) (end : length ks ≤ i) (so : BaseSoFar a ks i all) where
+module _ (a : Accepted) (ks : List (Box ProofOf Global)) (i : ℕ) (all : LoweredTally) (end : length ks ≤ i) (so : BaseSoFar a ks i all) where
   none_left : drop i ks ≡ []
   none_left = drop_all i ks end
 
@@ -356,7 +356,7 @@ module _ (a : Accepted) (ks : List (Box ProofOf Global)) (i : ℕ) (all : Tally)
   base-last = record { nodes = all_base-nodes; height = all_base-height; small = so.small; copied = all_base-copied }
 
 -- a kid that is used adds what is counted of it
-pub with-used : (a : Accepted) (u : GivenUse) (p : Proof) (so size new : Tally) → 0 < u.times → IsTallyOf a p size →
+pub with-used : (a : Accepted) (u : GivenUse) (p : Proof) (so size new : LoweredTally) → 0 < u.times → IsTallyOf a p size →
     new.nodes ≡ in_u128 (so.nodes + in_u128 (u.times * size.nodes)) → new.height ≡ max so.height (u.above + size.height) → u.above ≤ 3000 →
     new.copied ≡ in_u128 (in_u128 (so.copied + in_u128 ((u.times - 1) * size.nodes)) + size.copied) → IsWithKid a u p so new
 with-used a u p so size new some h n hh near c =
@@ -376,7 +376,7 @@ with-used a u p so size new some h n hh near c =
     }
 
 -- one that is not used adds nothing
-pub with-unused : (a : Accepted) (u : GivenUse) (p : Proof) (so : Tally) → u.times ≡ 0 → in_u128 so.nodes ≡ so.nodes → IsWithKid a u p so so
+pub with-unused : (a : Accepted) (u : GivenUse) (p : Proof) (so : LoweredTally) → u.times ≡ 0 → in_u128 so.nodes ≡ so.nodes → IsWithKid a u p so so
 with-unused a u p so none fits =
     let z = no_time (lowered_nodes a p) in
     let e = ap (λ (x : ℕ). x * lowered_nodes a p) none in

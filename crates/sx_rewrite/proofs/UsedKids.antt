@@ -10,7 +10,7 @@ use Rattle.sx_rules.specs.Rules.{Judgement, Rule, Hypotheses, judgement_instance
 use Rattle.sx_rules.specs.Modes.{Modes, inputs, outputs}
 use Rattle.sx_rules.specs.Sorts.{JudgementIsSorted, ProofIsSorted}
 use Rattle.sx_rules.specs.Discipline.{subjects_of, IsBareSubject, AreBareSubjects, AreUntypedSorts, PlainHaveNoTyped}
-use Rattle.sx_rules.specs.Typed.{IsUntyped, TypedAreSubjects}
+use Rattle.sx_rules.specs.Typed.{IsUntypedVariable, TypedAreSubjects}
 use Rattle.sx_rules.specs.Derivations.{Proof, Proofs, by, given, no_more, ◌⊳◌, proof_at, proof_instance, proof_instances, graft}
 use Rattle.sx_rules.proofs.Instancing.{map_instance-same}
 use Rattle.sx_rules.proofs.Sorted.{inputs-sorted, derivations_are_sorted}
@@ -52,7 +52,7 @@ among_either (false ∷ bs) (t ∷ ts) v (inr h) = go (among_either bs ts v h)
     go (inl k) = inl (inr k)
     go (inr k) = inr k
 
-untyped_among : (shapes : List Shape) (vars : List Sort) → PlainHaveNoTyped shapes → (ts : List Tree) (sorts : List Sort) → HaveSorts shapes vars ts sorts → AreUntypedSorts sorts → (v : ℕ) → StandsAmong v ts → IsUntyped vars v
+untyped_among : (shapes : List Shape) (vars : List Sort) → PlainHaveNoTyped shapes → (ts : List Tree) (sorts : List Sort) → HaveSorts shapes vars ts sorts → AreUntypedSorts sorts → (v : ℕ) → StandsAmong v ts → IsUntypedVariable vars v
 untyped_among shapes vars no_typed [] sorts h u v k = absurd k
 untyped_among shapes vars no_typed (t ∷ ts) [] h u v k = absurd h
 untyped_among shapes vars no_typed (t ∷ ts) (x ∷ xs) h u v (inl k) = untyped_variables shapes vars no_typed t x h.0 u.0 v k

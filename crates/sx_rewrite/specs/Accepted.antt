@@ -57,8 +57,8 @@ abbrev pub known_of : Accepted → List Known
 known_of a = map basic a.base ++ map checked a.more
 
 -- the extended rules
-abbrev pub rules_of : Accepted → List Rule
-rules_of a = map rule_in (known_of a)
+abbrev pub extended_rules : Accepted → List Rule
+extended_rules a = map rule_in (known_of a)
 
 -- each extension rule has a certificate, and its flat conclusion is well sorted by the base shapes
 abbrev pub AllCertified : Table → Modes → FormSorts → List Shape → List Rule →
@@ -94,8 +94,8 @@ pub record IsAccepted (sig : Signature) (base shapes : List Shape) (a : Accepted
   pub fits : FormsFit sig.modes sig.subjects sig.forms
   pub typed : (form : ℕ) → AreTypedSorts (outputs (sig.subjects form) (sig.forms form))
   pub base_sorted : RulesAreSorted base sig.forms a.base
-  pub sorted : RulesAreSorted shapes sig.forms (rules_of a)
-  pub moded : AllModed sig.modes (rules_of a)
-  pub disciplined : AllDisciplined sig.subjects (rules_of a)
+  pub sorted : RulesAreSorted shapes sig.forms (extended_rules a)
+  pub moded : AllModed sig.modes (extended_rules a)
+  pub disciplined : AllDisciplined sig.subjects (extended_rules a)
   pub desugars : Desugars base shapes a.table
   pub certified : AllCertified a.table sig.subjects sig.forms base a.base a.more

@@ -8,7 +8,7 @@ use Rattle.sx_rules.specs.Discipline.{subjects_of}
 use Rattle.sx_rules.specs.First.{Answer, IsFirst, IsUnderivable}
 use Rattle.sx_rules.specs.Derivations.{Proof}
 use Rattle.sx_plain.specs.Plain.{image}
-use Rattle.sx_rewrite.specs.Accepted.{ExtRule, Checked, Accepted, rules_of, Signature}
+use Rattle.sx_rewrite.specs.Accepted.{ExtRule, Checked, Accepted, extended_rules, Signature}
 use Rattle.sx_rewrite.specs.Lowers.{Lowers}
 use Rattle.sx_rewrite.specs.PlainRules.{plain_of}
 use Rattle.sx_rewrite.specs.Sound.{HasBaseSyntax, flat_given, flat_goal}
@@ -32,7 +32,7 @@ HasNoneBy sig a rules ext =
 abbrev pub ChecksBy : ℕ → Accepted → ExtRule → List Rule → Type 0
 ChecksBy n a ext rules =
     (HasBaseSyntax n a.table ext.body × (rules ≡ a.base))
-    ⊎ ((HasBaseSyntax n a.table ext.body → ⊥) × (rules ≡ rules_of (plain_of a)))
+    ⊎ ((HasBaseSyntax n a.table ext.body → ⊥) × (rules ≡ extended_rules (plain_of a)))
 
 -- by the rules that it is checked by the rule has no derivation
 abbrev pub IsRejected : Signature → ℕ → Accepted → ExtRule → Type 0
@@ -60,7 +60,7 @@ IsStored sig n a ext c =
       proof = answer.0;
     }))
     ⊎ ((HasBaseSyntax n a.table ext.body → ⊥) × (answer : Answer)
-    × IsFirstBy sig a (rules_of (plain_of a)) ext answer
+    × IsFirstBy sig a (extended_rules (plain_of a)) ext answer
     × IsStoredLowered sig a ext answer.0 c)
 
 -- so it is of each rule, with what stands at its place

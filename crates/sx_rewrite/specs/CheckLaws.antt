@@ -9,7 +9,8 @@ use Rattle.sx_rules.specs.First.{Answer}
 use Rattle.sx_plain.specs.Plain.{Table}
 use Rattle.sx_rewrite.specs.declared.lowered.Lowered.{Lowered}
 use Rattle.sx_rewrite.specs.declared.rewrite_error.RewriteError.{RewriteError}
-use Rattle.sx_rewrite.specs.Accepted.{ExtRule, Checked, Accepted, Signature, IsAccepted, rules_of}
+use Rattle.sx_rewrite.specs.Accepted.{ExtRule, Checked, Accepted, Signature, IsAccepted}
+use Rattle.sx_rewrite.specs.Accepted.{extended_rules}
 use Rattle.sx_rewrite.specs.Accepting.{IsFirstBy, IsStored, AreStored}
 use Rattle.sx_rewrite.specs.Extensions.{Extension, with_table, GoesOn, Fits, ComesAfter}
 use Rattle.sx_rewrite.specs.Lowering.{BindsFit}
@@ -40,7 +41,8 @@ abbrev pub LongerTablesRewriteAlike : Type 0
 LongerTablesRewriteAlike =
     (sig : Signature) (base shapes : List Shape) (a : Accepted) → IsAccepted sig base shapes a →
     (table : Table) → ((label : ℕ) → label < length shapes → a.table label ≡ table label) →
-    (hyps : Hypotheses) (vars : List Sort) (p : Proof) → ProofIsSorted shapes (rules_of a) vars p →
+    (hyps : Hypotheses) (vars : List Sort) (p : Proof) →
+    ProofIsSorted shapes (extended_rules a) vars p →
     (budget : ℕ) (result : Result Lowered RewriteError) →
     IsRewriting a sig.subjects hyps p budget result
     ↔ IsRewriting (with_table a table) sig.subjects hyps p budget result
@@ -65,7 +67,7 @@ ChecksHaveFitTerms =
     (sig : Signature) (base shapes all : List Shape) (a : Accepted) (table : Table) →
     (ext : ExtRule) → ComesAfter sig base shapes all a table ext →
     let given = flat_given table sig.subjects ext in
-    (p : Proof) → Derives (rules_of (plain_of a)) given (flat_goal table sig.subjects ext) p →
+    (p : Proof) → Derives (extended_rules (plain_of a)) given (flat_goal table sig.subjects ext) p →
     BindsFit a.table p
 
 -- the first can be rewritten, if it is no deeper than 3,000 and no term of it deeper than 1,000
@@ -73,7 +75,8 @@ abbrev pub FoundChecksCanBeRewritten : Type 0
 FoundChecksCanBeRewritten =
     (sig : Signature) (base shapes all : List Shape) (a : Accepted) (table : Table) →
     (ext : ExtRule) → ComesAfter sig base shapes all a table ext →
-    (answer : Answer) → IsFirstBy sig (with_table a table) (rules_of (plain_of a)) ext answer →
+    (answer : Answer) →
+    IsFirstBy sig (with_table a table) (extended_rules (plain_of a)) ext answer →
     height_of answer.0 ≤ most_levels → HasShallowBinds answer.0 →
     CanRewrite (plain_of a) (flat_given table sig.subjects ext) answer.0
 
@@ -83,7 +86,7 @@ ChecksAreRewrittenAlike =
     (sig : Signature) (base shapes all : List Shape) (a : Accepted) (table : Table) →
     (ext : ExtRule) → ComesAfter sig base shapes all a table ext →
     let given = flat_given table sig.subjects ext in
-    (p : Proof) → Derives (rules_of (plain_of a)) given (flat_goal table sig.subjects ext) p →
+    (p : Proof) → Derives (extended_rules (plain_of a)) given (flat_goal table sig.subjects ext) p →
     (budget : ℕ) (result : Result Lowered RewriteError) →
     IsRewriting (plain_of a) sig.subjects given p budget result
     ↔ IsRewriting (plain_of (with_table a table)) sig.subjects given p budget result

@@ -7,7 +7,7 @@ use Rattle.sx_rules.specs.Modes.{Goal, goal_of}
 use Rattle.sx_rules.specs.Sorts.{GoalIsSorted, JudgementsAreSorted}
 use Rattle.sx_rules.specs.Derivations.{Proof, Derives, HasShallowBinds, height_of}
 use Rattle.sx_rules.specs.First.{Answer, DerivesGoal}
-use Rattle.sx_rewrite.specs.Accepted.{Accepted, Signature, IsAccepted, rules_of}
+use Rattle.sx_rewrite.specs.Accepted.{Accepted, Signature, IsAccepted, extended_rules}
 use Rattle.sx_rewrite.specs.Lowering.{BindsFit}
 use Rattle.sx_rewrite.specs.Rewrites.{CanRewrite}
 use Rattle.sx_rules.specs.Limits.{most_levels}
@@ -18,7 +18,7 @@ DerivationsHaveFitTerms =
     (sig : Signature) (base shapes : List Shape) (a : Accepted) → IsAccepted sig base shapes a →
     (hyps : Hypotheses) (vars : List Sort) →
     JudgementsAreSorted shapes sig.forms vars hyps.judgements →
-    (p : Proof) (j : Judgement) → Derives (rules_of a) hyps j p →
+    (p : Proof) (j : Judgement) → Derives (extended_rules a) hyps j p →
     GoalIsSorted shapes sig.forms sig.modes vars (goal_of sig.modes j) → BindsFit a.table p
 
 -- such a derivation can be rewritten, if it is no deeper than 3,000 and its terms than 1,000
@@ -28,5 +28,5 @@ FoundCanBeRewritten =
     (hyps : Hypotheses) (vars : List Sort) →
     JudgementsAreSorted shapes sig.forms vars hyps.judgements →
     (goal : Goal) → GoalIsSorted shapes sig.forms sig.modes vars goal →
-    (answer : Answer) → DerivesGoal sig.modes (rules_of a) hyps goal answer →
+    (answer : Answer) → DerivesGoal sig.modes (extended_rules a) hyps goal answer →
     height_of answer.0 ≤ most_levels → HasShallowBinds answer.0 → CanRewrite a hyps answer.0

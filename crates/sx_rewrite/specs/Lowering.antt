@@ -10,7 +10,7 @@ use Rattle.sx_rules.specs.Derivations.{HasShallowBinds, height_of, proof_instanc
 use Rattle.sx_plain.specs.Plain.{Table}
 use Rattle.sx_plain.specs.Tables.{FitTable}
 use Rattle.sx_rewrite.specs.declared.rewrite_error.RewriteError.{RewriteError}
-use Rattle.sx_rewrite.specs.Accepted.{Accepted, rules_of}
+use Rattle.sx_rewrite.specs.Accepted.{Accepted, extended_rules}
 use Rattle.sx_rewrite.specs.Lowers.{Lowers}
 use Rattle.sx_rewrite.specs.Used.{lowered_height}
 use Rattle.sx_rewrite.specs.Measured.{node_terms, certificate_terms, Measures, MeasuresEach}
@@ -34,7 +34,7 @@ abbrev mutual
 -- the proof is a derivation with good terms, and what it is lowered to is no deeper than 3,000
 pub record CanLower (a : Accepted) (hyps : Hypotheses) (p : Proof) : Type 0 where
   pub judgement : Judgement
-  pub derives : Derives (rules_of a) hyps judgement p
+  pub derives : Derives (extended_rules a) hyps judgement p
   pub binds : HasShallowBinds p
   pub fit : BindsFit a.table p
   pub low : lowered_height a p ≤ most_levels

@@ -5,7 +5,7 @@ use Rattle.sx_rules.specs.Instances.{instance, bound_by}
 use Rattle.sx_rules.specs.Rules.{Judgement, Rule, Hypotheses, judgement_instance, judgements_of}
 use Rattle.sx_rules.specs.Modes.{Modes}
 use Rattle.sx_rules.specs.Discipline.{subjects_of}
-use Rattle.sx_rules.specs.Typed.{others_of, IsUntyped}
+use Rattle.sx_rules.specs.Typed.{others_of, IsUntypedVariable}
 use Rattle.sx_rules.specs.Derivations.{Proof, Proofs, by, given, no_more, ◌⊳◌, proof_instance}
 use Rattle.sx_rules.specs.Derivations.{graft}
 use Rattle.sx_plain.specs.Plain.{Table, image}
@@ -26,7 +26,8 @@ SubjectsAreLowered subjects s _ _ = ⊥
 pub record AreLoweredBinds (table : Table) (subjects : Modes) (rule : Rule)
     (binds more : List Tree) (ks : List Judgement) : Type 0 where
   pub many : length more ≡ length rule.sorts
-  pub images : (v : ℕ) → IsUntyped rule.sorts v → bound_by more v ≡ image table (bound_by binds v)
+  pub images : (v : ℕ) → IsUntypedVariable rule.sorts v →
+      bound_by more v ≡ image table (bound_by binds v)
   pub subjects_are : SubjectsAreLowered subjects (bound_by more) (judgements_of rule.premises) ks
 
 -- a base rule stays; an extension rule gives way to its certificate,

@@ -4,7 +4,7 @@ use Rattle.sx_term.specs.Tree.{Tree}
 use Rattle.sx_term.specs.Sorts.{Shape}
 use Rattle.sx_rules.specs.Rules.{Judgement, Hypotheses}
 use Rattle.sx_rules.specs.Derivations.{Proof, Derives}
-use Rattle.sx_rewrite.specs.Accepted.{Accepted, Signature, IsAccepted, rules_of}
+use Rattle.sx_rewrite.specs.Accepted.{Accepted, Signature, IsAccepted, extended_rules}
 use Rattle.sx_rewrite.specs.Lowers.{Lowers}
 use Rattle.sx_rewrite.specs.Measured.{Measures, AllPass, ProofPasses}
 
@@ -12,7 +12,7 @@ use Rattle.sx_rewrite.specs.Measured.{Measures, AllPass, ProofPasses}
 abbrev pub TermsAreMeasured : Type 0
 TermsAreMeasured =
     (sig : Signature) (base shapes : List Shape) (a : Accepted) → IsAccepted sig base shapes a →
-    (hyps : Hypotheses) (p : Proof) (j : Judgement) → Derives (rules_of a) hyps j p →
+    (hyps : Hypotheses) (p : Proof) (j : Judgement) → Derives (extended_rules a) hyps j p →
     (ts : List Tree) × Measures a sig.subjects hyps p ts
 
 -- and one alone

@@ -4,7 +4,7 @@ use Rattle.sx_rules.specs.Rules.{Judgement, Hypotheses}
 use Rattle.sx_rules.specs.Derivations.{Proof, Derives, HasShallowBinds, ShallowJudgements}
 use Rattle.sx_rules.specs.Derivations.{height_of}
 use Rattle.sx_rewrite.specs.declared.source.Source.{Source}
-use Rattle.sx_rewrite.specs.Accepted.{Accepted, rules_of}
+use Rattle.sx_rewrite.specs.Accepted.{Accepted, extended_rules}
 use Rattle.sx_rewrite.specs.AcceptedView.{accepted}
 use Rattle.sx_rewrite.specs.Copied.{copied}
 use Rattle.sx_rewrite.specs.Lowering.{BindsFit}
@@ -18,7 +18,7 @@ use Rattle.sx_rules.specs.Limits.{most_levels}
 -- no term of it is deeper than 1,000, and its terms have as many parts as the table asks for
 pub record CanRewrite (a : Accepted) (hyps : Hypotheses) (p : Proof) : Type 0 where
   pub judgement : Judgement
-  pub derives : Derives (rules_of a) hyps judgement p
+  pub derives : Derives (extended_rules a) hyps judgement p
   pub height : height_of p ≤ most_levels
   pub binds : HasShallowBinds p
   pub fit : BindsFit a.table p

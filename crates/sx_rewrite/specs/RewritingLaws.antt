@@ -9,7 +9,7 @@ use Rattle.sx_rules.specs.Sorts.{GoalIsSorted, JudgementIsSorted, JudgementsAreS
 use Rattle.sx_rules.specs.Sorts.{ProofIsSorted}
 use Rattle.sx_rules.specs.Derivations.{Proof, Derives, nodes_of, height_of, AreShallow}
 use Rattle.sx_rules.specs.Derivations.{HasShallowBinds, ShallowJudgements}
-use Rattle.sx_rewrite.specs.Accepted.{Accepted, Signature, IsAccepted, rules_of}
+use Rattle.sx_rewrite.specs.Accepted.{Accepted, Signature, IsAccepted, extended_rules}
 use Rattle.sx_rewrite.specs.Lowers.{IsImageOf, HypothesesBelow}
 use Rattle.sx_rewrite.specs.Rewriting.{Refusal, Rewritten, IsRewritten}
 use Rattle.sx_rules.specs.Limits.{most_levels}
@@ -19,7 +19,7 @@ abbrev pub RewritingAnswers : Type 0
 RewritingAnswers =
     (sig : Signature) (base shapes : List Shape) (a : Accepted) → IsAccepted sig base shapes a →
     (hyps : Hypotheses) (p : Proof) (j : Judgement) →
-    Derives (rules_of a) hyps j p → (budget : ℕ) →
+    Derives (extended_rules a) hyps j p → (budget : ℕ) →
     (answer : Result Rewritten Refusal) × IsRewritten a sig.subjects hyps p budget answer
 
 -- and one alone
@@ -52,7 +52,7 @@ RewritingIsGood =
     (hyps : Hypotheses) (vars : List Sort) →
     JudgementsAreSorted base sig.forms vars hyps.judgements → HypothesesBelow (length base) hyps →
     ShallowJudgements hyps.judgements →
-    (p : Proof) (j : Judgement) → Derives (rules_of a) hyps j p →
+    (p : Proof) (j : Judgement) → Derives (extended_rules a) hyps j p →
     GoalIsSorted shapes sig.forms sig.modes vars (goal_of sig.modes j) →
     (budget : ℕ) (x : Rewritten) → IsRewritten a sig.subjects hyps p budget (Ok x) →
     IsGoodRewriting sig base a hyps vars budget j x

@@ -2,7 +2,7 @@
 use Rattle.std.specs.Prelude.{◌≡◌}
 use Rattle.sx_rules.specs.Rules.{Judgement, Hypotheses}
 use Rattle.sx_rules.specs.Derivations.{Proof, Derives}
-use Rattle.sx_rewrite.specs.Accepted.{Accepted, rules_of}
+use Rattle.sx_rewrite.specs.Accepted.{Accepted, extended_rules}
 use Rattle.sx_rewrite.specs.PlainRules.{plain_of}
 use Rattle.sx_rewrite.specs.Used.{lowered_nodes, lowered_height}
 use Rattle.sx_rewrite.specs.Copied.{copied}
@@ -12,7 +12,7 @@ use Rattle.sx_rewrite.specs.LoweredSizes.{HasFitKids}
 abbrev pub DerivationsFit : Type 0
 DerivationsFit =
     (a : Accepted) (hyps : Hypotheses) (j : Judgement) (p : Proof) →
-    Derives (rules_of a) hyps j p → HasFitKids a p
+    Derives (extended_rules a) hyps j p → HasFitKids a p
 
 -- so has one by the plain rules, and it counts as much by the extended rules
 abbrev pub PlainRulesCountAlike : Type 0

@@ -9,7 +9,7 @@ use Rattle.sx_rules.specs.Derivations.{Proof, Derives}
 use Rattle.sx_plain.specs.Plain.{Table, image}
 use Rattle.sx_plain.specs.Tables.{IsCovered}
 use Rattle.sx_rewrite.specs.Flat.{flat_judgement, flat_hypotheses}
-use Rattle.sx_rewrite.specs.Accepted.{ExtRule, Checked, Accepted, IsCertified, rules_of}
+use Rattle.sx_rewrite.specs.Accepted.{ExtRule, Checked, Accepted, IsCertified, extended_rules}
 use Rattle.sx_rewrite.specs.Lowers.{Lowers}
 use Rattle.sx_rewrite.specs.PlainRules.{plain_of}
 
@@ -34,7 +34,7 @@ pub record IsLoweredBody (subjects : Modes) (a : Accepted) (ext : ExtRule)
   pub proof : Proof
   pub lowered : Proof
   pub judgement : Judgement
-  pub derives : Derives (rules_of (plain_of a)) (flat_given a.table subjects ext)
+  pub derives : Derives (extended_rules (plain_of a)) (flat_given a.table subjects ext)
       (flat_goal a.table subjects ext) proof
   pub lowers : Lowers (plain_of a) subjects
       (flat_given a.table subjects ext) proof lowered judgement

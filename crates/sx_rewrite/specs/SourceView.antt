@@ -5,7 +5,7 @@ use Rattle.sx_rules.specs.Sets.{shapes_in, bare_rules_in}
 use Rattle.sx_rules.specs.Views.{hypotheses}
 use Rattle.sx_plain.specs.Views.{table_of}
 use Rattle.sx_rewrite.specs.declared.source.Source.{Source}
-use Rattle.sx_rewrite.specs.Accepted.{Accepted, rules_of, IsAccepted}
+use Rattle.sx_rewrite.specs.Accepted.{Accepted, extended_rules, IsAccepted}
 use Rattle.sx_rewrite.specs.AcceptedView.{accepted, signature}
 use Rattle.sx_rewrite.specs.Lowers.{HypothesesBelow}
 use Rattle.sx_rewrite.specs.Stored.{accepted_from, certificate_at}
@@ -21,7 +21,7 @@ set_of s =
 pub record IsSource (s : Source) : Type 0 where
   pub accepted_with : IsAccepted (signature s.set.now) (shapes_in s.set.now.base)
       (shapes_in s.set.now.rules) (set_of s)
-  pub rules_are : bare_rules_in s.rules.now ≡ rules_of (set_of s)
+  pub rules_are : bare_rules_in s.rules.now ≡ extended_rules (set_of s)
   pub proofs_are : (r : ℕ) → certificate_at (set_of s) r ≡ certificate_at (accepted s.set.now) r
   pub below : HypothesesBelow (length (shapes_in s.set.now.base)) (hypotheses s.given.now)
   pub near : ShallowJudgements (hypotheses s.given.now).judgements

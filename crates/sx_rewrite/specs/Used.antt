@@ -6,7 +6,7 @@ use Rattle.sx_rules.specs.Instances.{instance, StandsAmong, bound_by}
 use Rattle.sx_rules.specs.Rules.{Judgement, Rule, Hypotheses, judgements_of}
 use Rattle.sx_rules.specs.Modes.{Modes}
 use Rattle.sx_rules.specs.Discipline.{subjects_of}
-use Rattle.sx_rules.specs.Typed.{IsUntyped}
+use Rattle.sx_rules.specs.Typed.{IsUntypedVariable}
 use Rattle.sx_rules.specs.Derivations.{Proof, Proofs, by, given, no_more, ◌⊳◌}
 use Rattle.sx_plain.specs.Plain.{Table, image}
 use Rattle.sx_plain.specs.Measures.{greatest, total}
@@ -58,7 +58,8 @@ SubjectsWhereUsed subjects s certificate i _ _ = ⊥
 pub record AreUsedBinds (table : Table) (subjects : Modes) (rule : Rule) (certificate : Proof)
     (binds more : List Tree) (ks : List Judgement) : Type 0 where
   pub many : length more ≡ length rule.sorts
-  pub images : (v : ℕ) → IsUntyped rule.sorts v → bound_by more v ≡ image table (bound_by binds v)
+  pub images : (v : ℕ) → IsUntypedVariable rule.sorts v →
+      bound_by more v ≡ image table (bound_by binds v)
   pub subjects_are : SubjectsWhereUsed subjects (bound_by more) certificate 0
       (judgements_of rule.premises) ks
 

@@ -3,7 +3,7 @@
 ghost use Rattle.std.specs.Prelude.{◌≡◌};
 
 use crate::given_use::GivenUse;
-use crate::tally::Tally;
+use crate::lowered_tally::LoweredTally;
 
 /// What a node costs whose rule has the certificate, so that nodes are counted without a walk over
 /// it: its own nodes and its own height, its givens not counted, and what it does with the given
@@ -17,10 +17,10 @@ pub struct CertificateSize {
 
 impl CertificateSize {
     /// What is counted of the certificate's own nodes.
-    pub fn own_tally(&self) -> Tally
+    pub fn own_tally(&self) -> LoweredTally
         ensures { result ≡ record { nodes = self.now.nodes; height = self.now.height; copied = 0 } }
     {
-        Tally {
+        LoweredTally {
             nodes: self.nodes,
             height: u64::from(self.height),
             copied: 0,

@@ -13,8 +13,8 @@ use crate::accepted::Accepted;
 use crate::certificate_size::CertificateSize;
 use crate::given_use::GivenUse;
 use crate::lowered_size::LoweredSize;
+use crate::lowered_tally::LoweredTally;
 use crate::sizing::use_at;
-use crate::tally::Tally;
 use sx_rules::Proof;
 
 /// How big the proof is when it is lowered by the set, or None exactly where it then has
@@ -30,7 +30,7 @@ pub(crate) fn lowered_size(set: &Accepted, proof: &Proof, budget: u64) -> Option
 
 /// What is counted of the lowered proof.
 #[cycle(tallied)]
-fn tally(set: &Accepted, proof: &Proof) -> Tally
+fn tally(set: &Accepted, proof: &Proof) -> LoweredTally
     requires shallow { height_of (view.proof proof.now) ≤ most_levels }
     requires kids { HasFitKids (accepted set.now) (view.proof proof.now) }
     ensures { IsTallyOf (accepted set.now) (view.proof proof.now) result }
@@ -44,13 +44,13 @@ fn tally(set: &Accepted, proof: &Proof) -> Tally
             Some(size) => certificate_tally(set, size, kids),
             None => base_tally(set, kids),
         },
-        Proof::Given(_) => Tally::of_one(),
+        Proof::Given(_) => LoweredTally::of_one(),
     }
 }
 
 /// What is counted of a node with these kids by an extension rule whose certificate has the size.
 #[cycle(tallied)]
-fn certificate_tally(set: &Accepted, size: &CertificateSize, kids: &[Box<Proof>]) -> Tally
+fn certificate_tally(set: &Accepted, size: &CertificateSize, kids: &[Box<Proof>]) -> LoweredTally
     requires shallow { most_height (view.boxed kids.now) < most_levels }
     requires fit { HaveFitKids (accepted set.now) (view.boxed kids.now) }
     requires many { length kids.now ≡ length size.now.uses.items }
@@ -67,12 +67,12 @@ fn certificate_tally(set: &Accepted, size: &CertificateSize, kids: &[Box<Proof>]
 
 /// What is counted of a node with these kids by a base rule.
 #[cycle(tallied)]
-fn base_tally(set: &Accepted, kids: &[Box<Proof>]) -> Tally
+fn base_tally(set: &Accepted, kids: &[Box<Proof>]) -> LoweredTally
     requires shallow { most_height (view.boxed kids.now) < most_levels }
     requires fit { HaveFitKids (accepted set.now) (view.boxed kids.now) }
     ensures { IsBaseTally (accepted set.now) (view.boxed kids.now) result }
 {
-    let mut all = Tally::of_one();
+    let mut all = LoweredTally::of_one();
     for i in 0..kids.len() {
         all = with_kid(set, all, GivenUse { times: 1, above: 1 }, &kids[i]);
     }
@@ -81,7 +81,7 @@ fn base_tally(set: &Accepted, kids: &[Box<Proof>]) -> Tally
 
 /// What is counted so far, with a kid whose given is used so.
 #[cycle(tallied)]
-fn with_kid(set: &Accepted, so_far: Tally, given: GivenUse, kid: &Proof) -> Tally
+fn with_kid(set: &Accepted, so_far: LoweredTally, given: GivenUse, kid: &Proof) -> LoweredTally
     requires shallow { height_of (view.proof kid.now) < most_levels }
     requires kids { HasFitKids (accepted set.now) (view.proof kid.now) }
     requires near { given.above ≤ most_levels }

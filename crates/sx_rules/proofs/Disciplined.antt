@@ -9,12 +9,12 @@ use Rattle.sx_rules.specs.Rules.{Judgement, Premise, holds, apart, Rule, judgeme
 use Rattle.sx_rules.specs.Modes.{Modes, inputs, outputs, inputs_of, outputs_of, AreModed, IsModed}
 use Rattle.sx_term.specs.Sorts.{Shape, HasSort, KidsHaveSorts, HaveSorts}
 use Rattle.sx_rules.specs.Sorts.{IsUntypedSort, FormSorts, JudgementIsSorted, PremisesAreSorted, RuleIsSorted}
-use Rattle.sx_rules.specs.Typed.{others_of, IsUntyped, TypedInSubjects}
+use Rattle.sx_rules.specs.Typed.{others_of, IsUntypedVariable, TypedInSubjects}
 use Rattle.sx_rules.specs.Discipline.{subjects_of, IsSubjectIn, IsDisciplined, AreUntypedSorts, PlainHaveNoTyped, FormsFit}
 use Rattle.sx_rules.specs.DerivationLaws.{DisciplineSuffices}
 use Rattle.sx_rules.proofs.Sorted.{inputs-sorted, outputs-sorted}
 
-pub untyped_clash : (sorts : List Sort) (v k : ℕ) → IsUntyped sorts v → slice_get sorts v ≡ Some (Typed k) → ⊥
+pub untyped_clash : (sorts : List Sort) (v k : ℕ) → IsUntypedVariable sorts v → slice_get sorts v ≡ Some (Typed k) → ⊥
 untyped_clash sorts v k u e =
     let same_some : Some u.0 ≡ Some (Typed k) = sym u.1 ∙ e in u.2 k cc
 
@@ -26,19 +26,19 @@ get_within (x ∷ xs) (suc v) l e = get_within xs v (omega arith) e
 -- the variables of a term of an untyped sort are untyped
 module _ (shapes : List Shape) (vars : List Sort) (no_typed : PlainHaveNoTyped shapes) where
   mutual
-    untyped_variables : (t : Tree) (sort : Sort) → HasSort shapes vars t sort → IsUntypedSort sort → (v : ℕ) → Stands v t → IsUntyped vars v
+    untyped_variables : (t : Tree) (sort : Sort) → HasSort shapes vars t sort → IsUntypedSort sort → (v : ℕ) → Stands v t → IsUntypedVariable vars v
     untyped_variables (node l ts) sort h u v k =
         untyped_in_kids ts h.0.kids h.3 (no_typed l h.0 h.1 (λ n e. u n (sym h.2 ∙ e))) v k
     untyped_variables (lexeme x y) sort h u v k = absurd k
     untyped_variables (hole w) sort h u v k = (sort, ap (slice_get vars) k ∙ h, u)
 
-    untyped_in_kids : (ts : Trees) (sorts : List Sort) → KidsHaveSorts shapes vars ts sorts → AreUntypedSorts sorts → (v : ℕ) → StandsInKids v ts → IsUntyped vars v
+    untyped_in_kids : (ts : Trees) (sorts : List Sort) → KidsHaveSorts shapes vars ts sorts → AreUntypedSorts sorts → (v : ℕ) → StandsInKids v ts → IsUntypedVariable vars v
     untyped_in_kids none sorts h u v k = absurd k
     untyped_in_kids (t ▹ ts) [] h u v k = absurd h
     untyped_in_kids (t ▹ ts) (x ∷ xs) h u v (inl k) = untyped_variables t x h.0 u.0 v k
     untyped_in_kids (t ▹ ts) (x ∷ xs) h u v (inr k) = untyped_in_kids ts xs h.1 u.1 v k
 
-  untyped_among : (ts : List Tree) (sorts : List Sort) → HaveSorts shapes vars ts sorts → AreUntypedSorts sorts → (v : ℕ) → StandsAmong v ts → IsUntyped vars v
+  untyped_among : (ts : List Tree) (sorts : List Sort) → HaveSorts shapes vars ts sorts → AreUntypedSorts sorts → (v : ℕ) → StandsAmong v ts → IsUntypedVariable vars v
   untyped_among [] sorts h u v k = absurd k
   untyped_among (t ∷ ts) [] h u v k = absurd h
   untyped_among (t ∷ ts) (x ∷ xs) h u v (inl k) = untyped_variables t x h.0 u.0 v k
@@ -72,12 +72,12 @@ lexical_untyped : (kind : LexKind) → IsUntypedSort (Lex kind)
 lexical_untyped kind k e = cc
 
 module _ (modes subjects : Modes) (shapes : List Shape) (forms : FormSorts) (no_typed : PlainHaveNoTyped shapes) (fit : FormsFit modes subjects forms) where
-  others_untyped : (vars : List Sort) (j : Judgement) → JudgementIsSorted shapes forms vars j → (v : ℕ) → StandsAmong v (others_of subjects j) → IsUntyped vars v
+  others_untyped : (vars : List Sort) (j : Judgement) → JudgementIsSorted shapes forms vars j → (v : ℕ) → StandsAmong v (others_of subjects j) → IsUntypedVariable vars v
   others_untyped vars j h =
       untyped_among shapes vars no_typed (inputs (subjects j.form) j.places) (inputs (subjects j.form) (forms j.form))
       (inputs-sorted shapes vars (subjects j.form) j.places (forms j.form) h) (fit.others j.form)
 
-  outputs_untyped : (vars : List Sort) (j : Judgement) → JudgementIsSorted shapes forms vars j → (v : ℕ) → StandsAmong v (outputs_of modes j) → IsUntyped vars v
+  outputs_untyped : (vars : List Sort) (j : Judgement) → JudgementIsSorted shapes forms vars j → (v : ℕ) → StandsAmong v (outputs_of modes j) → IsUntypedVariable vars v
   outputs_untyped vars j h =
       untyped_among shapes vars no_typed (outputs (modes j.form) j.places) (outputs (modes j.form) (forms j.form))
       (outputs-sorted shapes vars (modes j.form) j.places (forms j.form) h) (fit.outputs_plain j.form)
@@ -115,7 +115,7 @@ module _ (modes subjects : Modes) (shapes : List Shape) (forms : FormSorts) (no_
       go (inr x) = d.every v k e x
 
   typed_or_not : (rule : Rule) (v : ℕ) → v < length rule.sorts → (o : Option Sort) → slice_get rule.sorts v ≡ o → ((k : ℕ) → slice_get rule.sorts v ≡ Some (Typed k) → IsSubjectIn subjects v (judgements_of rule.premises)) →
-      IsUntyped rule.sorts v ⊎ IsSubjectIn subjects v (judgements_of rule.premises)
+      IsUntypedVariable rule.sorts v ⊎ IsSubjectIn subjects v (judgements_of rule.premises)
   typed_or_not rule v l None e h = absurd (get_within rule.sorts v l e)
   typed_or_not rule v l (Some (Lex kind)) e h = inl (Lex kind, e, lexical_untyped kind)
   typed_or_not rule v l (Some (Plain n)) e h = inl (Plain n, e, λ k f. cc)

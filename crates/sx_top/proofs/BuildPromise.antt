@@ -11,7 +11,7 @@ use Rattle.sx_derive.specs.Search.{Ending, found, stopped, spent, exhausted, wal
 use Rattle.sx_derive.proofs.Walked.{found_is_first}
 use Rattle.sx_top.specs.CoreTexts.{subject_text, list_text, term_lines}
 use Rattle.sx_top.specs.ReadCore.{core_file}
-use Rattle.sx_top.specs.FindFirst.{no_hypotheses, rules_of, IsFirstOf}
+use Rattle.sx_top.specs.FindFirst.{no_hypotheses, problem_rules, IsFirstOf}
 use Rattle.sx_top.specs.Search.{goal_events, ComesTo, Searches}
 use Rattle.sx_steps.specs.Work.{Plan}
 use Rattle.sx_top.specs.BuildCore.{core_plan, BuildsWhole, BuiltUnit}
@@ -26,9 +26,9 @@ comes_found file problem budget (stopped cause) answer comes = absurd cc
 comes_found file problem budget spent answer comes = absurd cc
 comes_found file problem budget exhausted answer comes = let none = comes.2 in absurd cc
 
-pub searches_first : (file : List ℕ) (budget : ℕ) (problem : Problem) (answer : Answer) → AllModed (modes_of problem.forms) (rules_of problem) → Searches file budget problem (Ok answer) → IsFirstOf problem answer
+pub searches_first : (file : List ℕ) (budget : ℕ) (problem : Problem) (answer : Answer) → AllModed (modes_of problem.forms) (problem_rules problem) → Searches file budget problem (Ok answer) → IsFirstOf problem answer
 searches_first file budget problem answer moded searches =
-    found_is_first (modes_of problem.forms) (rules_of problem) no_hypotheses moded problem.goal None budget 1 answer
+    found_is_first (modes_of problem.forms) (problem_rules problem) no_hypotheses moded problem.goal None budget 1 answer
     (comes_found file problem budget (walk None budget (goal_events problem)) answer searches)
 
 pub build_promise : (name : List ℕ) (budget : ℕ) (old new : Files) (plan : Plan) (tries : ℕ) → BuildsWhole name budget old (Ok plan) tries → new ≡ after plan.files old → BuiltUnit name old new plan.lines

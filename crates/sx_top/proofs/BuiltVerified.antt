@@ -10,7 +10,7 @@ use Rattle.sx_derive.proofs.FewNodes.{few_nodes}
 use Rattle.sx_replay.specs.Fronts.{whole}
 use Rattle.sx_replay.specs.Replay.{IsWithin}
 use Rattle.sx_top.specs.CoreTexts.{subject_text, list_text, term_lines}
-use Rattle.sx_top.specs.FindFirst.{no_hypotheses, rules_of}
+use Rattle.sx_top.specs.FindFirst.{no_hypotheses, problem_rules}
 use Rattle.sx_top.specs.Search.{goal_events}
 use Rattle.sx_top.specs.ReadCore.{core_file}
 use Rattle.sx_top.specs.BuildCore.{core_plan}
@@ -41,7 +41,7 @@ pub built_verified : BuiltIsVerified
 unfolding core_plan
 built_verified name budget files p answer reads searches few short =
     let modes = modes_of p.forms in
-    let rules = rules_of p in
+    let rules = problem_rules p in
     let list = order_of answer.0 in
     let read = went _ _ _ reads in
     let is = proper read.given p read.goes in

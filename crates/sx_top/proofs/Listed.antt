@@ -19,7 +19,7 @@ use Rattle.sx_core.specs.Problem.{problem}
 use Rattle.sx_core.specs.declared.problem.CoreProblem.{CoreProblem}
 use Rattle.sx_top.specs.CoreTexts.{list_text}
 use Rattle.sx_top.proofs.ListTexts.{AreOfRules, of_rules, order_length, list_again, names_of as names_of_data, text_is}
-use Rattle.sx_top.specs.FindFirst.{no_hypotheses, rules_of}
+use Rattle.sx_top.specs.FindFirst.{no_hypotheses, problem_rules}
 
 -- a list has an entry for each node
 pub nodes_listed : (list : List EntryOf) (p : Proof) → entries list ≡ order_of p → length list ≡ nodes_of p
@@ -37,11 +37,11 @@ same_length [] = refl
 same_length (r ∷ rules) = ap suc (same_length rules)
 
 -- the entries of a derivation of a problem are of its rules
-pub entries_listed : (p : CoreProblem) (j : Judgement) (q : Proof) (list : List EntryOf) → Derives (rules_of (problem p)) no_hypotheses j q → entries list ≡ order_of q → AllByRecursion (IsEntry (names_in p.rules)) list
+pub entries_listed : (p : CoreProblem) (j : Judgement) (q : Proof) (list : List EntryOf) → Derives (problem_rules (problem p)) no_hypotheses j q → entries list ≡ order_of q → AllByRecursion (IsEntry (names_in p.rules)) list
 entries_listed p j q list derives same =
     all_entries (names_in p.rules) list
     (subst (λ (n : ℕ). AreOfRules n (entries list)) (same_length p.rules.rules.items)
-    (subst (AreOfRules (length (rules_of (problem p)))) (sym same) (of_rules (rules_of (problem p)) no_hypotheses refl j q derives)))
+    (subst (AreOfRules (length (problem_rules (problem p)))) (sym same) (of_rules (problem_rules (problem p)) no_hypotheses refl j q derives)))
 
 -- ---- texts
 

@@ -25,7 +25,7 @@ use Rattle.sx_derive.proofs.BlameTexts.{stuck_goal_has_texts}
 use Rattle.sx_derive.proofs.BlameDepths.{stuck_goal_is_shallow}
 use Rattle.sx_steps.specs.declared.stop.Stop.{Stop}
 use Rattle.sx_steps.specs.Stop.{RisesBy, RisesUpTo}
-use Rattle.sx_top.specs.FindFirst.{no_hypotheses, rules_of}
+use Rattle.sx_top.specs.FindFirst.{no_hypotheses, problem_rules}
 use Rattle.sx_top.specs.CoreStops.{underivable}
 use Rattle.sx_steps.specs.Stops.{tries_spent, depth_spent, too_deep, too_big}
 use Rattle.sx_top.specs.LowerStops.{derive_stop}
@@ -42,12 +42,12 @@ bare_rules [] = refl
 bare_rules (r ∷ rs) = ap (λ (others : List Rule). rule r ∷ others) (bare_rules rs)
 
 module _ (p : CoreProblem) (hyps : Hypotheses) (none : hyps ≡ no_hypotheses) where
-  plain : (P : List Rule → Hypotheses → Type 0) → P (map rule p.rules.rules.items) hyps → P (rules_of (problem p)) no_hypotheses
+  plain : (P : List Rule → Hypotheses → Type 0) → P (map rule p.rules.rules.items) hyps → P (problem_rules (problem p)) no_hypotheses
   plain P holds =
-      subst (λ (h : Hypotheses). P (rules_of (problem p)) h) none (subst (λ (rs : List Rule). P rs hyps) (bare_rules p.rules.rules.items) holds)
+      subst (λ (h : Hypotheses). P (problem_rules (problem p)) h) none (subst (λ (rs : List Rule). P rs hyps) (bare_rules p.rules.rules.items) holds)
 
   -- what a search answers is about the plain data of the problem
-  pub told_plain : (budget : ℕ) (r : Result Listed DeriveError) → IsListed (modes_of (problem p).forms) (subjects_in (problem p).forms) (map rule p.rules.rules.items) hyps (goal p.goal) None budget r → IsListed (modes_of (problem p).forms) (subjects_in (problem p).forms) (rules_of (problem p)) no_hypotheses (problem p).goal None budget r
+  pub told_plain : (budget : ℕ) (r : Result Listed DeriveError) → IsListed (modes_of (problem p).forms) (subjects_in (problem p).forms) (map rule p.rules.rules.items) hyps (goal p.goal) None budget r → IsListed (modes_of (problem p).forms) (subjects_in (problem p).forms) (problem_rules (problem p)) no_hypotheses (problem p).goal None budget r
   told_plain budget r told =
       plain (λ rs h. IsListed (modes_of (problem p).forms) (subjects_in (problem p).forms) rs h (problem p).goal None budget r) told
 
@@ -63,7 +63,7 @@ module _ (file : List ℕ) (p : Problem) (budget : ℕ) where
   comes_answer ending answer is = subst (λ (e : Ending). ComesTo file p budget e (Ok answer)) (sym is) refl
 
   -- so is why there is none
-  pub comes_stop : (ending : Ending) (e : DeriveError) (end : Stop) → IsToldBy SaysList (modes_of p.forms) (subjects_in p.forms) (rules_of p) no_hypotheses p.goal budget ending (Err e) → derive_stop file p e ≡ Some end → ComesTo file p budget ending (Err end)
+  pub comes_stop : (ending : Ending) (e : DeriveError) (end : Stop) → IsToldBy SaysList (modes_of p.forms) (subjects_in p.forms) (problem_rules p) no_hypotheses p.goal budget ending (Err e) → derive_stop file p e ≡ Some end → ComesTo file p budget ending (Err end)
   comes_stop ending Memory end told is = absurd cc
   comes_stop ending (Underivable blame) end told is =
       let same : underivable file p (blame_of blame) ≡ end = cc in
@@ -95,18 +95,18 @@ module _ (p : Problem) (proper : IsProper p) where
   pub searches_given : (file : List ℕ) (budget : ℕ) (a : Answer) → walk None budget (goal_events p) ≡ found a → IsGiven p a
   searches_given file budget a is =
       let first = searches_first file budget p a proper.moded (comes_answer file p budget (walk None budget (goal_events p)) a is) in
-      let bounds = found_given _ budget (goal_events p) a is (answers_are_bounded (modes_of p.forms) (rules_of p) no_hypotheses tt p.goal 1 proper.shallow) in
-      let texts = outputs_have_texts (modes_of p.forms) (rules_of p) no_hypotheses proper.moded proper.rules tt p.goal a proper.texts first.derives in
+      let bounds = found_given _ budget (goal_events p) a is (answers_are_bounded (modes_of p.forms) (problem_rules p) no_hypotheses tt p.goal 1 proper.shallow) in
+      let texts = outputs_have_texts (modes_of p.forms) (problem_rules p) no_hypotheses proper.moded proper.rules tt p.goal a proper.texts first.derives in
       record { derives = first.derives; height = bounds.0; outputs = terms_of a.1 texts bounds.2 }
 
   blame_terms : (budget : ℕ) (blame : Blame) → walk None budget (goal_events p) ≡ exhausted → IsStuckGoal p blame → AreTerms blame.goal.terms × AreTerms (got_in blame.reason)
   blame_terms budget blame is stuck =
-      let texts = stuck_goal_has_texts (modes_of p.forms) (subjects_in p.forms) (rules_of p) no_hypotheses proper.moded proper.rules tt 3000 p.goal [] blame proper.texts stuck in
-      let shallow = stuck_goal_is_shallow (modes_of p.forms) (subjects_in p.forms) (rules_of p) no_hypotheses proper.moded tt 1 p.goal [] blame proper.shallow (exhausted_has_no_stop None budget (goal_events p) is) stuck in
+      let texts = stuck_goal_has_texts (modes_of p.forms) (subjects_in p.forms) (problem_rules p) no_hypotheses proper.moded proper.rules tt 3000 p.goal [] blame proper.texts stuck in
+      let shallow = stuck_goal_is_shallow (modes_of p.forms) (subjects_in p.forms) (problem_rules p) no_hypotheses proper.moded tt 1 p.goal [] blame proper.shallow (exhausted_has_no_stop None budget (goal_events p) is) stuck in
       (terms_of blame.goal.terms texts.0 shallow.0, terms_of (got_in blame.reason) texts.1 shallow.1)
 
   -- the terms of a stuck goal can be written
-  pub told_terms : (budget : ℕ) (e : DeriveError) → IsListed (modes_of p.forms) (subjects_in p.forms) (rules_of p) no_hypotheses p.goal None budget (Err e) → HasTerms e
+  pub told_terms : (budget : ℕ) (e : DeriveError) → IsListed (modes_of p.forms) (subjects_in p.forms) (problem_rules p) no_hypotheses p.goal None budget (Err e) → HasTerms e
   told_terms budget Memory told = tt
   told_terms budget (Underivable blame) told = blame_terms budget (blame_of blame) told.0 told.1
   told_terms budget (BudgetSpent n) told = tt

@@ -41,8 +41,8 @@ use Rattle.sx_words.specs.Commands.{Spells}
 use Rattle.sx_top.specs.Commands.{Commands}
 use Rattle.sx_top.specs.CoreStops.{variable_name, differs}
 use Rattle.sx_top.specs.CoreTexts.{subject_text, term_lines}
-use Rattle.sx_top.specs.FindFirst.{no_hypotheses, rules_of}
-use Rattle.sx_top.specs.Laws.{HasNoDerivation, IsUntyped, TypeErrorsAreFinal}
+use Rattle.sx_top.specs.FindFirst.{no_hypotheses, problem_rules}
+use Rattle.sx_top.specs.Laws.{HasNoDerivation, IsUntypedCommand, TypeErrorsAreFinal}
 use Rattle.sx_top.specs.LowerStops.{core_stop}
 use Rattle.sx_audit.specs.Meaning.{Meaning}
 use Rattle.sx_top.specs.Calls.{Call}
@@ -137,11 +137,11 @@ comes_final file p budget (stopped cause) stop comes error = absurd (no_limit fi
 comes_final file p budget spent stop comes error = absurd (subst IsTypeError (err_same stop (tries_spent file budget) comes) error)
 comes_final file p budget exhausted stop comes error = refl
 
-searches_final : (file : List ℕ) (budget : ℕ) (p : Problem) → AllModed (modes_of p.forms) (rules_of p) → Final (λ (stop : Stop). IsUnderivable (modes_of p.forms) (rules_of p) no_hypotheses p.goal None) (Searches file budget p)
+searches_final : (file : List ℕ) (budget : ℕ) (p : Problem) → AllModed (modes_of p.forms) (problem_rules p) → Final (λ (stop : Stop). IsUnderivable (modes_of p.forms) (problem_rules p) no_hypotheses p.goal None) (Searches file budget p)
 searches_final file budget p moded stop comes error =
-    exhausted_means_none (modes_of p.forms) (rules_of p) no_hypotheses moded p.goal None budget 1 (comes_final file p budget (walk None budget (goal_events p)) stop comes error)
+    exhausted_means_none (modes_of p.forms) (problem_rules p) no_hypotheses moded p.goal None budget 1 (comes_final file p budget (walk None budget (goal_events p)) stop comes error)
 
-read_moded : (file : List ℕ) (files : Files) (p : Problem) → Reads file files (Ok p) → AllModed (modes_of p.forms) (rules_of p)
+read_moded : (file : List ℕ) (files : Files) (p : Problem) → Reads file files (Ok p) → AllModed (modes_of p.forms) (problem_rules p)
 read_moded file files p read = let at = went _ _ _ read in (proper at.given p at.goes).moded
 
 module _ (name : List ℕ) (budget : ℕ) (files : Files) where
@@ -164,7 +164,7 @@ module _ (name : List ℕ) (budget : ℕ) (files : Files) where
 -- ---- commands
 
 runs_final : BuildsFinal → CompilesFinal → SamplesFinal → (command : Meant) (named : List Meaning)
-    (files : Files) → FinalTrying (IsUntyped command named files) (Runs command named files)
+    (files : Files) → FinalTrying (IsUntypedCommand command named files) (Runs command named files)
 runs_final builds_end compiles_final samples_final (builds true name tries nodes audits) named files stop made h error =
     builds_final name tries files stop made h error
 runs_final builds_end compiles_final samples_final (builds false name tries nodes audits) named files stop made h error =
@@ -192,7 +192,7 @@ module _ (builds_end : BuildsFinal) (compiles_final : CompilesFinal)
   -- the words spell a command that is so
   abbrev IsSpelledSo : Stop → Type 0
   IsSpelledSo stop = (command : Meant) × (named : List Meaning) × Spells c.words command ×
-      NamesFor c.auditors command (Ok named) × IsUntyped command named files stop
+      NamesFor c.auditors command (Ok named) × IsUntypedCommand command named files stop
 
   runs_for_final : (command : Meant) → Spells c.words command →
       FinalTrying IsSpelledSo (RunsFor c.auditors files command)

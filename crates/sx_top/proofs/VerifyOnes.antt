@@ -16,7 +16,7 @@ use Rattle.sx_replay.specs.declared.replay_error.ReplayError.TheVariants as repl
 use Rattle.sx_replay.proofs.OneAnswer.{one_answer}
 use Rattle.sx_words.specs.Commands.{Meant, builds, compiles, checks, verifies, samples}
 use Rattle.sx_top.specs.CoreTexts.{subject_text, term_lines}
-use Rattle.sx_top.specs.FindFirst.{no_hypotheses, rules_of}
+use Rattle.sx_top.specs.FindFirst.{no_hypotheses, problem_rules}
 use Rattle.sx_steps.specs.Held.{Held}
 use Rattle.sx_term.specs.Limits.{most_bytes}
 use Rattle.sx_steps.specs.Lower.{Lower}
@@ -55,10 +55,10 @@ use Rattle.sx_verify.proofs.OneSteps.{list_one}
 
 -- ---- the replay
 
-replays_one : (file : List ℕ) (p : Problem) (list : List EntryOf) → AllModed (modes_of p.forms) (rules_of p) → IsOne (Replays file p list)
+replays_one : (file : List ℕ) (p : Problem) (list : List EntryOf) → AllModed (modes_of p.forms) (problem_rules p) → IsOne (Replays file p list)
 replays_one file p list moded =
-    lower_but (replay_stop file) (IsReplayAnswer (modes_of p.forms) (rules_of p) no_hypotheses p.goal (entries list)) replay_error.Memory refl
-    (one_answer (modes_of p.forms) (rules_of p) no_hypotheses moded p.goal (entries list))
+    lower_but (replay_stop file) (IsReplayAnswer (modes_of p.forms) (problem_rules p) no_hypotheses p.goal (entries list)) replay_error.Memory refl
+    (one_answer (modes_of p.forms) (problem_rules p) no_hypotheses moded p.goal (entries list))
 
 module _ (name : List ℕ) (files : Files) where
   outputs_one : (nodes : ℕ) (outputs : List Tree) → IsOne (VerifiesOutputs name files nodes outputs)

@@ -10,14 +10,14 @@ use Rattle.sx_rules.specs.EntryView.{entries}
 use Rattle.sx_core.specs.Problem.{Problem}
 use Rattle.sx_replay.specs.Replay.{IsReplayAnswer}
 use Rattle.sx_top.specs.CoreTexts.{term_lines}
-use Rattle.sx_top.specs.FindFirst.{no_hypotheses, rules_of}
+use Rattle.sx_top.specs.FindFirst.{no_hypotheses, problem_rules}
 use Rattle.sx_steps.specs.Work.{Plan}
 use Rattle.sx_verify.specs.Verified.{verified_plan}
 use Rattle.sx_top.specs.VerifyCore.{VerifiesWhole, VerifiedUnit}
 use Rattle.sx_steps.proofs.StepsOn.{went}
 
 -- what is replayed is the list of a derivation with the outputs
-module _ (derived : (problem : Problem) (list : List Entry) (outputs : List Tree) → IsReplayAnswer (modes_of problem.forms) (rules_of problem) no_hypotheses problem.goal list (Ok outputs) → (answer : Answer) × DerivesGoal (modes_of problem.forms) (rules_of problem) no_hypotheses problem.goal answer × (order_of answer.0 ≡ list) × (answer.1 ≡ outputs)) where
+module _ (derived : (problem : Problem) (list : List Entry) (outputs : List Tree) → IsReplayAnswer (modes_of problem.forms) (problem_rules problem) no_hypotheses problem.goal list (Ok outputs) → (answer : Answer) × DerivesGoal (modes_of problem.forms) (problem_rules problem) no_hypotheses problem.goal answer × (order_of answer.0 ≡ list) × (answer.1 ≡ outputs)) where
   pub verify_promise : (name : List ℕ) (old new : Files) (plan : Plan) → VerifiesWhole name old (Ok plan) → new ≡ after plan.files old → VerifiedUnit name old new plan.lines
   verify_promise name old new plan verified files_are =
       let read = went _ _ _ verified in

@@ -20,7 +20,7 @@ use Rattle.sx_core.specs.declared.problem.CoreProblem.{CoreProblem}
 use Rattle.sx_replay.specs.Limits.{first_of, first_deep}
 use Rattle.sx_replay.specs.Fronts.{asked_of, concluded_of, whole, made_in, made_below}
 use Rattle.sx_replay.specs.Replay.{IsWithin, IsReplayAnswer}
-use Rattle.sx_top.specs.FindFirst.{no_hypotheses, rules_of}
+use Rattle.sx_top.specs.FindFirst.{no_hypotheses, problem_rules}
 use Rattle.sx_top.specs.Terms.{AreTerms}
 use Rattle.sx_top.specs.Proper.{IsProper}
 use Rattle.sx_steps.specs.Stop.{IsNoFault, OnlyReads}
@@ -74,9 +74,9 @@ bare_rules [] = refl
 bare_rules (r ∷ rs) = ap (λ (others : List Rule). rule_of r ∷ others) (bare_rules rs)
 
 -- what holds by the rules of a set, without hypotheses, holds by those of its problem
-pub by_plain : (p : CoreProblem) (P : List Rule → Hypotheses → Type 0) (hyps : Hypotheses) → hyps ≡ no_hypotheses → P (map rule_of p.rules.rules.items) hyps → P (rules_of (problem p)) no_hypotheses
+pub by_plain : (p : CoreProblem) (P : List Rule → Hypotheses → Type 0) (hyps : Hypotheses) → hyps ≡ no_hypotheses → P (map rule_of p.rules.rules.items) hyps → P (problem_rules (problem p)) no_hypotheses
 by_plain p P hyps none holds =
-    subst (λ (h : Hypotheses). P (rules_of (problem p)) h) none (subst (λ (rs : List Rule). P rs hyps) (bare_rules p.rules.rules.items) holds)
+    subst (λ (h : Hypotheses). P (problem_rules (problem p)) h) none (subst (λ (rs : List Rule). P rs hyps) (bare_rules p.rules.rules.items) holds)
 
 -- ---- outputs
 
@@ -99,26 +99,26 @@ module _ (p : Problem) where
   no_given i a e = absurd cc
 
   -- the outputs are the last terms that a derivation makes
-  made_last : (q : Proof) (outs : List Tree) → DerivesGoal (modes_of p.forms) (rules_of p) no_hypotheses p.goal (q, outs) → (front : List Tree) × (made_in (modes_of p.forms) (rules_of p) q ≡ front ++ outs)
+  made_last : (q : Proof) (outs : List Tree) → DerivesGoal (modes_of p.forms) (problem_rules p) no_hypotheses p.goal (q, outs) → (front : List Tree) × (made_in (modes_of p.forms) (problem_rules p) q ≡ front ++ outs)
   made_last (given i) outs (j, g, o, d) = absurd (no_given i j d)
   made_last (by r binds kids) outs (j, g, o, (rule, at, few, concluded, all_apart, each)) =
-      let front = made_below (modes_of p.forms) (rules_of p) (asked_of (slice_get (rules_of p) r)) (bound_by binds) kids in
+      let front = made_below (modes_of p.forms) (problem_rules p) (asked_of (slice_get (problem_rules p) r)) (bound_by binds) kids in
       (front, ap (λ ts. front ++ ts) (ap (λ x. concluded_of (modes_of p.forms) x (bound_by binds)) at ∙ ap (outputs_of (modes_of p.forms)) concluded ∙ o))
 
-  pub replayed_shallow : (list : List Entry) (outs : List Tree) → IsWithin (modes_of p.forms) (rules_of p) no_hypotheses p.goal (whole outs) list → AreShallow outs
+  pub replayed_shallow : (list : List Entry) (outs : List Tree) → IsWithin (modes_of p.forms) (problem_rules p) no_hypotheses p.goal (whole outs) list → AreShallow outs
   replayed_shallow list outs w =
       let front = w.front in
       let last = made_last front.0 outs front.1 in
       none_deep outs (deep_later last.0 outs (ap first_deep (sym last.1 ∙ front.3) ∙ w.shallow))
 
   -- what is replayed can be written
-  pub replayed_terms : IsProper p → (list : List Entry) (outs : List Tree) → IsReplayAnswer (modes_of p.forms) (rules_of p) no_hypotheses p.goal list (Ok outs) → AreTerms outs
+  pub replayed_terms : IsProper p → (list : List Entry) (outs : List Tree) → IsReplayAnswer (modes_of p.forms) (problem_rules p) no_hypotheses p.goal list (Ok outs) → AreTerms outs
   replayed_terms proper list outs w =
       let front = w.front in
-      let have = outputs_have_texts (modes_of p.forms) (rules_of p) no_hypotheses proper.moded proper.rules tt p.goal (front.0, outs) proper.texts front.1 in
+      let have = outputs_have_texts (modes_of p.forms) (problem_rules p) no_hypotheses proper.moded proper.rules tt p.goal (front.0, outs) proper.texts front.1 in
       terms_of outs have (replayed_shallow list outs w)
 
 -- what is replayed is the list of a derivation with the outputs
-pub replayed_derives : (p : Problem) (list : List Entry) (outs : List Tree) → IsReplayAnswer (modes_of p.forms) (rules_of p) no_hypotheses p.goal list (Ok outs) →
-    (answer : Answer) × DerivesGoal (modes_of p.forms) (rules_of p) no_hypotheses p.goal answer × (order_of answer.0 ≡ list) × (answer.1 ≡ outs)
+pub replayed_derives : (p : Problem) (list : List Entry) (outs : List Tree) → IsReplayAnswer (modes_of p.forms) (problem_rules p) no_hypotheses p.goal list (Ok outs) →
+    (answer : Answer) × DerivesGoal (modes_of p.forms) (problem_rules p) no_hypotheses p.goal answer × (order_of answer.0 ≡ list) × (answer.1 ≡ outs)
 replayed_derives p list outs w = let front = w.front in ((front.0, outs), front.1, front.2, refl)

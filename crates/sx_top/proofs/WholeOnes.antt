@@ -11,7 +11,7 @@ use Rattle.sx_derive.specs.Stuck.{Blame}
 use Rattle.sx_derive.proofs.BlamedOnce.{stuck_goal_is_unique}
 use Rattle.sx_steps.specs.declared.stop.Stop.{Stop}
 use Rattle.sx_top.specs.CoreStops.{underivable}
-use Rattle.sx_top.specs.FindFirst.{no_hypotheses, rules_of}
+use Rattle.sx_top.specs.FindFirst.{no_hypotheses, problem_rules}
 use Rattle.sx_steps.specs.Held.{Held}
 use Rattle.sx_term.specs.Limits.{most_bytes}
 use Rattle.sx_top.specs.Search.{goal_events, ComesTo, Searches}
@@ -32,13 +32,13 @@ compares_one file text files = then_one (Held most_bytes file files) (Equals fil
 
 -- ---- the search
 
-comes_one : (file : List ℕ) (problem : Problem) (budget : ℕ) (ending : Ending) → AllModed (modes_of problem.forms) (rules_of problem) → (x y : Result Answer Stop) → ComesTo file problem budget ending x → ComesTo file problem budget ending y → x ≡ y
+comes_one : (file : List ℕ) (problem : Problem) (budget : ℕ) (ending : Ending) → AllModed (modes_of problem.forms) (problem_rules problem) → (x y : Result Answer Stop) → ComesTo file problem budget ending x → ComesTo file problem budget ending y → x ≡ y
 comes_one file problem budget (found answer) moded x y h k = h ∙ sym k
 comes_one file problem budget (stopped cause) moded x y h k = h ∙ sym k
 comes_one file problem budget spent moded x y h k = h ∙ sym k
 comes_one file problem budget exhausted moded x y h k =
-    let same = stuck_goal_is_unique (modes_of problem.forms) (subjects_in problem.forms) (rules_of problem) no_hypotheses moded problem.goal [] 3000 3000 h.0 k.0 h.1 k.1 in
+    let same = stuck_goal_is_unique (modes_of problem.forms) (subjects_in problem.forms) (problem_rules problem) no_hypotheses moded problem.goal [] 3000 3000 h.0 k.0 h.1 k.1 in
     h.2 ∙ ap (λ (blame : Blame). Err (underivable file problem blame)) same ∙ sym k.2
 
-pub searches_one : (file : List ℕ) (budget : ℕ) (problem : Problem) → AllModed (modes_of problem.forms) (rules_of problem) → IsOne (Searches file budget problem)
+pub searches_one : (file : List ℕ) (budget : ℕ) (problem : Problem) → AllModed (modes_of problem.forms) (problem_rules problem) → IsOne (Searches file budget problem)
 searches_one file budget problem moded x y h k n m = comes_one file problem budget (walk None budget (goal_events problem)) moded x y h k

@@ -10,10 +10,10 @@ abbrev pub no_hypotheses : Hypotheses
 no_hypotheses = record { judgements = []; pairs = [] }
 
 -- the rules of a problem without their names
-abbrev pub rules_of : Problem → List Rule
-rules_of problem = map (λ r. r.rule) problem.rules
+abbrev pub problem_rules : Problem → List Rule
+problem_rules problem = map (λ r. r.rule) problem.rules
 
 -- the first derivation of the problem's goal by its rules, with the outputs that it gives
 abbrev pub IsFirstOf : Problem → Answer → Type 0
 IsFirstOf problem answer =
-    IsFirst (modes_of problem.forms) (rules_of problem) no_hypotheses problem.goal None answer
+    IsFirst (modes_of problem.forms) (problem_rules problem) no_hypotheses problem.goal None answer

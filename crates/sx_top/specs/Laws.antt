@@ -26,7 +26,7 @@ use Rattle.sx_sampling.specs.Laws.{SameButShown as SamplesSame}
 use Rattle.sx_audit.specs.Meaning.{Meaning}
 use Rattle.sx_top.specs.Calls.{Call}
 use Rattle.sx_words.specs.Commands.{Spells}
-use Rattle.sx_top.specs.FindFirst.{no_hypotheses, rules_of}
+use Rattle.sx_top.specs.FindFirst.{no_hypotheses, problem_rules}
 use Rattle.sx_top.specs.Outcome.{budgets_of, NamesFor, Outcome}
 use Rattle.sx_top.specs.ReadCore.{core_file, Reads}
 
@@ -85,8 +85,8 @@ OneOutcome =
 pub record HasNoDerivation (name : List ℕ) (files : Files) : Type 0 where
   pub problem : Problem
   pub reads : Reads (core_file name) files (Ok problem)
-  pub none : IsUnderivable (modes_of problem.forms) (rules_of problem) no_hypotheses problem.goal
-      None
+  pub none : IsUnderivable (modes_of problem.forms) (problem_rules problem) no_hypotheses
+      problem.goal None
 
 -- one of the modules of the closure, after those before it were made, has no type, or a rule of one
 -- of its extensions is not sound
@@ -110,16 +110,16 @@ SampleUntyped number stop = (f : IsSampleFound number) ×
 
 -- The goal that the command derives has no derivation, or the rule that the stop is about, of an
 -- extension that it checks or uses, is not sound. `verify` derives no goal.
-abbrev pub IsUntyped : Meant → List Meaning → Files → Stop → Type 0
-IsUntyped (builds true name tries nodes audits) named files stop = HasNoDerivation name files
-IsUntyped (builds false name tries nodes audits) named files stop =
+abbrev pub IsUntypedCommand : Meant → List Meaning → Files → Stop → Type 0
+IsUntypedCommand (builds true name tries nodes audits) named files stop = HasNoDerivation name files
+IsUntypedCommand (builds false name tries nodes audits) named files stop =
     BuildsUntyped name (budgets_of tries nodes) named files stop
-IsUntyped (compiles name tries nodes audits) named files stop =
+IsUntypedCommand (compiles name tries nodes audits) named files stop =
     CompilesUntyped name (budgets_of tries nodes) files stop
-IsUntyped (checks name tries nodes) named files stop =
+IsUntypedCommand (checks name tries nodes) named files stop =
     HasUnsoundRule name (budgets_of tries nodes) files stop
-IsUntyped (samples number) named files stop = SampleUntyped number stop
-IsUntyped (verifies of_core name) named files stop = ⊥
+IsUntypedCommand (samples number) named files stop = SampleUntyped number stop
+IsUntypedCommand (verifies of_core name) named files stop = ⊥
 
 -- a run stops with a type error only where the command's goal has no derivation at all, or the rule
 -- that the stop is about is not sound
@@ -128,4 +128,4 @@ TypeErrorsAreFinal =
     (c : Call) (files : Files) (stop : Stop) (tries : ℕ) →
     Outcome c files (Err (errors.Stopped stop)) tries → IsTypeError stop →
     (command : Meant) × (named : List Meaning) × Spells c.words command ×
-    NamesFor c.auditors command (Ok named) × IsUntyped command named files stop
+    NamesFor c.auditors command (Ok named) × IsUntypedCommand command named files stop

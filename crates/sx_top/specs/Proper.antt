@@ -15,7 +15,7 @@ use Rattle.sx_derive.specs.declared.derive_error.DeriveError.TheVariants.{Memory
 use Rattle.sx_derive.specs.declared.derive_error.DeriveError.TheVariants.{BudgetSpent, DepthSpent}
 use Rattle.sx_derive.specs.declared.derive_error.DeriveError.TheVariants.{TooDeep, TooBig}
 use Rattle.sx_derive.specs.declared.listed.Listed.{Listed}
-use Rattle.sx_top.specs.FindFirst.{no_hypotheses, rules_of}
+use Rattle.sx_top.specs.FindFirst.{no_hypotheses, problem_rules}
 use Rattle.sx_top.specs.ReadCore.{rule_names}
 use Rattle.sx_top.specs.Terms.{AreTerms}
 use Rattle.sx_rules.specs.Limits.{most_levels}
@@ -23,17 +23,17 @@ use Rattle.sx_rules.specs.Limits.{most_levels}
 -- The rules are moded and have distinct names, the terms of rules and goal have core texts, and
 -- those of the goal are no deeper than 1,000.
 pub record IsProper (problem : Problem) : Type 0 where
-  pub moded : AllModed (modes_of problem.forms) (rules_of problem)
+  pub moded : AllModed (modes_of problem.forms) (problem_rules problem)
   pub names : AreNames (rule_names problem)
   pub distinct : AreDistinct (rule_names problem)
-  pub rules : RulesHaveTexts (rules_of problem)
+  pub rules : RulesHaveTexts (problem_rules problem)
   pub texts : HaveTexts problem.goal.terms
   pub shallow : AreShallow problem.goal.terms
 
 -- the answer derives the goal, is no higher than 3,000, and its outputs can be written
 pub record IsGiven (problem : Problem) (answer : Answer) : Type 0 where
-  pub derives : DerivesGoal (modes_of problem.forms) (rules_of problem) no_hypotheses problem.goal
-      answer
+  pub derives : DerivesGoal (modes_of problem.forms) (problem_rules problem) no_hypotheses
+      problem.goal answer
   pub height : height_of answer.0 ≤ most_levels
   pub outputs : AreTerms answer.1
 

@@ -8,21 +8,22 @@ use Rattle.sx_derive.specs.Walk.{too_deep as passes_terms, too_big as passes_siz
 use Rattle.sx_derive.specs.Search.{Ending, found, stopped, spent, exhausted, walk, tries_of}
 use Rattle.sx_derive.specs.Stuck.{Blame, IsStuck}
 use Rattle.sx_steps.specs.declared.stop.Stop.{Stop}
-use Rattle.sx_top.specs.FindFirst.{no_hypotheses, rules_of}
+use Rattle.sx_top.specs.FindFirst.{no_hypotheses, problem_rules}
 use Rattle.sx_top.specs.CoreStops.{underivable}
 use Rattle.sx_steps.specs.Stops.{tries_spent, depth_spent, too_deep, too_big}
 use Rattle.sx_rules.specs.Limits.{most_levels}
 
 -- the events of the problem's goal, without hypotheses
 abbrev pub goal_events : Problem → List (Event Answer)
-goal_events problem = events (modes_of problem.forms) (rules_of problem) no_hypotheses problem.goal
+goal_events problem =
+    events (modes_of problem.forms) (problem_rules problem) no_hypotheses problem.goal
     1
 
 -- the stuck goal of the problem's goal
 abbrev pub IsStuckGoal : Problem → Blame → Type 0
 IsStuckGoal problem blame =
     IsStuck (modes_of problem.forms) (subjects_in problem.forms)
-    (rules_of problem) no_hypotheses most_levels problem.goal [] blame
+    (problem_rules problem) no_hypotheses most_levels problem.goal [] blame
 
 -- the limit that the walk passed
 abbrev pub passed : List ℕ → Cause → Stop

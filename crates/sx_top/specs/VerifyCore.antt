@@ -20,7 +20,7 @@ use Rattle.sx_verify.specs.Verified.{verified_line, verified_plan}
 use Rattle.sx_top.specs.ReadCore.{core_file, rule_names, Reads}
 use Rattle.sx_steps.specs.Unit.{base_file, list_file, interface_file}
 use Rattle.sx_top.specs.Written.{Compares}
-use Rattle.sx_top.specs.FindFirst.{no_hypotheses, rules_of}
+use Rattle.sx_top.specs.FindFirst.{no_hypotheses, problem_rules}
 use Rattle.sx_top.specs.CoreTexts.{subject_text, term_lines}
 use Rattle.sx_steps.specs.Work.{Plan}
 
@@ -28,7 +28,7 @@ use Rattle.sx_steps.specs.Work.{Plan}
 abbrev pub Replays : List ℕ → Problem → List EntryOf → Result (List Tree) Stop → Type 0
 Replays file problem list =
     Lower (replay_stop file) (IsReplayAnswer (modes_of problem.forms)
-    (rules_of problem) no_hypotheses problem.goal (entries list))
+    (problem_rules problem) no_hypotheses problem.goal (entries list))
 
 -- the outputs are compared
 abbrev pub VerifiesOutputs : List ℕ → Files → ℕ → List Tree → Result Plan Stop → Type 0
@@ -71,8 +71,8 @@ pub record VerifiedUnit (name : List ℕ) (old new : Files) (lines : List ℕ) :
   pub base : old (base_file name) ≡ Some (subject_text problem.forms problem.goal)
   pub listed : old (list_file name) ≡ Some list_bytes
   pub states_list : StatesList (rule_names problem) (texts (lines_from 1 list_bytes)) list
-  pub derives : DerivesGoal (modes_of problem.forms) (rules_of problem) no_hypotheses problem.goal
-      answer
+  pub derives : DerivesGoal (modes_of problem.forms) (problem_rules problem) no_hypotheses
+      problem.goal answer
   pub in_order : order_of answer.0 ≡ entries list
   pub interface : old (interface_file name) ≡ Some (term_lines answer.1)
   pub files : new ≡ old

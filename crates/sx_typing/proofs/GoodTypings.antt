@@ -10,7 +10,7 @@ use Rattle.sx_lexemes.proofs.Lowered.{lowered_keep_lexemes}
 use Rattle.sx_typing.specs.GoodTypings.{TypingsAreGood}
 use Rattle.sx_typing.specs.Goals.{goal}
 use Rattle.sx_typing.specs.Outcomes.{no_hypotheses}
-use Rattle.sx_typing.specs.Source.{IsTermFor}
+use Rattle.sx_typing.specs.BodySource.{IsTermFor}
 use Rattle.sx_typing.proofs.Lexemes.{all_to_tokens, all_from_tokens}
 use Rattle.sx_typing.proofs.ReadSorted.{body_is_term}
 use Rattle.sx_typing.proofs.TypedBodies.{found_good, head_same, source_goal}

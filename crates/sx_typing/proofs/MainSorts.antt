@@ -23,7 +23,7 @@ use Rattle.sx_directives.specs.declared.rows.FormLine.{FormLine}
 use Rattle.sx_notation.specs.RuleLaws.{places_of, form_of, HasSortOf, HaveSortsOf}
 use Rattle.sx_notation.specs.Language.{sort_when, sorts_with}
 use Rattle.sx_typing.specs.Dialects.{DialectData, IsDialect}
-use Rattle.sx_typing.specs.Source.{only_sort, main_sort}
+use Rattle.sx_typing.specs.BodySource.{only_sort, main_sort}
 
 -- a sort that is not lexical is one of the grammar
 abbrev IsKnown : Parts → Sort → Type 0

@@ -28,11 +28,11 @@ use Rattle.sx_typing.specs.declared.typing_error.TypingError.TheVariants.{DepthS
 use Rattle.sx_typing.specs.declared.typing_error.TypingError.TheVariants.{TooBig}
 use Rattle.sx_typing.specs.Alike.{HasThree, AreAlike, SameBody, SameTyping, OneTyping}
 use Rattle.sx_typing.specs.Body.{IsCut, HasDefect}
-use Rattle.sx_typing.specs.Goals.{rules_of, goal, goal_events, IsTyped}
+use Rattle.sx_typing.specs.Goals.{dialect_rules, goal, goal_events, IsTyped}
 use Rattle.sx_typing.specs.Outcomes.{no_hypotheses}
 use Rattle.sx_typing.specs.Refused.{IsSpot, defect_place, unread_place, stuck_text, IsStuckGoal}
 use Rattle.sx_typing.specs.Refused.{IsStuckAt, HasBody, HasTyping, IsBadSource, HasWalked}
-use Rattle.sx_typing.specs.Source.{Source, main_sort}
+use Rattle.sx_typing.specs.BodySource.{BodySource, main_sort}
 use Rattle.sx_typing.proofs.OneAnswer.{body_one, defect_one, unread_one}
 use Rattle.sx_typing.proofs.OneBody.{one_cut, defect_or_cut}
 
@@ -45,7 +45,7 @@ answer_same a b e = cc
 same_head : {A : Type 0} (x y : A) → x ∷ [] ≡ y ∷ [] → x ≡ y
 same_head x y e = cc
 
-module _ (s : Source) where
+module _ (s : BodySource) where
   -- ---- the body
 
   -- the body has no tokens, or these have not one reading
@@ -158,13 +158,13 @@ module _ (s : Source) where
     Tells ts r subject spent e = e ≡ BudgetSpent tries
     Tells ts r subject exhausted e = IsMistyped ts r subject e
 
-    module _ (moded : AllModed (modes_of s.dialect.language.forms) (rules_of s.dialect)) where
+    module _ (moded : AllModed (modes_of s.dialect.language.forms) (dialect_rules s.dialect)) where
       mistyped_one : (ts : List Token) (r : Reading) (subject : Tree) (e d : TypingError) →
           IsMistyped ts r subject e → IsMistyped ts r subject d → e ≡ d
       mistyped_one ts r subject e d h k =
           let forms = s.dialect.language.forms in
           let same =
-          stuck_goal_is_unique (modes_of forms) (subjects_in forms) (rules_of s.dialect)
+          stuck_goal_is_unique (modes_of forms) (subjects_in forms) (dialect_rules s.dialect)
           no_hypotheses moded (goal s subject) [] 3000 3000 h.blame k.blame h.stuck k.stuck in
           let there = subst (λ (b : Blame). IsStuckAt ts r b s h.line h.column) same h.at in
           let number = some_same there.0 k.at.0 (sym there.1 ∙ k.at.1) in
@@ -258,7 +258,7 @@ module _ (s : Source) where
         (subst (λ (r : Reading). TellsOf c.tokens r b.subject e) same.reading
         (subst (λ (ts : List Token). TellsOf ts b.reading b.subject e) same.tokens h))
 
-    refused_one : AllModed (modes_of s.dialect.language.forms) (rules_of s.dialect) →
+    refused_one : AllModed (modes_of s.dialect.language.forms) (dialect_rules s.dialect) →
         (e d : TypingError) → (e ≡ Memory) ⊎ IsUnbodied e ⊎ IsRefused e →
         (d ≡ Memory) ⊎ IsUnbodied d ⊎ IsRefused d →
         e ≢ Memory → d ≢ Memory → AreAlike s e d

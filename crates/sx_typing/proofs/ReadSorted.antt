@@ -30,7 +30,7 @@ use Rattle.sx_notation.proofs.ReadLexemes.{cut_lexed, term_lexemes, term_depth}
 use Rattle.sx_typing.specs.Body.{ReadsAs}
 use Rattle.sx_typing.specs.Dialects.{IsDialect}
 use Rattle.sx_typing.specs.Goals.{IsBody}
-use Rattle.sx_typing.specs.Source.{Source, IsGoodTerm, IsTermFor, main_sort}
+use Rattle.sx_typing.specs.BodySource.{BodySource, IsGoodTerm, IsTermFor, main_sort}
 use Rattle.sx_typing.proofs.Bodies.{IsPlain, plain as plain_tokens_all}
 use Rattle.sx_typing.proofs.Lexemes.{without_more}
 use Rattle.sx_typing.proofs.MainSorts.{subject_is_sort}
@@ -109,7 +109,7 @@ read_good p sort text ts r t is_sort read =
     (record { sorted = sorted; depth = depth; lexemes = lexemes })
 
 -- so the term of a body is one for the subject of the main form
-pub body_is_term : (s : Source) → IsDialect s.dialect → (ts : List Token) (r : Reading) (t : Tree) →
+pub body_is_term : (s : BodySource) → IsDialect s.dialect → (ts : List Token) (r : Reading) (t : Tree) →
     IsBody s ts r t → IsTermFor s.dialect Sub t
 body_is_term s is ts r t read =
     let d = s.dialect in

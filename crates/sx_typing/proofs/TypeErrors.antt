@@ -23,7 +23,7 @@ use Rattle.sx_typing.specs.Body.{IsCut}
 use Rattle.sx_typing.specs.Dialects.{DialectData, IsDialect}
 use Rattle.sx_typing.specs.Outcomes.{IsBlameIn}
 use Rattle.sx_typing.specs.Refused.{HasBody, IsStuckGoal, IsBadSource, telling_in}
-use Rattle.sx_typing.specs.Source.{Source, bytes_before}
+use Rattle.sx_typing.specs.BodySource.{BodySource, bytes_before}
 use Rattle.sx_typing.specs.Spots.{line_at, column_at}
 use Rattle.sx_typing.specs.TypeErrors.{IsTypeError}
 use Rattle.sx_typing.specs.Goals.{goal_events}
@@ -67,7 +67,7 @@ can_tell d top blame is grammar b shallow =
     (record { form = b.form; is = b.is; sorted = b.sorted; got = b.got }) shallow
 
 -- so the refusal is one of the source
-pub is_type_error : (s : Source) (tries before size : ℕ) (b : HasBody s) (blame : Blame)
+pub is_type_error : (s : BodySource) (tries before size : ℕ) (b : HasBody s) (blame : Blame)
     (e : TypingError) →
     before ≡ bytes_before s → size ≡ length s.header.body →
     walk None tries (goal_events s b.subject) ≡ exhausted → IsStuckGoal s b.subject blame →

@@ -32,7 +32,7 @@ use Rattle.sx_derive.specs.Search.{found, walk}
 use Rattle.sx_derive.proofs.Walked.{found_is_first}
 use Rattle.sx_lexemes.specs.Lexemes.{IsToken, RuleLexemesAre}
 use Rattle.sx_notation.specs.Language.{IsMain, RuleHasLexemes}
-use Rattle.sx_rewrite.specs.Accepted.{rules_of as accepted_rules}
+use Rattle.sx_rewrite.specs.Accepted.{extended_rules as accepted_rules}
 use Rattle.sx_rewrite.specs.Rewrites.{CanRewrite}
 use Rattle.sx_rewrite.specs.Stored.{signature_of}
 use Rattle.sx_rewrite.proofs.FitTerms.{found_can_be_rewritten}
@@ -42,7 +42,7 @@ use Rattle.sx_typing.specs.Goals.{goal, goal_events, IsTypedBy}
 use Rattle.sx_typing.specs.MainGoals.{main_goal}
 use Rattle.sx_typing.specs.Outcomes.{bare, no_hypotheses}
 use Rattle.sx_typing.specs.Searched.{IsGoalFor, AreOutputsFor}
-use Rattle.sx_typing.specs.Source.{Source, IsTermFor}
+use Rattle.sx_typing.specs.BodySource.{BodySource, IsTermFor}
 use Rattle.sx_typing.proofs.Finding.{found_outputs_fit, found_is_bounded}
 use Rattle.sx_typing.proofs.Lexemes.{rules_from_tokens}
 use Rattle.sx_typing.proofs.MainGoals.{main_goals_fit, main_goals_have_lexemes}
@@ -147,7 +147,7 @@ module _ (d : DialectData) (is : IsDialect d) where
         )
 
 -- what is used of an answer that a walk finds
-pub record IsGoodAnswer (s : Source) (subject : Tree) (a : Answer) : Type 0 where
+pub record IsGoodAnswer (s : BodySource) (subject : Tree) (a : Answer) : Type 0 where
   pub output : Tree
   pub one : a.1 ≡ output ∷ []
   pub good : IsTermFor s.dialect Out output
@@ -155,7 +155,7 @@ pub record IsGoodAnswer (s : Source) (subject : Tree) (a : Answer) : Type 0 wher
       no_hypotheses (goal s subject) a
   pub rewritable : CanRewrite s.dialect.set no_hypotheses a.0
 
-module _ (s : Source) (is : IsDialect s.dialect) (subject : Tree)
+module _ (s : BodySource) (is : IsDialect s.dialect) (subject : Tree)
     (he : IsTermFor s.dialect In s.environment) (hs : IsTermFor s.dialect Sub subject) where
   abbrev d : DialectData
   d = s.dialect
@@ -211,7 +211,7 @@ pub one_listed : (l : Listed) (a : Answer) (t : Tree) → Lists l a → a.1 ≡ 
     length l.outputs.items ≡ 1
 one_listed l a t lists one = one_length l.outputs.items a.1 t lists.outputs one
 
-pub typed_by : (s : Source) (tries : ℕ) (subject : Tree) (l : Listed) (a : Answer) (t : Typed) →
+pub typed_by : (s : BodySource) (tries : ℕ) (subject : Tree) (l : Listed) (a : Answer) (t : Typed) →
     walk None tries (goal_events s subject) ≡ found a → Lists l a →
     goal_of t.goal ≡ goal s subject → t.list ≡ l.entries → l.outputs.items ≡ t.output ∷ [] →
     IsGoodAnswer s subject a → IsTypedBy s tries subject t

@@ -13,20 +13,20 @@ use Rattle.sx_notation.specs.OneReason.{HaveThree}
 use Rattle.sx_typing.specs.declared.typing_error.TypingError.{TypingError}
 use Rattle.sx_typing.specs.declared.typing_error.TypingError.TheVariants.{Memory, Read}
 use Rattle.sx_typing.specs.Body.{IsCut}
-use Rattle.sx_typing.specs.Goals.{rules_of}
+use Rattle.sx_typing.specs.Goals.{dialect_rules}
 use Rattle.sx_typing.specs.Refused.{HasBody, HasTyping, HasWalked, IsBadSource}
-use Rattle.sx_typing.specs.Source.{Source, main_sort}
+use Rattle.sx_typing.specs.BodySource.{BodySource, main_sort}
 
 -- the text has more than two readings as the sort
 abbrev pub HasThree : Parts → Sort → (text : Text) → Type 0
 HasThree p sort text = (ts : List Token) × IsCut p text ts × HaveThree p [] sort ts
 
 -- the body has more than two
-abbrev pub BodyHasThree : Source → Type 0
+abbrev pub BodyHasThree : BodySource → Type 0
 BodyHasThree s = HasThree s.dialect.parts (main_sort s.dialect.language Sub) s.header.body
 
 -- both say that the body has more than one reading, and show two of them; it has more than two
-pub record ReadOthers (s : Source) (e d : TypingError) : Type 0 where
+pub record ReadOthers (s : BodySource) (e d : TypingError) : Type 0 where
   pub line : ℕ
   pub column : ℕ
   pub one : Text
@@ -38,17 +38,17 @@ pub record ReadOthers (s : Source) (e d : TypingError) : Type 0 where
   pub three : BodyHasThree s
 
 -- the same refusal, but for the two readings that it shows of a text with more than two
-abbrev pub AreAlike : Source → TypingError → TypingError → Type 0
+abbrev pub AreAlike : BodySource → TypingError → TypingError → Type 0
 AreAlike s e d = (e ≡ d) ⊎ ReadOthers s e d
 
 -- the same tokens, the same reading and the same term
-pub record SameBody (s : Source) (b c : HasBody s) : Type 0 where
+pub record SameBody (s : BodySource) (b c : HasBody s) : Type 0 where
   pub tokens : b.tokens ≡ c.tokens
   pub reading : b.reading ≡ c.reading
   pub subject : b.subject ≡ c.subject
 
 -- and the same derivation with the same output
-pub record SameTyping (s : Source) (tries : ℕ) (t u : HasTyping s tries) : Type 0 where
+pub record SameTyping (s : BodySource) (tries : ℕ) (t u : HasTyping s tries) : Type 0 where
   pub body : SameBody s t.body u.body
   pub output : t.output ≡ u.output
   pub answer : t.answer ≡ u.answer
@@ -57,12 +57,12 @@ pub record SameTyping (s : Source) (tries : ℕ) (t u : HasTyping s tries) : Typ
 -- so many tries. Two readings that a refusal shows are the same two in the same order, that of
 -- their tree texts by bytes, unless the text has more than two. Out of memory is free.
 pub record OneTyping : Type 0 where
-  pub read : (s : Source) (b c : HasBody s) → SameBody s b c
-  pub found : (s : Source) (tries : ℕ) (t u : HasTyping s tries) → SameTyping s tries t u
-  pub either : (s : Source) (tries : ℕ) (t : HasTyping s tries) (e : TypingError) →
+  pub read : (s : BodySource) (b c : HasBody s) → SameBody s b c
+  pub found : (s : BodySource) (tries : ℕ) (t u : HasTyping s tries) → SameTyping s tries t u
+  pub either : (s : BodySource) (tries : ℕ) (t : HasTyping s tries) (e : TypingError) →
       IsBadSource s tries e → e ≡ Memory
-  pub refused : (s : Source) (tries : ℕ) (e d : TypingError) →
-      AllModed (modes_of s.dialect.language.forms) (rules_of s.dialect) →
+  pub refused : (s : BodySource) (tries : ℕ) (e d : TypingError) →
+      AllModed (modes_of s.dialect.language.forms) (dialect_rules s.dialect) →
       IsBadSource s tries e → IsBadSource s tries d → e ≢ Memory → d ≢ Memory → AreAlike s e d
-  pub counted : (s : Source) (tries made other : ℕ) → HasWalked s tries made →
+  pub counted : (s : BodySource) (tries made other : ℕ) → HasWalked s tries made →
       HasWalked s tries other → made ≡ other

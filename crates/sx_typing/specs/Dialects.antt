@@ -9,7 +9,7 @@ use Rattle.sx_rules.specs.Good.{IsRuleSet}
 use Rattle.sx_rules.specs.Sets.{forms_in, rules_in}
 use Rattle.sx_rules.specs.Views.{NamedRule}
 use Rattle.sx_directives.specs.declared.rows.FormLine.{FormLine}
-use Rattle.sx_rewrite.specs.Accepted.{Accepted, IsAccepted, rules_of}
+use Rattle.sx_rewrite.specs.Accepted.{Accepted, IsAccepted, extended_rules}
 use Rattle.sx_rewrite.specs.AcceptedView.{accepted}
 use Rattle.sx_rewrite.specs.Stored.{signature_of}
 use Rattle.sx_lexemes.specs.Lexemes.{IsToken, SetLexemesAre}
@@ -54,7 +54,7 @@ pub record IsDialect (d : DialectData) : Type 0 where
   pub accepted : IsAccepted (signature_of d.language.forms) (shapes_of d.language.parts)
       (shapes_of d.parts) d.set
   pub base : d.set.base ≡ map (λ r. r.rule) d.language.rules
-  pub rules_are : map (λ r. r.rule) d.rules ≡ rules_of d.set
+  pub rules_are : map (λ r. r.rule) d.rules ≡ extended_rules d.set
   pub begins : (own : List NamedRule) × (d.rules ≡ d.language.rules ++ own)
   pub rule_set : IsRuleSet (shapes_of d.parts) d.language.forms d.rules
   pub lexemes : SetLexemesAre (IsToken (literals_of d.language.parts)) d.set

@@ -16,7 +16,7 @@ use Rattle.sx_derive.specs.declared.listed.Listed.{Listed}
 use Rattle.sx_derive.specs.Listing.{IsListed}
 use Rattle.sx_derive.specs.Search.{found, walk}
 use Rattle.sx_derive.specs.Walk.{Event, events}
-use Rattle.sx_rewrite.specs.Accepted.{rules_of as accepted_rules}
+use Rattle.sx_rewrite.specs.Accepted.{extended_rules as accepted_rules}
 use Rattle.sx_rewrite.specs.Rewrites.{CanRewrite}
 use Rattle.sx_typing.specs.declared.typed.Typed.{Typed}
 use Rattle.sx_typing.specs.declared.typing_error.TypingError.{TypingError}
@@ -25,36 +25,36 @@ use Rattle.sx_typing.specs.Body.{ReadsAs}
 use Rattle.sx_typing.specs.Dialects.{DialectData}
 use Rattle.sx_typing.specs.MainGoals.{main_goal}
 use Rattle.sx_typing.specs.Outcomes.{bare, no_hypotheses}
-use Rattle.sx_typing.specs.Source.{Source, IsTermFor, main_sort}
+use Rattle.sx_typing.specs.BodySource.{BodySource, IsTermFor, main_sort}
 
 -- the rules of a dialect without their names
-abbrev pub rules_of : DialectData → List Rule
-rules_of d = bare d.rules
+abbrev pub dialect_rules : DialectData → List Rule
+dialect_rules d = bare d.rules
 
 -- the goal of the source with this body's term
-abbrev pub goal : Source → (subject : Tree) → Goal
+abbrev pub goal : BodySource → (subject : Tree) → Goal
 goal s subject =
     main_goal s.dialect.language.forms s.dialect.language.main.form s.environment subject
 
 -- the events of the walk of that goal
-abbrev pub goal_events : Source → (subject : Tree) → List (Event Answer)
-goal_events s subject = events (modes_of s.dialect.language.forms) (rules_of s.dialect)
+abbrev pub goal_events : BodySource → (subject : Tree) → List (Event Answer)
+goal_events s subject = events (modes_of s.dialect.language.forms) (dialect_rules s.dialect)
     no_hypotheses (goal s subject) 1
 
 -- the body has only this reading, whose term is the subject
-abbrev pub IsBody : Source → List Token → Reading → (subject : Tree) → Type 0
+abbrev pub IsBody : BodySource → List Token → Reading → (subject : Tree) → Type 0
 IsBody s ts r subject = ReadsAs s.dialect.parts (main_sort s.dialect.language Sub) s.header.body ts
     r subject
 
 -- the walk of its goal, with so many tries to spend, finds this answer, whose output is this one
-pub record IsTyped (s : Source) (tries : ℕ) (subject output : Tree) (answer : Answer) : Type 0
+pub record IsTyped (s : BodySource) (tries : ℕ) (subject output : Tree) (answer : Answer) : Type 0
   where
     pub finds : walk None tries (goal_events s subject) ≡ found answer
     pub gives : answer.1 ≡ output ∷ []
 
 -- The goal is that of the subject, the list is that of the answer that its walk finds, and the
 -- output is the answer's. The answer derives the goal by what is accepted, and can be rewritten.
-pub record IsTypedBy (s : Source) (tries : ℕ) (subject : Tree) (t : Typed) : Type 0 where
+pub record IsTypedBy (s : BodySource) (tries : ℕ) (subject : Tree) (t : Typed) : Type 0 where
   pub goal_is : goal_of t.goal ≡ goal s subject
   pub answer : Answer
   pub typed : IsTyped s tries subject (tree t.output) answer
@@ -65,10 +65,10 @@ pub record IsTypedBy (s : Source) (tries : ℕ) (subject : Tree) (t : Typed) : T
   pub rewritable : CanRewrite s.dialect.set no_hypotheses answer.0
 
 -- what is found says how the walk of the subject's goal ends
-abbrev pub IsFoundBy : Source → ℕ → Tree → Result Listed DeriveError → Type 0
+abbrev pub IsFoundBy : BodySource → ℕ → Tree → Result Listed DeriveError → Type 0
 IsFoundBy s tries subject answer =
     IsListed (modes_of s.dialect.language.forms) (subjects_in s.dialect.language.forms)
-    (rules_of s.dialect) no_hypotheses (goal s subject) None tries answer
+    (dialect_rules s.dialect) no_hypotheses (goal s subject) None tries answer
 
 -- each of so many tries was counted; without memory some of them were
 abbrev pub IsTried : {X : Type 0} → ℕ → ℕ → ℕ → Result X TypingError → Type 0
@@ -78,8 +78,8 @@ IsTried made first last _ = last ≡ first + made
 -- what a walk by rules that can be followed finds is the first derivation of the goal
 abbrev pub TypingsAreFirst : Type 0
 TypingsAreFirst =
-    (s : Source) (tries : ℕ) (subject output : Tree) (answer : Answer) →
-    AllModed (modes_of s.dialect.language.forms) (rules_of s.dialect) →
+    (s : BodySource) (tries : ℕ) (subject output : Tree) (answer : Answer) →
+    AllModed (modes_of s.dialect.language.forms) (dialect_rules s.dialect) →
     IsTyped s tries subject output answer →
-    IsFirst (modes_of s.dialect.language.forms) (rules_of s.dialect) no_hypotheses
+    IsFirst (modes_of s.dialect.language.forms) (dialect_rules s.dialect) no_hypotheses
     (goal s subject) None answer

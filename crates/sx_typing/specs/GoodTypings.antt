@@ -10,24 +10,24 @@ use Rattle.sx_rules.specs.First.{DerivesGoal}
 use Rattle.sx_rules.specs.Rules.{Judgement}
 use Rattle.sx_rules.specs.Sorts.{GoalIsSorted}
 use Rattle.sx_rules.specs.Views.{modes_of, sorts_of, subjects_in}
-use Rattle.sx_rewrite.specs.Accepted.{rules_of}
+use Rattle.sx_rewrite.specs.Accepted.{extended_rules}
 use Rattle.sx_rewrite.specs.Lowers.{Lowers}
 use Rattle.sx_rewrite.specs.Rewrites.{CanRewrite}
 use Rattle.sx_typing.specs.Dialects.{IsDialect}
 use Rattle.sx_typing.specs.Goals.{goal}
 use Rattle.sx_typing.specs.Outcomes.{no_hypotheses}
 use Rattle.sx_typing.specs.Refused.{HasTyping}
-use Rattle.sx_typing.specs.Source.{Source, IsTermFor}
+use Rattle.sx_typing.specs.BodySource.{BodySource, IsTermFor}
 
 -- The subject and the output are terms of the dialect, and the goal is well sorted. The derivation
 -- derives the goal by what is accepted, and can be rewritten; the lexemes of the judgement that it
 -- is lowered to are tokens and no literals of the language.
-pub record IsGoodTyping (s : Source) (tries : ℕ) (t : HasTyping s tries) : Type 0 where
+pub record IsGoodTyping (s : BodySource) (tries : ℕ) (t : HasTyping s tries) : Type 0 where
   pub subject : IsTermFor s.dialect Sub t.body.subject
   pub output : IsTermFor s.dialect Out t.output
   pub sorted : GoalIsSorted (shapes_of s.dialect.parts) (sorts_of s.dialect.language.forms)
       (modes_of s.dialect.language.forms) [] (goal s t.body.subject)
-  pub derives : DerivesGoal (modes_of s.dialect.language.forms) (rules_of s.dialect.set)
+  pub derives : DerivesGoal (modes_of s.dialect.language.forms) (extended_rules s.dialect.set)
       no_hypotheses (goal s t.body.subject) t.answer
   pub rewritable : CanRewrite s.dialect.set no_hypotheses t.answer.0
   pub lowered : (q : Proof) (k : Judgement) →
@@ -37,5 +37,5 @@ pub record IsGoodTyping (s : Source) (tries : ℕ) (t : HasTyping s tries) : Typ
 -- so it is of each typing of a source whose environment is a term of its dialect
 abbrev pub TypingsAreGood : Type 0
 TypingsAreGood =
-    (s : Source) → IsDialect s.dialect → IsTermFor s.dialect In s.environment →
+    (s : BodySource) → IsDialect s.dialect → IsTermFor s.dialect In s.environment →
     (tries : ℕ) (t : HasTyping s tries) → IsGoodTyping s tries t

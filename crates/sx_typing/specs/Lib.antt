@@ -1,5 +1,5 @@
 pub mod Dialects
-pub mod Source
+pub mod BodySource
 pub mod Spots
 pub mod Body
 pub mod Unread

@@ -26,16 +26,16 @@ use Rattle.sx_typing.specs.declared.typing_error.TypingError.TheVariants.{DepthS
 use Rattle.sx_typing.specs.declared.typing_error.TypingError.TheVariants.{TooBig}
 use Rattle.sx_typing.specs.Body.{IsCut, HasDefect}
 use Rattle.sx_typing.specs.Dialects.{DialectData}
-use Rattle.sx_typing.specs.Goals.{rules_of, goal, goal_events, IsBody, IsTyped}
+use Rattle.sx_typing.specs.Goals.{dialect_rules, goal, goal_events, IsBody, IsTyped}
 use Rattle.sx_typing.specs.Outcomes.{no_hypotheses}
-use Rattle.sx_typing.specs.Source.{Source, main_sort, bytes_before}
+use Rattle.sx_typing.specs.BodySource.{BodySource, main_sort, bytes_before}
 use Rattle.sx_typing.specs.Spots.{line_at, column_at}
 use Rattle.sx_rules.specs.Limits.{most_levels}
 
 -- ---- the body
 
 -- line and column are those of this place in the body, in the module's file
-abbrev pub IsSpot : Source → (place line column : ℕ) → Type 0
+abbrev pub IsSpot : BodySource → (place line column : ℕ) → Type 0
 IsSpot s place line column = (line ≡ line_at s.bytes (bytes_before s + place)) ×
     (column ≡ column_at s.bytes (bytes_before s + place))
 
@@ -62,34 +62,34 @@ abbrev pub stuck_text : DialectData → Goal → Reason → GoalDefect
 stuck_text d goal reason = told_text (telling_in d) goal reason
 
 -- the stuck goal of the goal with this body's term
-abbrev pub IsStuckGoal : Source → (subject : Tree) → Blame → Type 0
+abbrev pub IsStuckGoal : BodySource → (subject : Tree) → Blame → Type 0
 IsStuckGoal s subject blame =
     IsStuck (modes_of s.dialect.language.forms) (subjects_in s.dialect.language.forms)
-    (rules_of s.dialect) no_hypotheses most_levels (goal s subject) [] blame
+    (dialect_rules s.dialect) no_hypotheses most_levels (goal s subject) [] blame
 
 -- the token at which the part begins that the stuck goal speaks of
-abbrev pub IsStuckAt : List Token → Reading → Blame → Source → (line column : ℕ) → Type 0
+abbrev pub IsStuckAt : List Token → Reading → Blame → BodySource → (line column : ℕ) → Type 0
 IsStuckAt ts r blame s line column = (number : ℕ) × (place_at r blame.path ≡ Some number) ×
     IsSpot s (place_in ts (length s.header.body) number) line column
 
 -- ---- all of it
 
 -- the body has only one reading
-pub record HasBody (s : Source) : Type 0 where
+pub record HasBody (s : BodySource) : Type 0 where
   pub tokens : List Token
   pub reading : Reading
   pub subject : Tree
   pub read : IsBody s tokens reading subject
 
 -- and its goal has an answer
-pub record HasTyping (s : Source) (tries : ℕ) : Type 0 where
+pub record HasTyping (s : BodySource) (tries : ℕ) : Type 0 where
   pub body : HasBody s
   pub output : Tree
   pub answer : Answer
   pub typed : IsTyped s tries body.subject output answer
 
 -- each refusal, with the conditions of those before it; out of memory is free
-abbrev pub IsBadSource : Source → (tries : ℕ) → TypingError → Type 0
+abbrev pub IsBadSource : BodySource → (tries : ℕ) → TypingError → Type 0
 IsBadSource s tries Memory = Unit {0}
 IsBadSource s tries (BadTokens line column e) = HasDefect s.dialect.parts s.header.body e ×
     IsSpot s (defect_place e) line column
@@ -117,26 +117,26 @@ IsBadSource s tries (TooBig n) = (b : HasBody s) × (size : ℕ) ×
 
 -- the body has only one reading, and the goal with its term has no derivation, of whatever depth
 -- and size
-abbrev pub IsUntyped : Source → Type 0
+abbrev pub IsUntyped : BodySource → Type 0
 IsUntyped s = (b : HasBody s) ×
-    IsUnderivable (modes_of s.dialect.language.forms) (rules_of s.dialect) no_hypotheses
+    IsUnderivable (modes_of s.dialect.language.forms) (dialect_rules s.dialect) no_hypotheses
     (goal s b.subject) None
 
 -- where the refusal is a type error the source is untyped
-abbrev pub IsFinal : Source → TypingError → Type 0
+abbrev pub IsFinal : BodySource → TypingError → Type 0
 IsFinal s (TypeError line column text) = IsUntyped s
 IsFinal s _ = Unit {0}
 
 -- a source is refused for a type error, by rules that can be followed, only where it is untyped
 abbrev pub TypeErrorsAreFinal : Type 0
 TypeErrorsAreFinal =
-    (s : Source) (tries line column : ℕ) (text : GoalDefect) →
-    AllModed (modes_of s.dialect.language.forms) (rules_of s.dialect) →
+    (s : BodySource) (tries line column : ℕ) (text : GoalDefect) →
+    AllModed (modes_of s.dialect.language.forms) (dialect_rules s.dialect) →
     IsBadSource s tries (TypeError line column text) → IsUntyped s
 
 -- ---- tries
 
 -- the walk of the source's goal makes so many tries; where the body is not read there is no walk
-abbrev pub HasWalked : Source → (tries made : ℕ) → Type 0
+abbrev pub HasWalked : BodySource → (tries made : ℕ) → Type 0
 HasWalked s tries made = ((b : HasBody s) × (made ≡ tries_of None tries (goal_events s b.subject)))
     ⊎ ((HasBody s → ⊥) × (made ≡ 0))

@@ -11,13 +11,13 @@
 #![tactic(auto)]
 
 mod body;
+mod body_source;
 mod dialect;
 mod goal_laws;
 mod laws;
 mod places;
 mod reading;
 mod searching;
-mod source;
 mod spots;
 mod text_reading;
 mod type_error;
@@ -27,6 +27,7 @@ mod typing_error;
 mod unread_text;
 
 pub use body::Body;
+pub use body_source::BodySource;
 pub use dialect::Dialect;
 pub use goal_laws::{main_goals_fit, outputs_fit, searches_fit, stuck_goals_fit};
 pub use laws::{
@@ -35,7 +36,6 @@ pub use laws::{
 pub use places::{defect_place, unread_place};
 pub use reading::{main_sort, read_source};
 pub use searching::main_goal;
-pub use source::Source;
 pub use text_reading::read_text;
 pub use typed::Typed;
 pub use typing::type_source;

@@ -2,9 +2,9 @@
 
 ghost use Rattle.std.specs.Prelude.{◌≡◌, ◌≤◌, drop, length};
 ghost use Rattle.sx_typing.specs.Refused.{IsSpot, defect_place, unread_place};
-ghost use Rattle.sx_typing.specs.Source.{source_of};
+ghost use Rattle.sx_typing.specs.BodySource.{source_of};
 
-use crate::source::Source;
+use crate::body_source::BodySource;
 use crate::spots::{Spot, spot_of};
 use sx_interface::Header;
 use sx_notation::Unread;
@@ -21,7 +21,7 @@ pub(crate) fn body_of<'a>(bytes: &'a [u8], header: &Header) -> &'a [u8]
 }
 
 /// The line and the column of a place in the body, in the module's file.
-pub(crate) fn body_spot(source: &Source, place: usize) -> Spot
+pub(crate) fn body_spot(source: &BodySource, place: usize) -> Spot
     requires { place ≤ length (source_of source.now).header.body }
     ensures { IsSpot (source_of source.now) place result.line result.column }
 {

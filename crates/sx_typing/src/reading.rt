@@ -9,12 +9,12 @@ ghost use Rattle.sx_notation.specs.Language.{language_data, sorts_with};
 ghost use Rattle.sx_typing.specs.declared.typing_error.TypingError.TheVariants.{Memory};
 ghost use Rattle.sx_typing.specs.Goals.{IsBody};
 ghost use Rattle.sx_typing.specs.Refused.{HasBody, IsBadSource};
-ghost use Rattle.sx_typing.specs.Source.{source_of, CanType, IsTermFor, main_sort, only_sort};
+ghost use Rattle.sx_typing.specs.BodySource.{source_of, CanType, IsTermFor, main_sort, only_sort};
 ghost use Rattle.sx_typing.specs.Unread.{IsUnreadText};
 
 use crate::body::Body;
+use crate::body_source::BodySource;
 use crate::places::{body_of, body_spot, defect_place, unread_place};
-use crate::source::Source;
 use crate::text_reading::read_text;
 use crate::typing_error::TypingError;
 use crate::unread_text::UnreadText;
@@ -49,7 +49,7 @@ pub fn main_sort(language: &Language, role: Role) -> Sort
 }
 
 /// The refusal of the body, with its place.
-fn refusal(source: &Source, error: UnreadText) -> TypingError
+fn refusal(source: &BodySource, error: UnreadText) -> TypingError
     requires { IsUnreadText (source_of source.now).dialect.parts
         (main_sort (source_of source.now).dialect.language Sub) (source_of source.now).header.body
         error }
@@ -81,7 +81,7 @@ fn refusal(source: &Source, error: UnreadText) -> TypingError
 /// subject. It is refused where it has no tokens, and where these have not one reading.
 ///
 /// The header is that of the bytes, and the environment is a term of the dialect.
-pub fn read_source(alloc: Global, source: &Source) -> Result<Body, TypingError>
+pub fn read_source(alloc: Global, source: &BodySource) -> Result<Body, TypingError>
     requires { CanType source.now }
 
     // The body has only this reading, and its term can be typed.

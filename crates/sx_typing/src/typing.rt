@@ -14,12 +14,12 @@ ghost use Rattle.sx_typing.specs.declared.typing_error.TypingError.TheVariants.{
 ghost use Rattle.sx_typing.specs.Goals as known;
 ghost use Rattle.sx_typing.specs.Goals.{goal_events, IsBody, IsFoundBy, IsTried, IsTypedBy};
 ghost use Rattle.sx_typing.specs.Refused.{IsBadSource, IsFinal};
-ghost use Rattle.sx_typing.specs.Source.{source_of, CanType, IsTermFor};
+ghost use Rattle.sx_typing.specs.BodySource.{source_of, CanType, IsTermFor};
 
 use crate::body::Body;
+use crate::body_source::BodySource;
 use crate::places::body_of;
 use crate::searching::{find_derivation, main_goal};
-use crate::source::Source;
 use crate::type_error::type_error;
 use crate::typed::Typed;
 use crate::typing_error::TypingError;
@@ -32,7 +32,7 @@ use sx_term::{NoMemory, Steps};
 /// The type error of the stuck goal.
 fn stuck(
     alloc: Global,
-    source: &Source,
+    source: &BodySource,
     body: &Body,
     blame: &Blame,
 ) -> Result<TypingError, NoMemory>
@@ -51,7 +51,7 @@ fn stuck(
 }
 
 /// Why the body's goal has no derivation.
-fn no_derivation(alloc: Global, source: &Source, body: &Body, error: DeriveError) -> TypingError
+fn no_derivation(alloc: Global, source: &BodySource, body: &Body, error: DeriveError) -> TypingError
     requires can { CanType source.now }
     requires body { IsBody (source_of source.now) body.now.tokens.items
         (plain_reading body.now.reading) (tree body.now.term) }
@@ -99,7 +99,7 @@ fn typed(goal: Goal, listed: Listed) -> Typed
 /// The first derivation of the goal of the body by the rules of the dialect.
 fn search<L: Ledger>(
     alloc: Global,
-    source: &Source,
+    source: &BodySource,
     body: &Body,
     goal: &Goal,
     tries: u64,
@@ -123,7 +123,7 @@ fn search<L: Ledger>(
 /// The body is the one that is read, and its term is one of the dialect.
 pub fn type_source<L: Ledger>(
     alloc: Global,
-    source: &Source,
+    source: &BodySource,
     body: &Body,
     tries: u64,
     steps: &mut Steps<L>,

@@ -16,7 +16,7 @@ use Rattle.sx_rules.specs.Modes.{Goal, outputs}
 use Rattle.sx_rules.specs.Views.{FormData, goal as goal_of, judgement, modes_of, subjects_in}
 use Rattle.sx_rules.specs.Views.{places_or_none, is_sub}
 use Rattle.sx_rewrite.specs.declared.rewrite_error.RewriteError.{RewriteError}
-use Rattle.sx_rewrite.specs.Accepted.{rules_of}
+use Rattle.sx_rewrite.specs.Accepted.{extended_rules}
 use Rattle.sx_rewrite.specs.RewrittenView.{IsRewriting}
 use Rattle.sx_expand.specs.declared.expanded.Expanded.{Expanded}
 use Rattle.sx_expand.specs.Expansions.{HasOneSubject, IsExpanding, IsListedAnswer}
@@ -25,7 +25,7 @@ use Rattle.sx_typing.specs.declared.typed.Typed.{Typed}
 use Rattle.sx_typing.specs.Dialects.{DialectData, IsDialect}
 use Rattle.sx_typing.specs.Goals.{IsTypedBy}
 use Rattle.sx_typing.specs.Outcomes.{no_hypotheses}
-use Rattle.sx_typing.specs.Source.{Source, IsTermFor}
+use Rattle.sx_typing.specs.BodySource.{BodySource, IsTermFor}
 use Rattle.sx_typing.proofs.TypedBodies.{source_goal}
 use Rattle.sx_unit.specs.Lowered.{IsLowering}
 
@@ -56,7 +56,7 @@ main_has_one d is =
 -- ---- the conditions of expanding
 
 -- a typed source whose dialect is accepted with these forms
-module _ (s : Source) (is : IsDialect s.dialect) (own : List FormData)
+module _ (s : BodySource) (is : IsDialect s.dialect) (own : List FormData)
     (forms_are : own ≡ s.dialect.language.forms) (tries : ℕ) (subject : Tree) (t : Typed)
     (by : IsTypedBy s tries subject t) where
   pub goal_is_shallow : IsTermFor s.dialect In s.environment → IsTermFor s.dialect Sub subject →
@@ -73,10 +73,10 @@ module _ (s : Source) (is : IsDialect s.dialect) (own : List FormData)
   pub is_listed : (list : List Entry) → list ≡ t.list.items →
       IsListedAnswer (modes_of own) s.dialect.set (goal_of t.goal) (entries list) by.answer
   is_listed list list_is = record {
-    derives = subst (λ (fs : List FormData). DerivesGoal (modes_of fs) (rules_of s.dialect.set)
+    derives = subst (λ (fs : List FormData). DerivesGoal (modes_of fs) (extended_rules s.dialect.set)
         no_hypotheses (goal_of t.goal) by.answer) (sym forms_are)
         (subst (λ (g : Goal). DerivesGoal (modes_of s.dialect.language.forms)
-        (rules_of s.dialect.set) no_hypotheses g by.answer) (sym by.goal_is) by.derives);
+        (extended_rules s.dialect.set) no_hypotheses g by.answer) (sym by.goal_is) by.derives);
     list_is = ap entries list_is ∙ by.list;
     rewritable = by.rewritable;
     near = subst AreShallow (sym by.typed.gives) (by.good.depth, tt);

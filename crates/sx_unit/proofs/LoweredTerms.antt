@@ -30,7 +30,7 @@ use Rattle.sx_lexemes.specs.Lexemes.{IsToken, AllLexemesAre}
 use Rattle.sx_lexemes.proofs.Lowered.{lowered_keep_lexemes}
 use Rattle.sx_lexemes.proofs.Terms.{outputs_lexemes}
 use Rattle.sx_notation.specs.Language.{sort_when, sorts_with}
-use Rattle.sx_rewrite.specs.Accepted.{rules_of as accepted_rules}
+use Rattle.sx_rewrite.specs.Accepted.{extended_rules as accepted_rules}
 use Rattle.sx_rewrite.specs.Rewriting.{Rewritten, IsRewritten}
 use Rattle.sx_rewrite.specs.RewritingLaws.{IsGoodRewriting}
 use Rattle.sx_rewrite.specs.Stored.{signature_of}
@@ -38,7 +38,7 @@ use Rattle.sx_rewrite.proofs.Rewriting.{rewriting_is_good}
 use Rattle.sx_typing.specs.Dialects.{IsDialect}
 use Rattle.sx_typing.specs.Goals.{goal}
 use Rattle.sx_typing.specs.Outcomes.{no_hypotheses}
-use Rattle.sx_typing.specs.Source.{Source, IsGoodTerm, IsTermFor, main_sort}
+use Rattle.sx_typing.specs.BodySource.{BodySource, IsGoodTerm, IsTermFor, main_sort}
 use Rattle.sx_typing.proofs.Lexemes.{all_to_tokens, from_tokens}
 use Rattle.sx_typing.proofs.MainSorts.{main_sort_is}
 use Rattle.sx_typing.proofs.TypedBodies.{source_goal}
@@ -106,7 +106,7 @@ module _ (literals : List Text) (shapes : List Shape) where
 
 -- ---- what is lowered
 
-module _ (s : Source) (is : IsDialect s.dialect) (subject output : Tree)
+module _ (s : BodySource) (is : IsDialect s.dialect) (subject output : Tree)
     (he : IsTermFor s.dialect In s.environment) (hs : IsTermFor s.dialect Sub subject)
     (ho : IsTermFor s.dialect Out output)
     (answer : Answer) (derives : DerivesGoal (modes_of s.dialect.language.forms)

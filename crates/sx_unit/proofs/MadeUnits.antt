@@ -23,8 +23,8 @@ use Rattle.sx_typing.specs.declared.typed.Typed.{Typed}
 use Rattle.sx_typing.specs.declared.typing_error.TypingError.{TypingError}
 use Rattle.sx_typing.specs.declared.typing_error.TypingError.TheVariants as typing
 use Rattle.sx_typing.specs.Dialects.{IsDialect}
-use Rattle.sx_typing.specs.Source.{Source, IsTermFor}
-use Rattle.sx_typing.specs.Goals.{rules_of, goal_events, IsBody, IsTried, IsTypedBy}
+use Rattle.sx_typing.specs.BodySource.{BodySource, IsTermFor}
+use Rattle.sx_typing.specs.Goals.{dialect_rules, goal_events, IsBody, IsTried, IsTypedBy}
 use Rattle.sx_typing.specs.Refused.{HasBody, HasTyping, HasWalked, IsBadSource}
 use Rattle.sx_unit.specs.declared.compiled.Compiled.{Compiled}
 use Rattle.sx_unit.specs.declared.lowering.Lowering.{Lowering}
@@ -46,7 +46,7 @@ use Rattle.sx_unit.proofs.Units.{units_are_made, final}
 
 -- ---- what is lowered
 
-module _ (s : Source) (is : IsDialect s.dialect) (he : IsTermFor s.dialect In s.environment)
+module _ (s : BodySource) (is : IsDialect s.dialect) (he : IsTermFor s.dialect In s.environment)
     (subject : Tree) (hs : IsTermFor s.dialect Sub subject) (tries nodes : ℕ) (t : Typed)
     (by : IsTypedBy s tries subject t) (l : Lowering)
     (low : IsLowering s.dialect by.answer.0 nodes l) where
@@ -223,7 +223,7 @@ module _ (m : ModuleData) (b : Budgets) where
 
   -- ---- units and type errors
 
-  module _ (moded : AllModed (modes_of m.source.dialect.language.forms) (rules_of m.source.dialect))
+  module _ (moded : AllModed (modes_of m.source.dialect.language.forms) (dialect_rules m.source.dialect))
     where
       pub unit_if : (r : Result Compiled ModuleError) → IsCompiled m b r →
           IfOk r (λ c. IsUnit m (unit_of c))

@@ -20,7 +20,7 @@ use Rattle.sx_typing.specs.declared.typing_error.TypingError.{TypingError}
 use Rattle.sx_typing.specs.declared.typing_error.TypingError.TheVariants as typing
 use Rattle.sx_typing.specs.Alike as typed
 use Rattle.sx_typing.specs.Dialects.{IsDialect}
-use Rattle.sx_typing.specs.Goals.{rules_of}
+use Rattle.sx_typing.specs.Goals.{dialect_rules}
 use Rattle.sx_typing.specs.Outcomes.{no_hypotheses}
 use Rattle.sx_typing.specs.Refused.{HasTyping, IsBadSource}
 use Rattle.sx_typing.proofs.OneTyping.{one_typing}
@@ -190,7 +190,7 @@ module _ (m : ModuleData) (b : Budgets) (dialect : IsDialect m.source.dialect) w
   lowered_none e l h = ok_or_err l.lowered h.refusal (rewrites_same l.typing h.typing (Ok l.lowered)
       (Err h.refusal) l.rewriting h.rewrites)
 
-  moded : AllModed (modes_of m.source.dialect.language.forms) (rules_of m.source.dialect)
+  moded : AllModed (modes_of m.source.dialect.language.forms) (dialect_rules m.source.dialect)
   moded = good_moded (shapes_of m.source.dialect.parts) m.source.dialect.language.forms []
       m.source.dialect.rules dialect.rule_set.1
 

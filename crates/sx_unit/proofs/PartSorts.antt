@@ -12,7 +12,7 @@ use Rattle.sx_earley.specs.Completed.{IsSort, number_of}
 use Rattle.sx_words.specs.declared.print_defect.PrintedPart.{PrintedPart}
 use Rattle.sx_words.specs.declared.print_defect.PrintedPart.TheVariants.{Body, Signature, Stated}
 use Rattle.sx_typing.specs.Dialects.{DialectData, IsDialect}
-use Rattle.sx_typing.specs.Source.{main_sort, IsGoodTerm}
+use Rattle.sx_typing.specs.BodySource.{main_sort, IsGoodTerm}
 use Rattle.sx_typing.proofs.MainSorts.{subject_is_sort, signature_is_sort}
 use Rattle.sx_unit.specs.Captured.{IsFree}
 use Rattle.sx_unit.specs.PrintedParts.{PrintedData, parts_of, sort_of}

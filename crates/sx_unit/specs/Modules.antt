@@ -2,14 +2,14 @@
 use Rattle.std.specs.Prelude.{ℕ, List, map}
 use Rattle.sx_interface.specs.Interfaces.{Mark}
 use Rattle.sx_interface.specs.InterfaceView.{mark_view}
-use Rattle.sx_typing.specs.Source.{Source, source_of}
+use Rattle.sx_typing.specs.BodySource.{BodySource, source_of}
 use Rattle.sx_interface.specs.declared.import.Import.{Import}
 use Rattle.sx_unit.specs.declared.module_source.ModuleSource.{ModuleSource}
 
 -- the source in its dialect, the digest of the language's file, and the names of the extensions in
 -- use and of the imports, each with the digest of its file
 pub record ModuleData : Type 0 where
-  pub source : Source
+  pub source : BodySource
   pub digest : List ℕ
   pub uses : List Mark
   pub imports : List Mark

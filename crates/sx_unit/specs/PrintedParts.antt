@@ -7,7 +7,7 @@ use Rattle.sx_grammar.specs.Parts.{Parts}
 use Rattle.sx_words.specs.declared.print_defect.PrintedPart.{PrintedPart}
 use Rattle.sx_words.specs.declared.print_defect.PrintedPart.TheVariants.{Body, Signature, Stated}
 use Rattle.sx_typing.specs.Dialects.{DialectData}
-use Rattle.sx_typing.specs.Source.{main_sort}
+use Rattle.sx_typing.specs.BodySource.{main_sort}
 use Rattle.sx_unit.specs.declared.printed_terms.PrintedTerms.{PrintedTerms}
 
 -- the terms that are printed: the subject, the signature, and the signature as it is stated

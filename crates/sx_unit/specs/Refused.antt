@@ -8,7 +8,7 @@ use Rattle.sx_rewrite.specs.RewrittenView.{IsRewriting}
 use Rattle.sx_extcheck.specs.declared.budgets.Budgets.{Budgets}
 use Rattle.sx_words.specs.declared.goal_defect.GoalDefect.{GoalDefect}
 use Rattle.sx_typing.specs.declared.typing_error.TypingError.TheVariants as typing
-use Rattle.sx_typing.specs.Goals.{rules_of}
+use Rattle.sx_typing.specs.Goals.{dialect_rules}
 use Rattle.sx_typing.specs.Outcomes.{no_hypotheses}
 use Rattle.sx_typing.specs.Refused.{HasTyping, HasWalked, IsBadSource, IsUntyped}
 use Rattle.sx_unit.specs.declared.compiled.Compiled.{Compiled}
@@ -69,7 +69,7 @@ IsFinal m _ = Unit {0}
 abbrev pub TypeErrorsAreFinal : Type 0
 TypeErrorsAreFinal =
     (m : ModuleData) (b : Budgets) (line column : ℕ) (text : GoalDefect) →
-    AllModed (modes_of m.source.dialect.language.forms) (rules_of m.source.dialect) →
+    AllModed (modes_of m.source.dialect.language.forms) (dialect_rules m.source.dialect) →
     IsBadModule m b (TypeError line column text) → IsUntyped m.source
 
 -- ---- tries

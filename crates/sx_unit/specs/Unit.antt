@@ -12,7 +12,7 @@ use Rattle.sx_rewrite.specs.Lowers.{Lowers}
 use Rattle.sx_rewrite.specs.Rewriting.{Rewritten, IsRewritten}
 use Rattle.sx_extcheck.specs.declared.budgets.Budgets.{Budgets}
 use Rattle.sx_typing.specs.Dialects.{DialectData}
-use Rattle.sx_typing.specs.Goals.{rules_of, goal, IsBody}
+use Rattle.sx_typing.specs.Goals.{dialect_rules, goal, IsBody}
 use Rattle.sx_typing.specs.Outcomes.{no_hypotheses}
 use Rattle.sx_typing.specs.Refused.{HasTyping}
 use Rattle.sx_unit.specs.Modules.{ModuleData}
@@ -36,7 +36,7 @@ pub record IsUnit (m : ModuleData) (u : UnitData) : Type 0 where
   pub subject : Tree
   pub read : IsBody m.source tokens reading subject
   pub answer : Answer
-  pub first : IsFirst (modes_of m.source.dialect.language.forms) (rules_of m.source.dialect)
+  pub first : IsFirst (modes_of m.source.dialect.language.forms) (dialect_rules m.source.dialect)
       no_hypotheses (goal m.source subject) None answer
   pub output : Tree
   pub gives : answer.1 ≡ output ∷ []
@@ -67,5 +67,5 @@ pub record IsMade (m : ModuleData) (b : Budgets) (u : UnitData) : Type 0 where
 -- what is made by rules that can be followed is the unit of the module
 abbrev pub UnitsAreMade : Type 0
 UnitsAreMade = (m : ModuleData) (b : Budgets) (u : UnitData) →
-    AllModed (modes_of m.source.dialect.language.forms) (rules_of m.source.dialect) →
+    AllModed (modes_of m.source.dialect.language.forms) (dialect_rules m.source.dialect) →
     IsMade m b u → IsUnit m u

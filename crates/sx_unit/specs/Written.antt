@@ -9,7 +9,7 @@ use Rattle.sx_words.specs.declared.print_defect.PrintedPart.{PrintedPart}
 use Rattle.sx_words.specs.declared.print_defect.PrintedPart.TheVariants.{Body, Signature, Stated}
 use Rattle.sx_words.specs.declared.print_defect.PrintDefect.{PrintDefect}
 use Rattle.sx_typing.specs.Dialects.{DialectData}
-use Rattle.sx_typing.specs.Source.{IsGoodTerm}
+use Rattle.sx_typing.specs.BodySource.{IsGoodTerm}
 use Rattle.sx_unit.specs.declared.compiled.Compiled.{Compiled}
 use Rattle.sx_unit.specs.declared.module_error.ModuleError.{ModuleError}
 use Rattle.sx_unit.specs.declared.module_error.ModuleError.TheVariants.{Memory, Print, Captured}

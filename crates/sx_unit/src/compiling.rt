@@ -7,7 +7,7 @@ ghost use Rattle.sx_term.specs.Tree.{Tree};
 ghost use Rattle.sx_term.specs.declared.role.Role.TheVariants.{Sub};
 ghost use Rattle.sx_forest.specs.Readings.{plain_reading};
 ghost use Rattle.sx_typing.specs.Goals.{IsBody, IsTypedBy};
-ghost use Rattle.sx_typing.specs.Source.{CanType, IsTermFor};
+ghost use Rattle.sx_typing.specs.BodySource.{CanType, IsTermFor};
 ghost use Rattle.sx_unit.specs.Modules.{module_of};
 ghost use Rattle.sx_unit.specs.Refused.{IsCompiled, IsCounted, IsFinal};
 ghost use Rattle.sx_unit.specs.Unit.{IsUnit};

@@ -6,7 +6,7 @@ ghost use Rattle.sx_term.specs.Term.{tree};
 ghost use Rattle.sx_term.specs.declared.role.Role.TheVariants.{Sub};
 ghost use Rattle.sx_forest.specs.Readings.{plain_reading};
 ghost use Rattle.sx_typing.specs.Goals.{IsBody, IsTypedBy};
-ghost use Rattle.sx_typing.specs.Source.{CanType, IsTermFor};
+ghost use Rattle.sx_typing.specs.BodySource.{CanType, IsTermFor};
 ghost use Rattle.sx_unit.specs.Lowered.{IsLowering};
 ghost use Rattle.sx_unit.specs.Modules.{module_of};
 ghost use Rattle.sx_unit.specs.Refused.{IsCompiled};

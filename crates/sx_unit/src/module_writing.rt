@@ -7,7 +7,7 @@ ghost use Rattle.sx_rules.specs.EntryView.{entries};
 ghost use Rattle.sx_rules.specs.ListText.{IsEntry};
 ghost use Rattle.sx_rules.specs.Orders.{order_of};
 ghost use Rattle.sx_rules.specs.Sets.{names_in};
-ghost use Rattle.sx_typing.specs.Source.{CanType};
+ghost use Rattle.sx_typing.specs.BodySource.{CanType};
 ghost use Rattle.sx_unit.specs.Modules.{module_of};
 ghost use Rattle.sx_unit.specs.PrintedParts.{printed_of};
 ghost use Rattle.sx_unit.specs.Texts.{printed, base_text, interface_text as known_interface};

@@ -7,7 +7,7 @@ ghost use Rattle.sx_term.specs.Term.{tree};
 ghost use Rattle.sx_grammar.specs.Tables.{literals_of};
 ghost use Rattle.sx_grammar.specs.Told.{shapes_of};
 ghost use Rattle.sx_typing.specs.Dialects.{dialect_of, IsDialectOf};
-ghost use Rattle.sx_typing.specs.Source.{IsGoodTerm};
+ghost use Rattle.sx_typing.specs.BodySource.{IsGoodTerm};
 ghost use Rattle.sx_unit.specs.PartRefused.{refusal_of, IsPartRefusal};
 ghost use Rattle.sx_unit.specs.PrintedParts.{parts_of, sort_of};
 ghost use Rattle.sx_unit.specs.Texts.{printed, print_text};

@@ -4,7 +4,7 @@ ghost use Rattle.std.specs.Prelude.{◌≡◌, ◌+◌, ◌-◌, ◌≤◌, ◌<
 ghost use Rattle.std.specs.Str.{IsUtf8};
 ghost use Rattle.sx_term.specs.Term.{tree};
 ghost use Rattle.sx_typing.specs.Dialects.{IsDialectOf};
-ghost use Rattle.sx_typing.specs.Source.{CanType};
+ghost use Rattle.sx_typing.specs.BodySource.{CanType};
 ghost use Rattle.sx_unit.specs.Modules.{module_of};
 ghost use Rattle.sx_unit.specs.PrintedParts.{printed_of};
 ghost use Rattle.sx_unit.specs.Texts.{print_text, base_text, interface_text as known_interface};

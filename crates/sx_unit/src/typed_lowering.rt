@@ -4,7 +4,7 @@ ghost use Rattle.std.specs.Prelude.{ℕ};
 ghost use Rattle.sx_term.specs.declared.role.Role.TheVariants.{Sub};
 ghost use Rattle.sx_term.specs.Tree.{Tree};
 ghost use Rattle.sx_typing.specs.Goals.{IsTypedBy};
-ghost use Rattle.sx_typing.specs.Source.{CanType, IsTermFor};
+ghost use Rattle.sx_typing.specs.BodySource.{CanType, IsTermFor};
 ghost use Rattle.sx_unit.specs.Lowered.{IsLoweringOf};
 ghost use Rattle.sx_unit.specs.Modules.{module_of};
 

@@ -11,7 +11,7 @@ use std::alloc::Global;
 use sx_outside::Shelf;
 use sx_steps::{StepError, Stop, about, with_suffix};
 use sx_term::{NoMemory, Text};
-use sx_walking::{FileKind, copies};
+use sx_walking::{WalkedKind, copies};
 use sx_words::{Defect, ExtensionDefect};
 
 /// The extensions that are written for a language.
@@ -38,7 +38,7 @@ fn wrong_language(alloc: Global, name: &Text, language: &Text) -> Result<Stop, N
     }
 }
 
-impl FileKind for ExtensionKind<'_> {
+impl WalkedKind for ExtensionKind<'_> {
     type File = ExtensionFile;
 
     ghost Data = { Extension };

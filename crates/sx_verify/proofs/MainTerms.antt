@@ -18,7 +18,7 @@ use Rattle.sx_rules.specs.Orders.{Entry}
 use Rattle.sx_rules.specs.Views.{modes_of, places_at}
 use Rattle.sx_notation.specs.Language.{LanguageData, IsMain}
 use Rattle.sx_typing.specs.Outcomes.{bare, no_hypotheses}
-use Rattle.sx_typing.specs.Source.{main_sort}
+use Rattle.sx_typing.specs.BodySource.{main_sort}
 use Rattle.sx_typing.proofs.MainGoals.{main_goals_fit, main_goals_are_shallow}
 use Rattle.sx_typing.proofs.MainSorts.{main_sort_is}
 use Rattle.sx_typing.proofs.SortedGoals.{outputs_are_sorted}

@@ -13,9 +13,9 @@ use Rattle.sx_rules.specs.Views.{modes_of}
 use Rattle.sx_typing.specs.declared.typing_error.TypingError.{TypingError}
 use Rattle.sx_typing.specs.declared.typing_error.TypingError.TheVariants as typing_error
 use Rattle.sx_typing.specs.Alike.{AreAlike, BodyHasThree}
-use Rattle.sx_typing.specs.Goals.{rules_of}
+use Rattle.sx_typing.specs.Goals.{dialect_rules}
 use Rattle.sx_typing.specs.Refused.{HasBody, IsBadSource}
-use Rattle.sx_typing.specs.Source.{Source, main_sort}
+use Rattle.sx_typing.specs.BodySource.{BodySource, main_sort}
 use Rattle.sx_typing.proofs.OneBody.{one_cut, defect_or_cut}
 use Rattle.sx_typing.proofs.OneTyping.{one_typing, same_body}
 use Rattle.sx_steps.specs.declared.stop.Stop.{Stop}
@@ -24,7 +24,7 @@ use Rattle.sx_steps.proofs.Ones.{as_answer, none_some, some_same}
 use Rattle.sx_headers.specs.TextStops.{unread_text}
 use Rattle.sx_verify.specs.Ground.{HasSubject, body_stop, ReadsBody}
 
-module _ (s : Source) (file : List ℕ) where
+module _ (s : BodySource) (file : List ℕ) where
   -- a body that is read is not refused
   no_body : (e : TypingError) (stop : Stop) → IsBadSource s 0 e → body_stop file e ≡ Some stop →
       HasBody s → ⊥
@@ -69,7 +69,7 @@ module _ (s : Source) (file : List ℕ) where
         show.three,
       )
 
-  module _ (moded : AllModed (modes_of s.dialect.language.forms) (rules_of s.dialect)) where
+  module _ (moded : AllModed (modes_of s.dialect.language.forms) (dialect_rules s.dialect)) where
     pub bodies : (x y : Result Tree Stop) → ReadsBody file s x → ReadsBody file s y →
         AnswersBy SameButBody (as_answer x) (as_answer y)
     bodies (Ok t) (Ok u) h k = (same_body s (body_of t h) (body_of u k)).subject

@@ -12,7 +12,7 @@ use Rattle.sx_interface.specs.StatedHeader.{AreNames}
 use Rattle.sx_notation.specs.Language.{LanguageData, IsMain}
 use Rattle.sx_typing.specs.Dialects.{DialectData}
 use Rattle.sx_typing.specs.Growing.{unextended}
-use Rattle.sx_typing.specs.Source.{Source, IsTermFor}
+use Rattle.sx_typing.specs.BodySource.{BodySource, IsTermFor}
 use Rattle.sx_interface.specs.FreeNames.{AreFree}
 use Rattle.sx_environment.specs.SeenFrom.{SeenFrom, HasFreeName}
 use Rattle.sx_accepting.specs.ReadLanguage.{Stated}
@@ -62,7 +62,7 @@ pub seen_same : (d : DialectData) (l : Stated) (own name : List ℕ) (uses : Lis
     seen_with d own l.digest uses ≡ seen_in name l
 seen_same d l own name uses is same none = λ i. seen_with (is i) (same i) l.digest (none i)
 
-abbrev pub source_with : DialectData → List ℕ → HeaderParts → Tree → Source
+abbrev pub source_with : DialectData → List ℕ → HeaderParts → Tree → BodySource
 source_with d bytes header environment =
     record { dialect = d; bytes = bytes; header = header; environment = environment }
 

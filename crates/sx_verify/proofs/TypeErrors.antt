@@ -18,7 +18,7 @@ use Rattle.sx_notation.specs.Language.{LanguageData}
 use Rattle.sx_interface.specs.Interfaces.{InterfaceParts, Mark}
 use Rattle.sx_typing.specs.declared.typing_error.TypingError.{TypingError}
 use Rattle.sx_typing.specs.declared.typing_error.TypingError.TheVariants as typing_error
-use Rattle.sx_typing.specs.Source.{Source}
+use Rattle.sx_typing.specs.BodySource.{BodySource}
 use Rattle.sx_unit.specs.Texts.{print_text}
 use Rattle.sx_environment.specs.declared.import_error.ImportError.{ImportError}
 use Rattle.sx_environment.specs.declared.import_error.ImportError.TheVariants as import_error
@@ -206,7 +206,7 @@ module _ (Q : Stop → Type 0) where
   language_final name bytes stop h =
       on_stop Q _ stop (no_language Q (language_file name) h.error) h.is
 
-  subject_final : (file : List ℕ) (s : Source) → Final Q (ReadsBody file s)
+  subject_final : (file : List ℕ) (s : BodySource) → Final Q (ReadsBody file s)
   subject_final file s stop h = on_stop Q (body_stop file h.0) stop (no_body file h.0) h.2
 
   entries_final : (file : List ℕ) (names : List (List ℕ)) (files : Files) →

@@ -8,7 +8,7 @@ use Rattle.sx_typing.specs.declared.typing_error.TypingError.TheVariants as typi
 use Rattle.sx_typing.specs.Goals.{IsBody}
 use Rattle.sx_typing.specs.Growing.{unextended}
 use Rattle.sx_typing.specs.Refused.{IsBadSource}
-use Rattle.sx_typing.specs.Source.{Source}
+use Rattle.sx_typing.specs.BodySource.{BodySource}
 use Rattle.sx_environment.specs.SeenFrom.{SeenFrom}
 use Rattle.sx_steps.specs.declared.stop.Stop.{Stop}
 use Rattle.sx_steps.specs.Lower.{Lower}
@@ -29,7 +29,7 @@ seen_in name l = record {
 -- ---- the body
 
 -- the module in its language, with this environment
-abbrev pub source_in : Stated → Module → (environment : Tree) → Source
+abbrev pub source_in : Stated → Module → (environment : Tree) → BodySource
 source_in l m environment = record {
   dialect = unextended l.language;
   bytes = m.bytes;
@@ -38,7 +38,7 @@ source_in l m environment = record {
 }
 
 -- the body of the source has only one reading, whose term is the subject, or it is refused
-abbrev pub HasSubject : Source → Result Tree TypingError → Type 0
+abbrev pub HasSubject : BodySource → Result Tree TypingError → Type 0
 HasSubject s (Ok subject) = (ts : List Token) × (r : Reading) × IsBody s ts r subject
 HasSubject s (Err e) = IsBadSource s 0 e
 
@@ -49,5 +49,5 @@ body_stop file (typing_error.Read line column u) = Some (unread_text file line c
 body_stop file _ = None
 
 -- the term of the body in the file
-abbrev pub ReadsBody : List ℕ → Source → Result Tree Stop → Type 0
+abbrev pub ReadsBody : List ℕ → BodySource → Result Tree Stop → Type 0
 ReadsBody file s = Lower (body_stop file) (HasSubject s)

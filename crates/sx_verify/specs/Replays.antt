@@ -12,7 +12,7 @@ use Rattle.sx_rules.specs.Views.{FormData, NamedRule, modes_of}
 use Rattle.sx_notation.specs.Language.{LanguageData}
 use Rattle.sx_typing.specs.MainGoals.{main_goal}
 use Rattle.sx_typing.specs.Outcomes.{bare, no_hypotheses}
-use Rattle.sx_typing.specs.Source.{main_sort}
+use Rattle.sx_typing.specs.BodySource.{main_sort}
 use Rattle.sx_replay.specs.Replay.{IsReplayAnswer}
 use Rattle.sx_steps.specs.declared.stop.Stop.{Stop}
 use Rattle.sx_steps.specs.Lower.{Lower}

@@ -15,7 +15,7 @@ use Rattle.sx_rules.specs.Views.{modes_of}
 use Rattle.sx_interface.specs.Interfaces.{InterfaceParts, Mark}
 use Rattle.sx_typing.specs.Body.{ReadsOnly}
 use Rattle.sx_typing.specs.Outcomes.{bare, no_hypotheses}
-use Rattle.sx_typing.specs.Source.{main_sort}
+use Rattle.sx_typing.specs.BodySource.{main_sort}
 use Rattle.sx_interface.specs.FreeNames.{AreFree}
 use Rattle.sx_unit.specs.Texts.{print_text}
 use Rattle.sx_environment.specs.Environments.{IsEnvironment}

@@ -5,7 +5,8 @@ ghost use Rattle.sx_term.specs.Term.{tree};
 ghost use Rattle.sx_term.specs.declared.role.Role.TheVariants.{Sub};
 ghost use Rattle.sx_typing.specs.declared.typing_error.TypingError.TheVariants.{Memory};
 ghost use Rattle.sx_typing.specs.Refused.{HasBody, IsBadSource};
-ghost use Rattle.sx_typing.specs.Source.{Source as SourceData, CanType, IsTermFor, source_of};
+ghost use Rattle.sx_typing.specs.BodySource.{BodySource as SourceData, CanType, IsTermFor};
+ghost use Rattle.sx_typing.specs.BodySource.{source_of};
 ghost use Rattle.sx_steps.specs.Stop.{Gives, IsNoFault};
 ghost use Rattle.sx_verify.specs.Ground.{ReadsBody};
 ghost use Rattle.sx_verify.specs.Ground.{body_stop as stop_of_body};
@@ -14,7 +15,7 @@ use std::alloc::Global;
 use sx_headers::{uncut_text, unread_text};
 use sx_steps::{StepError, Stop};
 use sx_term::{NoMemory, Term, Text};
-use sx_typing::{Body, Source, TypingError, read_source};
+use sx_typing::{Body, BodySource, TypingError, read_source};
 
 /// The refusal of a body that is not read.
 fn bad_body(alloc: Global, file: &Text, error: TypingError) -> Result<Stop, NoMemory>
@@ -39,7 +40,11 @@ fn bad_body(alloc: Global, file: &Text, error: TypingError) -> Result<Stop, NoMe
 }
 
 /// The term of the body in the file.
-pub(crate) fn read_subject(alloc: Global, file: &Text, source: &Source) -> Result<Term, StepError>
+pub(crate) fn read_subject(
+    alloc: Global,
+    file: &Text,
+    source: &BodySource,
+) -> Result<Term, StepError>
     requires { CanType source.now }
     ensures step { Gives tree (ReadsBody file.now (source_of source.now)) result }
     ensures good { IfOk result (λ t. IsTermFor (source_of source.now).dialect Sub (tree t)) }

@@ -9,7 +9,7 @@ ghost use Rattle.sx_rules.specs.Views.{goal as goal_of};
 ghost use Rattle.sx_notation.specs.Language.{language_data};
 ghost use Rattle.sx_typing.specs.Dialects.{IsDialectOf, dialect_of};
 ghost use Rattle.sx_typing.specs.Growing.{unextended};
-ghost use Rattle.sx_typing.specs.Source.{IsTermFor};
+ghost use Rattle.sx_typing.specs.BodySource.{IsTermFor};
 ghost use Rattle.sx_environment.specs.SeenFrom.{interfaces_of};
 ghost use Rattle.sx_interface.specs.FreeNames.{AreFree};
 ghost use Rattle.sx_steps.specs.Stop.{Gives, OnlyReads, IsNoFault};
@@ -37,7 +37,7 @@ use sx_outside::Shelf;
 use sx_rules::{Entry, Goal};
 use sx_steps::{StepError, Work};
 use sx_term::Term;
-use sx_typing::{Dialect, Source, main_goal};
+use sx_typing::{BodySource, Dialect, main_goal};
 
 /// The steps from the output of the derivation.
 fn verify_output(asked: &Asked, over: &Over, nodes: u64, output: &Term) -> Result<Work, StepError>
@@ -166,7 +166,7 @@ fn verify_body<S: Shelf>(
         (S.read_faults shelf.old) (S.read_faults shelf.new)
         (S.write_faults shelf.old) (S.write_faults shelf.new) result }
 {
-    let source = Source {
+    let source = BodySource {
         dialect: *dialect,
         header: &over.written.base.header,
         bytes: &over.written.base.bytes,

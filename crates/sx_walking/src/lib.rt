@@ -1,7 +1,7 @@
 //! The walk through files that stand on one another: extensions along their `use` lines, modules
 //! along their `import` lines.
 //!
-//! - `FileKind`: a kind of files, by what a walk takes from it.
+//! - `WalkedKind`: a kind of files, by what a walk takes from it.
 //! - `read_reached`: the files that are reached from some names, each once and after those that it
 //!   stands on; or the first refusal that the walk comes to.
 //! - `copies`: equal names.
@@ -10,15 +10,15 @@
 #![tactic(auto)]
 
 mod copying;
-mod file_kind;
 mod file_table;
 mod laws;
 mod reading;
 mod turn;
 mod visiting;
+mod walked_kind;
 mod walking;
 
 pub use copying::copies;
-pub use file_kind::FileKind;
 pub use laws::{few_are_reached, root_is_last, those_come_first, walks_agree};
 pub use reading::read_reached;
+pub use walked_kind::WalkedKind;

@@ -8,8 +8,8 @@ ghost use Rattle.sx_walking.specs.FileTable.{files_in, held_in};
 ghost use Rattle.sx_walking.specs.Kinds.{ReachesBy, AreReached};
 ghost use Rattle.sx_walking.specs.Opened.{IsBegun, AreOnce, AreHeld};
 
-use crate::file_kind::FileKind;
 use crate::file_table::FileTable;
+use crate::walked_kind::WalkedKind;
 use crate::walking::walk_files;
 use std::alloc::Global;
 use sx_outside::Shelf;
@@ -17,7 +17,7 @@ use sx_steps::StepError;
 use sx_term::{NoMemory, Text};
 
 /// A table with the file that was read before, if there is one.
-fn begin<K: FileKind>(
+fn begin<K: WalkedKind>(
     alloc: Global,
     kind: &K,
     held: Option<K::File>,
@@ -64,7 +64,7 @@ fn take_files<F: Drop>(
 /// file does not fit. A name that stands on the present path is a cycle, and the 257th file is one
 /// too many: these two are told of `file`. The file that is held was read before, from the same
 /// files, and is not read again.
-pub fn read_reached<K: FileKind, S: Shelf>(
+pub fn read_reached<K: WalkedKind, S: Shelf>(
     alloc: Global,
     kind: &K,
     file: &Text,

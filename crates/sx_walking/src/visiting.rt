@@ -5,15 +5,15 @@ ghost use Rattle.sx_walking.specs.FileTable.{held_in};
 ghost use Rattle.sx_walking.specs.Opened.{AreOpened};
 ghost use Rattle.sx_walking.specs.Turns.{OpensFile, IsVisit};
 
-use crate::file_kind::FileKind;
 use crate::file_table::FileTable;
+use crate::walked_kind::WalkedKind;
 use std::alloc::Global;
 use sx_outside::Shelf;
 use sx_steps::StepError;
 use sx_term::Text;
 
 /// Reads the file with this name, if it is not held.
-fn open_file<K: FileKind, S: Shelf>(
+fn open_file<K: WalkedKind, S: Shelf>(
     alloc: Global,
     kind: &K,
     name: &Text,
@@ -40,7 +40,7 @@ fn open_file<K: FileKind, S: Shelf>(
 }
 
 /// Visits the file with this name.
-pub(crate) fn visit<K: FileKind, S: Shelf>(
+pub(crate) fn visit<K: WalkedKind, S: Shelf>(
     alloc: Global,
     kind: &K,
     name: &Text,

@@ -7,10 +7,10 @@ ghost use Rattle.sx_walking.specs.Opened.{AreOpened};
 ghost use Rattle.sx_walking.specs.Turns.{walk_stop as stop_of_walk, IsStopOr, Enters};
 ghost use Rattle.sx_walking.specs.Turns.{TakesTurn, IsWalked};
 
-use crate::file_kind::FileKind;
 use crate::file_table::FileTable;
 use crate::turn::Turn;
 use crate::visiting::visit;
+use crate::walked_kind::WalkedKind;
 use std::alloc::Global;
 use sx_imports::{Next, Visit, Walk, WalkError};
 use sx_outside::Shelf;
@@ -52,7 +52,7 @@ fn enter(alloc: Global, file: &Text, visit: Visit, names: Vec<Text>) -> Result<T
 }
 
 /// One more visit of the walk.
-fn turn<K: FileKind, S: Shelf>(
+fn turn<K: WalkedKind, S: Shelf>(
     alloc: Global,
     kind: &K,
     file: &Text,
@@ -82,7 +82,7 @@ fn turn<K: FileKind, S: Shelf>(
 
 /// The names that are reached from the roots, in the order in which the walk leaves them. Their
 /// files are held then.
-pub(crate) fn walk_files<K: FileKind, S: Shelf>(
+pub(crate) fn walk_files<K: WalkedKind, S: Shelf>(
     alloc: Global,
     kind: &K,
     file: &Text,

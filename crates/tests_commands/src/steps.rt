@@ -2,8 +2,8 @@
 
 use std::alloc::Global;
 use sx_outside::MemShelf;
-use sx_steps::{MOST_BYTES, StepError, Work, built_work, read_file};
-use sx_term::Text;
+use sx_steps::{StepError, Work, built_work, read_file};
+use sx_term::{MOST_BYTES, Text};
 use tests_runs::files::put;
 use tests_runs::plans::{is_file, is_line};
 

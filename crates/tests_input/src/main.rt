@@ -2,11 +2,11 @@
 #![tactic(auto)]
 
 use std::process::ExitCode;
-use sx_host::{Input, Output};
+use sx_host::{StandardInput, StandardOutput};
 use sx_outside::{Sink, Source, TakeAnswer, WriteAnswer};
 
 /// Whether the source is at its end, and leaves the bytes that it is given as they were.
-fn is_at_end(input: &mut Input<'_>) -> bool {
+fn is_at_end(input: &mut StandardInput<'_>) -> bool {
     let mut bytes = [7u8; 3];
     let answer = input.take(&mut bytes);
     answer == TakeAnswer::End && bytes == [7, 7, 7]
@@ -14,7 +14,7 @@ fn is_at_end(input: &mut Input<'_>) -> bool {
 
 /// Moves all that comes in to where it goes out, five bytes at most at once. It tells whether the
 /// source came to its end.
-fn move_all(input: &mut Input<'_>, output: &mut Output<'_>) -> bool {
+fn move_all(input: &mut StandardInput<'_>, output: &mut StandardOutput<'_>) -> bool {
     let mut bytes = [0u8; 5];
     for _ in 0..u64::MAX {
         match input.take(&mut bytes) {
@@ -31,8 +31,8 @@ fn move_all(input: &mut Input<'_>, output: &mut Output<'_>) -> bool {
 }
 
 fn main(rt: HostRuntime) -> ExitCode {
-    let mut input = Input::new(&rt);
-    let mut output = Output::new(&rt);
+    let mut input = StandardInput::new(&rt);
+    let mut output = StandardOutput::new(&rt);
     let is_moved = move_all(&mut input, &mut output);
     ExitCode::from(if is_moved { 0 } else { 1 })
 }

@@ -36,7 +36,7 @@ use Rattle.sx_derive.proofs.Bounded.{answers_are_bounded}
 use Rattle.sx_derive.proofs.Walked.{found_is_first}
 use Rattle.sx_rewrite.specs.declared.accepted.Accepted.{Accepted as AcceptedOf}
 use Rattle.sx_rewrite.specs.declared.lowered.Lowered.{Lowered}
-use Rattle.sx_rewrite.specs.Accepted.{Accepted, Signature, IsAccepted, rules_of}
+use Rattle.sx_rewrite.specs.Accepted.{Accepted, Signature, IsAccepted, extended_rules}
 use Rattle.sx_rewrite.specs.AcceptedView.{accepted, signature}
 use Rattle.sx_rewrite.specs.Rewriting.{Rewritten, IsRewritten}
 use Rattle.sx_rewrite.specs.RewritingLaws.{IsGoodRewriting}
@@ -67,12 +67,12 @@ module _ (P : Answer → Type 0) (wanted : Option (List Tree)) where
 
 module _ (sig : Signature) (base shapes : List Shape) (a : Accepted) (ok : IsAccepted sig base shapes a) (goal : Goal) (sorted : GoalIsSorted shapes sig.forms sig.modes [] goal) where
   -- what is found is an answer with a list
-  pub found-listed : AreShallow goal.terms → (budget : ℕ) (answer : Answer) (list : List Entry) → walk None budget (events sig.modes (rules_of a) no_hypotheses goal 1) ≡ found answer → list ≡ order_of answer.0 →
+  pub found-listed : AreShallow goal.terms → (budget : ℕ) (answer : Answer) (list : List Entry) → walk None budget (events sig.modes (extended_rules a) no_hypotheses goal 1) ≡ found answer → list ≡ order_of answer.0 →
       IsListedAnswer sig.modes a goal list answer
   found-listed near budget answer list e is =
-      let first = found_is_first sig.modes (rules_of a) no_hypotheses ok.moded goal None budget 1 answer e in
-      let given = answers_are_bounded sig.modes (rules_of a) no_hypotheses tt goal 1 near in
-      let bounds = found_each (λ x. (height_of x.0 ≤ 3001 - 1) × HasShallowBinds x.0 × AreShallow x.1) None budget (events sig.modes (rules_of a) no_hypotheses goal 1) answer given e in
+      let first = found_is_first sig.modes (extended_rules a) no_hypotheses ok.moded goal None budget 1 answer e in
+      let given = answers_are_bounded sig.modes (extended_rules a) no_hypotheses tt goal 1 near in
+      let bounds = found_each (λ x. (height_of x.0 ≤ 3001 - 1) × HasShallowBinds x.0 × AreShallow x.1) None budget (events sig.modes (extended_rules a) no_hypotheses goal 1) answer given e in
       record {
         derives = first.derives;
         list_is = is;
@@ -94,14 +94,14 @@ module _ (sig : Signature) (base shapes : List Shape) (a : Accepted) (ok : IsAcc
     boxed-shallow y h = let g = good (record { proof = proof y.proof.value; judgement = judgement y.judgement; copied = y.copied }) h in (g.places, g.height)
 
 -- so it is of what the two searches find
-module _ (set : AcceptedOf) (ok : IsAccepted (signature set) (shapes_in set.base) (shapes_in set.rules) (accepted set)) (rules_are : bare_rules_in set.rules ≡ rules_of (accepted set)) (forms_are : forms_in set.rules ≡ forms_in set.base) where
+module _ (set : AcceptedOf) (ok : IsAccepted (signature set) (shapes_in set.base) (shapes_in set.rules) (accepted set)) (rules_are : bare_rules_in set.rules ≡ extended_rules (accepted set)) (forms_are : forms_in set.rules ≡ forms_in set.base) where
   pub both-found : (x : RuleSet) → x ≡ set.rules → (hyps : Hypotheses) → hyps ≡ no_hypotheses → (goal : Goal) → AreShallow goal.terms → GoalIsSorted (shapes_in set.rules) (signature set).forms (signature set).modes [] goal →
       (budget : ℕ) (l : Listed) (d : Derived) → ListsFirst (modes_of (forms_in x)) (bare_rules_in x) hyps goal None budget l → walk None budget (events (modes_of (forms_in x)) (bare_rules_in x) hyps goal 1) ≡ found (answer_of d) →
       IsListedAnswer (signature set).modes (accepted set) goal (entries l.entries.items) (answer_of d)
   both-found x same hyps none goal near sorted budget l d first finds =
       let m : modes_of (forms_in x) ≡ (signature set).modes = ap (λ (y : RuleSet). modes_of (forms_in y)) same ∙ ap (λ (fs : List FormData). modes_of fs) forms_are in
-      let r : bare_rules_in x ≡ rules_of (accepted set) = ap bare_rules_in same ∙ rules_are in
-      let es : events (modes_of (forms_in x)) (bare_rules_in x) hyps goal 1 ≡ events (signature set).modes (rules_of (accepted set)) no_hypotheses goal 1 = (λ i. events (m i) (r i) (none i) goal 1) in
+      let r : bare_rules_in x ≡ extended_rules (accepted set) = ap bare_rules_in same ∙ rules_are in
+      let es : events (modes_of (forms_in x)) (bare_rules_in x) hyps goal 1 ≡ events (signature set).modes (extended_rules (accepted set)) no_hypotheses goal 1 = (λ i. events (m i) (r i) (none i) goal 1) in
       let one : found first.answer ≡ found (answer_of d) = sym first.finds ∙ finds in
       let answer : first.answer ≡ answer_of d = cc in
       found-listed (signature set) (shapes_in set.base) (shapes_in set.rules) (accepted set) ok goal sorted near budget (answer_of d) (entries l.entries.items)

@@ -36,7 +36,7 @@ use Rattle.sx_derive.proofs.Walked.{found_is_first}
 use Rattle.sx_rewrite.specs.declared.accepted.Accepted.{Accepted as AcceptedOf}
 use Rattle.sx_rewrite.specs.declared.lowered.Lowered.{Lowered}
 use Rattle.sx_rewrite.specs.declared.rewrite_error.RewriteError.{RewriteError}
-use Rattle.sx_rewrite.specs.Accepted.{Accepted, Signature, IsAccepted, rules_of}
+use Rattle.sx_rewrite.specs.Accepted.{Accepted, Signature, IsAccepted, extended_rules}
 use Rattle.sx_rewrite.specs.AcceptedView.{accepted, signature}
 use Rattle.sx_rewrite.specs.Lowers.{HypothesesBelow, JudgementsBelow, PairsBelow}
 use Rattle.sx_rewrite.specs.PlainRules.{plain_of}
@@ -114,12 +114,12 @@ module _ (sig : Signature) (base shapes : List Shape) (a : Accepted) (ok : IsAcc
   plain = plain_rules_are_accepted sig base shapes a ok
 
   -- what is found is an answer with a list
-  open-found : AreShallow goal.terms → (budget : ℕ) (answer : Answer) (list : List Entry) → walk None budget (events sig.modes (rules_of (plain_of a)) hyps goal 1) ≡ found answer → list ≡ order_of answer.0 →
+  open-found : AreShallow goal.terms → (budget : ℕ) (answer : Answer) (list : List Entry) → walk None budget (events sig.modes (extended_rules (plain_of a)) hyps goal 1) ≡ found answer → list ≡ order_of answer.0 →
       IsListedFrom sig.modes (plain_of a) hyps goal list answer
   open-found low budget answer list e is =
-      let first = found_is_first sig.modes (rules_of (plain_of a)) hyps plain.moded goal None budget 1 answer e in
-      let given = answers_are_bounded sig.modes (rules_of (plain_of a)) hyps near goal 1 low in
-      let bounds = found_each (λ x. (height_of x.0 ≤ 3001 - 1) × HasShallowBinds x.0 × AreShallow x.1) None budget (events sig.modes (rules_of (plain_of a)) hyps goal 1) answer given e in
+      let first = found_is_first sig.modes (extended_rules (plain_of a)) hyps plain.moded goal None budget 1 answer e in
+      let given = answers_are_bounded sig.modes (extended_rules (plain_of a)) hyps near goal 1 low in
+      let bounds = found_each (λ x. (height_of x.0 ≤ 3001 - 1) × HasShallowBinds x.0 × AreShallow x.1) None budget (events sig.modes (extended_rules (plain_of a)) hyps goal 1) answer given e in
       record {
         derives = first.derives;
         list_is = is;
@@ -159,7 +159,7 @@ module _ (set : AcceptedOf) (ok : IsAccepted (signature set) (shapes_in set.base
       (subst (λ (q : Result Lowered RewriteError). IsRewriting (plain_of (accepted set)) (signature set).subjects (hypotheses given) answer.0 budget q) e h)
 
 -- so it is of what the two searches answer
-module _ (set : AcceptedOf) (ok : IsAccepted (signature set) (shapes_in set.base) (shapes_in set.rules) (accepted set)) (rules_are : bare_rules_in set.plain_rules ≡ rules_of (plain_of (accepted set))) (forms_are : forms_in set.plain_rules ≡ forms_in set.base)
+module _ (set : AcceptedOf) (ok : IsAccepted (signature set) (shapes_in set.base) (shapes_in set.rules) (accepted set)) (rules_are : bare_rules_in set.plain_rules ≡ extended_rules (plain_of (accepted set))) (forms_are : forms_in set.plain_rules ≡ forms_in set.base)
     (x : RuleSet) (same : x ≡ set.plain_rules) (given : Hyps) (held : IsHeld set.base given) (goal : Goal) (low : AreShallow goal.terms) (sorted : GoalIsSorted (shapes_in set.rules) (signature set).forms (signature set).modes [] goal) (budget : ℕ) where
   pub open-answers : (listed : Result Listed DeriveError) (derived : Result Derived DeriveError) (l : Listed) (d : Derived) (list : List EntryOf) (p : ProofOf) → listed ≡ Ok l → derived ≡ Ok d → list ≡ l.entries.items → p ≡ d.proof.value →
       IfOk listed (λ y. ListsFirst (modes_of (forms_in x)) (bare_rules_in x) (hypotheses given) goal None budget y) → IsDerived (modes_of (forms_in x)) (subjects_in (forms_in x)) (bare_rules_in x) (hypotheses given) goal None budget derived →
@@ -169,8 +169,8 @@ module _ (set : AcceptedOf) (ok : IsAccepted (signature set) (shapes_in set.base
       let first' = subst (λ (r : Result Listed DeriveError). IfOk r (λ y. ListsFirst (modes_of (forms_in x)) (bare_rules_in x) hyps goal None budget y)) is-l first in
       let finds = subst (λ (r : Result Derived DeriveError). IsDerived (modes_of (forms_in x)) (subjects_in (forms_in x)) (bare_rules_in x) hyps goal None budget r) is-d told in
       let m : modes_of (forms_in x) ≡ (signature set).modes = ap (λ (y : RuleSet). modes_of (forms_in y)) same ∙ ap (λ (fs : List FormData). modes_of fs) forms_are in
-      let r : bare_rules_in x ≡ rules_of (plain_of (accepted set)) = ap bare_rules_in same ∙ rules_are in
-      let es : events (modes_of (forms_in x)) (bare_rules_in x) hyps goal 1 ≡ events (signature set).modes (rules_of (plain_of (accepted set))) hyps goal 1 = (λ i. events (m i) (r i) hyps goal 1) in
+      let r : bare_rules_in x ≡ extended_rules (plain_of (accepted set)) = ap bare_rules_in same ∙ rules_are in
+      let es : events (modes_of (forms_in x)) (bare_rules_in x) hyps goal 1 ≡ events (signature set).modes (extended_rules (plain_of (accepted set))) hyps goal 1 = (λ i. events (m i) (r i) hyps goal 1) in
       let one : found first'.answer ≡ found (answer_of d) = sym first'.finds ∙ finds in
       let answer : first'.answer ≡ answer_of d = cc in
       let own = open-found (signature set) (shapes_in set.base) (shapes_in set.rules) (accepted set) ok hyps (held-sorted set.base given held) (held-below set.base given held) (held-near set.base given held) goal sorted low budget (answer_of d) (entries l.entries.items)

@@ -3,7 +3,7 @@ use Rattle.std.proofs.lemmas.Result.{IfOk-weaker}
 use Rattle.sx_rules.specs.Views.{rule}
 use Rattle.sx_arena.specs.Limits.{first_values}
 use Rattle.sx_arena.specs.Matching.{filled, IsBound}
-use Rattle.sx_rewrite.specs.Accepted.{rules_of}
+use Rattle.sx_rewrite.specs.Accepted.{extended_rules}
 use Rattle.sx_expand.specs.Followed.{bindings_of}
 use Rattle.sx_expand.specs.Readings.{set_by, signature_by, hyps_by}
 use Rattle.sx_expand.specs.ReadNodes.{NodeData, IsNodeIn, AreFollowed}
@@ -28,7 +28,7 @@ bound c d is f =
     let l = c.args.reading.now in
     let env = bindings_of (terms_in c.args.reader.now) c.args.work.now in
     subst (λ (n : ℕ). (v : ℕ) → v < n → IsBound env v) (sym (count-is c))
-    (node-bound (signature_by l).modes (rules_of (set_by l)) (hyps_by l) c.args.node.now.number d.rule (rule c.rule_at-rule.result.now) (rule-same _ _ c.requires.reading.rules.rules_are c.args.node.now.number d.rule is.found (rule c.rule_at-rule.result.now) c.rule_at-rule.ensures) is.found d.judgement d.binds d.kids is.can.derives env f)
+    (node-bound (signature_by l).modes (extended_rules (set_by l)) (hyps_by l) c.args.node.now.number d.rule (rule c.rule_at-rule.result.now) (rule-same _ _ c.requires.reading.rules.rules_are c.args.node.now.number d.rule is.found (rule c.rule_at-rule.result.now) c.rule_at-rule.ensures) is.found d.judgement d.binds d.kids is.can.derives env f)
 
 pub bound_numbers-requires : goal.bound_numbers-requires
 bound_numbers-requires c =
@@ -47,5 +47,5 @@ returns-clause-terms c =
     IfOk-weaker c.bound_numbers.result _ _ (λ x h d is f.
     (h (terms_in c.args.reader.now) c.requires.work (bound c.before d is f)).1
     ∙ ap (λ (n : ℕ). first_values n (filled env)) (count-is c.before)
-    ∙ node-binds (signature_by l).modes (rules_of (set_by l)) (hyps_by l) c.args.node.now.number d.rule (rule c.rule_at-rule.result.now) (rule-same _ _ c.requires.reading.rules.rules_are c.args.node.now.number d.rule is.found (rule c.rule_at-rule.result.now) c.rule_at-rule.ensures) is.found d.judgement d.binds d.kids is.can.derives env f)
+    ∙ node-binds (signature_by l).modes (extended_rules (set_by l)) (hyps_by l) c.args.node.now.number d.rule (rule c.rule_at-rule.result.now) (rule-same _ _ c.requires.reading.rules.rules_are c.args.node.now.number d.rule is.found (rule c.rule_at-rule.result.now) c.rule_at-rule.ensures) is.found d.judgement d.binds d.kids is.can.derives env f)
     c.bound_numbers.ensures

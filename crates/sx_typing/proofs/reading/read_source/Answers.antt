@@ -5,7 +5,7 @@ use Rattle.sx_term.specs.Term.{tree}
 use Rattle.sx_earley.specs.Completed.{IsSort}
 use Rattle.sx_forest.specs.Readings.{plain_reading}
 use Rattle.sx_typing.specs.Body.{ReadsAs}
-use Rattle.sx_typing.specs.Source.{source_of, main_sort}
+use Rattle.sx_typing.specs.BodySource.{source_of, main_sort}
 use Rattle.sx_typing.proofs.MainForms.{main_form_within}
 use Rattle.sx_typing.proofs.MainSorts.{subject_is_sort}
 use Rattle.sx_typing.proofs.ReadSorted.{body_is_term}

@@ -6,7 +6,7 @@ use Rattle.sx_earley.specs.Tokens.{plain_tokens}
 use Rattle.sx_earley.specs.Completed.{number_of}
 use Rattle.sx_term.specs.declared.role.Role.TheVariants.{Sub}
 use Rattle.sx_notation.proofs.OneReasons.{unread_or_read}
-use Rattle.sx_typing.specs.Source.{source_of, main_sort}
+use Rattle.sx_typing.specs.BodySource.{source_of, main_sort}
 use Rattle.sx_typing.specs.Unread.{IsUnreadText}
 use Rattle.sx_typing.proofs.OneBody.{one_cut, defect_or_cut, unread_within}
 use Rattle.sx_typing.proofs.reading.refusal.Goals as goal

@@ -5,7 +5,7 @@ use Rattle.sx_forest.specs.Readings.{plain_reading}
 use Rattle.sx_derive.specs.declared.derive_error.DeriveError.{DeriveError}
 use Rattle.sx_typing.specs.Goals.{IsFoundBy}
 use Rattle.sx_typing.specs.Refused.{HasBody}
-use Rattle.sx_typing.specs.Source.{source_of}
+use Rattle.sx_typing.specs.BodySource.{source_of}
 use Rattle.sx_typing.proofs.typing.no_derivation.Goals as goal
 
 pub returns-in-BudgetSpent-clause-bad : goal.returns-in-BudgetSpent-clause-bad

@@ -8,7 +8,7 @@ use Rattle.sx_derive.specs.Search.{tries_of}
 use Rattle.sx_derive.specs.Walk.{events}
 use Rattle.sx_typing.specs.Goals.{goal as goal_for}
 use Rattle.sx_typing.specs.Outcomes.{bare, no_hypotheses}
-use Rattle.sx_typing.specs.Source.{source_of}
+use Rattle.sx_typing.specs.BodySource.{source_of}
 use Rattle.sx_typing.proofs.TypedBodies.{by_rules}
 use Rattle.sx_typing.proofs.typing.search.Goals as goal
 

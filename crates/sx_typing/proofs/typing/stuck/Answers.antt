@@ -10,7 +10,7 @@ use Rattle.sx_derive.specs.Blames.{blame_of}
 use Rattle.sx_typing.specs.Goals.{goal as goal_for, IsFoundBy}
 use Rattle.sx_typing.specs.Outcomes.{IsBlameIn}
 use Rattle.sx_typing.specs.Refused.{HasBody, IsBadSource}
-use Rattle.sx_typing.specs.Source.{source_of}
+use Rattle.sx_typing.specs.BodySource.{source_of}
 use Rattle.sx_typing.specs.TypeErrors.{IsTypeError}
 use Rattle.sx_typing.proofs.Finding.{exhausted_goals_fit}
 use Rattle.sx_typing.proofs.TypedBodies.{ok_if, size_is, source_goal}

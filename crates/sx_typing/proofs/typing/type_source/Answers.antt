@@ -9,7 +9,7 @@ use Rattle.sx_rules.proofs.Refusals.{good_moded}
 use Rattle.sx_derive.specs.Search.{tries_of}
 use Rattle.sx_derive.proofs.FewNodes.{tries_within}
 use Rattle.sx_typing.specs.Goals.{goal_events}
-use Rattle.sx_typing.specs.Source.{source_of}
+use Rattle.sx_typing.specs.BodySource.{source_of}
 use Rattle.sx_typing.proofs.MainForms.{main_form_within}
 use Rattle.sx_typing.proofs.TypedBodies.{source_goal, found_good, one_listed, typed_by}
 use Rattle.sx_typing.proofs.Tries.{tried, counted_most}

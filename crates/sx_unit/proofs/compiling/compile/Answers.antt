@@ -5,7 +5,7 @@ use Rattle.sx_rules.specs.Modes.{AllModed}
 use Rattle.sx_rules.specs.Views.{modes_of}
 use Rattle.sx_rules.proofs.Refusals.{good_moded}
 use Rattle.sx_typing.specs.Dialects.{DialectData, IsDialect}
-use Rattle.sx_typing.specs.Goals.{rules_of}
+use Rattle.sx_typing.specs.Goals.{dialect_rules}
 use Rattle.sx_unit.specs.declared.module_error.ModuleError.{ModuleError}
 use Rattle.sx_unit.specs.Modules.{module_of}
 use Rattle.sx_unit.specs.Refused.{IsBadModule, IsCounted, IsFinal}
@@ -13,7 +13,7 @@ use Rattle.sx_unit.proofs.MadeUnits.{unread_bad, unread_counted, unit_if, final_
 use Rattle.sx_unit.proofs.compiling.compile.Goals as goal
 
 -- the rules of a dialect can be followed
-is_moded : (d : DialectData) → IsDialect d → AllModed (modes_of d.language.forms) (rules_of d)
+is_moded : (d : DialectData) → IsDialect d → AllModed (modes_of d.language.forms) (dialect_rules d)
 is_moded d is = good_moded (shapes_of d.parts) d.language.forms [] d.rules is.rule_set.1
 
 pub returns-in-Ok-clause-unit : goal.returns-in-Ok-clause-unit

@@ -3,7 +3,7 @@ use Rattle.std.specs.List.{AllByRecursion}
 use Rattle.sx_term.specs.Term.{tree}
 use Rattle.sx_rules.specs.ListText.{IsEntry}
 use Rattle.sx_forest.specs.Readings.{plain_reading}
-use Rattle.sx_typing.specs.Source.{source_of}
+use Rattle.sx_typing.specs.BodySource.{source_of}
 use Rattle.sx_unit.specs.Modules.{module_of}
 use Rattle.sx_unit.specs.PrintedParts.{printed_of}
 use Rattle.sx_unit.proofs.Entries.{names_are}

@@ -1,4 +1,4 @@
-use Rattle.sx_typing.specs.Source.{source_of}
+use Rattle.sx_typing.specs.BodySource.{source_of}
 use Rattle.sx_verify.proofs.body_reading.read_subject.Goals as goal
 
 pub bad_body-requires : goal.bad_body-requires

@@ -5,7 +5,7 @@ use Rattle.sx_term.specs.Term.{tree}
 use Rattle.sx_interface.specs.HeaderView.{header_view}
 use Rattle.sx_notation.specs.Language.{language_data}
 use Rattle.sx_typing.specs.Dialects.{dialect_of}
-use Rattle.sx_typing.specs.Source.{Source}
+use Rattle.sx_typing.specs.BodySource.{BodySource}
 use Rattle.sx_steps.specs.Stop.{Gives}
 use Rattle.sx_steps.specs.Unit.{base_file}
 use Rattle.sx_steps.specs.Work.{plan_of}
@@ -50,7 +50,7 @@ returns-in-Ok-clause-step g c = λ files told.
     c.requires.bare c.deref.ensures.value refl in
     goes_next plan_of (ReadsBody (base_file name) (source_in l w.base t))
     (VerifiesSubject name files w l.language t) (tree c.in-Ok.subject) c.verify_subject.result
-    (subst (λ (s : Source). ReadsBody (base_file name) s (Ok (tree c.in-Ok.subject))) same
+    (subst (λ (s : BodySource). ReadsBody (base_file name) s (Ok (tree c.in-Ok.subject))) same
     (subst (λ (file : List ℕ).
     ReadsBody file (source_with d bytes (header_view bytes header) t) (Ok (tree c.in-Ok.subject)))
     c.requires.files.base c.in-Ok.ensures.step))
@@ -69,7 +69,7 @@ returns-in-Err-clause-step g c = λ files told.
     c.requires.bare c.deref.ensures.value refl in
     stops_first tree plan_of (ReadsBody (base_file name) (source_in l w.base t))
     (VerifiesSubject name files w l.language t) c.in-Err.e
-    (subst (λ (s : Source). Gives tree (ReadsBody (base_file name) s) (Err c.in-Err.e)) same
+    (subst (λ (s : BodySource). Gives tree (ReadsBody (base_file name) s) (Err c.in-Err.e)) same
     (subst (λ (file : List ℕ).
     Gives tree (ReadsBody file (source_with d bytes (header_view bytes header) t)) (Err c.in-Err.e))
     c.requires.files.base c.in-Err.ensures.step))

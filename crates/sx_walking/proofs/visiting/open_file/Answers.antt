@@ -6,16 +6,16 @@ use Rattle.sx_walking.proofs.visiting.open_file.Goals as goal
 
 pub returns-then-has-clause-step : goal.returns-then-has-clause-step
 returns-then-has-clause-step g c =
-    let says = g.K.FileKind.says in
-    opens_held (g.K.FileKind.kind c.args.kind.now) (g.S.Shelf.content c.args.shelf.now)
+    let says = g.K.WalkedKind.says in
+    opens_held (g.K.WalkedKind.kind c.args.kind.now) (g.S.Shelf.content c.args.shelf.now)
     c.args.name.now (held_in says c.args.files.now) c.requires
     (sym (some_seen says (files_in c.args.files.now c.args.name.now)) ∙ sym c.has.ensures
     ∙ c.if-has.true)
 
 pub returns-in-Ok-put-clause-step : goal.returns-in-Ok-put-clause-step
 returns-in-Ok-put-clause-step g c =
-    let says = g.K.FileKind.says in
-    opens_new (g.K.FileKind.kind c.args.kind.now) (g.S.Shelf.content c.args.shelf.now)
+    let says = g.K.WalkedKind.says in
+    opens_new (g.K.WalkedKind.kind c.args.kind.now) (g.S.Shelf.content c.args.shelf.now)
     c.args.name.now (says c.in-Ok.file) (held_in says c.args.files.now)
     (held_in says c.put.new.self)
     (sym (some_seen says (files_in c.args.files.now c.args.name.now)) ∙ sym c.has.ensures
@@ -30,8 +30,8 @@ returns-in-Ok-put-clause-step g c =
 
 pub returns-in-Err-clause-step : goal.returns-in-Err-clause-step
 returns-in-Err-clause-step g c =
-    let says = g.K.FileKind.says in
-    opens_err (g.K.FileKind.kind c.args.kind.now) (g.S.Shelf.content c.args.shelf.now) says
+    let says = g.K.WalkedKind.says in
+    opens_err (g.K.WalkedKind.kind c.args.kind.now) (g.S.Shelf.content c.args.shelf.now) says
     c.args.name.now (held_in says c.args.files.now) c.in-Err.e
     (sym (some_seen says (files_in c.args.files.now c.args.name.now)) ∙ sym c.has.ensures
     ∙ c.if-has.false) c.in-Err.ensures.step

@@ -6,16 +6,16 @@ use Rattle.sx_walking.proofs.walking.turn.Goals as goal
 
 pub returns-in-Ok-Order-clause-step : goal.returns-in-Ok-Order-clause-step
 returns-in-Ok-Order-clause-step g c =
-    turn_whole (g.K.FileKind.kind c.args.kind.now) (g.S.Shelf.content c.args.shelf.now)
-    c.args.file.now c.args.walk (held_in g.K.FileKind.says c.args.files.now)
+    turn_whole (g.K.WalkedKind.kind c.args.kind.now) (g.S.Shelf.content c.args.shelf.now)
+    c.args.file.now c.args.walk (held_in g.K.WalkedKind.says c.args.files.now)
     c.in-Ok-Order.field-0 c.in-Ok-Order.order c.in-Ok-Order.field-0-is c.in-Ok-Order.ensures
 
 pub returns-in-Ok-clause-step : goal.returns-in-Ok-clause-step
 returns-in-Ok-clause-step g c =
-    let k = g.K.FileKind.kind c.args.kind.now in
+    let k = g.K.WalkedKind.kind c.args.kind.now in
     let told = g.S.Shelf.content c.args.shelf.now in
-    let old = held_in g.K.FileKind.says c.args.files.now in
-    let new = held_in g.K.FileKind.says c.visit.new.files in
+    let old = held_in g.K.WalkedKind.says c.args.files.now in
+    let new = held_in g.K.WalkedKind.says c.visit.new.files in
     turn_entered k told c.args.file.now c.args.walk old new c.in-Ok-Visit.asked
     (came c.args.walk c.in-Ok-Visit.field-0 c.in-Ok-Visit.asked c.in-Ok-Visit.field-0-is
     c.in-Ok-Visit.ensures) c.in-Ok.names c.enter.result
@@ -24,10 +24,10 @@ returns-in-Ok-clause-step g c =
 
 pub returns-in-Err-visit-clause-step : goal.returns-in-Err-visit-clause-step
 returns-in-Err-visit-clause-step g c =
-    let k = g.K.FileKind.kind c.args.kind.now in
+    let k = g.K.WalkedKind.kind c.args.kind.now in
     let told = g.S.Shelf.content c.args.shelf.now in
-    let old = held_in g.K.FileKind.says c.args.files.now in
-    let new = held_in g.K.FileKind.says c.visit.new.files in
+    let old = held_in g.K.WalkedKind.says c.args.files.now in
+    let new = held_in g.K.WalkedKind.says c.visit.new.files in
     turn_unvisited k told c.args.file.now c.args.walk old new c.in-Ok-Visit.asked
     (came c.args.walk c.in-Ok-Visit.field-0 c.in-Ok-Visit.asked c.in-Ok-Visit.field-0-is
     c.in-Ok-Visit.ensures) c.in-Err-visit.e
@@ -36,6 +36,6 @@ returns-in-Err-visit-clause-step g c =
 
 pub returns-in-Err-clause-step : goal.returns-in-Err-clause-step
 returns-in-Err-clause-step g c =
-    turn_stop (g.K.FileKind.kind c.args.kind.now) (g.S.Shelf.content c.args.shelf.now)
-    c.args.file.now c.args.walk (held_in g.K.FileKind.says c.args.files.now) c.in-Err.error
+    turn_stop (g.K.WalkedKind.kind c.args.kind.now) (g.S.Shelf.content c.args.shelf.now)
+    c.args.file.now c.args.walk (held_in g.K.WalkedKind.says c.args.files.now) c.in-Err.error
     c.stopped.result c.requires c.in-Err.ensures c.stopped.ensures

@@ -11,20 +11,20 @@ use Rattle.sx_walking.proofs.walking.walk_files.Goals as goal
 pub loop-next-init : goal.loop-next-init
 loop-next-init g c = record {
   opened = c.requires;
-  on = come_begin (g.K.FileKind.kind c.args.kind.now) c.args.roots.items
-      (held_in g.K.FileKind.says c.args.files.now) c.begin-walk.result c.begin-walk.ensures;
+  on = come_begin (g.K.WalkedKind.kind c.args.kind.now) c.args.roots.items
+      (held_in g.K.WalkedKind.says c.args.files.now) c.begin-walk.result c.begin-walk.ensures;
   reads = reads_none _ _ _ tt;
 }
 
 pub turn-requires : goal.turn-requires
 turn-requires g c =
-    subst (λ (s : Option Files). AreOpened (g.K.FileKind.kind c.args.kind.now) s
-    (held_in g.K.FileKind.says c.loop-next.files)) (sym c.loop-next.invariant.reads.content)
+    subst (λ (s : Option Files). AreOpened (g.K.WalkedKind.kind c.args.kind.now) s
+    (held_in g.K.WalkedKind.says c.loop-next.files)) (sym c.loop-next.invariant.reads.content)
     c.loop-next.invariant.opened
 
 pub loop-next-preserved : goal.loop-next-preserved
 loop-next-preserved g c =
-    let k = g.K.FileKind.kind c.args.kind.now in
+    let k = g.K.WalkedKind.kind c.args.kind.now in
     let told = g.S.Shelf.content c.args.shelf.now in
     let now = g.S.Shelf.content c.loop-next.shelf in
     let same = c.loop-next.invariant.reads.content in
@@ -32,8 +32,8 @@ loop-next-preserved g c =
     let roots = c.args.roots.items in
     let walk = c.loop-next.walk in
     let next = c.in-Ok-On.next in
-    let old = held_in g.K.FileKind.says c.loop-next.files in
-    let new = held_in g.K.FileKind.says c.turn.new.files in
+    let old = held_in g.K.WalkedKind.says c.loop-next.files in
+    let new = held_in g.K.WalkedKind.says c.turn.new.files in
     let step = turn_as k now old new file walk c.in-Ok-On.field-0 (On next) c.in-Ok-On.field-0-is
     c.in-Ok-On.ensures.step in
     record {
@@ -45,14 +45,14 @@ loop-next-preserved g c =
 
 pub loop-next-smaller : goal.loop-next-smaller
 loop-next-smaller g c =
-    let k = g.K.FileKind.kind c.args.kind.now in
+    let k = g.K.WalkedKind.kind c.args.kind.now in
     let told = g.S.Shelf.content c.args.shelf.now in
     let now = g.S.Shelf.content c.loop-next.shelf in
     let file = c.args.file.now in
     let walk = c.loop-next.walk in
     let next = c.in-Ok-On.next in
-    let old = held_in g.K.FileKind.says c.loop-next.files in
-    let new = held_in g.K.FileKind.says c.turn.new.files in
+    let old = held_in g.K.WalkedKind.says c.loop-next.files in
+    let new = held_in g.K.WalkedKind.says c.turn.new.files in
     let step = turn_as k now old new file walk c.in-Ok-On.field-0 (On next) c.in-Ok-On.field-0-is
     c.in-Ok-On.ensures.step in
     let less = less_left k told now c.loop-next.invariant.reads.content file c.args.roots.items old
@@ -63,14 +63,14 @@ loop-next-smaller g c =
 
 pub returns-in-Ok-Whole-clause-step : goal.returns-in-Ok-Whole-clause-step
 returns-in-Ok-Whole-clause-step g c =
-    let k = g.K.FileKind.kind c.args.kind.now in
+    let k = g.K.WalkedKind.kind c.args.kind.now in
     let told = g.S.Shelf.content c.args.shelf.now in
     let now = g.S.Shelf.content c.loop-next.shelf in
     let file = c.args.file.now in
     let walk = c.loop-next.walk in
     let order = c.in-Ok-Whole.order in
-    let old = held_in g.K.FileKind.says c.loop-next.files in
-    let new = held_in g.K.FileKind.says c.turn.new.files in
+    let old = held_in g.K.WalkedKind.says c.loop-next.files in
+    let new = held_in g.K.WalkedKind.says c.turn.new.files in
     let step = turn_as k now old new file walk c.in-Ok-Whole.field-0 (Whole order)
     c.in-Ok-Whole.field-0-is c.in-Ok-Whole.ensures.step in
     walked_whole k told now c.loop-next.invariant.reads.content file c.args.roots.items old new walk
@@ -83,11 +83,11 @@ returns-in-Ok-Whole-clause-reads g c =
 
 pub returns-in-Err-clause-step : goal.returns-in-Err-clause-step
 returns-in-Err-clause-step g c =
-    let k = g.K.FileKind.kind c.args.kind.now in
+    let k = g.K.WalkedKind.kind c.args.kind.now in
     let told = g.S.Shelf.content c.args.shelf.now in
     let now = g.S.Shelf.content c.loop-next.shelf in
-    let old = held_in g.K.FileKind.says c.loop-next.files in
-    let new = held_in g.K.FileKind.says c.turn.new.files in
+    let old = held_in g.K.WalkedKind.says c.loop-next.files in
+    let new = held_in g.K.WalkedKind.says c.turn.new.files in
     walked_err k told now c.loop-next.invariant.reads.content c.args.file.now c.args.roots.items old
     new c.loop-next.walk c.in-Err.e c.loop-next.invariant.on c.in-Err.ensures.step
 

@@ -9,10 +9,10 @@ use Rattle.sx_walking.proofs.walking.walk_files.Given as goal
 
 abbrev pub invariant-loop-next : goal.invariant-loop-next
 invariant-loop-next g l = record {
-  opened : AreOpened (g.K.FileKind.kind l.fn.kind) (g.S.Shelf.content l.initial.shelf)
-      (held_in g.K.FileKind.says l.files);
-  on : HasCome (g.K.FileKind.kind l.fn.kind) l.fn.roots.items
-      (held_in g.K.FileKind.says l.files) l.walk;
+  opened : AreOpened (g.K.WalkedKind.kind l.fn.kind) (g.S.Shelf.content l.initial.shelf)
+      (held_in g.K.WalkedKind.says l.files);
+  on : HasCome (g.K.WalkedKind.kind l.fn.kind) l.fn.roots.items
+      (held_in g.K.WalkedKind.says l.files) l.walk;
   reads : OnlyReads {X = Unit {0}} (g.S.Shelf.content l.initial.shelf)
       (g.S.Shelf.content l.shelf) (g.S.Shelf.read_faults l.initial.shelf)
       (g.S.Shelf.read_faults l.shelf) (g.S.Shelf.write_faults l.initial.shelf)

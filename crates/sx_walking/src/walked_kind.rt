@@ -11,7 +11,7 @@ use sx_steps::StepError;
 use sx_term::{NoMemory, Text};
 
 /// A kind of files that stand on one another.
-pub trait FileKind {
+pub trait WalkedKind {
     /// A file of this kind, as far as it is read.
     type File: Drop;
 

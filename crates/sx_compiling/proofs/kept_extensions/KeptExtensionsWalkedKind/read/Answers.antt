@@ -4,7 +4,7 @@ use Rattle.sx_outside.specs.Views.{clean_files_of}
 use Rattle.sx_uses.specs.ExtensionFile.{extension_of}
 use Rattle.sx_compiling.specs.KeptFiles.{beside}
 use Rattle.sx_compiling.proofs.KeptReads.{beside_kept, gives_file, reads_nothing}
-use Rattle.sx_compiling.proofs.kept_extensions.KeptExtensionsFileKind.read.Goals as goal
+use Rattle.sx_compiling.proofs.kept_extensions.KeptExtensionsWalkedKind.read.Goals as goal
 
 pub returns-in-Some-clause-step : goal.returns-in-Some-clause-step
 returns-in-Some-clause-step g c = λ files told.

@@ -6,7 +6,7 @@ use sx_term::Term;
 
 /// The dialect, the header and the bytes of the module's file, and the environment.
 #[derive(Clone, Copy)]
-pub struct Source<'a> {
+pub struct BodySource<'a> {
     pub dialect: Dialect<'a>,
     pub header: &'a Header,
     pub bytes: &'a [u8],

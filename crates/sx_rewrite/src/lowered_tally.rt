@@ -14,18 +14,18 @@ use crate::lowered_size::LoweredSize;
 /// are copied for it. The numbers of nodes stay at the greatest u128 where
 /// they would pass it, which is more than every budget.
 #[derive(Clone, Copy)]
-pub struct Tally {
+pub struct LoweredTally {
     pub nodes: u128,
     pub height: u64,
     pub copied: u128,
 }
 
-impl Tally {
+impl LoweredTally {
     /// What is counted of one node over no kids.
-    pub fn of_one() -> Tally
+    pub fn of_one() -> LoweredTally
         ensures { result ≡ record { nodes = 1; height = 1; copied = 0 } }
     {
-        Tally {
+        LoweredTally {
             nodes: 1,
             height: 1,
             copied: 0,
@@ -33,7 +33,7 @@ impl Tally {
     }
 
     /// What is counted so far, with a kid of which so much is counted and whose given is used so.
-    pub fn with_kid(self, given: GivenUse, kid: Tally) -> Tally
+    pub fn with_kid(self, given: GivenUse, kid: LoweredTally) -> LoweredTally
         requires used { 0 < given.times }
         requires near { given.above ≤ most_levels }
         requires low { kid.height < 2 ^ 32 }
@@ -42,7 +42,7 @@ impl Tally {
     {
         let nodes = given.times.saturating_mul(kid.nodes);
         let more = (given.times - 1).saturating_mul(kid.nodes);
-        Tally {
+        LoweredTally {
             nodes: self.nodes.saturating_add(nodes),
             height: self.height.max(u64::from(given.above) + kid.height),
             copied: self.copied.saturating_add(more).saturating_add(kid.copied),

@@ -1,5 +1,5 @@
 use Rattle.std.proofs.Common.{ℕ, refl, sym, ◌∙◌, length-take, length-take-le, length-append, arith}
-use Rattle.sx_host.proofs.input.InputSource.take.Goals as goal
+use Rattle.sx_host.proofs.standard_input.StandardInputSource.take.Goals as goal
 
 pub slice_bounds-copy_from_slice-end : goal.slice_bounds-copy_from_slice-end
 slice_bounds-copy_from_slice-end c = omega (arith, length-take {A = ℕ}, c.in-Ok.ensures.bound)

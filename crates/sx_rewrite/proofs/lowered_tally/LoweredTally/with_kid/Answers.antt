@@ -1,7 +1,7 @@
 use Rattle.std.proofs.Common.{arith, ◌≡◌, ◌+◌, ℕ, max, ap, ◌∙◌}
 use Rattle.sx_rewrite.specs.Sizes.{in_u128}
 use Rattle.sx_rewrite.proofs.Tallied.{with-used}
-use Rattle.sx_rewrite.proofs.tally.Tally.with_kid.Goals as goal
+use Rattle.sx_rewrite.proofs.lowered_tally.LoweredTally.with_kid.Goals as goal
 
 pub returns : goal.returns
 returns c = λ a p h.

@@ -6,7 +6,7 @@ use thiserror::Error;
 
 /// Why a rule of an extension is refused.
 #[derive(Drop, Error)]
-pub enum RuleDefect {
+pub enum RuleRefusal {
     /// The rule is not sound: by the rules that it is checked by, its flat conclusion has no
     /// derivation from its flat premises, and this goal is stuck.
     #[error("the rule is not sound")]
@@ -34,7 +34,7 @@ pub enum RuleDefect {
     RewriteDeep,
 }
 
-impl fmt::Debug for RuleDefect {
+impl fmt::Debug for RuleRefusal {
     fn fmt<W: fmt::Write>(&self, f: &mut fmt::Formatter<W>) -> fmt::Result {
         fmt::Display::fmt(self, f)
     }

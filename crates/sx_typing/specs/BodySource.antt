@@ -16,19 +16,19 @@ use Rattle.sx_rules.specs.Views.{places_at}
 use Rattle.sx_interface.specs.Headers.{HeaderParts}
 use Rattle.sx_interface.specs.HeaderView.{header_view}
 use Rattle.sx_notation.specs.Language.{LanguageData, sorts_with}
-use Rattle.sx_typing.specs.declared.source.Source.{Source as SourceOf}
+use Rattle.sx_typing.specs.declared.body_source.BodySource.{BodySource as SourceOf}
 use Rattle.sx_typing.specs.Dialects.{DialectData, IsDialectOf, dialect_of}
 use Rattle.sx_term.specs.Limits.{most_bytes, most_depth}
 
 -- the dialect, the bytes and the header of the module's file, and the environment
-pub record Source : Type 0 where
+pub record BodySource : Type 0 where
   pub dialect : DialectData
   pub bytes : List ℕ
   pub header : HeaderParts
   pub environment : Tree
 
 -- the view of a source
-abbrev pub source_of : SourceOf → Source
+abbrev pub source_of : SourceOf → BodySource
 source_of s = record {
   dialect = dialect_of s.dialect;
   bytes = s.bytes.now;
@@ -66,5 +66,5 @@ pub record CanType (s : SourceOf) : Type 0 where
   pub environment : IsTermFor (dialect_of s.dialect) In (tree s.environment.now)
 
 -- how many bytes stand before the body
-abbrev pub bytes_before : Source → ℕ
+abbrev pub bytes_before : BodySource → ℕ
 bytes_before s = length s.bytes - length s.header.body

@@ -10,19 +10,19 @@ const MOST_TAKEN: usize = 4096;
 
 /// Standard input, with how many takes have failed.
 #[derive(Drop)]
-pub struct Input<'a> {
+pub struct StandardInput<'a> {
     rt: &'a HostRuntime,
     failed: u64,
 }
 
-impl<'a> Input<'a> {
+impl<'a> StandardInput<'a> {
     /// Standard input, without faults.
-    pub fn new(rt: &'a HostRuntime) -> Input<'a> {
-        Input { rt, failed: 0 }
+    pub fn new(rt: &'a HostRuntime) -> StandardInput<'a> {
+        StandardInput { rt, failed: 0 }
     }
 }
 
-impl<'a> Source for Input<'a> {
+impl<'a> Source for StandardInput<'a> {
     ghost content = { λ _. None };
 
     ghost faults = { λ input. input.failed };

@@ -7,19 +7,19 @@ use sx_outside::{Sink, WriteAnswer};
 
 /// Standard output, with how many writes have failed.
 #[derive(Drop)]
-pub struct Output<'a> {
+pub struct StandardOutput<'a> {
     rt: &'a HostRuntime,
     failed: u64,
 }
 
-impl<'a> Output<'a> {
+impl<'a> StandardOutput<'a> {
     /// Standard output, without faults.
-    pub fn new(rt: &'a HostRuntime) -> Output<'a> {
-        Output { rt, failed: 0 }
+    pub fn new(rt: &'a HostRuntime) -> StandardOutput<'a> {
+        StandardOutput { rt, failed: 0 }
     }
 }
 
-impl<'a> Sink for Output<'a> {
+impl<'a> Sink for StandardOutput<'a> {
     ghost content = { λ _. None };
 
     ghost faults = { λ output. output.failed };

@@ -1,5 +1,5 @@
 use Rattle.std.proofs.Common.{rules}
-use Rattle.sx_uses.proofs.extension_kind.ExtensionKindFileKind.stands_on.Goals as goal
+use Rattle.sx_uses.proofs.extension_kind.ExtensionKindWalkedKind.stands_on.Goals as goal
 
 pub returns-then-same-clause-step : goal.returns-then-same-clause-step
 returns-then-same-clause-step c = search rules
