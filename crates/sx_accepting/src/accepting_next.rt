@@ -83,20 +83,13 @@ fn accept_told<L: Ledger>(
     } = read;
     let Extended {
         grammars,
-        accepted,
+        accepted: set,
         last: _,
     } = so_far;
     drop(grammars);
     let ToldRules { shapes, names } = told;
     let last = extension.rules.len();
-    match accept(
-        given.alloc,
-        accepted,
-        &shapes,
-        extension,
-        given.budgets,
-        steps,
-    ) {
+    match accept(given.alloc, set, &shapes, extension, given.budgets, steps) {
         Ok(accepted) => {
             drop(names);
             drop(shapes);
