@@ -16,7 +16,7 @@ use Rattle.sx_earley.proofs.Growth.{still_there}
 use Rattle.sx_earley.proofs.Predicting.{there_is}
 
 -- the symbol whose part this is
-part_is : (o : Option Symbol) (sort least : ℕ) → as_part o ≡ Some (sort, least) → o ≡ Some (part sort least)
+pub part_is : (o : Option Symbol) (sort least : ℕ) → as_part o ≡ Some (sort, least) → o ≡ Some (part sort least)
 part_is None sort least e = absurd (none-some (sort, least) e)
 part_is (Some (literal text)) sort least e = absurd (none-some (sort, least) e)
 part_is (Some (lexical kind)) sort least e = absurd (none-some (sort, least) e)

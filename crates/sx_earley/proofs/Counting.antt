@@ -3,8 +3,7 @@ use Rattle.std.specs.Cmp.{IsEquivalence}
 use Rattle.std.specs.List.{IsDistinct, AllByRecursion}
 use Rattle.std.proofs.lemmas.Map.Keys.{IsDistinct-cons}
 use Rattle.std.proofs.lemmas.Map.Made.{length-le_from_is_member}
-use Rattle.std.proofs.lemmas.Map.Views.{list_any-from_Contains}
-use Rattle.indexmap.proofs.CallerLemmas.{Contains-list_any}
+use Rattle.std.proofs.lemmas.Map.Views.{list_any-from_Contains, Contains-from_any}
 use Rattle.sx_grammar.specs.Grammar.{Grammar, Token}
 use Rattle.sx_grammar.specs.declared.item.Item.{Item}
 use Rattle.sx_grammar.specs.contracts.item.ItemPartialEq.TheImpl as item_eq
@@ -49,6 +48,6 @@ pub no_more_hold : (g : Grammar) (tokens : List Token) (start : ℕ) (keys : Lis
     ((i : Item) → Holds g tokens start i → Contains keys i) → MoreHold g tokens start n → ⊥
 no_more_hold g tokens start keys n few all more =
     let low = length-le_from_is_member item_laws more.0 keys (distinct more.0 more.2)
-    (λ q member. list_any-from_Contains item_laws q keys (all q (more.3 q (Contains-list_any same same_items more.0 q member)))) in
+    (λ q member. list_any-from_Contains item_laws q keys (all q (more.3 q (Contains-from_any same_items q more.0 member)))) in
     let many = more.1 in
     omega arith

@@ -1,12 +1,11 @@
-use Rattle.std.proofs.Common.{◌≡◌, ℕ, ◌+◌, ◌<◌, ◌≤◌, List, Some, ⊎_elim, refl, sym, subst, length, take, get_or, Contains}
-use Rattle.std.specs.List.{slice_get}
+use Rattle.std.proofs.Common.{◌≡◌, ℕ, ◌+◌, ◌<◌, ◌≤◌, List, ⊎_elim, refl, sym, subst, length, take, get_or, Contains}
 use Rattle.std.proofs.lemmas.List.{take_more, take_all}
-use Rattle.std.proofs.lemmas.List.Elements.{Contains-get_or, Contains-push_cases}
+use Rattle.std.proofs.lemmas.List.Elements.{Contains-push_cases}
 use Rattle.sx_grammar.specs.Grammar.{Grammar}
 use Rattle.sx_grammar.specs.declared.head.Head.TheVariants.{Labelled}
 use Rattle.sx_grammar.specs.declared.item.Item.{Item}
 use Rattle.sx_earley.specs.Growth.{Only}
-use Rattle.sx_earley.specs.Chart.{Joins, IsNumbered, IsJoined, moved, beginning}
+use Rattle.sx_earley.specs.Chart.{Joins, IsJoined, moved, beginning}
 use Rattle.sx_earley.proofs.Growth.{only_on, only_more}
 
 abbrev pub no_item : Item
@@ -24,18 +23,16 @@ pub all_done : {X : Type 0} (xs : List X) (index : ℕ) (P : X → Type 0) → l
 all_done xs index P long before x there = before x (subst (λ l. Contains l x) (sym (take_all index xs long)) there)
 
 -- what one turn adds is joined
-pub each_only : (g : Grammar) (befores : List ℕ) (filling before : Item) (index : ℕ) (old mid new : List Item) → index < length befores →
-    slice_get old (get_or befores index 0) ≡ Some before → Only old mid (IsJoined g (IsNumbered old befores) (λ x. x ≡ filling)) →
-    Only mid new (λ i. Joins g before filling × (i ≡ moved before filling.end)) → Only old new (IsJoined g (IsNumbered old befores) (λ x. x ≡ filling))
-each_only g befores filling before index old mid new low at h k =
-    only_on old mid new (IsJoined g (IsNumbered old befores) (λ x. x ≡ filling)) h
-    (only_more mid new (λ i. Joins g before filling × (i ≡ moved before filling.end)) (IsJoined g (IsNumbered old befores) (λ x. x ≡ filling))
-    (λ i j. (before, filling, (get_or befores index 0, Contains-get_or befores index 0 low, at), refl, j.0, j.1)) k)
+pub each_only : (g : Grammar) (IsBefore : Item → Type 0) (filling before : Item) (old mid new : List Item) → IsBefore before → Only old mid (IsJoined g IsBefore (λ x. x ≡ filling)) →
+    Only mid new (λ i. Joins g before filling × (i ≡ moved before filling.end)) → Only old new (IsJoined g IsBefore (λ x. x ≡ filling))
+each_only g IsBefore filling before old mid new is h k =
+    only_on old mid new (IsJoined g IsBefore (λ x. x ≡ filling)) h
+    (only_more mid new (λ i. Joins g before filling × (i ≡ moved before filling.end)) (IsJoined g IsBefore (λ x. x ≡ filling))
+    (λ i j. (before, filling, is, refl, j.0, j.1)) k)
 
-pub over_only : (g : Grammar) (before filling : Item) (fillings : List ℕ) (index : ℕ) (old mid new : List Item) → index < length fillings →
-    slice_get old (get_or fillings index 0) ≡ Some filling → Only old mid (IsJoined g (λ x. x ≡ before) (IsNumbered old fillings)) →
-    Only mid new (λ i. Joins g before filling × (i ≡ moved before filling.end)) → Only old new (IsJoined g (λ x. x ≡ before) (IsNumbered old fillings))
-over_only g before filling fillings index old mid new low at h k =
-    only_on old mid new (IsJoined g (λ x. x ≡ before) (IsNumbered old fillings)) h
-    (only_more mid new (λ i. Joins g before filling × (i ≡ moved before filling.end)) (IsJoined g (λ x. x ≡ before) (IsNumbered old fillings))
-    (λ i j. (before, filling, refl, (get_or fillings index 0, Contains-get_or fillings index 0 low, at), j.0, j.1)) k)
+pub over_only : (g : Grammar) (IsFilling : Item → Type 0) (before filling : Item) (old mid new : List Item) → IsFilling filling → Only old mid (IsJoined g (λ x. x ≡ before) IsFilling) →
+    Only mid new (λ i. Joins g before filling × (i ≡ moved before filling.end)) → Only old new (IsJoined g (λ x. x ≡ before) IsFilling)
+over_only g IsFilling before filling old mid new is h k =
+    only_on old mid new (IsJoined g (λ x. x ≡ before) IsFilling) h
+    (only_more mid new (λ i. Joins g before filling × (i ≡ moved before filling.end)) (IsJoined g (λ x. x ≡ before) IsFilling)
+    (λ i j. (before, filling, refl, is, j.0, j.1)) k)

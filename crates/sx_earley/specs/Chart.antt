@@ -1,5 +1,5 @@
 -- What follows from items.
-use Rattle.std.specs.Prelude.{◌≡◌, ◌≤◌, ◌<◌, ℕ, ◌+◌, List, Option, None, Some, length, Contains}
+use Rattle.std.specs.Prelude.{◌≡◌, ◌≤◌, ℕ, ◌+◌, List, Option, None, Some, length, Contains}
 use Rattle.std.specs.List.{slice_get}
 use Rattle.sx_grammar.specs.declared.head.Head.{Head}
 use Rattle.sx_grammar.specs.declared.item.Item.{Item}
@@ -8,7 +8,6 @@ use Rattle.sx_grammar.specs.Grammar.{production_of}
 use Rattle.sx_grammar.specs.Items.{ReadsToken}
 use Rattle.sx_grammar.specs.ReadOne.{Holds}
 use Rattle.sx_earley.specs.declared.ask.Ask.{Ask}
-use Rattle.sx_earley.specs.declared.slot.Slot.{Slot}
 use Rattle.sx_earley.specs.declared.table.Table.{Table}
 use Rattle.sx_earley.specs.Table.{row_at}
 
@@ -76,10 +75,6 @@ moved before end = record {
   end = end;
 }
 
--- one of the numbers is that of the item in the list
-abbrev pub IsNumbered : List Item → List ℕ → Item → Type 0
-IsNumbered keys numbers x = (n : ℕ) × Contains numbers n × (slice_get keys n ≡ Some x)
-
 -- the item is one of the first, moved over one of the second that it waits for
 abbrev pub IsJoined : Grammar → (IsBefore IsFilling : Item → Type 0) → Item → Type 0
 IsJoined g IsBefore IsFilling i =
@@ -146,18 +141,3 @@ HasAllOpenings g t = (sort : ℕ) → HasOpenings g sort (row_at t (record { pla
 abbrev pub AllAsked : Grammar → List Ask → List Item → Type 0
 AllAsked g asked keys = (ask : Ask) → Contains asked ask → (head : Head) →
     IsOfSort (production_of g head) ask.sort ask.least → Contains keys (beginning head ask.place)
-
--- where the item waits for a part, its number is in the row of its end and the part's sort
-abbrev pub IsFiledWaiting : Grammar → List Item → Table ℕ → Item → Type 0
-IsFiledWaiting g keys t x = (sort least : ℕ) → as_part (next_symbol g x.head x.dot)
-    ≡ Some (sort, least) → IsNumbered keys (row_at t (record { place = x.end; sort = sort })) x
-
--- where the item is complete, its number is in the row of its origin and its sort
-abbrev pub IsFiledComplete : Grammar → List Item → Table ℕ → Item → Type 0
-IsFiledComplete g keys t x = (sort : ℕ) → EndsAt (production_of g x.head) x.dot →
-    sort_made (production_of g x.head) ≡ Some sort →
-    IsNumbered keys (row_at t (record { place = x.origin; sort = sort })) x
-
--- the rows have only numbers below the bound
-abbrev pub HasBelow : Table ℕ → ℕ → Type 0
-HasBelow t bound = (s : Slot) (n : ℕ) → Contains (row_at t s) n → n < bound

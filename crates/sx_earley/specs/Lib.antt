@@ -1,8 +1,11 @@
 pub mod Table
 pub mod ItemSet
+pub mod AskSet
 pub mod Shown
 pub mod Growth
 pub mod Chart
+pub mod Dotted
+pub mod Keys
 pub mod Tokens
 pub mod Unknown
 pub mod Completed

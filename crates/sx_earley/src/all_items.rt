@@ -5,28 +5,28 @@ ghost use Rattle.std.specs.Prelude.{slice_get};
 ghost use Rattle.sx_grammar.specs.ReadOne.{Holds, MoreHold};
 ghost use Rattle.sx_grammar.specs.declared.item.Item.{Item};
 ghost use Rattle.sx_earley.specs.Shown.{plain, texts, tokens_of, AreBelow};
-ghost use Rattle.sx_earley.specs.declared.slot.Slot.{Slot};
 ghost use Rattle.sx_earley.specs.Chart.{HasAllOpenings};
-ghost use Rattle.sx_earley.specs.Table.{row_at};
 ghost use Rattle.sx_grammar.specs.ReadOne.{most_items};
 ghost use Rattle.sx_term.specs.Limits.{most_tokens};
 
 use crate::ask::Ask;
 use crate::chart_error::ChartError;
-use crate::filed::{befores, file_complete, file_waiting, fillings};
+use crate::dotted::Dotted;
+use crate::filed::{before_key, filling_key, own_key};
 use crate::given::Given;
-use crate::growing::{predict_once, treat};
+use crate::growing::treat;
 use crate::item_set::ItemSet;
 use crate::neighbours::Neighbours;
 use crate::notes::Notes;
+use crate::prediction::predict_once;
 use crate::shown::Shown;
+use crate::symbols::{part_of, sort_made, symbol_of};
 use crate::table::Table;
 use std::alloc::Global;
 use sx_grammar::{Grammar, Item};
 
 /// Adds all items that hold to none, or finds that they are too many.
 fn collect(
-    alloc: Global,
     grammar: &Grammar,
     start: u32,
     shown: &[Shown],
@@ -36,9 +36,9 @@ fn collect(
     requires short { length shown.now ≤ most_tokens }
     requires below { AreBelow (length (texts grammar.now)) shown.now }
     requires openings { HasAllOpenings (plain grammar.now) notes.old.openings.now }
-    requires asked { notes.old.asked.keys ≡ [] }
-    requires waiting { (s : Slot) → row_at notes.old.waiting s ≡ [] }
-    requires complete { (s : Slot) → row_at notes.old.complete s ≡ [] }
+    requires asked { notes.old.asked ≡ [] }
+    requires keys { notes.old.filed.keys ≡ [] }
+    requires numbers { notes.old.filed.numbers.items ≡ [] }
     requires none { found.old ≡ [] }
     ensures all { OnOk result ((i : Item) → Contains found.new i
         ↔ Holds (plain grammar.now) (tokens_of grammar.now shown.now) start i) }
@@ -58,20 +58,23 @@ fn collect(
     }
     let mut next = 0;
     while let Some(item) = found.get(next) {
-        file_waiting(alloc, grammar, &mut notes.waiting, item, next as u32)?;
-        file_complete(alloc, grammar, &mut notes.complete, item, next as u32)?;
-        let before = befores(grammar, &notes.waiting, item);
-        let filling = fillings(grammar, &notes.complete, item);
+        let symbol = symbol_of(grammar, item.head, item.dot);
+        let part = part_of(symbol);
+        let made = sort_made(grammar, item, symbol);
+        let own = own_key(item, part, made);
+        notes.filed.file(own, next as u32)?;
         let given = Given {
             grammar,
             openings: notes.openings,
             shown,
         };
         let near = Neighbours {
-            befores: before,
-            fillings: filling,
+            filed: &notes.filed,
+            before: before_key(item, made),
+            filling: filling_key(item, part),
         };
-        if let Err(error) = treat(given, found, &mut notes.hints, &mut notes.asked, near, item) {
+        let here = Dotted { item, symbol };
+        if let Err(error) = treat(given, found, &mut notes.hints, &mut notes.asked, near, here) {
             let _count = found.len();
             return Err(error);
         }
@@ -100,7 +103,7 @@ pub(crate) fn all_items(
 {
     let mut notes = Notes::new(alloc, openings, shown.len() + 1)?;
     let mut found = ItemSet::new(alloc);
-    let collected = collect(alloc, grammar, start, shown, &mut notes, &mut found);
+    let collected = collect(grammar, start, shown, &mut notes, &mut found);
     drop(notes);
     match collected {
         Ok(()) => Ok(found),

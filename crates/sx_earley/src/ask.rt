@@ -1,7 +1,7 @@
 //! What is asked for.
 
 /// A sort that is asked for at a place, at a least level.
-#[derive(Clone, Copy, PartialEq, Eq, Hash)]
+#[derive(Clone, Copy)]
 pub(crate) struct Ask {
     pub sort: u32,
     pub least: u8,

@@ -1,110 +1,102 @@
-//! Rows of the numbers of items that wait and of items that are complete.
+//! The keys under which the numbers of items are filed.
 
-ghost use Rattle.std.specs.Prelude.{◌≡◌, ◌⊎◌, ℕ, List, OnOk, Contains, Some, slice_get};
-ghost use Rattle.sx_grammar.specs.declared.item.Item.{Item};
-ghost use Rattle.sx_earley.specs.declared.slot.Slot.{Slot};
-ghost use Rattle.sx_earley.specs.Shown.{plain};
-ghost use Rattle.sx_earley.specs.Table.{row_at};
-ghost use Rattle.sx_earley.specs.Chart.{Joins, IsNumbered, IsFiledWaiting, IsFiledComplete};
+ghost use Rattle.std.specs.Prelude.{◌≡◌, ◌<◌, [], OnOk, length, get_or};
+ghost use Rattle.sx_earley.specs.Keys.{waiting_key, complete_key, before_key, filling_key};
+ghost use Rattle.sx_earley.specs.Keys.{own_key, IsAddedTo};
 
-use crate::slot::Slot;
-use crate::symbols::{ends_at, next_part, sort_of};
-use crate::table::Table;
-use std::alloc::Global;
-use sx_grammar::{Grammar, Item};
-use sx_term::NoMemory;
+use std::alloc::{AllocError, Global};
+use sx_grammar::Item;
+use sx_slots::{Slots, folded, mix};
 
-/// Files the item's number under its end and the sort of the part for which it waits, if it waits
-/// for one.
-pub(crate) fn file_waiting(
-    alloc: Global,
-    grammar: &Grammar,
-    waiting: &mut Table<u32>,
-    item: Item,
-    number: u32,
-) -> Result<(), NoMemory>
-    ensures filed { OnOk result ((keys : List Item) → slice_get keys number ≡ Some item →
-        IsFiledWaiting (plain grammar.now) keys waiting.new item) }
-    ensures kept { OnOk result ((s : Slot) (n : ℕ) → Contains (row_at waiting.old s) n →
-        Contains (row_at waiting.new s) n) }
-    ensures only { OnOk result ((s : Slot) (n : ℕ) → Contains (row_at waiting.new s) n →
-        Contains (row_at waiting.old s) n ⊎ (n ≡ number)) }
-{
-    match next_part(grammar, item.head, item.dot) {
-        None => Ok(()),
-        Some((sort, _)) => {
-            let slot = Slot {
-                place: item.end,
-                sort,
-            };
-            waiting.file(alloc, slot, number)
+/// The numbers of the items that wait for a part or have made a sort, each with its key.
+#[derive(Drop)]
+pub(crate) struct Filed {
+    pub(crate) numbers: Vec<u32>,
+    pub(crate) keys: Slots,
+}
+
+impl Filed {
+    /// No numbers. It takes no memory.
+    pub(crate) fn new(alloc: Global) -> Filed
+        ensures keys { result.keys ≡ [] }
+        ensures numbers { result.numbers.items ≡ [] }
+    {
+        Filed {
+            numbers: Vec::new(alloc),
+            keys: Slots::new(alloc),
         }
     }
-}
 
-/// Files the item's number under its origin and its sort, if it is complete.
-pub(crate) fn file_complete(
-    alloc: Global,
-    grammar: &Grammar,
-    complete: &mut Table<u32>,
-    item: Item,
-    number: u32,
-) -> Result<(), NoMemory>
-    ensures filed { OnOk result ((keys : List Item) → slice_get keys number ≡ Some item →
-        IsFiledComplete (plain grammar.now) keys complete.new item) }
-    ensures kept { OnOk result ((s : Slot) (n : ℕ) → Contains (row_at complete.old s) n →
-        Contains (row_at complete.new s) n) }
-    ensures only { OnOk result ((s : Slot) (n : ℕ) → Contains (row_at complete.new s) n →
-        Contains (row_at complete.old s) n ⊎ (n ≡ number)) }
-{
-    if !ends_at(grammar, item.head, item.dot) {
-        return Ok(());
-    }
-    match sort_of(grammar, item.head) {
-        None => Ok(()),
-        Some(sort) => {
-            let slot = Slot {
-                place: item.origin,
-                sort,
-            };
-            complete.file(alloc, slot, number)
+    /// Files the number under the key, if there is one.
+    #[inline(always)]
+    pub(crate) fn file(&mut self, key: Option<u32>, number: u32) -> Result<(), AllocError>
+        ensures { OnOk result (IsAddedTo key number self.old self.new) }
+    {
+        if let Some(key) = key {
+            self.numbers.push(number)?;
+            self.keys.push(key)?;
         }
+        Ok(())
+    }
+
+    /// The number at the place.
+    #[inline(always)]
+    pub(crate) fn number(&self, place: usize) -> u32
+        requires { place < length self.now.numbers.items }
+        ensures { result ≡ get_or self.now.numbers.items place 0 }
+    {
+        self.numbers[place]
     }
 }
 
-/// The numbers of the items that may wait for the item: of the filed ones each that does.
-pub(crate) fn befores<'a>(grammar: &Grammar, waiting: &'a Table<u32>, item: Item) -> &'a [u32]
-    ensures only { (n : ℕ) → Contains result.now n →
-        (s : Slot) × Contains (row_at waiting.entry.now s) n }
-    ensures every { (keys : List Item) (x : Item) → Joins (plain grammar.now) x item →
-        IsFiledWaiting (plain grammar.now) keys waiting.entry.now x →
-        IsNumbered keys result.now x }
+/// The key of items that wait at the place for a part of the sort.
+#[inline(always)]
+fn waiting_key(place: u32, sort: u32) -> u32
+    ensures { result ≡ waiting_key place sort }
 {
-    if !ends_at(grammar, item.head, item.dot) {
-        return &[];
-    }
-    match sort_of(grammar, item.head) {
-        None => &[],
-        Some(sort) => waiting.row(Slot {
-            place: item.origin,
-            sort,
-        }),
+    folded(mix(mix(1, place as u64), sort as u64))
+}
+
+/// The key of complete items of the sort that begin at the place.
+#[inline(always)]
+fn complete_key(place: u32, sort: u32) -> u32
+    ensures { result ≡ complete_key place sort }
+{
+    folded(mix(mix(2, place as u64), sort as u64))
+}
+
+/// The key of the item: that of the part for which it waits, or of the sort that it has made.
+#[inline(always)]
+pub(crate) fn own_key(item: Item, part: Option<(u32, u8)>, made: Option<u32>) -> Option<u32>
+    ensures { result ≡ own_key item part made }
+{
+    match part {
+        Some((sort, _)) => Some(waiting_key(item.end, sort)),
+        None => match made {
+            Some(sort) => Some(complete_key(item.origin, sort)),
+            None => None,
+        },
     }
 }
 
-/// The numbers of the items for which the item may wait: of the filed ones each for which it does.
-pub(crate) fn fillings<'a>(grammar: &Grammar, complete: &'a Table<u32>, item: Item) -> &'a [u32]
-    ensures only { (n : ℕ) → Contains result.now n →
-        (s : Slot) × Contains (row_at complete.entry.now s) n }
-    ensures every { (keys : List Item) (x : Item) → Joins (plain grammar.now) item x →
-        IsFiledComplete (plain grammar.now) keys complete.entry.now x →
-        IsNumbered keys result.now x }
+/// The key of the items that may wait for the item, if it has made a sort.
+#[inline(always)]
+pub(crate) fn before_key(item: Item, made: Option<u32>) -> Option<u32>
+    ensures { result ≡ before_key item made }
 {
-    match next_part(grammar, item.head, item.dot) {
-        None => &[],
-        Some((sort, _)) => complete.row(Slot {
-            place: item.end,
-            sort,
-        }),
+    match made {
+        None => None,
+        Some(sort) => Some(waiting_key(item.origin, sort)),
+    }
+}
+
+/// The key of the items for which the item may wait, if it waits for a part.
+#[inline(always)]
+pub(crate) fn filling_key(item: Item, part: Option<(u32, u8)>) -> Option<u32>
+    ensures { result ≡ filling_key item part }
+{
+    match part {
+        None => None,
+        Some((sort, _)) => Some(complete_key(item.end, sort)),
     }
 }

@@ -2,36 +2,34 @@
 
 ghost use Rattle.std.specs.Prelude.{◌≡◌, ◌+◌, ◌≤◌, ◌<◌, ℕ, OnOk, Contains, Some, Err};
 ghost use Rattle.std.specs.Prelude.{length, IsTrue};
-ghost use Rattle.sx_grammar.specs.Grammar.{production_of};
 ghost use Rattle.sx_earley.specs.Growth.{Extends, Only};
 ghost use Rattle.sx_earley.specs.Shown.{plain, texts, tokens_of, AreBelow};
-ghost use Rattle.sx_earley.specs.Table.{row_at};
-ghost use Rattle.sx_earley.specs.Chart.{HasOpenings, HasAllOpenings, AllAsked, Foresees, Follows};
-ghost use Rattle.sx_earley.specs.Chart.{AllFollow, Joins, IsNumbered, IsJoined, moved};
-ghost use Rattle.sx_earley.specs.Chart.{IsPredicted, beginning};
-ghost use Rattle.sx_earley.specs.Chart.{next_symbol, as_part, ReadsNext, IsOfSort};
+ghost use Rattle.sx_earley.specs.Chart.{HasAllOpenings, AllAsked, Follows};
+ghost use Rattle.sx_earley.specs.Chart.{AllFollow, Joins, IsJoined, moved};
+ghost use Rattle.sx_earley.specs.Chart.{next_symbol, ReadsNext};
+ghost use Rattle.sx_earley.specs.Dotted.{IsNext, WaitsFor};
+ghost use Rattle.sx_earley.specs.Keys.{AreWithin, IsKeyed};
 ghost use Rattle.sx_grammar.specs.ReadOne.{most_items};
 ghost use Rattle.sx_term.specs.Limits.{most_tokens};
 
-use crate::ask::Ask;
+use crate::ask_set::AskSet;
 use crate::chart_error::ChartError;
+use crate::dotted::Dotted;
 use crate::given::Given;
 use crate::hints::Hints;
 use crate::item_set::ItemSet;
 use crate::neighbours::Neighbours;
-use crate::shown::Shown;
-use crate::slot::Slot;
+use crate::prediction::predict_next;
+use crate::shown::{Shown, reads};
 use crate::spanned::item_within;
-use crate::symbols::{ends_at, makes, next_part, reads_next};
-use crate::table::Table;
-use indexmap::IndexSet;
-use sx_grammar::{Grammar, Head, Item};
+use crate::symbols::{ends_at, makes, next_part, part_of};
+use sx_grammar::{Grammar, Item};
 
 /// How many items may hold.
 const MOST_ITEMS: usize = 2_000_000;
 
 /// Adds the item, if it is not there.
-fn add(found: &mut ItemSet, item: Item) -> Result<(), ChartError>
+pub(crate) fn add(found: &mut ItemSet, item: Item) -> Result<(), ChartError>
     ensures added { OnOk result (Contains found.new item) }
     ensures extends { Extends found.old found.new }
     ensures only { Only found.old found.new (λ i. i ≡ item) }
@@ -84,141 +82,17 @@ fn add_noted(found: &mut ItemSet, hints: &mut Hints, item: Item) -> Result<(), C
     Ok(())
 }
 
-/// Predicts the head's production at the place, if it is of the sort and at least of the level.
-fn predict_head(
-    grammar: &Grammar,
-    found: &mut ItemSet,
-    head: Head,
-    ask: Ask,
-) -> Result<(), ChartError>
-    requires { length found.old ≤ most_items }
-    ensures extends { Extends found.old found.new }
-    ensures only { Only found.old found.new
-        (IsPredicted (plain grammar.now) ask.sort ask.least ask.place) }
-    ensures every { OnOk result
-        (IsOfSort (production_of (plain grammar.now) head) ask.sort ask.least →
-        Contains found.new (beginning head ask.place)) }
-    ensures few { OnOk result (length found.new ≤ most_items) }
-    ensures hard { result ≡ Err ChartError.TooHard → most_items < length found.new }
-{
-    if makes(grammar, head, ask.sort, ask.least) {
-        add(
-            found,
-            Item {
-                head,
-                dot: 0,
-                origin: ask.place,
-                end: ask.place,
-            },
-        )
-    } else {
-        Ok(())
-    }
-}
-
-/// Predicts each production that is asked for, where the openings are those of its sort.
-fn predict(
-    grammar: &Grammar,
-    openings: &[Item],
-    found: &mut ItemSet,
-    ask: Ask,
-) -> Result<(), ChartError>
-    requires few { length found.old ≤ most_items }
-    requires openings { HasOpenings (plain grammar.now) ask.sort openings.now }
-    ensures extends { Extends found.old found.new }
-    ensures only { Only found.old found.new
-        (IsPredicted (plain grammar.now) ask.sort ask.least ask.place) }
-    ensures every { OnOk result ((head : Head) →
-        IsOfSort (production_of (plain grammar.now) head) ask.sort ask.least →
-        Contains found.new (beginning head ask.place)) }
-    ensures few { OnOk result (length found.new ≤ most_items) }
-    ensures hard { result ≡ Err ChartError.TooHard → most_items < length found.new }
-{
-    for opening in openings {
-        predict_head(grammar, found, opening.head, ask)?;
-    }
-    Ok(())
-}
-
-/// Predicts what is asked for, if it was not asked for before.
-pub(crate) fn predict_once(
-    grammar: &Grammar,
-    openings: &Table<Item>,
-    found: &mut ItemSet,
-    asked: &mut IndexSet<Ask>,
-    ask: Ask,
-) -> Result<(), ChartError>
-    requires few { length found.old ≤ most_items }
-    requires openings { HasAllOpenings (plain grammar.now) openings.now }
-    requires asked { AllAsked (plain grammar.now) asked.old.keys found.old }
-    ensures extends { Extends found.old found.new }
-    ensures only { Only found.old found.new
-        (IsPredicted (plain grammar.now) ask.sort ask.least ask.place) }
-    ensures every { OnOk result ((head : Head) →
-        IsOfSort (production_of (plain grammar.now) head) ask.sort ask.least →
-        Contains found.new (beginning head ask.place)) }
-    ensures few { OnOk result (length found.new ≤ most_items) }
-    ensures hard { result ≡ Err ChartError.TooHard → most_items < length found.new }
-    ensures asked { OnOk result (AllAsked (plain grammar.now) asked.new.keys found.new) }
-{
-    if asked.contains(&ask) {
-        return Ok(());
-    }
-    let row = openings.row(Slot {
-        place: 0,
-        sort: ask.sort,
-    });
-    predict(grammar, row, found, ask)?;
-    asked.insert(ask)?;
-    Ok(())
-}
-
-/// Predicts for the part after the dot.
-fn predict_next(
-    grammar: &Grammar,
-    openings: &Table<Item>,
-    found: &mut ItemSet,
-    asked: &mut IndexSet<Ask>,
-    item: Item,
-) -> Result<(), ChartError>
-    requires few { length found.old ≤ most_items }
-    requires openings { HasAllOpenings (plain grammar.now) openings.now }
-    requires asked { AllAsked (plain grammar.now) asked.old.keys found.old }
-    ensures extends { Extends found.old found.new }
-    ensures only { Only found.old found.new (Foresees (plain grammar.now) item) }
-    ensures every { OnOk result ((sort least : ℕ) (head : Head) →
-        as_part (next_symbol (plain grammar.now) item.head item.dot) ≡ Some (sort, least) →
-        IsOfSort (production_of (plain grammar.now) head) sort least →
-        Contains found.new (beginning head item.end)) }
-    ensures few { OnOk result (length found.new ≤ most_items) }
-    ensures hard { result ≡ Err ChartError.TooHard → most_items < length found.new }
-    ensures asked { OnOk result (AllAsked (plain grammar.now) asked.new.keys found.new) }
-{
-    match next_part(grammar, item.head, item.dot) {
-        None => Ok(()),
-        Some((sort, least)) => predict_once(
-            grammar,
-            openings,
-            found,
-            asked,
-            Ask {
-                sort,
-                least,
-                place: item.end,
-            },
-        ),
-    }
-}
-
-/// Moves the dot of the first item over the second, if it waits for it.
+/// Moves the dot of the first item, which waits for this part, over the second, if that is one.
 fn join(
     grammar: &Grammar,
     found: &mut ItemSet,
     hints: &mut Hints,
     before: Item,
+    part: Option<(u32, u8)>,
     filling: Item,
 ) -> Result<(), ChartError>
-    requires { length found.old ≤ most_items }
+    requires few { length found.old ≤ most_items }
+    requires waits { WaitsFor (plain grammar.now) before part }
     ensures extends { Extends found.old found.new }
     ensures only { Only found.old found.new
         (λ i. Joins (plain grammar.now) before filling × (i ≡ moved before filling.end)) }
@@ -227,7 +101,7 @@ fn join(
     ensures few { OnOk result (length found.new ≤ most_items) }
     ensures hard { result ≡ Err ChartError.TooHard → most_items < length found.new }
 {
-    match next_part(grammar, before.head, before.dot) {
+    match part {
         None => Ok(()),
         Some((sort, least)) => {
             if before.end == filling.origin
@@ -251,62 +125,76 @@ fn join(
     }
 }
 
-/// Moves the dot of each of the items with the numbers over the other, if it waits for it.
+/// Moves the dot of each of the items that may wait for the item over it, if it waits for it.
 fn join_each(
     grammar: &Grammar,
     found: &mut ItemSet,
     hints: &mut Hints,
-    befores: &[u32],
+    near: Neighbours,
     filling: Item,
 ) -> Result<(), ChartError>
     requires few { length found.old ≤ most_items }
-    requires within { (n : ℕ) → Contains befores.now n → n < length found.old }
+    requires within { AreWithin near.filed.now (length found.old) }
     ensures extends { Extends found.old found.new }
-    ensures only { Only found.old found.new
-        (IsJoined (plain grammar.now) (IsNumbered found.old befores.now)
-        (λ x. x ≡ filling)) }
-    ensures every { OnOk result ((before : Item) → IsNumbered found.old befores.now before →
+    ensures only { Only found.old found.new (IsJoined (plain grammar.now)
+        (IsKeyed found.old near.entry.filed.now near.entry.before) (λ x. x ≡ filling)) }
+    ensures every { OnOk result ((before : Item) →
+        IsKeyed found.old near.entry.filed.now near.entry.before before →
         Joins (plain grammar.now) before filling →
         Contains found.new (moved before filling.end)) }
     ensures few { OnOk result (length found.new ≤ most_items) }
     ensures hard { result ≡ Err ChartError.TooHard → most_items < length found.new }
 {
-    for number in befores {
-        let before = item_within(found, *number as usize);
+    let Some(key) = near.before else {
+        return Ok(());
+    };
+    let mut here = near.filed.keys.last(key);
+    while let Some(place) = here {
+        let before = item_within(found, near.filed.number(place) as usize);
+        here = near.filed.keys.before(place);
         if is_known(found, hints, before, filling) {
             continue;
         }
-        join(grammar, found, hints, before, filling)?;
+        let part = next_part(grammar, before.head, before.dot);
+        join(grammar, found, hints, before, part, filling)?;
     }
     Ok(())
 }
 
-/// Moves the dot of the item over each of those with the numbers, if it waits for it.
+/// Moves the dot of the item, which waits for this part, over each of those for which it may wait,
+/// if it waits for it.
 fn join_over(
     grammar: &Grammar,
     found: &mut ItemSet,
     hints: &mut Hints,
+    near: Neighbours,
     before: Item,
-    fillings: &[u32],
+    part: Option<(u32, u8)>,
 ) -> Result<(), ChartError>
     requires few { length found.old ≤ most_items }
-    requires within { (n : ℕ) → Contains fillings.now n → n < length found.old }
+    requires within { AreWithin near.filed.now (length found.old) }
+    requires waits { WaitsFor (plain grammar.now) before part }
     ensures extends { Extends found.old found.new }
-    ensures only { Only found.old found.new
-        (IsJoined (plain grammar.now) (λ x. x ≡ before)
-        (IsNumbered found.old fillings.now)) }
-    ensures every { OnOk result ((filling : Item) → IsNumbered found.old fillings.now filling →
+    ensures only { Only found.old found.new (IsJoined (plain grammar.now) (λ x. x ≡ before)
+        (IsKeyed found.old near.entry.filed.now near.entry.filling)) }
+    ensures every { OnOk result ((filling : Item) →
+        IsKeyed found.old near.entry.filed.now near.entry.filling filling →
         Joins (plain grammar.now) before filling →
         Contains found.new (moved before filling.end)) }
     ensures few { OnOk result (length found.new ≤ most_items) }
     ensures hard { result ≡ Err ChartError.TooHard → most_items < length found.new }
 {
-    for number in fillings {
-        let filling = item_within(found, *number as usize);
+    let Some(key) = near.filling else {
+        return Ok(());
+    };
+    let mut here = near.filed.keys.last(key);
+    while let Some(place) = here {
+        let filling = item_within(found, near.filed.number(place) as usize);
+        here = near.filed.keys.before(place);
         if is_known(found, hints, before, filling) {
             continue;
         }
-        join(grammar, found, hints, before, filling)?;
+        join(grammar, found, hints, before, part, filling)?;
     }
     Ok(())
 }
@@ -316,23 +204,28 @@ fn scan(
     grammar: &Grammar,
     shown: &[Shown],
     found: &mut ItemSet,
-    item: Item,
+    dotted: Dotted,
 ) -> Result<(), ChartError>
     requires few { length found.old ≤ most_items }
+    requires next { IsNext grammar.now dotted.item dotted.symbol }
     requires short { length shown.now ≤ most_tokens }
     requires below { AreBelow (length (texts grammar.now)) shown.now }
     ensures extends { Extends found.old found.new }
     ensures only { Only found.old found.new
         (λ i. ReadsNext (tokens_of grammar.now shown.now)
-        (next_symbol (plain grammar.now) item.head item.dot) item.end ×
-        (i ≡ moved item (item.end + 1))) }
+        (next_symbol (plain grammar.now) dotted.item.head dotted.item.dot) dotted.item.end ×
+        (i ≡ moved dotted.item (dotted.item.end + 1))) }
     ensures every { OnOk result (ReadsNext (tokens_of grammar.now shown.now)
-        (next_symbol (plain grammar.now) item.head item.dot) item.end →
-        Contains found.new (moved item (item.end + 1))) }
+        (next_symbol (plain grammar.now) dotted.item.head dotted.item.dot) dotted.item.end →
+        Contains found.new (moved dotted.item (dotted.item.end + 1))) }
     ensures few { OnOk result (length found.new ≤ most_items) }
     ensures hard { result ≡ Err ChartError.TooHard → most_items < length found.new }
 {
-    if reads_next(grammar, item.head, item.dot, shown, item.end) {
+    let item = dotted.item;
+    let Some(expected) = dotted.symbol else {
+        return Ok(());
+    };
+    if reads(grammar, expected, shown, item.end) {
         add(
             found,
             Item {
@@ -347,39 +240,40 @@ fn scan(
     }
 }
 
-/// Adds all that follows from the item, where these are the numbers of the items that it may meet.
+/// Adds all that follows from the item, where these are the items that it may meet.
 pub(crate) fn treat(
     given: Given,
     found: &mut ItemSet,
     hints: &mut Hints,
-    asked: &mut IndexSet<Ask>,
+    asked: &mut AskSet,
     near: Neighbours,
-    item: Item,
+    dotted: Dotted,
 ) -> Result<(), ChartError>
     requires few { length found.old ≤ most_items }
+    requires next { IsNext given.grammar.now dotted.item dotted.symbol }
     requires short { length given.shown.now ≤ most_tokens }
     requires below { AreBelow (length (texts given.grammar.now)) given.shown.now }
     requires openings { HasAllOpenings (plain given.grammar.now) given.openings.now }
-    requires asked { AllAsked (plain given.grammar.now) asked.old.keys found.old }
-    requires befores { (n : ℕ) → Contains near.befores.now n → n < length found.old }
-    requires fillings { (n : ℕ) → Contains near.fillings.now n → n < length found.old }
+    requires asked { AllAsked (plain given.grammar.now) asked.old found.old }
+    requires within { AreWithin near.filed.now (length found.old) }
     ensures extends { Extends found.old found.new }
     ensures only { Only found.old found.new
         (Follows (plain given.entry.grammar.now)
         (tokens_of given.entry.grammar.now given.entry.shown.now)
-        (IsNumbered found.old near.entry.befores.now)
-        (IsNumbered found.old near.entry.fillings.now) item) }
+        (IsKeyed found.old near.entry.filed.now near.entry.before)
+        (IsKeyed found.old near.entry.filed.now near.entry.filling) dotted.item) }
     ensures every { OnOk result (AllFollow (plain given.entry.grammar.now)
         (tokens_of given.entry.grammar.now given.entry.shown.now)
-        (IsNumbered found.old near.entry.befores.now)
-        (IsNumbered found.old near.entry.fillings.now) item found.new) }
+        (IsKeyed found.old near.entry.filed.now near.entry.before)
+        (IsKeyed found.old near.entry.filed.now near.entry.filling) dotted.item found.new) }
     ensures few { OnOk result (length found.new ≤ most_items) }
     ensures hard { result ≡ Err ChartError.TooHard → most_items < length found.new }
-    ensures asked { OnOk result
-        (AllAsked (plain given.entry.grammar.now) asked.new.keys found.new) }
+    ensures asked { OnOk result (AllAsked (plain given.entry.grammar.now) asked.new found.new) }
 {
-    predict_next(given.grammar, given.openings, found, asked, item)?;
-    scan(given.grammar, given.shown, found, item)?;
-    join_each(given.grammar, found, hints, near.befores, item)?;
-    join_over(given.grammar, found, hints, item, near.fillings)
+    let item = dotted.item;
+    let part = part_of(dotted.symbol);
+    predict_next(given.grammar, given.openings, found, asked, item, part)?;
+    scan(given.grammar, given.shown, found, dotted)?;
+    join_each(given.grammar, found, hints, near, item)?;
+    join_over(given.grammar, found, hints, near, item, part)
 }

@@ -3,9 +3,11 @@
 
 mod all_items;
 mod ask;
+mod ask_set;
 mod chart_error;
 mod charting;
 mod completed;
+mod dotted;
 mod filed;
 mod given;
 mod growing;
@@ -15,6 +17,7 @@ mod metas;
 mod neighbours;
 mod notes;
 mod openings;
+mod prediction;
 mod ready_grammar;
 mod shown;
 mod slot;

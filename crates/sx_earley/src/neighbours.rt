@@ -1,8 +1,12 @@
 //! The items that an item may meet.
 
-/// The numbers of the items that may wait for an item, and of those for which it may wait.
+use crate::filed::Filed;
+
+/// The numbers of the items by their keys, and by what keys those that may wait for an item, and
+/// those for which it may wait, are found, if there are any.
 #[derive(Clone, Copy)]
 pub(crate) struct Neighbours<'a> {
-    pub(crate) befores: &'a [u32],
-    pub(crate) fillings: &'a [u32],
+    pub(crate) filed: &'a Filed,
+    pub(crate) before: Option<u32>,
+    pub(crate) filling: Option<u32>,
 }

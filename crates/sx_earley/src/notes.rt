@@ -1,25 +1,22 @@
 //! What is noted of the items that are found.
 
 ghost use Rattle.std.specs.Prelude.{◌≡◌, ◌≤◌, [], IfOk};
-ghost use Rattle.sx_earley.specs.declared.slot.Slot.{Slot};
-ghost use Rattle.sx_earley.specs.Table.{row_at};
 
-use crate::ask::Ask;
+use crate::ask_set::AskSet;
+use crate::filed::Filed;
 use crate::hints::Hints;
 use crate::table::Table;
-use indexmap::IndexSet;
 use std::alloc::{AllocError, Global};
 use sx_grammar::Item;
 
 /// The items that begin productions, where items were found, what was asked for, and the numbers of
-/// the items by what they wait for and complete.
+/// the items by what they wait for and have made.
 #[derive(Drop)]
 pub(crate) struct Notes<'a> {
     pub(crate) openings: &'a Table<Item>,
     pub(crate) hints: Hints,
-    pub(crate) asked: IndexSet<Ask>,
-    pub(crate) waiting: Table<u32>,
-    pub(crate) complete: Table<u32>,
+    pub(crate) asked: AskSet,
+    pub(crate) filed: Filed,
 }
 
 impl<'a> Notes<'a> {
@@ -32,16 +29,15 @@ impl<'a> Notes<'a> {
     ) -> Result<Notes<'a>, AllocError>
         requires { origins ≤ 10001 }
         ensures openings { IfOk result (λ n. n.openings.now ≡ openings.now) }
-        ensures asked { IfOk result (λ n. n.asked.keys ≡ []) }
-        ensures waiting { IfOk result (λ n. (s : Slot) → row_at n.waiting s ≡ []) }
-        ensures complete { IfOk result (λ n. (s : Slot) → row_at n.complete s ≡ []) }
+        ensures asked { IfOk result (λ n. n.asked ≡ []) }
+        ensures keys { IfOk result (λ n. n.filed.keys ≡ []) }
+        ensures numbers { IfOk result (λ n. n.filed.numbers.items ≡ []) }
     {
         Ok(Notes {
             openings,
             hints: Hints::new(alloc, origins)?,
-            asked: IndexSet::new(alloc),
-            waiting: Table::new(alloc),
-            complete: Table::new(alloc),
+            asked: AskSet::new(alloc),
+            filed: Filed::new(alloc),
         })
     }
 }

@@ -1,16 +1,15 @@
 //! The symbols of heads.
 
 ghost use Rattle.std.specs.Prelude.{◌≡◌, ◌↔◌, ◌<◌, ◌≤◌, ◌^◌, IsTrue, IfSome, length, slice_get};
-ghost use Rattle.std.specs.Prelude.{option_map, is_some};
+ghost use Rattle.std.specs.Prelude.{ℕ, Some, List, option_map, is_some};
 ghost use Rattle.sx_grammar.specs.Numbered.{symbol, production};
-ghost use Rattle.sx_grammar.specs.Grammar.{production_of};
-ghost use Rattle.sx_earley.specs.Shown.{plain, texts, tokens_of, pair_symbol, IsBelow, AllBelow};
-ghost use Rattle.sx_earley.specs.Shown.{AreBelow};
-ghost use Rattle.sx_earley.specs.Chart.{symbol_after, next_symbol, as_part, ReadsNext, EndsAt};
+ghost use Rattle.sx_grammar.specs.Grammar.{Text, production_of};
+ghost use Rattle.sx_earley.specs.Shown.{plain, texts, pair_symbol, IsBelow, AllBelow};
+ghost use Rattle.sx_earley.specs.Chart.{symbol_after, next_symbol, as_part, EndsAt};
 ghost use Rattle.sx_earley.specs.Chart.{IsOfSort, sort_made};
+ghost use Rattle.sx_earley.specs.Dotted.{IsNext, HasMade};
 
-use crate::shown::{Shown, reads};
-use sx_grammar::{Grammar, Head, NumberedProduction, NumberedSymbol};
+use sx_grammar::{Grammar, Head, Item, NumberedProduction, NumberedSymbol};
 
 /// The production with this label.
 pub fn production_at(grammar: &Grammar, label: u32) -> Option<&NumberedProduction>
@@ -59,6 +58,17 @@ pub fn symbol_of(grammar: &Grammar, head: Head, dot: usize) -> Option<NumberedSy
     }
 }
 
+/// The sort and the least level of the symbol, if it is a part.
+#[inline(always)]
+pub(crate) fn part_of(next: Option<NumberedSymbol>) -> Option<(u32, u8)>
+    ensures { (literals : List Text) → result ≡ as_part (option_map (symbol literals) next) }
+{
+    match next {
+        Some(NumberedSymbol::Part { sort, least }) => Some((sort, least)),
+        _ => None,
+    }
+}
+
 /// The sort and the least level of the part after the dot, or None where no part stands there.
 pub(crate) fn next_part(grammar: &Grammar, head: Head, dot: usize) -> Option<(u32, u8)>
     ensures is { result ≡ as_part (next_symbol (plain grammar.now) head dot) }
@@ -67,25 +77,6 @@ pub(crate) fn next_part(grammar: &Grammar, head: Head, dot: usize) -> Option<(u3
     match symbol_of(grammar, head, dot) {
         Some(NumberedSymbol::Part { sort, least }) => Some((sort, least)),
         _ => None,
-    }
-}
-
-/// Whether the symbol after the dot reads by itself what is shown at the place.
-pub(crate) fn reads_next(
-    grammar: &Grammar,
-    head: Head,
-    dot: usize,
-    shown: &[Shown],
-    place: u32,
-) -> bool
-    requires { AreBelow (length (texts grammar.now)) shown.now }
-    ensures is { IsTrue result ↔ ReadsNext (tokens_of grammar.now shown.now)
-        (next_symbol (plain grammar.now) head dot) place }
-    ensures below { IsTrue result → dot < 2 ^ 63 }
-{
-    match symbol_of(grammar, head, dot) {
-        None => false,
-        Some(expected) => reads(grammar, expected, shown, place),
     }
 }
 
@@ -122,6 +113,34 @@ pub fn sort_of(grammar: &Grammar, head: Head) -> Option<u32>
             None => None,
             Some(_) => Some(sort),
         },
+    }
+}
+
+/// The sort that the head makes, if the dot stands at the end.
+fn sort_at_end(grammar: &Grammar, head: Head, dot: usize) -> Option<u32>
+    ensures { (sort : ℕ) → EndsAt (production_of (plain grammar.now) head) dot →
+        sort_made (production_of (plain grammar.now) head) ≡ Some sort → result ≡ Some sort }
+{
+    if ends_at(grammar, head, dot) {
+        sort_of(grammar, head)
+    } else {
+        None
+    }
+}
+
+/// The sort that the item has made, if it is complete; where this symbol stands after its dot, it
+/// is not.
+pub(crate) fn sort_made(
+    grammar: &Grammar,
+    item: Item,
+    symbol: Option<NumberedSymbol>,
+) -> Option<u32>
+    requires { IsNext grammar.now item symbol }
+    ensures { HasMade (plain grammar.now) item result }
+{
+    match symbol {
+        Some(_) => None,
+        None => sort_at_end(grammar, item.head, item.dot),
     }
 }
 

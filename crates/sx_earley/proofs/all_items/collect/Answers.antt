@@ -1,20 +1,22 @@
-use Rattle.std.proofs.Common.{◌≡◌, ◌∙◌, sym, subst, ap, length, take, Some, Err, slice_get, arith}
+use Rattle.std.proofs.Common.{◌≡◌, ◌∙◌, ℕ, sym, subst, ap, length, take, Option, Some, Err, slice_get, arith}
 use Rattle.std.proofs.lemmas.Option.{slice_get_within}
 use Rattle.std.proofs.lemmas.List.{take_all}
 use Rattle.sx_earley.specs.declared.chart_error.ChartError.TheVariants.{TooHard}
 use Rattle.sx_earley.specs.Shown.{plain, tokens_of}
 use Rattle.sx_earley.specs.Chart.{Treated, beginning}
-use Rattle.sx_earley.proofs.Same.{each_once}
+use Rattle.sx_earley.specs.Dotted.{IsNext, WaitsFor}
+use Rattle.sx_earley.specs.Keys.{IsKeyed}
 use Rattle.sx_earley.proofs.Counting.{no_more_hold}
 use Rattle.sx_earley.proofs.Growth.{still_there, longer}
 use Rattle.sx_earley.proofs.Asking.{asked_none}
-use Rattle.sx_earley.proofs.Turning.{Turn, turn_holds, turn_closed, turn_waiting, turn_complete, turn_waiting_only, turn_complete_only}
-use Rattle.sx_earley.proofs.Rows.{below_rows}
+use Rattle.sx_earley.proofs.Turning.{Turn, turn_holds, turn_closed, turn_filed}
+use Rattle.sx_earley.proofs.Keying.{before_there, filling_there, own_is, within_on, within_longer, within_none}
+use Rattle.sx_earley.proofs.Waiting.{waits_for}
 use Rattle.sx_earley.proofs.Closing.{treated_none, starts_hold, ended, closed_has, empty_front, nothing_in}
 use Rattle.sx_earley.proofs.all_items.collect.Goals as goal
 
 pub predict_once-requires-clause-asked : goal.predict_once-requires-clause-asked
-predict_once-requires-clause-asked c = asked_none (plain c.args.grammar.now) c.args.notes.now.asked.keys c.args.found.now c.requires.asked
+predict_once-requires-clause-asked c = asked_none (plain c.args.grammar.now) c.args.notes.now.asked c.args.found.now c.requires.asked
 
 pub loop-item-init : goal.loop-item-init
 loop-item-init c =
@@ -28,10 +30,8 @@ loop-item-init c =
       starts = λ head fits. c.in_default.ensures.every head fits;
       closed = treated_none g ts c.args.start (take 0 keys) keys (empty_front keys);
       asked = c.in_default.ensures.asked;
-      waiting_all = λ x there. absurd (nothing_in (take 0 keys) x (empty_front keys) there);
-      waiting_only = λ s n there. absurd (nothing_in _ n (c.requires.waiting s) there);
-      complete_all = λ x there. absurd (nothing_in (take 0 keys) x (empty_front keys) there);
-      complete_only = λ s n there. absurd (nothing_in _ n (c.requires.complete s) there);
+      filed = λ x there. absurd (nothing_in (take 0 keys) x (empty_front keys) there);
+      numbers = within_none c.args.notes.now.filed (length keys) c.requires.keys c.requires.numbers;
     }
 
 pub loop-item-preserved : goal.loop-item-preserved
@@ -40,38 +40,33 @@ loop-item-preserved c =
     let old = c.loop-item.found in let new = c.treat.new.found in let item = c.in-Some.item in
     let inv = c.loop-item.invariant in
     let at : slice_get old c.loop-item.next ≡ Some item = sym c.in-Some.ensures in
-    let w = c.loop-item.notes.waiting in let w' = c.file_waiting.new.waiting in
-    let k = c.loop-item.notes.complete in let k' = c.file_complete.new.complete in
-    let bs = c.befores-before.result.now in let fs = c.fillings-filling.result.now in
-    let turn : Turn g ts c.args.start old c.loop-item.next item w w' k k' bs fs = record {
+    let ks = c.loop-item.notes.filed in let more = c.file.new.self in
+    let before = c.before_key.result in let filling = c.filling_key.result in
+    let next : IsNext c.args.grammar.now item c.symbol_of-symbol.result = record { is = c.symbol_of-symbol.ensures.is; below = c.symbol_of-symbol.ensures.below; small = c.symbol_of-symbol.ensures.small } in
+    let waits : WaitsFor g item c.part_of-part.result = waits_for c.args.grammar.now item c.symbol_of-symbol.result _ next c.part_of-part.ensures in
+    let turn : Turn g ts c.args.start old c.loop-item.next item ks more before filling = record {
       at = at;
       sound = inv.sound;
-      waiting_all = inv.waiting_all;
-      waiting_only = inv.waiting_only;
-      complete_all = inv.complete_all;
-      complete_only = inv.complete_only;
-      waits = c.in_ok-file_waiting.ensures.filed old at;
-      waiting_kept = c.in_ok-file_waiting.ensures.kept;
-      waiting_new = c.in_ok-file_waiting.ensures.only;
-      ends = c.in_ok-file_complete.ensures.filed old at;
-      complete_kept = c.in_ok-file_complete.ensures.kept;
-      complete_new = c.in_ok-file_complete.ensures.only;
-      befores_all = c.befores-before.ensures.every old;
-      fillings_all = c.fillings-filling.ensures.every old;
+      filed = inv.filed;
+      many = inv.numbers.same;
+      own = c.own_key-own.result;
+      own_is = λ key k. c.own_key-own.ensures ∙ own_is g item _ _ waits c.sort_made-made.ensures key k;
+      added = c.in_ok-file.ensures;
+      befores_all = λ x j f. subst (λ (o : Option ℕ). IsKeyed old more o x) (sym c.before_key.ensures) (before_there g old more item _ c.sort_made-made.ensures x j f);
+      fillings_all = λ x j f. subst (λ (o : Option ℕ). IsKeyed old more o x) (sym c.filling_key.ensures) (filling_there g old more item _ waits x j f);
     } in
     let grown = c.treat.ensures.extends in
     record {
       openings = inv.openings;
       few = c.in_default-treat.ensures.few;
       within = omega (arith, slice_get_within old c.loop-item.next item at, longer old new grown);
-      sound = turn_holds g ts c.args.start old c.loop-item.next item w w' k k' bs fs turn new c.treat.ensures.only;
+      sound = turn_holds g ts c.args.start old c.loop-item.next item ks more before filling turn new c.treat.ensures.only;
       starts = λ head fits. still_there old new (beginning head 0) grown (inv.starts head fits);
-      closed = turn_closed g ts c.args.start old c.loop-item.next item w w' k k' bs fs turn new grown inv.closed c.in_default-treat.ensures.every;
+      closed = turn_closed g ts c.args.start old c.loop-item.next item ks more before filling turn new grown inv.closed c.in_default-treat.ensures.every;
       asked = c.in_default-treat.ensures.asked;
-      waiting_all = turn_waiting g ts c.args.start old c.loop-item.next item w w' k k' bs fs turn new grown;
-      waiting_only = turn_waiting_only g ts c.args.start old c.loop-item.next item w w' k k' bs fs turn new grown;
-      complete_all = turn_complete g ts c.args.start old c.loop-item.next item w w' k k' bs fs turn new grown;
-      complete_only = turn_complete_only g ts c.args.start old c.loop-item.next item w w' k k' bs fs turn new grown;
+      filed = turn_filed g ts c.args.start old c.loop-item.next item ks more before filling turn new grown;
+      numbers = within_longer more (length old) (length new) (longer old new grown)
+          (within_on ks more c.loop-item.next c.own_key-own.result (length old) c.in_ok-file.ensures inv.numbers (slice_get_within old c.loop-item.next item at));
     }
 
 pub returns-clause-all : goal.returns-clause-all
@@ -107,45 +102,34 @@ returns-in-Err-treat-clause-hard c = λ e.
     let old = c.loop-item.found in let new = c.treat.new.found in let item = c.in-Some.item in
     let inv = c.loop-item.invariant in
     let at : slice_get old c.loop-item.next ≡ Some item = sym c.in-Some.ensures in
-    let w = c.loop-item.notes.waiting in let w' = c.file_waiting.new.waiting in
-    let k = c.loop-item.notes.complete in let k' = c.file_complete.new.complete in
-    let bs = c.befores-before.result.now in let fs = c.fillings-filling.result.now in
-    let turn : Turn g ts c.args.start old c.loop-item.next item w w' k k' bs fs = record {
+    let ks = c.loop-item.notes.filed in let more = c.file.new.self in
+    let before = c.before_key.result in let filling = c.filling_key.result in
+    let next : IsNext c.args.grammar.now item c.symbol_of-symbol.result = record { is = c.symbol_of-symbol.ensures.is; below = c.symbol_of-symbol.ensures.below; small = c.symbol_of-symbol.ensures.small } in
+    let waits : WaitsFor g item c.part_of-part.result = waits_for c.args.grammar.now item c.symbol_of-symbol.result _ next c.part_of-part.ensures in
+    let turn : Turn g ts c.args.start old c.loop-item.next item ks more before filling = record {
       at = at;
       sound = inv.sound;
-      waiting_all = inv.waiting_all;
-      waiting_only = inv.waiting_only;
-      complete_all = inv.complete_all;
-      complete_only = inv.complete_only;
-      waits = c.in_ok-file_waiting.ensures.filed old at;
-      waiting_kept = c.in_ok-file_waiting.ensures.kept;
-      waiting_new = c.in_ok-file_waiting.ensures.only;
-      ends = c.in_ok-file_complete.ensures.filed old at;
-      complete_kept = c.in_ok-file_complete.ensures.kept;
-      complete_new = c.in_ok-file_complete.ensures.only;
-      befores_all = c.befores-before.ensures.every old;
-      fillings_all = c.fillings-filling.ensures.every old;
+      filed = inv.filed;
+      many = inv.numbers.same;
+      own = c.own_key-own.result;
+      own_is = λ key k. c.own_key-own.ensures ∙ own_is g item _ _ waits c.sort_made-made.ensures key k;
+      added = c.in_ok-file.ensures;
+      befores_all = λ x j f. subst (λ (o : Option ℕ). IsKeyed old more o x) (sym c.before_key.ensures) (before_there g old more item _ c.sort_made-made.ensures x j f);
+      fillings_all = λ x j f. subst (λ (o : Option ℕ). IsKeyed old more o x) (sym c.filling_key.ensures) (filling_there g old more item _ waits x j f);
     } in
     let hard : c.treat.result ≡ Err TooHard = let same : c.in-Err-treat.error ≡ TooHard = cc in c.in-Err-treat.is ∙ ap Err same in (
       new,
       c.treat.ensures.hard hard,
       c.len-count-in-Err-treat.ensures.once,
-      turn_holds g ts c.args.start old c.loop-item.next item w w' k k' bs fs turn new c.treat.ensures.only,
+      turn_holds g ts c.args.start old c.loop-item.next item ks more before filling turn new c.treat.ensures.only,
     )
 
 -- the numbers are those of items that are found
-pub treat-requires-clause-befores : goal.treat-requires-clause-befores
-treat-requires-clause-befores c =
-    let keys = c.loop-item.found in let inv = c.loop-item.invariant in
-    λ n there.
-    let row = c.befores-before.ensures.only n there in
-    below_rows c.loop-item.notes.waiting c.file_waiting.new.waiting (length keys) c.loop-item.next inv.waiting_only
-    (slice_get_within keys c.loop-item.next c.in-Some.item (sym c.in-Some.ensures)) c.in_ok-file_waiting.ensures.only row.0 n row.1
+pub treat-requires-clause-within : goal.treat-requires-clause-within
+treat-requires-clause-within c =
+    let old = c.loop-item.found in
+    within_on c.loop-item.notes.filed c.file.new.self c.loop-item.next c.own_key-own.result (length old) c.in_ok-file.ensures c.loop-item.invariant.numbers
+    (slice_get_within old c.loop-item.next c.in-Some.item (sym c.in-Some.ensures))
 
-pub treat-requires-clause-fillings : goal.treat-requires-clause-fillings
-treat-requires-clause-fillings c =
-    let keys = c.loop-item.found in let inv = c.loop-item.invariant in
-    λ n there.
-    let row = c.fillings-filling.ensures.only n there in
-    below_rows c.loop-item.notes.complete c.file_complete.new.complete (length keys) c.loop-item.next inv.complete_only
-    (slice_get_within keys c.loop-item.next c.in-Some.item (sym c.in-Some.ensures)) c.in_ok-file_complete.ensures.only row.0 n row.1
+pub sort_made-made-requires : goal.sort_made-made-requires
+sort_made-made-requires c = record { is = c.symbol_of-symbol.ensures.is; below = c.symbol_of-symbol.ensures.below; small = c.symbol_of-symbol.ensures.small }

@@ -3,7 +3,8 @@ use Rattle.sx_grammar.specs.Grammar.{production_of}
 use Rattle.sx_grammar.specs.declared.head.Head.{Head}
 use Rattle.sx_grammar.specs.declared.item.Item.{Item}
 use Rattle.sx_earley.specs.Shown.{plain, tokens_of}
-use Rattle.sx_earley.specs.Chart.{Treated, IsOfSort, beginning, AllHold, AllAsked, HasAllOpenings, IsFiledWaiting, IsFiledComplete, HasBelow}
+use Rattle.sx_earley.specs.Chart.{Treated, IsOfSort, beginning, AllHold, AllAsked, HasAllOpenings}
+use Rattle.sx_earley.specs.Keys.{AreWithin, IsFiled}
 use Rattle.sx_earley.proofs.all_items.collect.Given as goal
 
 abbrev pub invariant-loop-item : goal.invariant-loop-item
@@ -14,11 +15,9 @@ invariant-loop-item l = record {
   sound : AllHold (plain l.grammar) (tokens_of l.grammar l.shown) l.start l.found;
   starts : (head : Head) → IsOfSort (production_of (plain l.grammar) head) l.start 0 → Contains l.found (beginning head 0);
   closed : Treated (plain l.grammar) (tokens_of l.grammar l.shown) (take l.next l.found) l.found;
-  asked : AllAsked (plain l.grammar) l.notes.asked.keys l.found;
-  waiting_all : (x : Item) → Contains (take l.next l.found) x → IsFiledWaiting (plain l.grammar) l.found l.notes.waiting x;
-  waiting_only : HasBelow l.notes.waiting (length l.found);
-  complete_all : (x : Item) → Contains (take l.next l.found) x → IsFiledComplete (plain l.grammar) l.found l.notes.complete x;
-  complete_only : HasBelow l.notes.complete (length l.found);
+  asked : AllAsked (plain l.grammar) l.notes.asked l.found;
+  filed : (x : Item) → Contains (take l.next l.found) x → IsFiled (plain l.grammar) l.found l.notes.filed x;
+  numbers : AreWithin l.notes.filed (length l.found);
 }
 
 abbrev pub decreases-loop-item : goal.decreases-loop-item

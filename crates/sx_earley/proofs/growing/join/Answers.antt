@@ -1,4 +1,4 @@
-use Rattle.std.proofs.Common.{◌≡◌, sym}
+use Rattle.std.proofs.Common.{◌≡◌, ◌∙◌, sym}
 use Rattle.sx_earley.specs.Shown.{plain}
 use Rattle.sx_earley.specs.Chart.{Joins, moved}
 use Rattle.sx_earley.proofs.Growth.{only_more}
@@ -9,7 +9,7 @@ returns-then-makes-clause-only c =
     let joins : Joins (plain c.args.grammar.now) c.args.before c.args.filling = record {
       sort = c.in-Some.sort;
       least = c.in-Some.least;
-      waits = sym c.in-Some.ensures.is;
+      waits = sym c.requires.waits.is ∙ c.in-Some.is;
       fits = c.makes.ensures.0 c.if-makes.true;
       complete = c.ends_at.ensures.0 c.if-ends_at.true;
       meets = c.if-before-filling.true;

@@ -2,7 +2,6 @@ use Rattle.std.proofs.Common.{take, subst, arith}
 use Rattle.std.proofs.lemmas.List.{take_all}
 use Rattle.sx_earley.specs.Shown.{plain}
 use Rattle.sx_earley.specs.Completed.{AreSpans}
-use Rattle.sx_earley.proofs.Same.{each_once}
 use Rattle.sx_earley.proofs.Closing.{empty_front}
 use Rattle.sx_earley.proofs.Spanning.{no_spans, spans_on}
 use Rattle.sx_earley.proofs.spanned.complete_spans.Goals as goal

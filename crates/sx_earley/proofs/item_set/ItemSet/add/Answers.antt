@@ -1,4 +1,4 @@
-use Rattle.std.proofs.Common.{◌≡◌, ◌++◌, ◌∷◌, [], List, subst, ap, ◌∙◌, Contains}
+use Rattle.std.proofs.Common.{◌++◌, ◌∷◌, [], List, subst, ap, ◌∙◌, Contains}
 use Rattle.sx_grammar.specs.declared.item.Item.{Item}
 use Rattle.sx_earley.proofs.ItemSets.{set_more}
 use Rattle.sx_earley.proofs.item_set.ItemSet.add.Goals as goal

@@ -4,7 +4,7 @@ use Rattle.sx_grammar.specs.declared.item.Item.{Item}
 use Rattle.sx_earley.specs.Shown.{plain}
 use Rattle.sx_earley.specs.Growth.{Extends, Only}
 use Rattle.sx_earley.specs.Chart.{IsPredicted, beginning, IsOfSort}
-use Rattle.sx_earley.proofs.growing.predict.Given as goal
+use Rattle.sx_earley.proofs.prediction.predict.Given as goal
 
 abbrev pub invariant-loop-opening : goal.invariant-loop-opening
 invariant-loop-opening l = record {

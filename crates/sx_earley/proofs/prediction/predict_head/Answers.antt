@@ -2,7 +2,7 @@ use Rattle.std.proofs.Common.{◌≡◌, subst, sym, refl}
 use Rattle.sx_earley.specs.Shown.{plain}
 use Rattle.sx_earley.specs.Chart.{IsPredicted, beginning}
 use Rattle.sx_earley.proofs.Growth.{only_more}
-use Rattle.sx_earley.proofs.growing.predict_head.Goals as goal
+use Rattle.sx_earley.proofs.prediction.predict_head.Goals as goal
 
 pub returns-then-makes-clause-only : goal.returns-then-makes-clause-only
 returns-then-makes-clause-only c =

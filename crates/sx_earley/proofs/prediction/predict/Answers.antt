@@ -4,7 +4,7 @@ use Rattle.sx_earley.specs.Shown.{plain}
 use Rattle.sx_earley.specs.Chart.{IsPredicted, IsOfSort, beginning}
 use Rattle.sx_earley.proofs.Growth.{extends_on, only_on, still_there}
 use Rattle.sx_earley.proofs.Joining.{no_item, one_more_done, all_done}
-use Rattle.sx_earley.proofs.growing.predict.Goals as goal
+use Rattle.sx_earley.proofs.prediction.predict.Goals as goal
 
 pub loop-opening-preserved : goal.loop-opening-preserved
 loop-opening-preserved c =
