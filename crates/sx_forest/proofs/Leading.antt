@@ -54,7 +54,7 @@ no_lexical g tokens entries kind place next none =
     none_where _ (times (one_way 1) (next (suc place))) (lexical_or_not tokens place kind) (ap (times (one_way 1)) none ∙ nothing_after (one_way 1))
 
 -- nor by one from outside those places
-pub no_way_outside : (row : Row) (to place : ℕ) (s : Stretch) → s.first ≡ min (row.end - length row.ways.items - 1) (to + 1) → s.end ≡ min (row.end - 1) (to + 1) →
+pub no_way_outside : (row : Row) (to place : ℕ) (s : Stretch) → s.first ≡ min (row.end - length row.ways - 1) (to + 1) → s.end ≡ min (row.end - 1) (to + 1) →
     place ≤ to → (IsIn s place → ⊥) → ways_of row (suc place) ≡ no_way
 no_way_outside row to place s first end low out = by_order (cases_lt place s.first) (cases_lt place s.end)
   where

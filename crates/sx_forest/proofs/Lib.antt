@@ -17,6 +17,7 @@ pub mod Covering
 pub mod Spans
 pub mod Filling
 pub mod Wider
+pub mod Firsts
 pub mod Apart
 pub mod Sorting
 pub mod Putting
@@ -32,6 +33,7 @@ pub mod Usable
 pub mod Following
 pub mod Making
 pub mod Stepwise
+pub mod Singles
 pub mod Parting
 pub mod Growing
 pub mod Branching

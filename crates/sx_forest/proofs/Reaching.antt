@@ -147,17 +147,17 @@ ends_within g lists ends starts reached sort least stretch grown each place i e 
 
 -- an entry from another place than those that reach where the row has ways ends where it has none
 pub none_beside : (g : Grammar) (lists : List (Vec Entry)) (ends starts : List (Vec Reach)) → ∥ AreReached lists ends starts ∥₁ → (sort least : ℕ) (row : Row) (grown : Stretch) →
-    ((n : ℕ) (m : Maker) (p : ℕ) → n < length row.ways.items → (ways_at row.ways.items n ≡ no_way → ⊥) → HasReach (reaches_at starts (row.end - (n + 1))) m p → FitsPart g m sort least → IsIn grown p) →
+    ((n : ℕ) (m : Maker) (p : ℕ) → n < length row.ways → (ways_at row.ways n ≡ no_way → ⊥) → HasReach (reaches_at starts (row.end - (n + 1))) m p → FitsPart g m sort least → IsIn grown p) →
     (place i : ℕ) (e : Entry) → slice_get (list_at lists place) i ≡ Some e → FitsPart g e.maker sort least → (IsIn grown place → ⊥) → ways_of row e.to ≡ no_way
-none_beside g lists ends starts reached sort least row grown each place i e at fits out = by_order (cases_lt e.to row.end) (cases_lt (row.end - 1 - e.to) (length row.ways.items))
+none_beside g lists ends starts reached sort least row grown each place i e at fits out = by_order (cases_lt e.to row.end) (cases_lt (row.end - 1 - e.to) (length row.ways))
   where
-    by_order : (e.to < row.end) ⊎ (row.end ≤ e.to) → (row.end - 1 - e.to < length row.ways.items) ⊎ (length row.ways.items ≤ row.end - 1 - e.to) → ways_of row e.to ≡ no_way
+    by_order : (e.to < row.end) ⊎ (row.end ≤ e.to) → (row.end - 1 - e.to < length row.ways) ⊎ (length row.ways ≤ row.end - 1 - e.to) → ways_of row e.to ≡ no_way
     by_order (inr past) h = none_after row e.to past
     by_order (inl low) (inr before) = none_before row e.to (omega arith)
     by_order (inl low) (inl there) =
         let n = row.end - 1 - e.to in
         let same : e.to ≡ row.end - (n + 1) = omega arith in
-        let value : ways_of row e.to ≡ ways_at row.ways.items n = way_there row e.to low in
+        let value : ways_of row e.to ≡ ways_at row.ways n = way_there row e.to low in
         none_by (ways_of row e.to) (λ some. unrefuted reached
         (λ r. out (each n e.maker place there (λ none. some (value ∙ none)) (subst (λ t. HasReach (reaches_at starts t) e.maker place) same (r.back place i e at)) fits)))
 

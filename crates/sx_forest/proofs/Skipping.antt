@@ -19,13 +19,13 @@ pub record IsExtendedTo (g : Grammar) (tokens : List Token) (lists : List (Vec E
   pub high : place ≤ places.end
   pub each : (p : ℕ) → place ≤ p → p < places.end → IsNext g tokens (list_at lists p) symbol p next (ways_of new p)
   pub kept : (p : ℕ) → (p < place) ⊎ (places.end ≤ p) → ways_of new p ≡ ways_of old p
-  pub first : new.end ≡ place + length new.ways.items
+  pub first : new.end ≡ place + length new.ways
 
 module _ (g : Grammar) (tokens : List Token) (lists : List (Vec Entry)) (symbol : Option Symbol) (next : ℕ → Tally) (places : Stretch) (old : Row) where
   abbrev So : ℕ → Row → Type 0
   So = IsExtendedTo g tokens lists symbol next places old
 
-  pub extends_none : old.end ≡ places.end + length old.ways.items → So places.end old
+  pub extends_none : old.end ≡ places.end + length old.ways → So places.end old
   extends_none joins = record {
     low = inr refl;
     high = omega arith;
@@ -36,7 +36,7 @@ module _ (g : Grammar) (tokens : List Token) (lists : List (Vec Entry)) (symbol 
 
   module _ (before : ℕ) (mid : Row) (so : So before mid) (place : ℕ) (at : before ≡ suc place) (above : places.first < before) (w : Ways) (here : IsNext g tokens (list_at lists place) symbol place next (tally_of w)) (new : Row) where
     -- the same ways at the other places, and these here
-    on : new.end ≡ place + length new.ways.items → ways_of new place ≡ tally_of w → ((p : ℕ) → (p ≡ place → ⊥) → ways_of new p ≡ ways_of mid p) → So place new
+    on : new.end ≡ place + length new.ways → ways_of new place ≡ tally_of w → ((p : ℕ) → (p ≡ place → ⊥) → ways_of new p ≡ ways_of mid p) → So place new
     on first there same = record {
       low = inl (omega arith);
       high = (let h = so.high in omega arith);
@@ -55,23 +55,23 @@ module _ (g : Grammar) (tokens : List Token) (lists : List (Vec Entry)) (symbol 
         by_kept p (inl low) = same p (λ e. omega arith) ∙ so.kept p (inl (omega arith))
         by_kept p (inr past) = let h = so.high in same p (λ e. omega arith) ∙ so.kept p (inr past)
 
-    pub extends_pushed : new.end ≡ mid.end → new.ways.items ≡ mid.ways.items ++ w ∷ [] → So place new
+    pub extends_pushed : new.end ≡ mid.end → new.ways ≡ mid.ways ++ w ∷ [] → So place new
     extends_pushed e more =
-        let first : mid.end ≡ suc place + length mid.ways.items = so.first ∙ ap (λ b. b + length mid.ways.items) at in
-        on (let long : length new.ways.items ≡ length mid.ways.items + 1 = ap length more ∙ one_longer mid.ways.items w in omega arith)
+        let first : mid.end ≡ suc place + length mid.ways = so.first ∙ ap (λ b. b + length mid.ways) at in
+        on (let long : length new.ways ≡ length mid.ways + 1 = ap length more ∙ one_longer mid.ways w in omega arith)
         (pushed_there mid new place w first e more) (pushed_kept mid new place w first e more)
 
-    pub extends_idle : new.end ≡ place → new.ways.items ≡ mid.ways.items → mid.ways.items ≡ [] → tally_of w ≡ no_way → So place new
+    pub extends_idle : new.end ≡ place → new.ways ≡ mid.ways → mid.ways ≡ [] → tally_of w ≡ no_way → So place new
     extends_idle e same none nothing =
-        let empty : new.ways.items ≡ [] = same ∙ none in
-        on (let z : length new.ways.items ≡ 0 = ap length empty in omega arith) (empty_none new place empty ∙ sym nothing)
+        let empty : new.ways ≡ [] = same ∙ none in
+        on (let z : length new.ways ≡ 0 = ap length empty in omega arith) (empty_none new place empty ∙ sym nothing)
         (λ p other. empty_none new p empty ∙ sym (empty_none mid p none))
 
   pub extends_all : (place : ℕ) (new : Row) → So place new → place ≤ places.first → IsExtended g tokens lists symbol next places old new
   extends_all place new so end = record {
     each = λ p is. so.each p (let h = is.0 in omega arith) is.1;
     kept = λ p out. by_place p out (cases_lt p place) (cases_lt p places.end);
-    first = λ along. so.first ∙ ap (λ q. q + length new.ways.items) (begins along so.low);
+    first = λ along. so.first ∙ ap (λ q. q + length new.ways) (begins along so.low);
   }
     where
       begins : places.first ≤ places.end → (places.first ≤ place) ⊎ (place ≡ places.end) → place ≡ places.first
@@ -93,7 +93,7 @@ module _ (g : Grammar) (tokens : List Token) (lists : List (Vec Entry)) (symbol 
 
 -- a row that is made from nothing
 pub row_is : (g : Grammar) (tokens : List Token) (lists : List (Vec Entry)) (symbol : Option Symbol) (to : ℕ) (places : Stretch) (next : ℕ → Tally) (old new : Row) →
-    places.end ≤ to + 1 → old.ways.items ≡ [] → IsExtended g tokens lists symbol next places old new → IsRow g tokens lists symbol to places next (ways_of new)
+    places.end ≤ to + 1 → old.ways ≡ [] → IsExtended g tokens lists symbol next places old new → IsRow g tokens lists symbol to places next (ways_of new)
 row_is g tokens lists symbol to places next old new end none made = record {
   each = λ p low is. made.each p is;
   outside = λ p out. made.kept p (λ is. let h = is.1 in out (omega arith) is) ∙ empty_none old p none;

@@ -17,12 +17,11 @@ use Rattle.sx_grammar.proofs.Ordering.{ranked_not_cyclic}
 use Rattle.sx_grammar.proofs.Soundness.{bracket_head}
 use Rattle.sx_grammar.proofs.Completeness.{Left, from_start, later, past, begins}
 use Rattle.sx_earley.specs.Chart.{next_symbol, symbol_after}
-use Rattle.sx_forest.specs.declared.row.Row.{Row}
 use Rattle.sx_forest.specs.declared.stretch.Stretch.{Stretch}
 use Rattle.sx_forest.specs.declared.entry.Maker.TheVariants.{By}
 use Rattle.sx_forest.specs.declared.entry.Entry.{Entry}
 use Rattle.sx_forest.specs.Tallies.{IsSmall}
-use Rattle.sx_forest.specs.Rows.{count_of, row_at, stretch_at, AreStretches, AreRows, IsSpanWays, IsRow}
+use Rattle.sx_forest.specs.Rows.{count_of, stretch_at, AreStretches, AreWays, IsSpanWays, IsRow}
 use Rattle.sx_forest.specs.Table.{IsSoundBy, IsTable, HasBefore, IsRight}
 use Rattle.sx_forest.proofs.Covering.{in_stretch}
 use Rattle.sx_forest.proofs.Rows.{last_right, row_right, span_within}
@@ -131,23 +130,23 @@ depth_fits g tokens rank ranking many short sort from to r along within reads =
 module _ (g : Grammar) (tokens : List Token) (start : ℕ) (levels : HasLevels g) (rank : ℕ → ℕ) (ranking : IsRanking g rank) (lists : List (Vec Entry)) (table : IsTable g tokens start lists)
     (head : Head) (p : Production) (is : production_of g head ≡ Some p) (from to : ℕ) (along : from ≤ to) (has : HasBefore g tokens start rank lists head from to (rank p.sort)) where
   -- each row of a span is right
-  pub rows_right : (stretches : List Stretch) (rows : List Row) → AreStretches g tokens lists head (length p.symbols) from to stretches →
-      AreRows g tokens lists head (length p.symbols) (length p.symbols) to stretches rows → (k dot : ℕ) → dot + k ≡ length p.symbols →
-      (rest : List Symbol) → Left p.symbols dot rest → IsRight g tokens start head dot from to rest (row_at rows k)
-  rows_right stretches rows spread are zero dot sum rest left =
-      rw (left_end left (omega arith)) (last_right g tokens start head dot from to (row_at rows 0) are.last)
-  rows_right stretches rows spread are (suc k) dot sum rest left =
+  pub rows_right : (stretches : List Stretch) (row : ℕ → ℕ → Tally) → AreStretches g tokens lists head (length p.symbols) from to stretches →
+      AreWays g tokens lists head (length p.symbols) (length p.symbols) to stretches row → (k dot : ℕ) → dot + k ≡ length p.symbols →
+      (rest : List Symbol) → Left p.symbols dot rest → IsRight g tokens start head dot from to rest (row k)
+  rows_right stretches row spread are zero dot sum rest left =
+      rw (left_end left (omega arith)) (last_right g tokens start head dot from to (row 0) are.last)
+  rows_right stretches row spread are (suc k) dot sum rest left =
       let m = left_more left (omega arith) in
       let left' : Left p.symbols dot (m.0 ∷ m.1) = subst (λ l. Left p.symbols dot l) m.2 left in
-      let after : IsRight g tokens start head (suc dot) from to m.1 (row_at rows k) = rows_right stretches rows spread are k (suc dot) (omega arith) m.1 (past m.0 m.1 left') in
+      let after : IsRight g tokens start head (suc dot) from to m.1 (row k) = rows_right stretches row spread are k (suc dot) (omega arith) m.1 (past m.0 m.1 left') in
       let here : length p.symbols - k - 1 ≡ dot = omega arith in
       let symbol : next_symbol g head dot ≡ Some m.0 = ap (λ o. symbol_after o dot) is ∙ m.3 in
       let made = are.each k (omega arith) in
-      let made' : IsRow g tokens lists (Some m.0) to (stretch_at stretches dot) (row_at rows k) (row_at rows (k + 1)) =
-      subst (λ o. IsRow g tokens lists o to (stretch_at stretches dot) (row_at rows k) (row_at rows (k + 1))) symbol
-      (subst (λ d. IsRow g tokens lists (next_symbol g head d) to (stretch_at stretches d) (row_at rows k) (row_at rows (k + 1))) here made) in
+      let made' : IsRow g tokens lists (Some m.0) to (stretch_at stretches dot) (row k) (row (k + 1)) =
+      subst (λ o. IsRow g tokens lists o to (stretch_at stretches dot) (row k) (row (k + 1))) symbol
+      (subst (λ d. IsRow g tokens lists (next_symbol g head d) to (stretch_at stretches d) (row k) (row (k + 1))) here made) in
       rw m.2
-      (row_right g tokens start levels rank ranking lists table head p is from to has dot m.0 m.1 (stretch_at stretches dot) (row_at rows k) (row_at rows (suc k)) left'
+      (row_right g tokens start levels rank ranking lists table head p is from to has dot m.0 m.1 (stretch_at stretches dot) (row k) (row (suc k)) left'
       (λ place ks item all. in_stretch g tokens start levels rank ranking lists table head p is from to has stretches spread item refl refl (omega arith) (m.0 ∷ m.1) left' ks all)
       after (simp add-one at made'))
 
@@ -155,19 +154,19 @@ module _ (g : Grammar) (tokens : List Token) (start : ℕ) (levels : HasLevels g
   pub span_sound : Span g tokens start head from to → length g.productions < 2 ^ 32 → length tokens ≤ 10000 → (t : Tally) → IsSpanWays g tokens lists head from to t →
       IsSoundBy g tokens start (By head) from to t
   span_sound span many short t w =
-      let rows = w.rows in
+      let row = w.row in
       let n = length p.symbols in
       let counted : count_of (production_of g head) ≡ n = ap count_of is in
-      let stretches = w.are.stretches in
-      let spread : AreStretches g tokens lists head n from to stretches = subst (λ c. AreStretches g tokens lists head c from to stretches) counted w.are.spread in
-      let are : AreRows g tokens lists head n n to stretches rows = subst (λ c. AreRows g tokens lists head c c to stretches rows) counted w.are.are in
-      let u = row_at rows n from in
+      let stretches = w.stretches in
+      let spread : AreStretches g tokens lists head n from to stretches = subst (λ c. AreStretches g tokens lists head c from to stretches) counted w.spread in
+      let are : AreWays g tokens lists head n n to stretches row = subst (λ c. AreWays g tokens lists head c c to stretches row) counted w.are in
+      let u = row n from in
       let all : IsTally (ReadsAll g tokens p.symbols from to) readings_depth u =
-      rows_right stretches rows spread are n 0 (omega arith) p.symbols from_start from (begins g tokens start levels span.2) in
+      rows_right stretches row spread are n 0 (omega arith) p.symbols from_start from (begins g tokens start levels span.2) in
       let by : IsTally (ReadsBy g tokens head p.sort from to) reading_depth (deeper u) = head_tally g tokens head p from to u is all in
       let small : IsSmall u = small_from (ReadsBy g tokens head p.sort from to) reading_depth (2 ^ 62) (omega arith)
       (λ r reads. depth_fits g tokens rank ranking many short p.sort from to r along (span_within g tokens start head from to span) reads.1) u by in
-      let same : t ≡ deeper u = subst (λ c. IsSmall (row_at rows c from) → t ≡ deeper (row_at rows c from)) counted w.is small in (
+      let same : t ≡ deeper u = subst (λ c. IsSmall (row c from) → t ≡ deeper (row c from)) counted w.is small in (
         span,
         λ sort makes.
             let production : makes.production ≡ p = same_Some makes.production p (sym makes.is ∙ is) in

@@ -30,6 +30,7 @@ use Rattle.sx_forest.specs.Forests.{symbols_in, symbols_of, depth_in, IsMore, Is
 use Rattle.sx_forest.proofs.Counting.{makes_is, KidOf, kid_reads, kid_tally, makes_low}
 use Rattle.sx_forest.proofs.Using.{kid_end}
 use Rattle.sx_forest.proofs.Rows.{row_there, item_forward, span_forward}
+use Rattle.sx_forest.proofs.Firsts.{by_rows}
 use Rattle.sx_forest.proofs.Spans.{rows_right}
 use Rattle.sx_forest.proofs.Tabling.{all_later}
 use Rattle.sx_forest.proofs.Usable.{deepest_of, bounded_by, times_none, sum_usable}
@@ -58,7 +59,7 @@ module _ (g : Grammar) (tokens : List Token) where
       (fits, (subst (λ x. Marked tokens place (is_variable (of_sort x))) fits by.0, by.1, by.2))
   is_kid (By head) sort least place to r fits by = let makes = makes_is g head sort least fits in (makes, by sort (makes_low g head sort least makes))
 
-  leaf_read : (kind : LexKind) (place : ℕ) (r : Reading) → IsLeafAt tokens kind place r → ReadsAll g tokens (lexical kind ∷ []) place (suc place) (r ▸ done)
+  pub leaf_read : (kind : LexKind) (place : ℕ) (r : Reading) → IsLeafAt tokens kind place r → ReadsAll g tokens (lexical kind ∷ []) place (suc place) (r ▸ done)
   leaf_read kind place r (inl h) = rw h.1 (by_lexeme h.0 all_read)
   leaf_read kind place r (inr h) = rw h.1 (by_lexical_variable h.0 all_read)
 
@@ -122,7 +123,7 @@ module _ (g : Grammar) (tokens : List Token) (start : ℕ) (levels : HasLevels g
   right dot rest low left =
       let long : n ≡ length p.symbols = ap length symbols in
       rows_right g tokens start levels rank ranking lists full.table o.head p is o.from o.to along (λ other q place end e span after within before part_of. full.has other place end span (useful_kid opened.useful part_of))
-      stretches o.rows.items spread are (n - dot) dot (omega arith) rest (subst (λ xs. Left xs dot rest) symbols left)
+      stretches (row_at o.rows.items) spread (by_rows are) (n - dot) dot (omega arith) rest (subst (λ xs. Left xs dot rest) symbols left)
 
   -- the ways from a place by the symbol after the dot
   pub place_is : (dot place : ℕ) (x : Symbol) → slice_get (symbols_of g o.head) dot ≡ Some x → IsAt g tokens start o dot place →

@@ -7,7 +7,7 @@ use Rattle.std.proofs.lemmas.Bool.{cases_lt, false≢true}
 use Rattle.std.proofs.lemmas.Option.{slice_get_within, slice_get-get_or, none-some, same_Some}
 use Rattle.sx_grammar.specs.declared.head.Head.{Head}
 use Rattle.sx_grammar.specs.Grammar.{Symbol, Grammar, Token, Production, production_of}
-use Rattle.sx_grammar.specs.Tally.{Tally, no_way, deeper}
+use Rattle.sx_grammar.specs.Tally.{Tally, no_way}
 use Rattle.sx_earley.specs.Chart.{next_symbol, symbol_after}
 use Rattle.sx_forest.specs.declared.row.Row.{Row}
 use Rattle.sx_forest.specs.declared.kept.Kept.{Kept}
@@ -15,12 +15,12 @@ use Rattle.sx_forest.specs.declared.stretch.Stretch.{Stretch}
 use Rattle.sx_forest.specs.declared.entry.Entry.{Entry}
 use Rattle.sx_forest.specs.declared.ways.Ways.{Ways}
 use Rattle.sx_forest.specs.declared.ways.Ways.TheVariants.{Nothing}
-use Rattle.sx_forest.specs.Tallies.{ways_at, ways_of, IsSmall}
-use Rattle.sx_forest.specs.Rows.{IsNext, IsIn, IsRow, Spreads, list_at, stretch_in, stretch_at, row_in, row_at, count_of, AreStretches, AreRows, IsSpanWays}
+use Rattle.sx_forest.specs.Tallies.{ways_at, ways_of}
+use Rattle.sx_forest.specs.Rows.{IsNext, IsIn, IsRow, Spreads, list_at, stretch_in, stretch_at, row_in, row_at, count_of, AreStretches, AreRows}
 use Rattle.sx_forest.specs.KeptRows.{symbols_by, IsKept, AllKept, IsReady, IsClear, front_of, IsJoined, IsWider, AreWider, IsLonger}
 use Rattle.sx_forest.proofs.Pushing.{got_before, got_last, got_cases, longer_pushed}
 use Rattle.sx_forest.proofs.RowWays.{none_after, way_there, empty_none}
-use Rattle.sx_forest.proofs.Filling.{rows_on, stretches_on}
+use Rattle.sx_forest.proofs.Filling.{stretches_on}
 use Rattle.sx_forest.proofs.Keeping as keeping
 
 filled : (m k : ℕ) → ways_at (replicate m Nothing) k ≡ no_way
@@ -35,7 +35,7 @@ ways_resized [] (suc n) m k low = filled m k
 ways_resized (w ∷ ws) (suc n) m zero low = refl
 ways_resized (w ∷ ws) (suc n) m (suc k) low = ways_resized ws n m k (omega arith)
 
-pub begun_kept : (old new : Row) (first m : ℕ) → first < old.end → new.end ≡ old.end → new.ways.items ≡ take (old.end - first) old.ways.items ++ replicate m Nothing →
+pub begun_kept : (old new : Row) (first m : ℕ) → first < old.end → new.end ≡ old.end → new.ways ≡ take (old.end - first) old.ways ++ replicate m Nothing →
     (p : ℕ) → first ≤ p → ways_of new p ≡ ways_of old p
 begun_kept old new first m low e more p after = by_order (cases_lt p old.end)
   where
@@ -43,11 +43,11 @@ begun_kept old new first m low e more p after = by_order (cases_lt p old.end)
     by_order (inr past) = none_after new p (omega arith) ∙ sym (none_after old p past)
     by_order (inl under) =
         let n : new.end - 1 - p ≡ old.end - 1 - p = omega arith in
-        way_there new p (omega arith) ∙ (ap (λ k. ways_at new.ways.items k) n ∙ (ap (λ l. ways_at l (old.end - 1 - p)) more ∙
-        (ways_resized old.ways.items (old.end - first) m (old.end - 1 - p) (omega arith) ∙ sym (way_there old p under))))
+        way_there new p (omega arith) ∙ (ap (λ k. ways_at new.ways k) n ∙ (ap (λ l. ways_at l (old.end - 1 - p)) more ∙
+        (ways_resized old.ways (old.end - first) m (old.end - 1 - p) (omega arith) ∙ sym (way_there old p under))))
 
 -- a row that has none from a place on may begin there
-pub emptied_kept : (old new : Row) (first : ℕ) → (old.ways.items ≡ []) ⊎ (old.end ≤ first) → new.ways.items ≡ [] → (p : ℕ) → first ≤ p → ways_of new p ≡ ways_of old p
+pub emptied_kept : (old new : Row) (first : ℕ) → (old.ways ≡ []) ⊎ (old.end ≤ first) → new.ways ≡ [] → (p : ℕ) → first ≤ p → ways_of new p ≡ ways_of old p
 emptied_kept old new first (inl none) empty p after = empty_none new p empty ∙ sym (empty_none old p none)
 emptied_kept old new first (inr past) empty p after = empty_none new p empty ∙ sym (none_after old p (omega arith))
 
@@ -331,11 +331,11 @@ kept_put g tokens old new place kept others clear is = record {
     same dot some p there = others p (λ e. clear dot some (subst (λ q. IsIn (stretch_at kept.stretches.items dot) q) e there))
 
 -- the stretches with another one at the first symbol
-abbrev begun : Stretch → List Stretch → List Stretch
+abbrev pub begun : Stretch → List Stretch → List Stretch
 begun s [] = s ∷ []
 begun s (x ∷ xs) = s ∷ xs
 
-begun_first : (s : Stretch) (xs : List Stretch) → stretch_at (begun s xs) 0 ≡ s
+pub begun_first : (s : Stretch) (xs : List Stretch) → stretch_at (begun s xs) 0 ≡ s
 begun_first s [] = refl
 begun_first s (x ∷ xs) = refl
 
@@ -351,7 +351,7 @@ module _ (g : Grammar) (tokens : List Token) (lists : List (Vec Entry)) (from : 
   abbrev place_of : Stretch
   place_of = record { first = from; end = from + 1 }
 
-  first_spread : AreStretches g tokens lists kept.head number from kept.to (begun place_of kept.stretches.items)
+  pub first_spread : AreStretches g tokens lists kept.head number from kept.to (begun place_of kept.stretches.items)
   first_spread = record {
     first = rw (begun_first place_of kept.stretches.items) (omega arith, omega arith);
     each = by_dot;
@@ -364,55 +364,12 @@ module _ (g : Grammar) (tokens : List Token) (lists : List (Vec Entry)) (from : 
       by_dot (suc dot) low = rw (begun_later place_of kept.stretches.items (suc dot) (omega arith), begun_later place_of kept.stretches.items (suc (suc dot)) (omega arith))
           (ready.spread.each (suc dot) low)
 
-  same_rows : AreRows g tokens lists kept.head number (number - 1) kept.to (begun place_of kept.stretches.items) kept.rows.items
+  pub same_rows : AreRows g tokens lists kept.head number (number - 1) kept.to (begun place_of kept.stretches.items) kept.rows.items
   same_rows = record {
     long = ready.are.long;
     last = ready.are.last;
     each = λ k low. rw (begun_later place_of kept.stretches.items (number - k - 1) (omega (arith, low))) (ready.are.each k low);
   }
-
-  -- the ways of a head without symbols
-  pub ways_of_none : number ≡ 0 → (t u : Tally) → u ≡ row_at kept.rows.items (length kept.rows.items - 1) from → (IsSmall u → t ≡ deeper u) → IsSpanWays g tokens lists kept.head from kept.to t
-  ways_of_none none t u at is =
-      let e : length kept.rows.items - 1 ≡ number = omega (arith, ready.are.long) in
-      let same : u ≡ row_at kept.rows.items number from = at ∙ ap (λ n. row_at kept.rows.items n from) e in
-      record {
-        rows = kept.rows.items;
-        are = record {
-          stretches = begun place_of kept.stretches.items;
-          spread = first_spread;
-          are = (let z : number - 1 ≡ number = omega (arith, none) in
-              subst (λ n. AreRows g tokens lists kept.head number n kept.to (begun place_of kept.stretches.items) kept.rows.items) z same_rows);
-        };
-        is = λ small. is (subst IsSmall (sym same) small) ∙ ap deeper same;
-      }
-
-  -- and those by its first symbol
-  pub ways_of_first : 0 < number → (r : Row) → IsRow g tokens lists (next_symbol g kept.head 0) kept.to place_of (row_at kept.rows.items (length kept.rows.items - 1)) (ways_of r) →
-      (t u : Tally) → u ≡ ways_of r from → (IsSmall u → t ≡ deeper u) → IsSpanWays g tokens lists kept.head from kept.to t
-  ways_of_first some r made t u at is =
-      let n = number - 1 in
-      let up : n + 1 ≡ number = omega (arith, some) in
-      let zero_here : number - n - 1 ≡ 0 = omega (arith, some) in
-      let last : length kept.rows.items - 1 ≡ n = omega (arith, ready.are.long) in
-      let made' : IsRow g tokens lists (next_symbol g kept.head (number - n - 1)) kept.to (stretch_at (begun place_of kept.stretches.items) (number - n - 1)) (row_at kept.rows.items n) (ways_of r) =
-      rw (zero_here, begun_first place_of kept.stretches.items)
-      (subst (λ m. IsRow g tokens lists (next_symbol g kept.head 0) kept.to place_of (row_at kept.rows.items m) (ways_of r)) last made) in
-      let rows = kept.rows.items ++ r ∷ [] in
-      let are : AreRows g tokens lists kept.head number (n + 1) kept.to (begun place_of kept.stretches.items) rows =
-      rows_on g tokens lists kept.head number n kept.to (begun place_of kept.stretches.items) kept.rows.items rows r same_rows refl made' in
-      let long : length kept.rows.items ≡ number = omega (arith, ready.are.long, some) in
-      let same : u ≡ row_at rows number from =
-      at ∙ ap (λ f. f from) (sym (ap (λ k. row_at rows k) (sym long) ∙ ap row_in (got_last kept.rows.items r))) in
-      record {
-        rows = rows;
-        are = record {
-          stretches = begun place_of kept.stretches.items;
-          spread = first_spread;
-          are = subst (λ m. AreRows g tokens lists kept.head number m kept.to (begun place_of kept.stretches.items) rows) up are;
-        };
-        is = λ small. is (subst IsSmall (sym same) small) ∙ ap deeper same;
-      }
 
 -- a head with no first symbol has none
 pub no_symbols : (g : Grammar) (head : Head) → next_symbol g head 0 ≡ None → symbols_by g head ≡ 0

@@ -1,3 +1,4 @@
+pub mod Listed
 pub mod Tallies
 pub mod Readings
 pub mod Text

@@ -136,7 +136,7 @@ pub record IsExtended (g : Grammar) (tokens : List Token) (lists : List (Vec Ent
   pub each : (place : ℕ) → IsIn places place →
       IsNext g tokens (list_at lists place) symbol place next (ways_of new place)
   pub kept : (place : ℕ) → (IsIn places place → ⊥) → ways_of new place ≡ ways_of old place
-  pub first : places.first ≤ places.end → new.end ≡ places.first + length new.ways.items
+  pub first : places.first ≤ places.end → new.end ≡ places.first + length new.ways
 
 -- how many symbols a production has
 abbrev pub count_of : Option Production → ℕ
@@ -167,13 +167,38 @@ pub record AreSpanRows (g : Grammar) (tokens : List Token) (lists : List (Vec En
   pub are : AreRows g tokens lists head (count_of (production_of g head))
       (count_of (production_of g head)) to stretches rows
 
+-- the same of rows that are told by their numbers alone
+pub record AreWays (g : Grammar) (tokens : List Token) (lists : List (Vec Entry)) (head : Head)
+    (count n to : ℕ) (stretches : List Stretch) (row : ℕ → ℕ → Tally) : Type 0 where
+  pub last : IsLastRow to (row 0)
+  pub each : (k : ℕ) → k < n → IsRow g tokens lists (next_symbol g head (count - k - 1)) to
+      (stretch_at stretches (count - k - 1)) (row k) (row (k + 1))
+
 -- the tally is that of the head's rows, one deeper
 pub record IsSpanWays (g : Grammar) (tokens : List Token) (lists : List (Vec Entry)) (head : Head)
     (from to : ℕ) (t : Tally) : Type 0 where
-  pub rows : List Row
-  pub are : AreSpanRows g tokens lists head from to rows
-  pub is : IsSmall (row_at rows (count_of (production_of g head)) from) →
-      t ≡ deeper (row_at rows (count_of (production_of g head)) from)
+  pub stretches : List Stretch
+  pub spread : AreStretches g tokens lists head (count_of (production_of g head)) from to stretches
+  pub row : ℕ → ℕ → Tally
+  pub are : AreWays g tokens lists head (count_of (production_of g head))
+      (count_of (production_of g head)) to stretches row
+  pub is : IsSmall (row (count_of (production_of g head)) from) →
+      t ≡ deeper (row (count_of (production_of g head)) from)
+
+-- the ways to read the symbol, if there is one, from the place, and then those of the row; where
+-- there is none, those of the row
+abbrev pub IsFirst : Grammar → List Token → List Entry → Option Symbol → (place : ℕ) →
+    (ℕ → Tally) → Tally → Type 0
+IsFirst g tokens entries None place next t = t ≡ next place
+IsFirst g tokens entries (Some symbol) place next t =
+    IsPlace g tokens entries symbol place next t
+
+-- the tally is that by the head's first symbol, and then the row of the others, one deeper
+abbrev pub IsFirstWays : Grammar → List Token → List (Vec Entry) → Head → (from : ℕ) →
+    (ℕ → Tally) → Tally → Type 0
+IsFirstWays g tokens lists head from next t =
+    (u : Tally) × IsFirst g tokens (list_at lists from) (next_symbol g head 0) from next u ×
+    (IsSmall u → t ≡ deeper u)
 
 -- the tally is the sum over the entries of all tokens
 pub record IsWholeWays (g : Grammar) (start n : ℕ) (lists : List (Vec Entry))

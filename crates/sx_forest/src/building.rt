@@ -1,13 +1,13 @@
 //! One reading of a span.
 
-ghost use Rattle.std.specs.Prelude.{◌≡◌, ◌≤◌, ◌<◌, suc, length, OnOk, IfOk};
+ghost use Rattle.std.specs.Prelude.{◌≡◌, ◌≤◌, ◌<◌, ℕ, suc, [], length, IsTrue, IsFalse, OnOk, IfOk};
 ghost use Rattle.sx_term.specs.declared.lex_kind.LexKind.{LexKind};
 ghost use Rattle.sx_grammar.specs.Grammar.{lexical};
 ghost use Rattle.sx_grammar.specs.Reading.{Readings, ReadsAll, branch};
 ghost use Rattle.sx_grammar.specs.Tables.{GrammarData};
 ghost use Rattle.sx_grammar.specs.Tally.{IsLeafAt};
 ghost use Rattle.sx_earley.specs.Shown.{tokens_of};
-ghost use Rattle.sx_grammar.specs.Items.{ReadsToken};
+ghost use Rattle.sx_grammar.specs.Items.{ReadsToken, Span};
 ghost use Rattle.sx_forest.specs.Readings.{plain_reading, plain_readings};
 ghost use Rattle.sx_forest.specs.Forests.{grammar_in, tokens_in, lists_in, symbols_of, end_of};
 ghost use Rattle.sx_forest.specs.Forests.{followed, IsBy, IsForest, IsShallow, IsOpened, IsAt};
@@ -22,8 +22,8 @@ use crate::standing::Standing;
 use crate::step::Step;
 use crate::stepping::step_at;
 use std::alloc::Global;
-use sx_earley::Shown;
-use sx_grammar::Head;
+use sx_earley::{Shown, symbol_of};
+use sx_grammar::{Head, NumberedSymbol};
 use sx_term::NoMemory;
 
 /// A node.
@@ -78,6 +78,34 @@ fn token_reading(shown: &[Shown], place: u32) -> Reading
     }
 }
 
+/// Adds the kids of a span from the place, where none are there and the one symbol of the head is a
+/// token; returns whether it is such a head.
+fn read_alone(
+    forest: Forest,
+    head: Head,
+    from: u32,
+    kids: &mut Vec<Reading>,
+) -> Result<bool, NoMemory>
+    requires none { kids.old.items ≡ [] }
+    ensures yes { IfOk result (λ is. IsTrue is → (to : ℕ) → Span (grammar_in forest.entry)
+        (tokens_in forest.entry) forest.entry.start head from to →
+        ReadsAll (grammar_in forest.entry) (tokens_in forest.entry)
+        (symbols_of (grammar_in forest.entry) head) from to (plain_readings kids.new.items)) }
+    ensures no { IfOk result (λ is. IsFalse is → kids.new.items ≡ []) }
+{
+    if symbol_count(forest.grammar, head) != 1 {
+        return Ok(false);
+    }
+    match symbol_of(forest.grammar, head, 0) {
+        Some(NumberedSymbol::Lit(_)) => Ok(true),
+        Some(NumberedSymbol::Lex(_)) => {
+            kids.push(token_reading(forest.shown, from))?;
+            Ok(true)
+        }
+        _ => Ok(false),
+    }
+}
+
 /// A reading by the entry from the place.
 #[cycle(build)]
 pub(crate) fn build(
@@ -94,8 +122,11 @@ pub(crate) fn build(
     match entry.maker {
         Maker::Variable(_) => Ok(Reading::Var { token: from }),
         Maker::By(head) => {
-            let opened = open(alloc, forest, entry, head, from)?;
             let mut kids = Vec::new(alloc);
+            if read_alone(forest, head, from, &mut kids)? {
+                return wrap(alloc, head, kids, from, entry.to);
+            }
+            let opened = open(alloc, forest, entry, head, from)?;
             extend(alloc, forest, &opened, 0, from, &mut kids)?;
             wrap(alloc, head, kids, from, entry.to)
         }

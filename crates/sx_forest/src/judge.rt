@@ -1,6 +1,6 @@
 //! The verdict on what is shown.
 
-ghost use Rattle.std.specs.Prelude.{◌≡◌, ◌≤◌, ℕ, List, IfOk, length};
+ghost use Rattle.std.specs.Prelude.{◌≡◌, ◌≤◌, ℕ, List, length};
 ghost use Rattle.sx_grammar.specs.Grammar as plain;
 ghost use Rattle.sx_grammar.specs.Reading.{ReadsWhole, reading_depth};
 ghost use Rattle.sx_grammar.specs.Tally.{IsTally};
@@ -20,7 +20,6 @@ use crate::row::last_row;
 use crate::ways::Ways;
 use std::alloc::Global;
 use sx_grammar::Grammar;
-use sx_term::NoMemory;
 
 /// The ways to read all tokens.
 pub(crate) fn whole_ways(
@@ -29,14 +28,14 @@ pub(crate) fn whole_ways(
     start: u32,
     count: u32,
     table: &Entries,
-) -> Result<Ways, NoMemory>
+) -> Ways
     requires short { count ≤ most_tokens }
     requires sorted { AllSorted table.now.lists.items }
-    ensures { IfOk result (λ w. IsWholeWays (plain grammar.now) start count table.now.lists.items
-        (tally_of w)) }
+    ensures { IsWholeWays (plain grammar.now) start count table.now.lists.items
+        (tally_of result) }
 {
-    let row = last_row(alloc, count)?;
-    Ok(part_ways(grammar, table.from(0), start, 0, &row))
+    let row = last_row(alloc, count);
+    part_ways(grammar, table.from(0), start, 0, &row)
 }
 
 /// How deep a reading may be.

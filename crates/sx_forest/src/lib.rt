@@ -19,6 +19,7 @@ mod building;
 mod choice;
 mod choosing;
 mod completing;
+mod ends;
 mod entries;
 mod entry;
 mod first_entries;
@@ -58,6 +59,7 @@ mod text_order;
 mod useful;
 mod wanted;
 mod ways;
+mod ways_list;
 mod widening;
 mod writing;
 

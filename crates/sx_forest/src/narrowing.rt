@@ -52,7 +52,7 @@ fn before_part(grammar: &Grammar, table: &Entries, sort: u32, least: u8, next: &
 {
     let mut grown = NOWHERE;
     for number in 0..next.ways.len() {
-        if is_some(next.ways[number]) {
+        if is_some(next.ways.numbered(number)) {
             let reaches = table
                 .starts
                 .at((next.end as usize).saturating_sub(number + 1));

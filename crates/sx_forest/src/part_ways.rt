@@ -1,14 +1,14 @@
 //! The ways to read a part, and then the symbols after it.
 
-ghost use Rattle.std.specs.Prelude.{◌≡◌, ◌≢◌, ◌≤◌, ◌<◌, ◌↔◌, ℕ, IsTrue, Some, length};
-ghost use Rattle.std.specs.Prelude.{slice_get};
+ghost use Rattle.std.specs.Prelude.{◌≡◌, ◌≢◌, ◌≤◌, ◌↔◌, IsTrue, length};
 ghost use Rattle.sx_grammar.specs.Tally.{Tally, no_way, plus};
 ghost use Rattle.sx_earley.specs.Shown.{plain};
 ghost use Rattle.sx_forest.specs.Tallies.{tally_of, ways_of};
 ghost use Rattle.sx_forest.specs.Rows.{FitsPart, IsEntryTally, SumTo, AreSorted};
 
+use crate::ends::index_at;
 use crate::entry::{Entry, Maker};
-use crate::row::{Row, at, is_ahead, is_past};
+use crate::row::{Row, at, is_ahead};
 use crate::ways::{Ways, both, either};
 use sx_earley::makes;
 use sx_grammar::Grammar;
@@ -53,32 +53,6 @@ fn entry_ways(grammar: &Grammar, entry: Entry, sort: u32, least: u8, next: &Row)
     }
 }
 
-/// An index such that the entries from it on end after the row has ways; the entries from the
-/// second on are in the order of their ends.
-fn past_index(entries: &[Entry], next: &Row) -> usize
-    requires sorted { AreSorted entries.now }
-    requires some { 1 ≤ length entries.now }
-    ensures low { 1 ≤ result }
-    ensures high { result ≤ length entries.now }
-    ensures past { (i : ℕ) (e : Entry) → result ≤ i → slice_get entries.now i ≡ Some e →
-        ways_of next.now e.to ≡ no_way }
-{
-    let mut low = 1;
-    let mut high = entries.len();
-    if !is_past(next, entries[high - 1].to) {
-        return high;
-    }
-    while low < high {
-        let middle = low + (high - low) / 2;
-        if is_past(next, entries[middle].to) {
-            high = middle;
-        } else {
-            low = middle + 1;
-        }
-    }
-    high
-}
-
 /// The ways by the entries after the first, and then those of the row. It goes from the last entry
 /// that ends where the row has ways back to one that ends before them.
 fn later_ways(grammar: &Grammar, entries: &[Entry], sort: u32, least: u8, next: &Row) -> Ways
@@ -90,7 +64,7 @@ fn later_ways(grammar: &Grammar, entries: &[Entry], sort: u32, least: u8, next: 
         (length entries.now) (plus t (tally_of result)) }
 {
     let mut all = Ways::Nothing;
-    let mut left = past_index(entries, next);
+    let mut left = index_at(entries, next.end as usize);
     while left > 1 {
         let entry = entries[left - 1];
         if is_ahead(next, entry.to) {

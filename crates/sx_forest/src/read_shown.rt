@@ -52,8 +52,8 @@ fn read_spans(
     grammar.facts();
     let table = fill(alloc, grammar, ranks, start, shown, spans)?;
     let count = shown.len() as u32;
-    let row = last_row(alloc, count)?;
-    let ways = whole_ways(alloc, grammar, start, count, &table)?;
+    let row = last_row(alloc, count);
+    let ways = whole_ways(alloc, grammar, start, count, &table);
     let forest = Forest {
         grammar,
         shown,

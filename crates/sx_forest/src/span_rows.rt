@@ -19,13 +19,14 @@ use crate::spreading::{stretch_of, stretches};
 use crate::stretch::{Stretch, clipped};
 use crate::symbol_ways::next_ways;
 use crate::ways::Ways;
+use crate::ways_list::WaysList;
 use std::alloc::Global;
 use sx_earley::{production_at, symbol_of};
 use sx_grammar::{Grammar, Head, NumberedSymbol};
 use sx_term::NoMemory;
 
 /// Whether a row has no ways yet, and gets none here.
-fn is_idle(ways: &[Ways], here: Ways) -> bool
+fn is_idle(ways: &WaysList, here: Ways) -> bool
     ensures { IsTrue result → (ways.now ≡ []) × (tally_of here ≡ no_way) }
 {
     ways.is_empty() && is_nothing(here)
@@ -43,7 +44,7 @@ pub(crate) fn extend(
     requires below { IfSome expected (IsBelow (length (texts basis.grammar.now))) }
     requires shown { AreBelow (length (texts basis.grammar.now)) basis.shown.now }
     requires sorted { AllSorted basis.table.now.lists.items }
-    requires joins { row.old.end ≡ places.end + length row.old.ways.items }
+    requires joins { row.old.end ≡ places.end + length row.old.ways }
     ensures { OnOk result (IsExtended (plain basis.entry.grammar.now)
         (tokens_of basis.entry.grammar.now basis.entry.shown.now)
         basis.entry.table.now.lists.items
@@ -88,7 +89,7 @@ pub(crate) fn row_before(
     let places = clipped(some, 0, to);
     let mut row = Row {
         end: places.end,
-        ways: Vec::new(alloc),
+        ways: WaysList::new(alloc),
     };
     extend(basis, expected, next, &mut row, places)?;
     Ok(row)
@@ -140,7 +141,7 @@ pub(crate) fn last_rows(
 {
     let count = symbol_count(basis.grammar, head);
     let mut rows = Vec::new(alloc);
-    rows.push(last_row(alloc, to)?)?;
+    rows.push(last_row(alloc, to))?;
     for done in 0..number {
         let dot = count - done - 1;
         let expected = symbol_of(basis.grammar, head, dot);

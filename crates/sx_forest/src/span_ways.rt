@@ -2,18 +2,20 @@
 
 ghost use Rattle.std.specs.Prelude.{◌≡◌, ◌≤◌, ◌<◌, ℕ, IsTrue, IsFalse, Some, IfOk, IfSome};
 ghost use Rattle.std.specs.Prelude.{length, slice_get};
+ghost use Rattle.sx_grammar.specs.Grammar.{production_of};
 ghost use Rattle.sx_earley.specs.Shown.{plain, texts, tokens_of, AreBelow};
 ghost use Rattle.sx_forest.specs.declared.kept.Kept.{Kept};
-ghost use Rattle.sx_forest.specs.Tallies.{tally_of};
-ghost use Rattle.sx_forest.specs.Rows.{AllSorted, IsIn, IsSpanWays, stretch_at};
+ghost use Rattle.sx_forest.specs.Tallies.{tally_of, ways_of};
+ghost use Rattle.sx_forest.specs.Rows.{AllSorted, IsIn, IsSpanWays, IsFirstWays, stretch_at};
+ghost use Rattle.sx_forest.specs.Rows.{count_of};
 ghost use Rattle.sx_forest.specs.KeptRows.{IsKept, AllKept, IsReady, IsClear};
 ghost use Rattle.sx_term.specs.Limits.{most_tokens};
 
 use crate::basis::Basis;
 use crate::kept::{Kept, rows_of};
-use crate::row::at;
-use crate::span_rows::{row_before, row_of};
-use crate::stretch::Stretch;
+use crate::row::{Row, at, last_row};
+use crate::span_rows::{row_of, symbol_count};
+use crate::symbol_ways::symbol_ways;
 use crate::ways::{Ways, inside};
 use crate::widening::widen;
 use std::alloc::Global;
@@ -82,8 +84,43 @@ pub(crate) fn leave(kept: &mut Vec<Kept>, place: u32)
     }
 }
 
-/// The ways by the first symbol, and then those of the rows after it.
-fn first_ways(alloc: Global, basis: Basis, kept: &Kept, from: u32) -> Result<Ways, NoMemory>
+/// The ways by the first symbol of the head, if it has one, and then those of the row.
+fn first_ways(basis: Basis, head: Head, next: &Row, from: u32) -> Ways
+    requires short { from ≤ most_tokens }
+    requires shown { AreBelow (length (texts basis.grammar.now)) basis.shown.now }
+    requires sorted { AllSorted basis.table.now.lists.items }
+    ensures { IsFirstWays (plain basis.entry.grammar.now)
+        (tokens_of basis.entry.grammar.now basis.entry.shown.now)
+        basis.entry.table.now.lists.items head from (ways_of next.entry.now)
+        (tally_of result) }
+{
+    match symbol_of(basis.grammar, head, 0) {
+        None => inside(at(next, from)),
+        Some(expected) => {
+            let entries = basis.table.from(from);
+            let ways = symbol_ways(basis.grammar, basis.shown, entries, expected, next, from);
+            inside(ways)
+        }
+    }
+}
+
+/// The ways of a span whose head has one symbol at most.
+fn leaf_ways(alloc: Global, basis: Basis, head: Head, from: u32, to: u32) -> Ways
+    requires short { to ≤ most_tokens }
+    requires along { from ≤ to }
+    requires leaf { count_of (production_of (plain basis.grammar.now) head) ≤ 1 }
+    requires shown { AreBelow (length (texts basis.grammar.now)) basis.shown.now }
+    requires sorted { AllSorted basis.table.now.lists.items }
+    ensures { IsSpanWays (plain basis.entry.grammar.now)
+        (tokens_of basis.entry.grammar.now basis.entry.shown.now)
+        basis.entry.table.now.lists.items head from to (tally_of result) }
+{
+    let row = last_row(alloc, to);
+    first_ways(basis, head, &row, from)
+}
+
+/// The ways of a span by the rows that are kept of it.
+fn kept_ways(basis: Basis, kept: &Kept, from: u32) -> Ways
     requires short { kept.now.to ≤ most_tokens }
     requires along { from ≤ kept.now.to }
     requires shown { AreBelow (length (texts basis.grammar.now)) basis.shown.now }
@@ -91,21 +128,12 @@ fn first_ways(alloc: Global, basis: Basis, kept: &Kept, from: u32) -> Result<Way
     requires ready { IsReady (plain basis.grammar.now)
         (tokens_of basis.grammar.now basis.shown.now) basis.table.now.lists.items from
         kept.now }
-    ensures { IfOk result (λ w. IsSpanWays (plain basis.entry.grammar.now)
+    ensures { IsSpanWays (plain basis.entry.grammar.now)
         (tokens_of basis.entry.grammar.now basis.entry.shown.now)
-        basis.entry.table.now.lists.items kept.now.head from kept.now.to (tally_of w)) }
+        basis.entry.table.now.lists.items kept.now.head from kept.now.to (tally_of result) }
 {
     let next = row_of(&kept.rows, kept.rows.len() - 1);
-    let expected = symbol_of(basis.grammar, kept.head, 0);
-    if expected.is_none() {
-        return Ok(inside(at(next, from)));
-    }
-    let place = Stretch {
-        first: from,
-        end: from + 1,
-    };
-    let row = row_before(alloc, basis, expected, next, kept.to, place)?;
-    Ok(inside(at(&row, from)))
+    first_ways(basis, kept.head, next, from)
 }
 
 /// The ways of a span from an earlier beginning, whose rows are kept in place of these.
@@ -124,12 +152,12 @@ fn wider_ways(alloc: Global, basis: Basis, kept: &mut Kept, from: u32) -> Result
         basis.entry.table.now.lists.items kept.old.head from kept.old.to (tally_of w)) }
 {
     widen(alloc, basis, kept, from)?;
-    let ways = first_ways(alloc, basis, kept, from)?;
+    let ways = kept_ways(basis, kept, from);
     Ok(ways)
 }
 
 /// The ways of a span, by the rows of the span of the head before it, which ends there too, or by
-/// rows that are made anew. They are kept.
+/// rows that are made anew. They are kept, where the head has more than one symbol.
 pub(crate) fn span_ways(
     alloc: Global,
     basis: Basis,
@@ -152,6 +180,9 @@ pub(crate) fn span_ways(
         (tokens_of basis.entry.grammar.now basis.entry.shown.now)
         basis.entry.table.now.lists.items head from to (tally_of w)) }
 {
+    if symbol_count(basis.grammar, head) <= 1 {
+        return Ok(leaf_ways(alloc, basis, head, from, to));
+    }
     match index_of(kept, head, to) {
         Some(index) => {
             let ways = wider_ways(alloc, basis, &mut kept[index], from)?;
@@ -162,7 +193,7 @@ pub(crate) fn span_ways(
                 kept.clear();
             }
             let own = rows_of(alloc, basis, head, from, to)?;
-            let ways = first_ways(alloc, basis, &own, from)?;
+            let ways = kept_ways(basis, &own, from);
             kept.push(own)?;
             Ok(ways)
         }

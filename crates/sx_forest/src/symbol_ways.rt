@@ -16,7 +16,7 @@ use sx_earley::{Shown, reads};
 use sx_grammar::{Grammar, NumberedSymbol};
 
 /// The ways to read the symbol at the place, and then those of the rest.
-fn symbol_ways(
+pub(crate) fn symbol_ways(
     grammar: &Grammar,
     shown: &[Shown],
     entries: &[Entry],

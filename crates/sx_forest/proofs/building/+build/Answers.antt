@@ -1,28 +1,49 @@
 use Rattle.std.proofs.Common.{rules, ◌≡◌, sym, subst, ap, length, arith, add-one}
 use Rattle.std.proofs.lemmas.Result.{IfOk-weaker}
 use Rattle.sx_grammar.specs.Grammar.{production_of}
+use Rattle.sx_grammar.specs.Items.{Span}
 use Rattle.sx_forest.specs.declared.step.Step.TheVariants as steps
 use Rattle.sx_forest.specs.Readings.{plain_reading, plain_readings}
 use Rattle.sx_forest.specs.Tallies.{tally_of}
+use Rattle.sx_forest.specs.Table.{IsSoundBy}
 use Rattle.sx_forest.specs.Forests.{grammar_in, tokens_in, lists_in, symbols_of, depth_in, IsReadTo, IsStep, HasKids, IsBy, IsMadeOf}
 use Rattle.sx_forest.proofs.Stepwise.{count_long}
+use Rattle.sx_forest.proofs.Singles.{kids_alone, made_alone}
 use Rattle.sx_forest.proofs.Growing.{none_behind, one_behind, twice_behind, place_low, entry_shallow, entry_less, over_literal, over_token, over_part, begun, finished, kids_are, made_as}
 use Rattle.sx_forest.proofs.building.+build.Goals as goal
+
+pub build-wrap-requires : goal.build-wrap-requires
+build-wrap-requires t c =
+    let F = c.args.forest in let e = c.args.entry in let head = c.in-By.head in
+    let span : Span (grammar_in F) (tokens_in F) F.start head c.args.from e.to =
+    (subst (λ m. IsSoundBy (grammar_in F) (tokens_in F) F.start m c.args.from e.to (tally_of e.ways)) c.in-By.is c.requires.entry.sound).0 in
+    kids_alone (grammar_in F) (tokens_in F) F.start head c.args.from e.to span (plain_readings c.read_alone.new.kids.items) (c.in_ok-read_alone-in-By.ensures.yes c.if-branch.true e.to span)
+
+pub build-returns-then-branch : goal.build-returns-then-branch
+build-returns-then-branch t c =
+    let F = c.args.forest in let e = c.args.entry in let head = c.in-By.head in let kids = plain_readings c.read_alone.new.kids.items in
+    let span : Span (grammar_in F) (tokens_in F) F.start head c.args.from e.to =
+    (subst (λ m. IsSoundBy (grammar_in F) (tokens_in F) F.start m c.args.from e.to (tally_of e.ways)) c.in-By.is c.requires.entry.sound).0 in
+    IfOk-weaker c.wrap.result (λ r. IsMadeOf head kids c.args.from e.to (plain_reading r))
+    (λ r. IsBy (grammar_in F) (tokens_in F) e.maker c.args.from e.to (plain_reading r))
+    (λ r made. subst (λ m. IsBy (grammar_in F) (tokens_in F) m c.args.from e.to (plain_reading r)) (sym c.in-By.is)
+    (made_alone (grammar_in F) (tokens_in F) F.start head c.args.from e.to span kids (plain_reading r) (c.in_ok-read_alone-in-By.ensures.yes c.if-branch.true e.to span) made))
+    c.wrap.ensures
 
 pub build-extend-requires : goal.build-extend-requires
 build-extend-requires t c =
     let F = c.args.forest in let o = c.in_ok-opened-in-By.opened in
     let opened = c.in_ok-opened-in-By.ensures.opened in
     let same = c.in_ok-opened-in-By.ensures.same in
-    let empty = ap plain_readings c.new-kids.ensures.items in
-    let read : IsReadTo (grammar_in F) (tokens_in F) F.start o 0 c.args.from (plain_readings c.new-kids.result.items) =
-    subst (λ p. IsReadTo (grammar_in F) (tokens_in F) F.start o 0 p (plain_readings c.new-kids.result.items)) same.1
+    let empty = ap plain_readings (c.in_ok-read_alone-in-By.ensures.no c.if-branch.false) in
+    let read : IsReadTo (grammar_in F) (tokens_in F) F.start o 0 c.args.from (plain_readings c.read_alone.new.kids.items) =
+    subst (λ p. IsReadTo (grammar_in F) (tokens_in F) F.start o 0 p (plain_readings c.read_alone.new.kids.items)) same.1
     (subst (λ k. IsReadTo (grammar_in F) (tokens_in F) F.start o 0 o.from k) (sym empty) (begun F c.requires.forest o opened)) in
     let deep : depth_in (tally_of o.ways) ≡ depth_in (tally_of c.args.entry.ways) = ap (λ w. depth_in (tally_of w)) same.3 in
     (search rules, (c.requires.forest, (opened, (read, omega arith))))
 
-pub build-wrap-requires : goal.build-wrap-requires
-build-wrap-requires t c =
+pub build-wrap-requires-in-By : goal.build-wrap-requires-in-By
+build-wrap-requires-in-By t c =
     let F = c.args.forest in let o = c.in_ok-opened-in-By.opened in
     let same = c.in_ok-opened-in-By.ensures.same in
     subst (λ h. HasKids h (plain_readings c.extend.new.kids.items)) same.0
@@ -33,10 +54,10 @@ build-returns-in_ok-extend-in-By t c =
     let F = c.args.forest in let o = c.in_ok-opened-in-By.opened in
     let same = c.in_ok-opened-in-By.ensures.same in
     let kids = plain_readings c.extend.new.kids.items in
-    IfOk-weaker c.wrap.result (λ r. IsMadeOf c.in-By.head kids c.args.from c.args.entry.to (plain_reading r))
+    IfOk-weaker c.wrap-in-By.result (λ r. IsMadeOf c.in-By.head kids c.args.from c.args.entry.to (plain_reading r))
     (λ r. IsBy (grammar_in F) (tokens_in F) c.args.entry.maker c.args.from c.args.entry.to (plain_reading r))
     (λ r made. made_as F c.requires.forest o c.in_ok-opened-in-By.ensures.opened c.in-By.head c.args.from c.args.entry.to c.args.entry.maker same.0 same.1 same.2 c.in-By.is kids (plain_reading r) c.in_ok-extend-in-By.ensures.read made)
-    c.wrap.ensures
+    c.wrap-in-By.ensures
 
 pub extend-loop-next-init : goal.extend-loop-next-init
 extend-loop-next-init t c = record { read = c.requires.read; within = c.requires.within; behind = none_behind c.args.kids.now.items }

@@ -1,8 +1,7 @@
-use Rattle.std.proofs.Common.{◌≡◌, ◌+◌, ◌-◌, ◌<◌, inl, inr, sym, subst, ap, ◌∙◌, length, arith}
+use Rattle.std.proofs.Common.{◌≡◌, ◌+◌, ◌-◌, inl, inr, sym, subst, ap, ◌∙◌, arith}
 use Rattle.std.proofs.lemmas.Bool.{cases_lt, false≢true}
-use Rattle.std.proofs.lemmas.Option.{slice_get-get_or}
 use Rattle.sx_earley.specs.Shown.{plain}
-use Rattle.sx_forest.specs.Tallies.{tally_of, tally_in, ways_at}
+use Rattle.sx_forest.specs.Tallies.{tally_of, ways_at}
 use Rattle.sx_forest.specs.Rows.{IsIn}
 use Rattle.sx_forest.specs.Reached.{HasReach, reaches_at}
 use Rattle.sx_forest.proofs.Reaching.{none_beside}
@@ -11,7 +10,7 @@ use Rattle.sx_forest.proofs.narrowing.before_part.Goals.{then-is_some, else-is_s
 
 pub loop-number-preserved : goal.loop-number-preserved
 loop-number-preserved c = λ n m p low some reaches fits.
-    let next = c.args.next.now in let ways = next.ways.items in let k = c.loop-number.number in
+    let next = c.args.next.now in let ways = next.ways in let k = c.loop-number.number in
     let starts = c.args.table.now.starts.lists.items in
     elim c.if-is_some.branch [
       | then-is_some w ↦ subst (λ s. IsIn s p) (sym w.grown-is) (elim (cases_lt n k) [
@@ -26,9 +25,7 @@ loop-number-preserved c = λ n m p low some reaches fits.
         | inl below ↦ c.loop-number.invariant n m p below some reaches fits
         | inr above ↦
             let same : n ≡ k = omega (arith, low, above) in
-            let within : k < length ways = omega (arith, c.loop-number-test.true, c.len-number-end.ensures) in
-            let there : ways_at ways k ≡ tally_of c.index.result.now =
-            ap tally_in (slice_get-get_or ways k c.index.result.now within) ∙ ap tally_of (sym c.index.ensures) in
+            let there : ways_at ways k ≡ tally_of c.numbered.result = sym c.numbered.ensures in
             absurd (false≢true (sym w.if-is_some.false ∙ c.is_some.ensures.1 (λ none. some (ap (ways_at ways) same ∙ (there ∙ none)))))
       ])
     ]

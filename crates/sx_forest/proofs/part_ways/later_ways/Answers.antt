@@ -5,16 +5,17 @@ use Rattle.sx_earley.specs.Shown.{plain}
 use Rattle.sx_grammar.specs.Tally.{plus}
 use Rattle.sx_forest.specs.Tallies.{tally_of, ways_of}
 use Rattle.sx_forest.specs.Rows.{SumTo}
+use Rattle.sx_forest.proofs.RowWays.{none_after}
 use Rattle.sx_forest.proofs.Summing.{no_entry, sum_on, sum_again, nothing_more, skip_to}
 use Rattle.sx_forest.proofs.part_ways.later_ways.Goals as goal
 
 pub loop-left-init : goal.loop-left-init
-loop-left-init c = let left = c.past_index-left.ensures in let entries = c.args.entries.now in record {
+loop-left-init c = let left = c.index_at-left.ensures in let entries = c.args.entries.now in record {
   low = left.low;
   high = left.high;
   on = λ t sum. subst (λ u. SumTo (plain c.args.grammar.now) c.args.sort c.args.least (ways_of c.args.next.now) entries (length entries) u) (sym (nothing_more t))
-      (skip_to (plain c.args.grammar.now) c.args.sort c.args.least (ways_of c.args.next.now) entries c.past_index-left.result t sum (length entries) left.high (omega arith)
-      (λ i e after under at. left.past i e after at));
+      (skip_to (plain c.args.grammar.now) c.args.sort c.args.least (ways_of c.args.next.now) entries c.index_at-left.result t sum (length entries) left.high (omega arith)
+      (λ i e after under at. none_after c.args.next.now e.to (left.after i e after at)));
 }
 
 pub loop-left-preserved : goal.loop-left-preserved

@@ -13,9 +13,9 @@ pub unreachable-requires : goal.unreachable-requires
 unreachable-requires c =
     let g = plain c.args.grammar.now in let ts = tokens_of c.args.grammar.now c.args.shown.now in
     let long : length ts ≡ length c.args.shown.now = length-map c.args.shown.now (token_of (texts c.args.grammar.now)) in
-    let lists = c.in_ok-table.table.lists.items in let t = tally_of c.in_ok-ways.ways in
+    let lists = c.in_ok-table.table.lists.items in let t = tally_of c.whole_ways-ways.result in
     let tally : IsTally (ReadsWhole g ts c.args.start) reading_depth t = whole_tally g ts c.args.start c.facts.ensures.levels lists c.in_ok-table.ensures t
-    (subst (λ n. IsWholeWays g c.args.start n lists t) (sym long) c.in_ok-ways.ensures) in
+    (subst (λ n. IsWholeWays g c.args.start n lists t) (sym long) c.whole_ways-ways.ensures) in
     let v = c.in-Nothing.ensures g ts c.args.start c.requires.few tally in
     absurd (v c.requires.some.0 c.requires.some.1)
 
@@ -23,9 +23,9 @@ pub returns-in-TooDeep-clause-refused : goal.returns-in-TooDeep-clause-refused
 returns-in-TooDeep-clause-refused c = λ l m.
     let g = plain c.args.grammar.now in let ts = tokens_of c.args.grammar.now c.args.shown.now in
     let long : length ts ≡ length c.args.shown.now = length-map c.args.shown.now (token_of (texts c.args.grammar.now)) in
-    let lists = c.in_ok-table.table.lists.items in let t = tally_of c.in_ok-ways.ways in
+    let lists = c.in_ok-table.table.lists.items in let t = tally_of c.whole_ways-ways.result in
     let tally : IsTally (ReadsWhole g ts c.args.start) reading_depth t = whole_tally g ts c.args.start c.facts.ensures.levels lists c.in_ok-table.ensures t
-    (subst (λ n. IsWholeWays g c.args.start n lists t) (sym long) c.in_ok-ways.ensures) in
+    (subst (λ n. IsWholeWays g c.args.start n lists t) (sym long) c.whole_ways-ways.ensures) in
     let v = c.in-TooDeep.ensures g ts c.args.start c.requires.few tally in
     v
 
@@ -33,9 +33,9 @@ pub first_reading-requires-clause-low : goal.first_reading-requires-clause-low
 first_reading-requires-clause-low c =
     let g = plain c.args.grammar.now in let ts = tokens_of c.args.grammar.now c.args.shown.now in
     let long : length ts ≡ length c.args.shown.now = length-map c.args.shown.now (token_of (texts c.args.grammar.now)) in
-    let lists = c.in_ok-table.table.lists.items in let t = tally_of c.in_ok-ways.ways in
+    let lists = c.in_ok-table.table.lists.items in let t = tally_of c.whole_ways-ways.result in
     let tally : IsTally (ReadsWhole g ts c.args.start) reading_depth t = whole_tally g ts c.args.start c.facts.ensures.levels lists c.in_ok-table.ensures t
-    (subst (λ n. IsWholeWays g c.args.start n lists t) (sym long) c.in_ok-ways.ensures) in
+    (subst (λ n. IsWholeWays g c.args.start n lists t) (sym long) c.whole_ways-ways.ensures) in
     let v = c.in-One.ensures g ts c.args.start c.requires.few tally in
     λ r reads. subst (λ x. reading_depth x ≤ 1000) (sym (v.1.1.1 r reads)) v.1.2
 
@@ -43,9 +43,9 @@ pub first_reading-requires-clause-some : goal.first_reading-requires-clause-some
 first_reading-requires-clause-some c =
     let g = plain c.args.grammar.now in let ts = tokens_of c.args.grammar.now c.args.shown.now in
     let long : length ts ≡ length c.args.shown.now = length-map c.args.shown.now (token_of (texts c.args.grammar.now)) in
-    let lists = c.in_ok-table.table.lists.items in let t = tally_of c.in_ok-ways.ways in
+    let lists = c.in_ok-table.table.lists.items in let t = tally_of c.whole_ways-ways.result in
     let tally : IsTally (ReadsWhole g ts c.args.start) reading_depth t = whole_tally g ts c.args.start c.facts.ensures.levels lists c.in_ok-table.ensures t
-    (subst (λ n. IsWholeWays g c.args.start n lists t) (sym long) c.in_ok-ways.ensures) in
+    (subst (λ n. IsWholeWays g c.args.start n lists t) (sym long) c.whole_ways-ways.ensures) in
     let v = c.in-One.ensures g ts c.args.start c.requires.few tally in
     (v.0, v.1.1.0)
 
@@ -53,9 +53,9 @@ pub returns-in-One-clause-found : goal.returns-in-One-clause-found
 returns-in-One-clause-found c =
     let g = plain c.args.grammar.now in let ts = tokens_of c.args.grammar.now c.args.shown.now in
     let long : length ts ≡ length c.args.shown.now = length-map c.args.shown.now (token_of (texts c.args.grammar.now)) in
-    let lists = c.in_ok-table.table.lists.items in let t = tally_of c.in_ok-ways.ways in
+    let lists = c.in_ok-table.table.lists.items in let t = tally_of c.whole_ways-ways.result in
     let tally : IsTally (ReadsWhole g ts c.args.start) reading_depth t = whole_tally g ts c.args.start c.facts.ensures.levels lists c.in_ok-table.ensures t
-    (subst (λ n. IsWholeWays g c.args.start n lists t) (sym long) c.in_ok-ways.ensures) in
+    (subst (λ n. IsWholeWays g c.args.start n lists t) (sym long) c.whole_ways-ways.ensures) in
     let v = c.in-One.ensures g ts c.args.start c.requires.few tally in
     let h = c.in_ok-first_reading-in-One.ensures in let r = plain_reading c.in_ok-first_reading-in-One.field-0 in
     (v.1.0, (h, λ other reads. v.1.1.1 other reads ∙ sym (v.1.1.1 r h)), subst (λ x. reading_depth x ≤ 1000) (sym (v.1.1.1 r h)) v.1.2)
@@ -64,9 +64,9 @@ pub two_readings-requires-clause-low : goal.two_readings-requires-clause-low
 two_readings-requires-clause-low c =
     let g = plain c.args.grammar.now in let ts = tokens_of c.args.grammar.now c.args.shown.now in
     let long : length ts ≡ length c.args.shown.now = length-map c.args.shown.now (token_of (texts c.args.grammar.now)) in
-    let lists = c.in_ok-table.table.lists.items in let t = tally_of c.in_ok-ways.ways in
+    let lists = c.in_ok-table.table.lists.items in let t = tally_of c.whole_ways-ways.result in
     let tally : IsTally (ReadsWhole g ts c.args.start) reading_depth t = whole_tally g ts c.args.start c.facts.ensures.levels lists c.in_ok-table.ensures t
-    (subst (λ n. IsWholeWays g c.args.start n lists t) (sym long) c.in_ok-ways.ensures) in
+    (subst (λ n. IsWholeWays g c.args.start n lists t) (sym long) c.whole_ways-ways.ensures) in
     let v = c.in-More.ensures g ts c.args.start c.requires.few tally in
     v.2.1
 
@@ -74,9 +74,9 @@ pub two_readings-requires-clause-two : goal.two_readings-requires-clause-two
 two_readings-requires-clause-two c =
     let g = plain c.args.grammar.now in let ts = tokens_of c.args.grammar.now c.args.shown.now in
     let long : length ts ≡ length c.args.shown.now = length-map c.args.shown.now (token_of (texts c.args.grammar.now)) in
-    let lists = c.in_ok-table.table.lists.items in let t = tally_of c.in_ok-ways.ways in
+    let lists = c.in_ok-table.table.lists.items in let t = tally_of c.whole_ways-ways.result in
     let tally : IsTally (ReadsWhole g ts c.args.start) reading_depth t = whole_tally g ts c.args.start c.facts.ensures.levels lists c.in_ok-table.ensures t
-    (subst (λ n. IsWholeWays g c.args.start n lists t) (sym long) c.in_ok-ways.ensures) in
+    (subst (λ n. IsWholeWays g c.args.start n lists t) (sym long) c.whole_ways-ways.ensures) in
     let v = c.in-More.ensures g ts c.args.start c.requires.few tally in
     (v.0, v.1, v.2.2, v.2.3, v.2.4)
 
@@ -84,9 +84,9 @@ pub returns-clause-found : goal.returns-clause-found
 returns-clause-found c =
     let g = plain c.args.grammar.now in let ts = tokens_of c.args.grammar.now c.args.shown.now in
     let long : length ts ≡ length c.args.shown.now = length-map c.args.shown.now (token_of (texts c.args.grammar.now)) in
-    let lists = c.in_ok-table.table.lists.items in let t = tally_of c.in_ok-ways.ways in
+    let lists = c.in_ok-table.table.lists.items in let t = tally_of c.whole_ways-ways.result in
     let tally : IsTally (ReadsWhole g ts c.args.start) reading_depth t = whole_tally g ts c.args.start c.facts.ensures.levels lists c.in_ok-table.ensures t
-    (subst (λ n. IsWholeWays g c.args.start n lists t) (sym long) c.in_ok-ways.ensures) in
+    (subst (λ n. IsWholeWays g c.args.start n lists t) (sym long) c.whole_ways-ways.ensures) in
     let v = c.in-More.ensures g ts c.args.start c.requires.few tally in
     let e = c.in_ok-one-in-More.ensures in
     (v.2.0, v.2.1, e.one, e.other, e.apart)

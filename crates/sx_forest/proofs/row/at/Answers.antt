@@ -1,12 +1,11 @@
-use Rattle.std.proofs.Common.{◌-◌, ◌∙◌, ap, sym}
-use Rattle.sx_forest.specs.Tallies.{ways_at}
+use Rattle.std.proofs.Common.{◌∙◌, sym}
 use Rattle.sx_forest.proofs.RowWays.{none_after, way_there}
 use Rattle.sx_forest.proofs.row.at.Goals as goal
 
 pub returns : goal.returns
 returns c =
     let row = c.args.row.now in
-    c.numbered.ensures ∙ (ap (λ l. ways_at l (row.end - 1 - c.args.place)) c.deref.ensures.value ∙ sym (way_there row c.args.place c.if-row-place.false))
+    c.numbered.ensures ∙ sym (way_there row c.args.place c.if-row-place.false)
 
 pub returns-then-row-place : goal.returns-then-row-place
 returns-then-row-place c = sym (none_after c.args.row.now c.args.place c.if-row-place.true)

@@ -1,4 +1,4 @@
-use Rattle.std.proofs.Common.{◌≡◌, ◌-◌, suc, option_map, refl, sym, subst, ◌∙◌, arith}
+use Rattle.std.proofs.Common.{◌≡◌, ◌-◌, suc, option_map, refl, subst, arith}
 use Rattle.sx_grammar.specs.Numbered.{symbol}
 use Rattle.sx_earley.specs.Shown.{plain, texts, tokens_of}
 use Rattle.sx_forest.specs.Tallies.{tally_of, ways_of}
@@ -30,7 +30,7 @@ loop-place-preserved-then-is_idle c =
     let here : IsNext g ts (list_at lists place) x place next (tally_of w) = subst (λ l. IsNext g ts l x place next (tally_of w)) c.from-entries.ensures c.next_ways-here.ensures in
     let idle = c.is_idle.ensures c.if-is_idle.true in
     extends_idle g ts lists x next c.args.places c.args.row.now c.loop-place.place row c.loop-place.invariant place at c.loop-place-test.true w here
-    (record { end = place; ways = row.ways }) refl refl (sym c.deref.ensures.value ∙ idle.0) idle.1
+    (record { end = place; ways = row.ways }) refl refl idle.0 idle.1
 
 pub returns : goal.returns
 returns c =

@@ -11,6 +11,6 @@ returns c =
     let g = plain c.args.basis.grammar.now in let ts = tokens_of c.args.basis.grammar.now c.args.basis.shown.now in
     let lists = c.args.basis.table.now.lists.items in let x = option_map (symbol (texts c.args.basis.grammar.now)) c.args.expected in
     let next = ways_of c.args.next.now in let some = c.narrowed-some.result in let places = c.clipped-places.result in
-    let made = row_is g ts lists x c.args.to places next _ c.extend.new.row c.clipped-places.ensures.end c.new.ensures.items c.in_ok-extend.ensures in
+    let made = row_is g ts lists x c.args.to places next _ c.extend.new.row c.clipped-places.ensures.end c.new.ensures c.in_ok-extend.ensures in
     row_of_some g ts lists x c.args.to c.args.stretch some next (ways_of c.extend.new.row) c.narrowed-some.ensures.kept (c.narrowed-some.ensures.none ts)
     (row_clipped g ts lists x c.args.to some places next (ways_of c.extend.new.row) (λ p low. c.clipped-places.ensures.same p (omega arith) low) made)

@@ -12,6 +12,6 @@ returns-clause-kept c =
 pub returns-clause-ways : goal.returns-clause-ways
 returns-clause-ways c =
     let g = plain c.args.basis.grammar.now in let ts = tokens_of c.args.basis.grammar.now c.args.basis.shown.now in let lists = c.args.basis.table.now.lists.items in
-    let t = tally_of c.in_ok-ways.ways in
+    let t = tally_of c.kept_ways-ways.result in
     subst (λ h. IsSpanWays g ts lists h c.args.from c.args.kept.now.to t) c.in_ok-widen.ensures.same.0
-    (subst (λ e. IsSpanWays g ts lists c.widen.new.kept.head c.args.from e t) c.in_ok-widen.ensures.same.1 c.in_ok-ways.ensures)
+    (subst (λ e. IsSpanWays g ts lists c.widen.new.kept.head c.args.from e t) c.in_ok-widen.ensures.same.1 c.kept_ways-ways.ensures)

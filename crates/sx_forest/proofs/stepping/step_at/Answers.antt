@@ -1,10 +1,10 @@
-use Rattle.std.proofs.Common.{◌-◌, Some, sym, ap, ◌∙◌}
+use Rattle.std.proofs.Common.{◌-◌, Some, sym, subst, ap, ◌∙◌}
 use Rattle.std.specs.Option.{option_map}
 use Rattle.sx_grammar.specs.Grammar.{production_of}
 use Rattle.sx_grammar.specs.Numbered.{symbol}
 use Rattle.sx_earley.specs.Shown.{texts}
 use Rattle.sx_forest.specs.Tallies.{ways_of}
-use Rattle.sx_forest.specs.Rows.{row_at}
+use Rattle.sx_forest.specs.Rows.{row_at, AreSorted}
 use Rattle.sx_forest.specs.Forests.{grammar_in, tokens_in, lists_in, symbols_of}
 use Rattle.sx_forest.proofs.Stepwise.{symbol_there, next_row, no_symbol, usable_as, step_literal, step_token, step_part, some_usable}
 use Rattle.sx_forest.proofs.stepping.step_at.Goals as goal
@@ -42,3 +42,6 @@ returns-in-Some c =
     let is = sym (symbol_there (production_of g o.head) c.args.dot) ∙ (sym c.symbol_of.ensures.is ∙ ap (λ x. option_map (symbol (texts F.grammar.now)) x) (c.in-Some-Part.is ∙ ap Some c.in-Some-Part.field-0-is)) in
     step_part g (tokens_in F) F.start f.levels f.ranked.0 f.ranked.1 (lists_in F) f.full o c.requires.opened c.args.dot c.args.place c.in-Some-Part.sort c.in-Some-Part.least _ _ is c.requires.at
     (usable_as g c.in-Some-Part.sort c.in-Some-Part.least 0 row c.from-entries.ensures c.in-Some.is c.first_usable.ensures)
+
+pub first_usable-requires : goal.first_usable-requires
+first_usable-requires c = record { sorted = subst AreSorted (sym c.from-entries.ensures) (c.requires.forest.full.table.sorted c.args.place) }

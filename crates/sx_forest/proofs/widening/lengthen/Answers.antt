@@ -16,6 +16,6 @@ returns-in_ok-extend c =
       each = λ p is. made.each p is;
       kept = λ p past. made.kept p (λ is. let b = is.1 in omega arith) ∙ begun.kept p past;
       none = λ p early before nothing.
-          let first : c.extend.new.row.end ≡ c.args.places.first + length c.extend.new.row.ways.items = made.first (omega arith) in
+          let first : c.extend.new.row.end ≡ c.args.places.first + length c.extend.new.row.ways = made.first (omega arith) in
           none_before c.extend.new.row p (omega (arith, first));
     }
