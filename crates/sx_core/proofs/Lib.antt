@@ -24,3 +24,4 @@ pub mod SameRows
 pub mod BadLines
 pub mod SaidRows
 pub mod OneAnswer
+pub mod Exits

@@ -25,3 +25,4 @@ pub mod Texts
 pub mod Firsts
 pub mod Refusals
 pub mod ProofCopies
+pub mod CopyLaws

@@ -1,6 +1,6 @@
 -- Names among names.
-use Rattle.std.proofs.Common.{◌≡◌, ℕ, zero, suc, IsTrue, ◌↔◌, Bool, true, false, List, [], ◌∷◌, ◌++◌, inl, inr, None, refl, sym, ◌∙◌, true≢false, Contains, arith}
-use Rattle.std.specs.Prelude.{slice_get}
+use Rattle.std.proofs.Common.{◌≡◌, ℕ, zero, suc, IsTrue, ◌↔◌, Bool, true, false, List, [], ◌∷◌, ◌++◌, inl, inr, None, Some, refl, sym, ap, ◌∙◌, true≢false, Contains, arith}
+use Rattle.std.specs.Prelude.{Option, slice_get, option_map, unwrap_or}
 use Rattle.sx_rules.specs.Good.{IsAmong}
 use Rattle.sx_rules.specs.Views.{NamedRule, rule_name}
 
@@ -48,3 +48,9 @@ pub unnamed : (rules : List NamedRule) (n : ℕ) → slice_get rules n ≡ None 
 unnamed [] n e = refl
 unnamed (r ∷ rules) zero e = cc
 unnamed (r ∷ rules) (suc n) e = unnamed rules n e
+
+-- the name of the rule that stands there
+pub named_at : (rules : List NamedRule) (n : ℕ) (r : NamedRule) → slice_get rules n ≡ Some r → r.name ≡ rule_name rules n
+named_at [] n r e = let clash : None ≡ Some r = e in cc
+named_at (q ∷ rules) zero r e = ap (λ (o : Option NamedRule). unwrap_or (option_map (λ (x : NamedRule). x.name) o) []) (sym e)
+named_at (q ∷ rules) (suc n) r e = named_at rules n r e

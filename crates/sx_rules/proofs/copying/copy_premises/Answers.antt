@@ -1,5 +1,29 @@
 use Rattle.sx_rules.proofs.RowLaws.{premise_shallow_at}
+use Rattle.std.proofs.Common.{map, ap, ◌∙◌, arith}
+use Rattle.std.proofs.lemmas.Result.{IfOk-from_err}
+use Rattle.sx_rules.specs.Views.{premise}
+use Rattle.sx_rules.proofs.CopyLaws.{copied_more, copied_all}
 use Rattle.sx_rules.proofs.copying.copy_premises.Goals as goal
 
 pub copy-requires : goal.copy-requires
 copy-requires c = premise_shallow_at c.args.premises.now c.loop-i.i c.index-premises-i.result c.requires c.loop-i-test.true c.index-premises-i.is
+
+pub returns-in_err-copies : goal.returns-in_err-copies
+returns-in_err-copies c = IfOk-from_err _ _ c.from_residual.ensures.0
+
+pub loop-i-init : goal.loop-i-init
+loop-i-init c = ap (map premise) c.in_ok-copies.ensures.items
+
+pub returns-in_err-copy : goal.returns-in_err-copy
+returns-in_err-copy c = IfOk-from_err _ _ c.from_residual-in_err-copy.ensures.0
+
+pub returns-in_err-push : goal.returns-in_err-push
+returns-in_err-push c = IfOk-from_err _ _ c.from_residual-in_err-push.ensures.0
+
+pub loop-i-preserved : goal.loop-i-preserved
+loop-i-preserved c =
+    ap (map premise) c.in_ok-push.ensures.items
+    ∙ copied_more premise c.loop-i.copies.items c.args.premises.now c.loop-i.i c.in_ok-copy.field-0 c.index-premises-i.result c.loop-i.invariant c.loop-i-test.true c.index-premises-i.is c.in_ok-copy.ensures
+
+pub returns : goal.returns
+returns c = copied_all premise c.loop-i.copies.items c.args.premises.now c.loop-i.i c.loop-i.invariant (omega (arith, c.loop-i-test.false))
