@@ -29,3 +29,4 @@ pub mod Widening
 pub mod Extending
 pub mod Behind
 pub mod TokenLaws
+pub mod LoopLaws

@@ -1,5 +1,5 @@
 -- The sorts and productions of a grammar, where sorts and productions stand behind them.
-use Rattle.std.proofs.Common.{◌≡◌, ℕ, zero, suc, ◌+◌, ◌<◌, ◌≤◌, Bool, true, false, cond, List, [], ◌∷◌, ◌++◌, length, length-append, map, Some, sym, refl, ap, ◌∙◌, subst, arith, Contains, ◌⊎◌, inl, inr, ⊎_elim}
+use Rattle.std.proofs.Common.{IsTrue, ◌↔◌, ◌≡◌, ℕ, zero, suc, ◌+◌, ◌<◌, ◌≤◌, Bool, true, false, cond, List, [], ◌∷◌, ◌++◌, length, length-append, map, Some, sym, refl, ap, ◌∙◌, subst, arith, Contains, ◌⊎◌, inl, inr, ⊎_elim}
 use Rattle.std.specs.Prelude.{Option, None, is_some, MatchOption, slice_get, option_map, unwrap_or, not, flat_map}
 use Rattle.std.specs.Str.{bytes_eq}
 use Rattle.std.specs.List.{position_or_len}
@@ -174,6 +174,10 @@ sort_is p more whole sort n s is count at =
 pub sort_is_none : (p : Parts) (more : List Line) (whole : Parts) (sort : Option SortLine) → whole ≡ grown p (listed sort) more → length whole.sorts ≤ length p.sorts → sort ≡ None
 sort_is_none p more whole None is few = refl
 sort_is_none p more whole (Some s) is few = absurd (omega (arith, few, ap (λ (w : Parts). length w.sorts) is, length-append p.sorts (s ∷ [])))
+
+-- a test that fails
+pub no_more : (n m : ℕ) (more : Bool) → (IsTrue more ↔ (n < m)) → more ≡ false → m ≤ n
+no_more n m more same is = ⊎_elim (λ lt. absurd (false≢true (sym is ∙ same.1 lt))) (λ le. le) (cases_lt n m)
 
 -- the names of all sorts
 pub names_listed : (p : Parts) (more : List Line) (whole : Parts) (sort other : Option SortLine) → whole ≡ grown p (listed sort) more → sort ≡ other → names whole ≡ names p ++ map (λ s. s.name) (listed other)

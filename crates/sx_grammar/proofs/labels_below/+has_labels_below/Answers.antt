@@ -1,4 +1,5 @@
-use Rattle.std.proofs.Common.{◌≡◌, ℕ, List, ◌<◌, ◌+◌, ◌↔◌, length, get_or, drop, ap, ◌∙◌, sym, subst, arith}
+use Rattle.std.proofs.Common.{◌≡◌, ℕ, List, ◌<◌, ◌+◌, ◌↔◌, length, get_or, drop, ap, ◌∙◌, sym, subst, arith, IsTrue, true, refl}
+use Rattle.std.proofs.lemmas.Bool.{false≢true}
 use Rattle.sx_term.specs.declared.term.Term.{Term}
 use Rattle.sx_term.specs.Term.{tree}
 use Rattle.sx_term.specs.Tree.{node}
@@ -35,3 +36,17 @@ returns-after-loop-kid t c =
     all_below c.args.bound (tree c.args.term.now) c.in-Node.label c.deref-kid-items.result.now c.loop-kid.kid-index
     (tree-at_node _ _ _ c.in-Node.is ∙ ap (λ x. node c.in-Node.label (trees x)) (sym c.deref-kid-items.ensures.value))
     c.if-label-bound.false c.loop-kid-test.false c.loop-kid.invariant
+
+pub returns-then-label-bound : goal.returns-then-label-bound
+returns-then-label-bound t c = (
+  λ f. absurd (false≢true f),
+  λ has.
+      let all : HasLabelsBelow c.args.bound (node c.in-Node.label (trees c.in-Node.kids.items)) = subst (HasLabelsBelow c.args.bound) (tree-at_node _ _ _ c.in-Node.is) has in
+      absurd (omega (arith, all.0, c.if-label-bound.true)),
+)
+
+pub returns-in-Lex : goal.returns-in-Lex
+returns-in-Lex t c = subst (λ (x : Term). IsTrue true ↔ HasLabelsBelow c.args.bound (tree x)) (sym c.in-Lex.is) (λ h. tt, λ h. refl)
+
+pub returns-in-Var : goal.returns-in-Var
+returns-in-Var t c = subst (λ (x : Term). IsTrue true ↔ HasLabelsBelow c.args.bound (tree x)) (sym c.in-Var.is) (λ h. tt, λ h. refl)
