@@ -49,3 +49,4 @@ pub mod WholeOutlines
 pub mod RefusedUses
 pub mod RefusedHeaders
 pub mod RefusedExtensions
+pub mod BeforeLaws

@@ -24,7 +24,10 @@ fn language_of(row: Row) -> Option<Text>
 {
     match row {
         Row::Language(name) => Some(name),
-        _ => None,
+        other => {
+            drop(other);
+            None
+        }
     }
 }
 
@@ -46,7 +49,10 @@ fn extension_of(row: Row) -> Option<Text>
 {
     match row {
         Row::Extension(name) => Some(name),
-        _ => None,
+        other => {
+            drop(other);
+            None
+        }
     }
 }
 
@@ -102,7 +108,10 @@ fn use_of(row: Row) -> Option<Text>
 {
     match row {
         Row::Use(name) => Some(name),
-        _ => None,
+        other => {
+            drop(other);
+            None
+        }
     }
 }
 

@@ -51,7 +51,11 @@ fn with_body(stage: Stage, number: u32, body: Text) -> Option<Stage>
                 Some(_) => None,
             }
         }
-        _ => None,
+        other => {
+            drop(other);
+            drop(body);
+            None
+        }
     }
 }
 
