@@ -4,6 +4,9 @@ use Rattle.std.specs.Prelude.{Vec}
 use Rattle.std.specs.declared.alloc.Global.{Global}
 use Rattle.sx_term.specs.Tree.{Tree}
 use Rattle.sx_term.specs.Term.{tree}
+use Rattle.sx_term.specs.declared.no_memory.NoMemory.{NoMemory}
+use Rattle.sx_arena.specs.Arena.{AreBelow}
+use Rattle.sx_derive.specs.Chains.{HeadFits}
 use Rattle.sx_rules.specs.ProofView.{proof}
 use Rattle.sx_rules.specs.Rules.{Judgement, Rule, Hypotheses}
 use Rattle.sx_rules.specs.Modes.{Modes}
@@ -18,7 +21,7 @@ use Rattle.sx_derive.specs.Candidates.{AreFacts}
 use Rattle.sx_derive.specs.Handing.{answer_in}
 use Rattle.sx_derive.specs.Problems.{IsProblem}
 use Rattle.sx_derive.specs.Resumable.{IsReady, Stands, StandsBefore, Takes, IsNextOf, IsErrorOf, IsReachedAt, IsReached}
-use Rattle.sx_derive.specs.Store.{Grows, store_trees}
+use Rattle.sx_derive.specs.Store.{Grows, IsStore, store_trees, store_envs, store_kids}
 use Rattle.sx_derive.specs.Tasks.{events_left, TasksFit}
 use Rattle.sx_derive.specs.Walk.{Cause, too_deep, too_big, Event, try, give, stop, Answer, events}
 use Rattle.sx_derive.specs.declared.chains.Head.{Head}
@@ -28,9 +31,9 @@ use Rattle.sx_derive.specs.declared.problem.Problem.{Problem}
 use Rattle.sx_derive.specs.declared.reach.Reached.{Reached}
 use Rattle.sx_derive.specs.declared.search.Search.{Search}
 use Rattle.sx_derive.specs.declared.search_error.SearchError.{SearchError}
-use Rattle.sx_derive.specs.declared.search_error.SearchError.TheVariants.{DepthSpent as SpentDepth}
+use Rattle.sx_derive.specs.declared.search_error.SearchError.TheVariants.{Memory, DepthSpent as SpentDepth}
 use Rattle.sx_derive.specs.declared.state.State.{State}
-use Rattle.sx_derive.specs.declared.state.State.TheVariants.{Open, Passed as AtLimit, DepthSpent as AtDepth}
+use Rattle.sx_derive.specs.declared.state.State.TheVariants.{Open, Failed, Passed as AtLimit, DepthSpent as AtDepth}
 use Rattle.sx_derive.specs.declared.store.Store.{Store}
 use Rattle.sx_derive.specs.declared.tasks.Ending.{Ending as EndingOf}
 use Rattle.sx_derive.specs.declared.tasks.Ending.TheVariants.{Found as IsFound, Passed, DepthSpent, Spent, Exhausted}
@@ -136,6 +139,32 @@ module _ (modes : Modes) (rules : List Rule) (hyps : Hypotheses) (old : Search) 
   next_found r head outs e x d z =
       let (g, f, (l, b, w, t)) = met r x (IsFound head outs) e in
       (left, subst (λ (a : Answer). Takes budget first last es (give a ∷ left) r.tries) (sym z) t, stands_at g f left refl)
+
+  -- what is found fits in the store
+  pub found_fits : (r : Reached) (head : Head) (outs : Vec ℕ Global) → r.ending ≡ IsFound head outs → IsReachedWith r → IsStore modes rules s × HeadFits (length (store_envs s)) (length (store_kids s)) head × AreBelow (length (store_trees s)) outs.items
+  found_fits r head outs e x =
+      let (g, f, (l, b, w, t)) = met r x (IsFound head outs) e in
+      (g.store, b, w)
+
+  -- memory is lacking in the search, or for what is found
+  pub next_failed : (e : NoMemory) → ((js : List Judgement) → AreFacts modes (store_trees old.store) js fs →
+      IsReached modes rules ps js (length fs + length rules) old.store s ts.items budget first last (events_left modes rules ps js old.store old.tasks.items) (Err e)) → (new : Search) → new.state ≡ Failed → (err : SearchError) → err ≡ Memory
+      → IsNextOf modes rules hyps budget first last es new (Err err)
+  next_failed e x new failed err m =
+      let y = x hyps.judgements (subst (λ (gs : List Fact). AreFacts modes (store_trees old.store) hyps.judgements gs) (sym ef) h.ready.facts) in
+      let same = ap (λ (qs : List Pair). events_left modes rules qs hyps.judgements old.store old.tasks.items) ep ∙ sym (open_events modes rules hyps old es o h) in
+      subst (λ (d : SearchError). IsNextOf modes rules hyps budget first last es new (Err d)) (sym m)
+      (y.0, y.1, subst (λ (q : List (Event Answer)). Takes budget first last q y.1 y.0) same y.2, y.3, failed)
+
+  pub next_unexported : (r : Reached) (head : Head) (outs : Vec ℕ Global) → r.ending ≡ IsFound head outs → IsReachedWith r → (new : Search) → new.state ≡ Failed → (err : SearchError) → err ≡ Memory
+      → IsNextOf modes rules hyps budget first last es new (Err err)
+  next_unexported r head outs e x new failed err m =
+      let (g, f, (l, b, w, t)) = met r x (IsFound head outs) e in
+      subst (λ (d : SearchError). IsNextOf modes rules hyps budget first last es new (Err d)) (sym m) (r.tries, give (answer_in s head outs.items) ∷ left, t, l, failed)
+
+-- a search that goes on has not failed
+pub not_failed : (st : State) → st ≡ Open → st ≡ Failed → ⊥
+not_failed st a b = let clash : Open ≡ Failed = sym a ∙ b in cc
 
 -- a search that has come to a limit answers the same
 module _ (modes : Modes) (rules : List Rule) (hyps : Hypotheses) (budget first : ℕ) (s : Search) (es : List (Event Answer)) (h : Stands modes rules hyps s es) where

@@ -66,7 +66,11 @@ pub(crate) fn ask(
             let fit = fit_places(&store.arena, &mut store.binds, env, &side, &got)?;
             match fit {
                 None => Ok(Asked::Differs { terms: kept, got }),
-                Some(next) => Ok(Asked::Matched(next)),
+                Some(next) => {
+                    drop(got);
+                    drop(kept);
+                    Ok(Asked::Matched(next))
+                }
             }
         }
     }

@@ -48,8 +48,7 @@ pub(crate) fn first_answer(
         levels: bounds.levels,
     };
     let tasks = first_task(given.alloc, goal, mark)?;
-    let wanted: Option<Vec<usize>> = None;
-    let ending = walk_uncounted(given, store, &wanted, tasks, bounds.budget)?;
+    let ending = walk_uncounted(given, store, &None, tasks, bounds.budget)?;
     match ending {
         Ending::Found { head: _, outputs } => {
             store.cut_chains(mark);

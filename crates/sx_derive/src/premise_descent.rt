@@ -132,10 +132,12 @@ pub(crate) fn descend_premises(
                 match ask_known(given, store, judgement, env, bounds, last)? {
                     Asked::Matched(next) => env = next,
                     Asked::Unanswered(terms) => {
+                        drop(spot.terms);
                         let kid = premise_spot(rules, rule, judgement, terms, spot.path)?;
                         return Ok(Descent::Below(kid));
                     }
                     Asked::Differs { terms, got } => {
+                        drop(spot.terms);
                         let kid = premise_spot(rules, rule, judgement, terms, spot.path)?;
                         return Ok(differs(kid, candidate.number, k, got));
                     }

@@ -1,6 +1,9 @@
-use Rattle.std.proofs.Common.{subst}
+use Rattle.sx_derive.proofs.Stored.{grows_then}
+use Rattle.std.proofs.Common.{length, subst, sym}
 use Rattle.sx_arena.specs.Views.{rules_of, modes_of, rule_of}
 use Rattle.sx_arena.proofs.Patterns.{ok_weaker}
+use Rattle.sx_arena.specs.Arena.{AreBelow}
+use Rattle.sx_derive.specs.Store.{store_trees}
 use Rattle.sx_derive.specs.Candidates.{goal_in}
 use Rattle.sx_derive.specs.Descents.{spot_goal, IsFirstRule}
 use Rattle.sx_derive.specs.Ways.{subjects_of}
@@ -82,3 +85,21 @@ returns-in-Some-clause-descent c =
     let f0 = subst (λ is. IsFirstRule m t (goal_in s c.args.spot.form is) 0 rs c.in_ok-first_rule.field-0) c.deref.ensures.value c.in_ok-first_rule.ensures.first in
     let f = subst (λ o. IsFirstRule m t (spot_goal s c.args.spot) 0 rs o) c.in-Some.is f0 in
     ok_weaker _ _ (λ d h hyps are. sought_leads m su rs hyps c.args.known c.args.bounds.budget c.args.bounds.levels s t c.args.given.now.facts.now c.args.given.now.pairs.now c.args.spot are c.requires.terms g c.in-Some.number c.in-Some.env f (rule_of c.rule_at-rule.result.now) c.rule_at-rule.ensures c.descend_premises.new.store d (h hyps (hyps_stay m rs s t c.args.given.now.facts.now c.args.given.now.pairs.now hyps g are))) c.descend_premises.result c.descend_premises.ensures.descent
+
+pub first_rule-requires-clause-terms : goal.first_rule-requires-clause-terms
+first_rule-requires-clause-terms c = subst (AreBelow (length (store_trees c.args.store.now))) (sym c.deref.ensures.value) c.requires.terms
+
+pub descend_premises-requires-clause-few : goal.descend_premises-requires-clause-few
+descend_premises-requires-clause-few c = c.requires.few
+
+pub descend_premises-requires-clause-store : goal.descend_premises-requires-clause-store
+descend_premises-requires-clause-store c = c.in_ok-first_rule.ensures.grows.store
+
+pub returns-in-None-clause-grows : goal.returns-in-None-clause-grows
+returns-in-None-clause-grows c = c.in_ok-first_rule.ensures.grows
+
+pub returns-in-Some-clause-grows : goal.returns-in-Some-clause-grows
+returns-in-Some-clause-grows c =
+    let m = modes_of c.args.given.now.rules.now in
+    let rs = rules_of c.args.given.now.rules.now in
+    ok_weaker _ _ (λ d h. grows_then m rs c.args.store.now c.first_rule.new.store c.descend_premises.new.store c.in_ok-first_rule.ensures.grows h) c.descend_premises.result c.descend_premises.ensures.grows

@@ -1,3 +1,4 @@
+use Rattle.sx_derive.proofs.Stored.{grows_same, grows_then}
 use Rattle.std.proofs.Common.{subst, arith}
 use Rattle.std.proofs.lemmas.List.{length-map}
 use Rattle.sx_rules.specs.Views.{named}
@@ -67,3 +68,19 @@ returns-clause-first c =
     let rs = rules_of c.args.rules.now in
     let s = c.args.store.now in
     rules_end m rs c.args.form c.args.terms.now s c.requires.terms c.loop-rule.store c.loop-rule.store c.loop-rule.number c.loop-rule.invariant (not_within _ _ (rule_missing c.args.rules.now.rules.items c.loop-rule.number c.in_default.ensures))
+
+pub loop-rule-init : goal.loop-rule-init
+loop-rule-init c = record {
+  grows = grows_same (modes_of c.args.rules.now) (rules_of c.args.rules.now) c.args.store.now c.requires.store;
+  leads = λ s x h. h;
+}
+
+pub rule_fit-requires-clause-store : goal.rule_fit-requires-clause-store
+rule_fit-requires-clause-store c = c.loop-rule.invariant.grows.store
+
+pub returns-in-Some-2-clause-grows : goal.returns-in-Some-2-clause-grows
+returns-in-Some-2-clause-grows c =
+    grows_then (modes_of c.args.rules.now) (rules_of c.args.rules.now) c.args.store.now c.loop-rule.store c.rule_fit.new.store c.loop-rule.invariant.grows c.in_ok-env.ensures.grows
+
+pub returns-clause-grows : goal.returns-clause-grows
+returns-clause-grows c = c.loop-rule.invariant.grows

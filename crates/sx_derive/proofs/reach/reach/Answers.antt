@@ -2,7 +2,7 @@ use Rattle.std.proofs.Common.{◌+◌, length}
 use Rattle.sx_arena.specs.Views.{rules_of, modes_of}
 use Rattle.sx_arena.proofs.Growing.{extends-length}
 use Rattle.sx_arena.proofs.Parted.{pairs_more_terms}
-use Rattle.sx_derive.proofs.Resuming.{last_less, facts_then, reaching_settled, reaching_end, reaching_spent, rest_fits, task_fits, reaching_failed, reaching_more, reaching_ends}
+use Rattle.sx_derive.proofs.Resuming.{reaching_first, last_less, facts_then, reaching_settled, reaching_end, reaching_spent, rest_fits, task_fits, reaching_failed, reaching_more, reaching_ends}
 use Rattle.sx_derive.proofs.reach.reach.Goals as goal
 
 pub returns-then-tries-budget : goal.returns-then-tries-budget
@@ -65,3 +65,14 @@ returns g c = λ js a.
     let b = c.requires.facts in
     let w = reaching_settled (modes_of c.args.given.now.rules.now) (rules_of c.args.given.now.rules.now) c.args.given.now.pairs.now c.args.given.now.facts.now c.args.store.now c.args.budget c.args.tasks.now.items c.args.steps.now c.loop-budget.store c.loop-budget.tries c.loop-budget.steps c.loop-budget.tasks.items c.loop-budget.invariant b.0 b.1 c.settle.new.tasks.items (λ js s e. c.loop-budget-test.ensures.settled c.args.given.now.pairs.now js s e) in
     reaching_end (modes_of c.args.given.now.rules.now) (rules_of c.args.given.now.rules.now) c.args.given.now.pairs.now c.args.given.now.facts.now c.args.store.now c.args.budget c.args.tasks.now.items c.args.steps.now c.loop-budget.store c.loop-budget.tries c.loop-budget.steps c.settle.new.tasks.items w c.loop-budget-test.ensures.last js a
+
+pub loop-budget-init : goal.loop-budget-init
+loop-budget-init g c =
+    reaching_first (modes_of c.args.given.now.rules.now) (rules_of c.args.given.now.rules.now) c.args.given.now.pairs.now c.args.given.now.facts.now c.args.store.now c.args.budget c.args.tasks.now.items c.args.steps.now c.requires.store c.requires.tasks
+
+pub turn-requires-clause-store : goal.turn-requires-clause-store
+turn-requires-clause-store g c = c.loop-budget.invariant.grows.store
+
+pub turn-requires-clause-next : goal.turn-requires-clause-next
+turn-requires-clause-next g c =
+    last_less c.settle.new.tasks.items c.pop.new.self.items c.in-Some.task (length c.args.given.now.facts.now + length (rules_of c.args.given.now.rules.now)) c.in-Some.ensures.items c.loop-budget-test.ensures.last
